@@ -1,0 +1,54 @@
+//! Moments, amounts of money and spans of seconds.
+ghost use Rattle.std.specs.Prelude.{◌≡◌, ◌<ℤ◌, ◌≤ℤ◌, ◌+ℤ◌, pos, negsuc, ◌^◌};
+ghost use Rattle.transit_base.specs.Moments.{moment_at, civil_day, time_of_day};
+
+use crate::calendar::Day;
+
+/// A moment: seconds since 1970-01-01 00:00:00 on the one clock of a feed. Each civil day has 86,400 seconds, since
+/// time zones and clock changes are left out.
+#[derive(Clone, Copy, Debug, PartialEq, Eq, PartialOrd, Ord)]
+pub struct Moment(pub i64);
+
+/// An amount of money in whole minor units of a feed's one currency, as cents. It may be negative.
+#[derive(Clone, Copy, Debug, PartialEq, Eq, PartialOrd, Ord)]
+pub struct Money(pub i64);
+
+/// A span of time, or a time of day, in seconds.
+#[derive(Clone, Copy, Debug, PartialEq, Eq, PartialOrd, Ord)]
+pub struct Secs(pub u32);
+
+impl Moment {
+    /// The moment so many seconds after the start of a day; a service day's times go past midnight, and a shift may
+    /// be negative.
+    pub fn at(day: Day, seconds: i64) -> Moment
+        requires day_low { negsuc 3_999_999 ≤ℤ day.0 }
+        requires day_high { day.0 ≤ℤ pos 4_000_000 }
+        requires seconds_low { negsuc 3_999_999 ≤ℤ seconds }
+        requires seconds_high { seconds ≤ℤ pos 4_000_000 }
+        ensures { result.0 ≡ moment_at day.0 seconds }
+    {
+        Moment(day.0 * 86_400 + seconds)
+    }
+
+    /// The moment so many seconds later.
+    pub fn plus(self, more: Secs) -> Moment
+        requires { (self.0 +ℤ pos more.0) <ℤ pos (2 ^ 62) }
+        ensures { result.0 ≡ self.0 +ℤ pos more.0 }
+    {
+        Moment(self.0 + i64::from(more.0))
+    }
+
+    /// The civil day of the moment, also before 1970.
+    pub fn day(self) -> Day
+        ensures { result.0 ≡ civil_day self.0 }
+    {
+        Day(self.0.div_euclid(86_400))
+    }
+
+    /// The seconds since the start of that day, from 0 to 86,399.
+    pub fn time_of_day(self) -> Secs
+        ensures { result.0 ≡ time_of_day self.0 }
+    {
+        Secs(self.0.rem_euclid(86_400) as u32)
+    }
+}
