@@ -25,11 +25,11 @@ pub struct ServiceId(pub u32);
 pub struct NetworkId(pub u32);
 
 /// The number of a fare area: its data row in `areas.txt`, counted from 0.
-#[derive(Clone, Copy, Debug, PartialEq, Eq, PartialOrd, Ord)]
+#[derive(Clone, Copy, Debug, Default, PartialEq, Eq, PartialOrd, Ord)]
 pub struct AreaId(pub u32);
 
 /// The number of a timeframe group: the place of its name among such names by first appearance, counted from 0.
-#[derive(Clone, Copy, Debug, PartialEq, Eq, PartialOrd, Ord)]
+#[derive(Clone, Copy, Debug, Default, PartialEq, Eq, PartialOrd, Ord)]
 pub struct FrameId(pub u32);
 
 /// The number of a rider category: its data row in `rider_categories.txt`, counted from 0.

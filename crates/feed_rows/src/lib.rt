@@ -1,0 +1,18 @@
+//! The rows of a feed as plain data, and the definitions of what journeys and prices are.
+#![tactic(auto)]
+
+mod fares;
+mod faults;
+mod ids;
+mod journeys;
+mod lists;
+mod names;
+mod rows;
+
+pub use fares::{ChangeChoice, ChangeChoices, Choice, Entries, Entry, LegChoice, LegChoices, RowList, RuleList, TransferFacts, Triple, XferList};
+pub use faults::{FaultKind, FeedFault};
+pub use ids::Id;
+pub use journeys::{AreaList, Call, FrameList, Journey, LegFacts, LegList, Query, Ride, RideFacts, RideList, Shifts};
+pub use lists::{AscendingList, ItemList};
+pub use names::{ColumnName, FileName};
+pub use rows::{AreaRow, ExceptionRow, FrequencyRow, LegRuleRow, Limit, LinkRow, MediumRow, ProductRow, RiderRow, RouteRow, ServiceRow, StopAreaRow, StopRow, StopTimeRow, TimeframeRow, TransferRuleRow, TripRow};
