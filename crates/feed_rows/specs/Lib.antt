@@ -2,3 +2,4 @@ pub mod Names
 pub mod Faults
 pub mod Ascending
 pub mod Words
+pub mod FeedRows
