@@ -3,3 +3,16 @@ pub mod Faults
 pub mod Ascending
 pub mod Words
 pub mod FeedRows
+pub mod ServiceDays
+pub mod Calls
+pub mod Shifts
+pub mod Rides
+pub mod StopLinks
+pub mod Journeys
+pub mod Legs
+pub mod LegRules
+pub mod TransferRules
+pub mod FareChoices
+pub mod FareSums
+pub mod ParetoTriples
+pub mod JourneyEntries
