@@ -3,3 +3,7 @@ pub mod Faults
 pub mod Ascending
 pub mod Words
 pub mod FeedRows
+pub mod UsageFaults
+pub mod Numerals
+pub mod TimeGrammar
+pub mod WordValues
