@@ -7,3 +7,9 @@ pub mod UsageFaults
 pub mod Numerals
 pub mod TimeGrammar
 pub mod WordValues
+pub mod CommandWords
+pub mod Requests
+pub mod Queries
+pub mod Lines
+pub mod MoneyText
+pub mod CommandTexts

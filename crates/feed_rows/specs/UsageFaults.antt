@@ -1,5 +1,5 @@
 -- The faults of a command's words: their names and arguments, as they are printed.
-use Rattle.std.specs.Prelude.{ℕ, List, codes, decimal}
+use Rattle.std.specs.Prelude.{ℕ, List, codes, decimal, Result, Ok, Err}
 use Rattle.feed_rows.specs.declared.usage.StopWord.{StopWord}
 use Rattle.feed_rows.specs.declared.usage.StopWord.TheVariants as stop_word
 use Rattle.feed_rows.specs.declared.usage.UsageFault.{UsageFault}
@@ -43,3 +43,8 @@ usage_argument (usage.NoSuchRide k) = decimal k
 usage_argument (usage.NoChange k) = decimal k
 usage_argument usage.UnknownRider = codes "--rider"
 usage_argument usage.RiderNeeded = codes "--rider"
+
+-- what follows from the value; a fault stays
+abbrev pub unless_fault : {X Y : Type 0} → Result X UsageFault → (X → Result Y UsageFault) → Result Y UsageFault
+unless_fault (Ok x) next = next x
+unless_fault (Err fault) next = Err fault

@@ -17,4 +17,4 @@ pub use journeys::{AreaList, Call, FrameList, Journey, LegFacts, LegList, Query,
 pub use lists::{AscendingList, ItemList};
 pub use names::{ColumnName, FileName};
 pub use rows::{AreaRow, ExceptionRow, FrequencyRow, LegRuleRow, Limit, LinkRow, MediumRow, ProductRow, RiderRow, RouteRow, ServiceRow, StopAreaRow, StopRow, StopTimeRow, TimeframeRow, TransferRuleRow, TripRow};
-pub use usage::{StopWord, UsageFault};
+pub use usage::{StopWord, UsageFault, WordRole};

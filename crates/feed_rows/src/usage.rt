@@ -67,3 +67,20 @@ impl UsageFault {
         }
     }
 }
+
+/// What a word behind the command is.
+#[derive(Clone, Copy, Debug, PartialEq, Eq)]
+pub enum WordRole {
+    /// `--name`, where the next word is the option's value.
+    OptionName,
+    /// The value of the option that the word before names.
+    OptionValue,
+    /// `--name=value`.
+    OptionWithValue,
+    /// `--name`, where the flag has no value.
+    Flag,
+    /// A word that is told by its place among its like.
+    Positional,
+    /// A word that the command does not take.
+    Refused,
+}
