@@ -16,3 +16,13 @@ pub mod FareChoices
 pub mod FareSums
 pub mod ParetoTriples
 pub mod JourneyEntries
+pub mod UsageFaults
+pub mod Numerals
+pub mod TimeGrammar
+pub mod WordValues
+pub mod CommandWords
+pub mod Requests
+pub mod Queries
+pub mod Lines
+pub mod MoneyText
+pub mod CommandTexts

@@ -8,6 +8,7 @@ mod journeys;
 mod lists;
 mod names;
 mod rows;
+mod usage;
 
 pub use fares::{ChangeChoice, ChangeChoices, Choice, Entries, Entry, LegChoice, LegChoices, RowList, RuleList, TransferFacts, Triple, XferList};
 pub use faults::{FaultKind, FeedFault};
@@ -16,3 +17,4 @@ pub use journeys::{AreaList, Call, FrameList, Journey, LegFacts, LegList, Query,
 pub use lists::{AscendingList, ItemList};
 pub use names::{ColumnName, FileName};
 pub use rows::{AreaRow, ExceptionRow, FrequencyRow, LegRuleRow, Limit, LinkRow, MediumRow, ProductRow, RiderRow, RouteRow, ServiceRow, StopAreaRow, StopRow, StopTimeRow, TimeframeRow, TransferRuleRow, TripRow};
+pub use usage::{StopWord, UsageFault, WordRole};
