@@ -26,3 +26,5 @@ pub mod Queries
 pub mod Lines
 pub mod MoneyText
 pub mod CommandTexts
+pub mod EntryText
+pub mod PriceTexts
