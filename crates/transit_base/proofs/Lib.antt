@@ -1,0 +1,2 @@
+pub mod CheckedDates
+pub mod DateLemmas
