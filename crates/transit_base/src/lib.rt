@@ -5,6 +5,8 @@ mod calendar;
 mod moments;
 mod numbers;
 mod texts;
+#[cfg(test)]
+mod tests;
 
 pub use calendar::{day_of, Day};
 pub use moments::{Moment, Money, Secs};
