@@ -34,9 +34,9 @@ fn moments(rt: HostRuntime) {
 fn texts(rt: HostRuntime) {
     assert_eq!(rt; &date_text(Day(20_241)), b"2025-06-02");
     assert_eq!(rt; &date_text(Day(-719_162)), b"0001-01-01");
-    assert_eq!(rt; time_text(Secs(0)).bytes(), b"00:00:00");
-    assert_eq!(rt; time_text(Secs(86_399)).bytes(), b"23:59:59");
-    assert_eq!(rt; time_text(Secs(359_999)).bytes(), b"99:59:59");
-    assert_eq!(rt; time_text(Secs(360_000)).bytes(), b"100:00:00");
-    assert_eq!(rt; time_text(Secs(604_799)).bytes(), b"167:59:59");
+    assert_eq!(rt; time_text(Secs(0)).bytes(), b"00:00:00".as_slice());
+    assert_eq!(rt; time_text(Secs(86_399)).bytes(), b"23:59:59".as_slice());
+    assert_eq!(rt; time_text(Secs(359_999)).bytes(), b"99:59:59".as_slice());
+    assert_eq!(rt; time_text(Secs(360_000)).bytes(), b"100:00:00".as_slice());
+    assert_eq!(rt; time_text(Secs(604_799)).bytes(), b"167:59:59".as_slice());
 }

@@ -9,8 +9,8 @@ use jiff_core::civil::Date as PlainDate;
 use crate::calendar::Day;
 use crate::moments::Secs;
 
-/// A time as text, of eight bytes below 100 hours and of nine from there on.
-#[derive(Drop)]
+/// A time as text, `HH:MM:SS`: eight bytes below 100 hours, and nine from there on.
+#[derive(Debug, Drop)]
 pub struct TimeText {
     bytes: [u8; 9],
     used: usize,
@@ -33,7 +33,8 @@ impl TimeText {
     }
 }
 
-/// A day from 0001-01-01 to 9999-12-31 as `YYYY-MM-DD`.
+/// The date of a day as `YYYY-MM-DD`, in ASCII. The day lies from -719,162, which is 0001-01-01, to 2,932,896, which
+/// is 9999-12-31.
 pub fn date_text(day: Day) -> [u8; 10]
     requires low { negsuc 719_161 ≤ℤ day.0 }
     requires high { day.0 ≤ℤ pos 2_932_896 }
@@ -52,7 +53,8 @@ pub fn date_text(day: Day) -> [u8; 10]
     ]
 }
 
-/// Fewer than 604,800 seconds, which are 168 hours, as `HH:MM:SS`. From 100 hours on the hours have three digits.
+/// A time of fewer than 604,800 seconds, which are 168 hours, as `HH:MM:SS`, in ASCII. From 100 hours on the hours have
+/// three digits.
 pub fn time_text(seconds: Secs) -> TimeText
     requires { seconds.0 < 604_800 }
     ensures { result ≡ time_text seconds.0 }
