@@ -1,5 +1,5 @@
 -- Values of the definitions, as they are known from calendars.
-use Rattle.std.proofs.Common.{◌≡◌, List, [], ◌∷◌, pos, negsuc, true, false, refl}
+use Rattle.std.proofs.Common.{◌≡◌, pos, negsuc, true, false, refl}
 use Rattle.std.specs.Prelude.{codes}
 use Rattle.jiff_core.specs.Calendar.{days_of_years, days_of_months, day_count, days_from_civil}
 use Rattle.transit_base.specs.Moments.{moment_at, civil_day, time_of_day}

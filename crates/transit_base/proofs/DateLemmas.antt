@@ -1,5 +1,5 @@
 -- That a day's date is the date that the day is of.
-use Rattle.std.proofs.Common.{◌≡◌, ℕ, zero, suc, ◌+◌, ◌-◌, ◌/◌, ◌%◌, ◌&&◌, nat_le, ◌<◌, ◌≤◌, nat_lt, Bool, true, false, ltb, cond, inl, inr, refl, sym, ap, subst, ◌∙◌, arith, ℤ, pos, negsuc, IsTrue, ◌+ℤ◌, ◌≤ℤ◌, ◌<ℤ◌, unsigned_abs}
+use Rattle.std.proofs.Common.{◌≡◌, ℕ, zero, suc, ◌+◌, ◌-◌, ◌/◌, ◌%◌, ◌&&◌, nat_le, ◌<◌, ◌≤◌, inl, inr, refl, sym, ap, subst, ◌∙◌, arith, ℤ, pos, negsuc, IsTrue, ◌+ℤ◌, ◌≤ℤ◌, unsigned_abs}
 use Rattle.std.proofs.lemmas.Bool.{cases_lt, lt-ltb, le-ltb, cond-true, cond-false}
 use Rattle.std.proofs.lemmas.Bool.Decides.{nat_tests}
 use Rattle.std.proofs.lemmas.Int.{by_lt_z, ints}
@@ -11,7 +11,7 @@ use Rattle.jiff_core.proofs.MarchLemmas.{day_count-early}
 use Rattle.jiff_core.proofs.SignedLemmas.{signed_arith}
 use borrow.Author.Differences.{up, down}
 use Rattle.transit_base.specs.Dates.{CivilDate, date_in_year, date_from_year, date_of, day_number, is_date, is_dated}
-use Rattle.transit_base.specs.DateTexts.{date_text, civil_text, two_digits}
+use Rattle.transit_base.specs.DateTexts.{date_text, civil_text}
 
 date_in_year-zero : (year month n : ℕ) → date_in_year zero year month n ≡ record { year = year; month = month; day = n + 1 }
 unfolding date_in_year
@@ -42,19 +42,19 @@ date_in_year-found zero year month n later day from below within first last plac
     rw (date_in_year-zero year month n, same, is) refl
 date_in_year-found (suc more) year month n later day from below within first last place =
     elim (cases_lt month later) as (λ _. date_in_year (suc more) year month n ≡ record { year = year; month = later; day = day }) [
-    | inl lt ↦
-        let next : days_of_months (pos year) month ≡ days_of_months (pos year) (month - 1) + days_in_month (pos year) month = days_of_months_more (pos year) month from in
-        let before : days_of_months (pos year) month ≤ days_of_months (pos year) (later - 1) = days_of_months_mono (pos year) month (later - 1) (omega arith) in
-        let past : days_in_month (pos year) month ≤ n = omega arith in
-        let back : month + 1 - 1 ≡ month = omega arith in
-        let on : n - days_in_month (pos year) month + days_of_months (pos year) (month + 1 - 1) + 1 ≡ days_of_months (pos year) (later - 1) + day = rw back (omega arith) in
-        date_in_year-past more year month n past ∙ date_in_year-found more year (month + 1) (n - days_in_month (pos year) month) later day (omega arith) (omega arith) (omega arith) first last on
-    | inr le ↦
-        let same : later ≡ month = omega arith in
-        let here = rw same at place in
-        let is : n + 1 ≡ day = omega arith in
-        let within_month : n < days_in_month (pos year) month = let there = rw same at last in omega arith in
-        rw (date_in_year-here more year month n within_month, same, is) refl
+      | inl lt ↦
+          let next : days_of_months (pos year) month ≡ days_of_months (pos year) (month - 1) + days_in_month (pos year) month = days_of_months_more (pos year) month from in
+          let before : days_of_months (pos year) month ≤ days_of_months (pos year) (later - 1) = days_of_months_mono (pos year) month (later - 1) (omega arith) in
+          let past : days_in_month (pos year) month ≤ n = omega arith in
+          let back : month + 1 - 1 ≡ month = omega arith in
+          let on : n - days_in_month (pos year) month + days_of_months (pos year) (month + 1 - 1) + 1 ≡ days_of_months (pos year) (later - 1) + day = rw back (omega arith) in
+          date_in_year-past more year month n past ∙ date_in_year-found more year (month + 1) (n - days_in_month (pos year) month) later day (omega arith) (omega arith) (omega arith) first last on
+      | inr le ↦
+          let same : later ≡ month = omega arith in
+          let here = rw same at place in
+          let is : n + 1 ≡ day = omega arith in
+          let within_month : n < days_in_month (pos year) month = let there = rw same at last in omega arith in
+          rw (date_in_year-here more year month n within_month, same, is) refl
     ]
 
 date_from_year-zero : (year n : ℕ) → date_from_year zero year n ≡ date_in_year 11 year 1 n
@@ -76,19 +76,19 @@ date_from_year-found zero year n later month day below within date place =
     rw (date_from_year-zero year n, same) (own_year n year month day own rest)
 date_from_year-found (suc more) year n later month day below within date place =
     elim (cases_lt year later) as (λ _. date_from_year (suc more) year n ≡ record { year = later; month = month; day = day }) [
-    | inl lt ↦
-        let passed : day_count (pos year) 1 1 + days_in_year (pos year) ≤ day_count (pos later) 1 1 = day_count-later_year (pos year) (pos later) (omega (arith, signed_arith)) (omega (arith, signed_arith)) in
-        let first : day_count (pos later) month day + 1 ≡ day_count (pos later) 1 1 + day_of_year (pos later) month day = day_count-day_of_year (pos later) month day date.2.0 in
-        let past : days_in_year (pos year) ≤ n = omega (arith, date.2.0) in
-        let next : day_count (pos (year + 1)) 1 1 ≡ day_count (pos year) 1 1 + days_in_year (pos year) = day_count-next_year (pos year) (pos (year + 1)) (omega (arith, signed_arith)) (omega (arith, signed_arith)) in
-        date_from_year-past more year n past ∙ date_from_year-found more (year + 1) (n - days_in_year (pos year)) later month day (omega arith) (omega arith) date (omega arith)
-    | inr le ↦
-        let same : later ≡ year = omega arith in
-        let own : IsCivilDate (pos year) month day = rw same at date in
-        let here : n + day_count (pos year) 1 1 ≡ day_count (pos year) month day = rw same at place in
-        let rest : n + 1 ≡ day_of_year (pos year) month day = omega (arith, day_count-day_of_year (pos year) month day own.2.0) in
-        let within_year : n < days_in_year (pos year) = omega (arith, day_of_year_bound (pos year) month day own) in
-        rw (date_from_year-here more year n within_year, same) (own_year n year month day own rest)
+      | inl lt ↦
+          let passed : day_count (pos year) 1 1 + days_in_year (pos year) ≤ day_count (pos later) 1 1 = day_count-later_year (pos year) (pos later) (omega (arith, signed_arith)) (omega (arith, signed_arith)) in
+          let first : day_count (pos later) month day + 1 ≡ day_count (pos later) 1 1 + day_of_year (pos later) month day = day_count-day_of_year (pos later) month day date.2.0 in
+          let past : days_in_year (pos year) ≤ n = omega (arith, date.2.0) in
+          let next : day_count (pos (year + 1)) 1 1 ≡ day_count (pos year) 1 1 + days_in_year (pos year) = day_count-next_year (pos year) (pos (year + 1)) (omega (arith, signed_arith)) (omega (arith, signed_arith)) in
+          date_from_year-past more year n past ∙ date_from_year-found more (year + 1) (n - days_in_year (pos year)) later month day (omega arith) (omega arith) date (omega arith)
+      | inr le ↦
+          let same : later ≡ year = omega arith in
+          let own : IsCivilDate (pos year) month day = rw same at date in
+          let here : n + day_count (pos year) 1 1 ≡ day_count (pos year) month day = rw same at place in
+          let rest : n + 1 ≡ day_of_year (pos year) month day = omega (arith, day_count-day_of_year (pos year) month day own.2.0) in
+          let within_year : n < days_in_year (pos year) = omega (arith, day_of_year_bound (pos year) month day own) in
+          rw (date_from_year-here more year n within_year, same) (own_year n year month day own rest)
     ]
 
 day_count-one : day_count (pos 1) 1 1 ≡ 3_652_791
@@ -98,8 +98,8 @@ day_count-one = day_count-early (pos 1) 10000 1 1 refl (omega arith) (omega arit
 day_count-from_one : (year : ℕ) → 1 ≤ year → day_count (pos 1) 1 1 ≤ day_count (pos year) 1 1
 day_count-from_one year low =
     elim (cases_lt 1 year) as (λ _. day_count (pos 1) 1 1 ≤ day_count (pos year) 1 1) [
-    | inl lt ↦ omega (arith, day_count-later_year (pos 1) (pos year) (omega (arith, signed_arith)) (omega (arith, signed_arith)))
-    | inr le ↦ let same : year ≡ 1 = omega arith in rw same (omega arith)
+      | inl lt ↦ omega (arith, day_count-later_year (pos 1) (pos year) (omega (arith, signed_arith)) (omega (arith, signed_arith)))
+      | inr le ↦ let same : year ≡ 1 = omega arith in rw same (omega arith)
     ]
 
 -- the day number of 0001-01-01 is -719,162
@@ -160,15 +160,15 @@ date_in_year-is zero year month n year_in from last within =
     rw (date_in_year-zero year month n, same) (record { same_year = refl; civil = civil; place = omega arith })
 date_in_year-is (suc more) year month n year_in from last within =
     elim (cases_lt n (days_in_month (pos year) month)) as (λ _. IsFound year (n + days_of_months (pos year) (month - 1)) (date_in_year (suc more) year month n)) [
-    | inl lt ↦
-        let civil : IsCivilDate (pos year) month (n + 1) = (year_in, (from, omega arith), (omega arith, omega arith)) in
-        rw (date_in_year-here more year month n lt) (record { same_year = refl; civil = civil; place = omega arith })
-    | inr past ↦
-        let next : days_of_months (pos year) month ≡ days_of_months (pos year) (month - 1) + days_in_month (pos year) month = days_of_months_more (pos year) month from in
-        let back : month + 1 - 1 ≡ month = omega arith in
-        let same : n - days_in_month (pos year) month + days_of_months (pos year) month ≡ n + days_of_months (pos year) (month - 1) = omega arith in
-        let rest = date_in_year-is more year (month + 1) (n - days_in_month (pos year) month) year_in (omega arith) (omega arith) (rw (back, same) within) in
-        rw (date_in_year-past more year month n past) (rw (back, same) at rest)
+      | inl lt ↦
+          let civil : IsCivilDate (pos year) month (n + 1) = (year_in, (from, omega arith), (omega arith, omega arith)) in
+          rw (date_in_year-here more year month n lt) (record { same_year = refl; civil = civil; place = omega arith })
+      | inr past ↦
+          let next : days_of_months (pos year) month ≡ days_of_months (pos year) (month - 1) + days_in_month (pos year) month = days_of_months_more (pos year) month from in
+          let back : month + 1 - 1 ≡ month = omega arith in
+          let same : n - days_in_month (pos year) month + days_of_months (pos year) month ≡ n + days_of_months (pos year) (month - 1) = omega arith in
+          let rest = date_in_year-is more year (month + 1) (n - days_in_month (pos year) month) year_in (omega arith) (omega arith) (rw (back, same) within) in
+          rw (date_in_year-past more year month n past) (rw (back, same) at rest)
     ]
 
 -- every day of a year has its date
@@ -201,11 +201,11 @@ date_from_year-is zero year n count low last place within =
     rw (date_from_year-zero year n) (HasCount-found year n count (date_in_year 11 year 1 n) low (own_year-is year n (omega (arith, signed_arith)) in_year) place)
 date_from_year-is (suc more) year n count low last place within =
     elim (cases_lt n (days_in_year (pos year))) as (λ _. HasCount count (date_from_year (suc more) year n)) [
-    | inl lt ↦
-        rw (date_from_year-here more year n lt) (HasCount-found year n count (date_in_year 11 year 1 n) low (own_year-is year n (omega (arith, signed_arith)) lt) place)
-    | inr past ↦
-        let next : day_count (pos (year + 1)) 1 1 ≡ day_count (pos year) 1 1 + days_in_year (pos year) = day_count-next_year (pos year) (pos (year + 1)) (omega (arith, signed_arith)) (omega (arith, signed_arith)) in
-        rw (date_from_year-past more year n past) (date_from_year-is more (year + 1) (n - days_in_year (pos year)) count (omega arith) (omega arith) (omega arith) within)
+      | inl lt ↦
+          rw (date_from_year-here more year n lt) (HasCount-found year n count (date_in_year 11 year 1 n) low (own_year-is year n (omega (arith, signed_arith)) lt) place)
+      | inr past ↦
+          let next : day_count (pos (year + 1)) 1 1 ≡ day_count (pos year) 1 1 + days_in_year (pos year) = day_count-next_year (pos year) (pos (year + 1)) (omega (arith, signed_arith)) (omega (arith, signed_arith)) in
+          rw (date_from_year-past more year n past) (date_from_year-is more (year + 1) (n - days_in_year (pos year)) count (omega arith) (omega arith) (omega arith) within)
     ]
 
 date_of-is : (day : ℤ) (count : ℕ) → up day + 4_371_953 ≡ down day + count → IsTrue (is_dated day) → HasCount count (date_of day)

@@ -1,5 +1,5 @@
 -- Days, counted from 1970-01-01, and their dates in the Gregorian calendar, for the years 1 to 9999.
-use Rattle.std.specs.Prelude.{◌≡◌, ℕ, zero, suc, ◌+◌, ◌-◌, ◌≤◌, nat_le, nat_lt, Bool, ◌&&◌, if◌then◌else◌, Option, Some, None, ℤ, pos, negsuc, ◌+ℤ◌, ◌≤ℤ◌, int_le, unsigned_abs}
+use Rattle.std.specs.Prelude.{ℕ, zero, suc, ◌+◌, ◌-◌, nat_le, nat_lt, Bool, ◌&&◌, if◌then◌else◌, ℤ, pos, negsuc, ◌+ℤ◌, int_le, unsigned_abs}
 use Rattle.jiff_core.specs.Calendar.{days_in_month, days_in_year, days_from_civil}
 
 -- a year, a month from 1 and a day from 1

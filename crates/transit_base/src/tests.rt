@@ -1,5 +1,5 @@
 // Values as calendars and clocks have them.
-use crate::{date_text, day_of, time_text, Day, Moment, Secs};
+use crate::{Day, Moment, Secs, date_text, day_of, time_text};
 
 #[test]
 fn days_of_dates(rt: HostRuntime) {

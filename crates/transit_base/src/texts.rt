@@ -2,12 +2,10 @@
 ghost use Rattle.std.specs.Prelude.{◌≡◌, ◌<◌, ◌≤◌, ◌≤ℤ◌, ℕ, pos, negsuc, List, take};
 ghost use Rattle.transit_base.specs.DateTexts.{two_digits, date_text, time_text};
 
-use std::marker::Model;
-
-use jiff_core::civil::Date as PlainDate;
-
 use crate::calendar::Day;
 use crate::moments::Secs;
+use jiff_core::civil::Date as PlainDate;
+use std::marker::Model;
 
 /// A time as text, `HH:MM:SS`: eight bytes below 100 hours, and nine from there on.
 #[derive(Debug, Drop)]
@@ -49,7 +47,16 @@ pub fn date_text(day: Day) -> [u8; 10]
     let [month_tens, month_ones] = two_digits(u32::from(date.month));
     let [day_tens, day_ones] = two_digits(u32::from(date.day));
     [
-        century_tens, century_ones, year_tens, year_ones, b'-', month_tens, month_ones, b'-', day_tens, day_ones,
+        century_tens,
+        century_ones,
+        year_tens,
+        year_ones,
+        b'-',
+        month_tens,
+        month_ones,
+        b'-',
+        day_tens,
+        day_ones,
     ]
 }
 
@@ -65,13 +72,30 @@ pub fn time_text(seconds: Secs) -> TimeText
     let [second_tens, second_ones] = two_digits(seconds.0 % 60);
     if hours < 100 {
         TimeText {
-            bytes: [hour_tens, hour_ones, b':', minute_tens, minute_ones, b':', second_tens, second_ones, 0],
+            bytes: [
+                hour_tens,
+                hour_ones,
+                b':',
+                minute_tens,
+                minute_ones,
+                b':',
+                second_tens,
+                second_ones,
+                0,
+            ],
             used: 8,
         }
     } else {
         TimeText {
             bytes: [
-                b'0' + (hours / 100) as u8, hour_tens, hour_ones, b':', minute_tens, minute_ones, b':', second_tens,
+                b'0' + (hours / 100) as u8,
+                hour_tens,
+                hour_ones,
+                b':',
+                minute_tens,
+                minute_ones,
+                b':',
+                second_tens,
                 second_ones,
             ],
             used: 9,

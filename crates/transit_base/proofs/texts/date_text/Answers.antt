@@ -1,9 +1,9 @@
-use Rattle.std.proofs.Common.{◌≡◌, ◌≤ℤ◌, pos, negsuc, refl, sym, ap, ◌∙◌, arith, FitsSigned, w64}
+use Rattle.std.proofs.Common.{◌≤ℤ◌, negsuc, refl, sym, ap, ◌∙◌, arith, FitsSigned, w64}
 use Rattle.std.proofs.lemmas.Int.{to_z-of_z}
 use Rattle.jiff_core.specs.Date.{epoch_day}
 use Rattle.jiff_core.proofs.SignedLemmas.{signed_arith}
 use Rattle.transit_base.specs.Dates.{date_of}
-use Rattle.transit_base.specs.DateTexts.{date_text, civil_text}
+use Rattle.transit_base.specs.DateTexts.{date_text}
 use Rattle.transit_base.proofs.DateLemmas.{year_low, date_of-epoch_day}
 use Rattle.transit_base.proofs.texts.date_text.Goals as goal
 
