@@ -13,25 +13,30 @@ use borrow.Author.Differences.{up, down}
 use Rattle.transit_base.specs.Dates.{CivilDate, date_in_year, date_from_year, date_of, day_number, is_date, is_dated}
 use Rattle.transit_base.specs.DateTexts.{date_text, civil_text}
 
+-- how the months and the years are counted off, one step at a time
 date_in_year-zero : (year month n : ℕ) → date_in_year zero year month n ≡ record { year = year; month = month; day = n + 1 }
 unfolding date_in_year
 date_in_year-zero year month n = refl
 
 date_in_year-here : (more year month n : ℕ) → n < days_in_month (pos year) month → date_in_year (suc more) year month n ≡ record { year = year; month = month; day = n + 1 }
 unfolding date_in_year
-date_in_year-here more year month n h = cond-true _ _ _ (lt-ltb n (days_in_month (pos year) month) h)
+date_in_year-here more year month n within = cond-true _ _ _ (lt-ltb n (days_in_month (pos year) month) within)
 
 date_in_year-past : (more year month n : ℕ) → days_in_month (pos year) month ≤ n → date_in_year (suc more) year month n ≡ date_in_year more year (month + 1) (n - days_in_month (pos year) month)
 unfolding date_in_year
-date_in_year-past more year month n h = cond-false _ _ _ (le-ltb n (days_in_month (pos year) month) h)
+date_in_year-past more year month n past = cond-false _ _ _ (le-ltb n (days_in_month (pos year) month) past)
+
+date_from_year-zero : (year n : ℕ) → date_from_year zero year n ≡ date_in_year 11 year 1 n
+unfolding date_from_year
+date_from_year-zero year n = refl
 
 date_from_year-here : (more year n : ℕ) → n < days_in_year (pos year) → date_from_year (suc more) year n ≡ date_in_year 11 year 1 n
 unfolding date_from_year
-date_from_year-here more year n h = cond-true _ _ _ (lt-ltb n (days_in_year (pos year)) h)
+date_from_year-here more year n within = cond-true _ _ _ (lt-ltb n (days_in_year (pos year)) within)
 
 date_from_year-past : (more year n : ℕ) → days_in_year (pos year) ≤ n → date_from_year (suc more) year n ≡ date_from_year more (year + 1) (n - days_in_year (pos year))
 unfolding date_from_year
-date_from_year-past more year n h = cond-false _ _ _ (le-ltb n (days_in_year (pos year)) h)
+date_from_year-past more year n past = cond-false _ _ _ (le-ltb n (days_in_year (pos year)) past)
 
 -- the month of a date is found from an earlier month
 date_in_year-found : (more year month n later day : ℕ) → 1 ≤ month → month ≤ later → later ≤ month + more → 1 ≤ day → day ≤ days_in_month (pos year) later → n + days_of_months (pos year) (month - 1) + 1 ≡ days_of_months (pos year) (later - 1) + day → date_in_year more year month n ≡ record { year = year; month = later; day = day }
@@ -56,10 +61,6 @@ date_in_year-found (suc more) year month n later day from below within first las
           let within_month : n < days_in_month (pos year) month = let there = rw same at last in omega arith in
           rw (date_in_year-here more year month n within_month, same, is) refl
     ]
-
-date_from_year-zero : (year n : ℕ) → date_from_year zero year n ≡ date_in_year 11 year 1 n
-unfolding date_from_year
-date_from_year-zero year n = refl
 
 -- the date in its own year
 own_year : (n year month day : ℕ) → IsCivilDate (pos year) month day → n + 1 ≡ day_of_year (pos year) month day → date_in_year 11 year 1 n ≡ record { year = year; month = month; day = day }
@@ -151,6 +152,7 @@ record IsFound (year n : ℕ) (date : CivilDate) : Type 0 where
   civil : IsCivilDate (pos year) date.month date.day
   place : n + 1 ≡ day_of_year (pos year) date.month date.day
 
+-- while months are left, the date that is found lies so many days after 1 January
 date_in_year-is : (more year month n : ℕ) → IsYear (pos year) → 1 ≤ month → month + more ≡ 12 → n + days_of_months (pos year) (month - 1) < days_of_months (pos year) 12 → IsFound year (n + days_of_months (pos year) (month - 1)) (date_in_year more year month n)
 date_in_year-is zero year month n year_in from last within =
     let same : month ≡ 12 = omega arith in
@@ -183,6 +185,7 @@ record HasCount (count : ℕ) (date : CivilDate) : Type 0 where
   civil : IsCivilDate (pos date.year) date.month date.day
   is : day_count (pos date.year) date.month date.day ≡ count
 
+-- a date of a year has the day count of the year's first day and its place
 HasCount-found : (year n count : ℕ) (date : CivilDate) → 1 ≤ year → IsFound year n date → n + day_count (pos year) 1 1 ≡ count → HasCount count date
 HasCount-found year n count date low found place =
     let civil : IsCivilDate (pos date.year) date.month date.day = rw found.same_year found.civil in
@@ -192,6 +195,7 @@ HasCount-found year n count date low found place =
       is = rw found.same_year (omega (arith, found.place, found.civil.2.0, day_count-day_of_year (pos year) date.month date.day found.civil.2.0));
     }
 
+-- while years are left, the date that is found has the day count
 date_from_year-is : (more year n count : ℕ) → 1 ≤ year → year + more ≡ 9999 → n + day_count (pos year) 1 1 ≡ count → count < day_count (pos 10000) 1 1 → HasCount count (date_from_year more year n)
 date_from_year-is zero year n count low last place within =
     let same : year ≡ 9999 = omega arith in
@@ -208,6 +212,7 @@ date_from_year-is (suc more) year n count low last place within =
           rw (date_from_year-past more year n past) (date_from_year-is more (year + 1) (n - days_in_year (pos year)) count (omega arith) (omega arith) (omega arith) within)
     ]
 
+-- the day count of a day's date, where 1970-01-01 has 4,371,953
 date_of-is : (day : ℤ) (count : ℕ) → up day + 4_371_953 ≡ down day + count → IsTrue (is_dated day) → HasCount count (date_of day)
 unfolding date_of
 date_of-is day count is within =
@@ -227,6 +232,7 @@ date_parts year month day limit exists = grind (arith, nat_tests)
 date_from_parts : (year month day limit : ℕ) → (1 ≤ year) × (year ≤ 9999) × (1 ≤ month) × (month ≤ 12) × (1 ≤ day) × (day ≤ limit) → IsTrue (nat_le 1 year && nat_le year 9999 && nat_le 1 month && nat_le month 12 && nat_le 1 day && nat_le day limit)
 date_from_parts year month day limit parts = grind (arith, nat_tests)
 
+-- the calendar has a date that passes the test
 civil_date : (year month day : ℕ) → IsTrue (is_date year month day) → IsCivilDate (pos year) month day
 civil_date year month day exists =
     let parts = date_parts year month day (days_in_month (pos year) month) exists in
@@ -236,7 +242,6 @@ civil_date year month day exists =
 pub day_number-date_of : (day : ℤ) → IsTrue (is_dated day) → day_number (date_of day).year (date_of day).month (date_of day).day ≡ day
 day_number-date_of day within =
     let ends : (negsuc 719_161 ≤ℤ day) × (day ≤ℤ pos 2_932_896) = grind (arith, ints) in
-    let date = date_of day in
     let count : day_count (pos (date_of day).year) (date_of day).month (date_of day).day ≡ up day + 4_371_953 - down day = (count_of-is day within).is in
     omega (arith, signed_arith, days_from_civil-day_count (pos (date_of day).year) (date_of day).month (date_of day).day)
 

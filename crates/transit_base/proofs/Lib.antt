@@ -1,2 +1,3 @@
-pub mod CheckedDates
+pub mod MomentLemmas
 pub mod DateLemmas
+pub mod CheckedDates

@@ -9,7 +9,7 @@ use crate::calendar::Day;
 #[derive(Clone, Copy, Debug, PartialEq, Eq, PartialOrd, Ord)]
 pub struct Moment(pub i64);
 
-/// An amount of money in whole minor units of a feed's one currency, as cents. It may be negative.
+/// An amount of money in whole minor units of a feed's one currency, such as cents. It may be negative.
 #[derive(Clone, Copy, Debug, PartialEq, Eq, PartialOrd, Ord)]
 pub struct Money(pub i64);
 
