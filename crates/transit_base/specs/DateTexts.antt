@@ -1,5 +1,5 @@
 -- The texts of dates, times and moments.
-use Rattle.std.specs.Prelude.{ℕ, ◌+◌, ◌*◌, ◌/◌, ◌%◌, ◌&&◌, nat_lt, if◌then◌else◌, List, [], ◌∷◌, ◌++◌, ℤ}
+use Rattle.std.specs.Prelude.{ℕ, ◌+◌, ◌/◌, ◌%◌, nat_lt, if◌then◌else◌, List, [], ◌∷◌, ◌++◌, ℤ}
 use Rattle.transit_base.specs.Moments.{civil_day, time_of_day}
 use Rattle.transit_base.specs.Dates.{CivilDate, date_of}
 
