@@ -11,7 +11,7 @@ use Rattle.feed_rows.specs.Lines.{line}
 
 -- the choice pays the rides for the rider at this price, and no other choice pays them at less
 pub record IsLeastPrice (feed : FeedRows) (rides : List Ride) (rider : Option RiderId) (choice : Choice) (price : ℤ) : Type 0 where
-  pub price : rides_price feed rides choice rider ≡ Some price
+  pub paid : rides_price feed rides choice rider ≡ Some price
   pub least : (other : Choice) (sum : ℤ) → rides_price feed rides other rider ≡ Some sum → price ≤ℤ sum
 
 -- no choice pays the rides for the rider
