@@ -1,2 +1,6 @@
 pub mod AscendingLaws
 pub mod TransferLaws
+pub mod EntryChecks
+pub mod BaseFeed
+pub mod WorkedRides
+pub mod WorkedEntries
