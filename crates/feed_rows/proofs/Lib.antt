@@ -4,3 +4,4 @@ pub mod EntryChecks
 pub mod BaseFeed
 pub mod WorkedRides
 pub mod WorkedEntries
+pub mod WorkedTexts

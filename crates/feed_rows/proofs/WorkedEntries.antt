@@ -64,10 +64,10 @@ abbrev pub morning : Query
 morning = query 0 2 28800
 
 -- the rides of the first entry, and how they are paid
-abbrev two_rides : List Ride
+abbrev pub two_rides : List Ride
 two_rides = ride 0 0 1 ∷ ride 1 0 1 ∷ []
 
-abbrev paid : List LegChoice → List (Option ChangeChoice) → Choice
+abbrev pub paid : List LegChoice → List (Option ChangeChoice) → Choice
 paid legs changes = record { legs = legs; changes = changes }
 
 -- ---- transfer rules: types, limits, counts
@@ -235,7 +235,7 @@ unfolding entry_test is_ride ride_facts is_active shifts_of calls_of call_at lin
 frame_edge_strict = (refl, refl)
 
 -- a bus of service S, active on 2025-06-01, that leaves A at 25:10:00; the group sun is of S, and mon of M, active on 2025-06-02
-abbrev after_midnight : FeedRows
+abbrev pub after_midnight : FeedRows
 after_midnight =
     record in_frames {
       trips = trip (codes "N") 0 ∷ [];
@@ -250,7 +250,7 @@ after_midnight =
       service_names = codes "S" ∷ codes "M" ∷ [];
     }
 
-abbrev night_ride : Ride
+abbrev pub night_ride : Ride
 night_ride = record (ride 0 0 1) { day = record { 0 = pos 20240 } }
 
 -- timeframes go by the civil day of the departure, not by the service day
@@ -266,11 +266,11 @@ midnight_strict = refl
 -- ---- journeys without rides, and walks
 
 -- a walk of an hour from A to C
-abbrev with_walk : FeedRows
+abbrev pub with_walk : FeedRows
 with_walk = record base { links = record { from = record { 0 = 0 }; to = record { 0 = 2 }; forbidden = false; seconds = 3600 } ∷ [] }
 
 -- B and B2 are platforms of station P, and T2 departs from B2 at this time
-abbrev from_b2 : ℕ → FeedRows
+abbrev pub from_b2 : ℕ → FeedRows
 from_b2 time =
     record base {
       stops =

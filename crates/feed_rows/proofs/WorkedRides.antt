@@ -76,7 +76,7 @@ unfolding shifts_of
 plain_shift = refl
 
 -- T3 leaves A at 08:05:00; runs from 08:20:00 to before 09:20:00, each half an hour: 08:20:00 and 08:50:00
-abbrev frequent : FeedRows
+abbrev pub frequent : FeedRows
 frequent =
     record base { frequencies = record { trip = record { 0 = 2 }; start = 30000; end = 33600; headway = 1800 } ∷ [] }
 
