@@ -8,6 +8,8 @@ mod journeys;
 mod lists;
 mod names;
 mod rows;
+#[cfg(test)]
+mod tests;
 mod usage;
 
 pub use fares::{ChangeChoice, ChangeChoices, Choice, Entries, Entry, LegChoice, LegChoices, RowList, RuleList, TransferFacts, Triple, XferList};
