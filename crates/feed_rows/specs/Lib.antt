@@ -3,3 +3,8 @@ pub mod Faults
 pub mod Ascending
 pub mod Words
 pub mod FeedRows
+pub mod SoundNames
+pub mod SoundTrips
+pub mod SoundFares
+pub mod SoundFeed
+pub mod FieldsOfFeed

@@ -3,6 +3,7 @@
 
 mod fares;
 mod faults;
+mod feed;
 mod ids;
 mod journeys;
 mod lists;
@@ -11,6 +12,7 @@ mod rows;
 
 pub use fares::{ChangeChoice, ChangeChoices, Choice, Entries, Entry, LegChoice, LegChoices, RowList, RuleList, TransferFacts, Triple, XferList};
 pub use faults::{FaultKind, FeedFault};
+pub use feed::{AreaRows, ExceptionRows, Feed, FrequencyRows, LegRuleRows, LinkRows, MediumRows, NameList, ProductRows, RiderRows, RouteRows, ServiceRows, StopAreaRows, StopRows, StopTimeRows, TimeframeRows, TransferRuleRows, TripRows};
 pub use ids::Id;
 pub use journeys::{AreaList, Call, FrameList, Journey, LegFacts, LegList, Query, Ride, RideFacts, RideList, Shifts};
 pub use lists::{AscendingList, ItemList};
