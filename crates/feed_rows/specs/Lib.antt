@@ -3,8 +3,9 @@ pub mod Faults
 pub mod Ascending
 pub mod Words
 pub mod FeedRows
+pub mod Items
 pub mod SoundNames
-pub mod SoundTrips
+pub mod SoundTimetable
 pub mod SoundFares
 pub mod SoundFeed
-pub mod FieldsOfFeed
+pub mod Feed

@@ -45,7 +45,7 @@ pub record AreSoundProducts (feed : FeedRows) : Type 0 where
   pub riders : All (λ p. ForSome p.rider (λ r. r.0 < length feed.riders)) feed.products
   pub media : All (λ p. ForSome p.medium (λ m. m.0 < length feed.media)) feed.products
   -- no two rows are of one product, rider category and medium
-  pub no_doubles : AllPairs (λ p q. p.product ≡ q.product → p.rider ≡ q.rider → p.medium ≢ q.medium) feed.products
+  pub no_doubles : AllPairs (λ p q. p.product.0 ≡ q.product.0 → p.rider ≡ q.rider → p.medium ≢ q.medium) feed.products
   pub amounts : All (λ p. nat_abs p.amount.0 ≤ 10 ^ 12) feed.products
 
 -- fare_leg_rules.txt
@@ -69,8 +69,8 @@ pub record AreSoundTransferRules (feed : FeedRows) : Type 0 where
   pub tos : All (λ r. ForSome r.to (λ g. g.0 < length feed.group_names)) feed.transfer_rules
   pub products : All (λ r. ForSome r.product (λ p. p.0 < length feed.product_names)) feed.transfer_rules
   pub kinds : All (λ r. r.kind ≤ 2) feed.transfer_rules
-  -- only a rule from a leg group to the same group, or from any to any, counts transfers
-  pub uncounted : All (λ r. r.from ≢ r.to → IsNone r.count) feed.transfer_rules
+  -- only a rule from a leg group to the same one, or from any to any, has a count
+  pub counted : All (λ r. ForSome r.count (λ n. r.from ≡ r.to)) feed.transfer_rules
   pub counts : All (λ r. ForSome r.count (λ n. (1 ≤ n) × (n ≤ 2_147_483_647))) feed.transfer_rules
   pub limits : All (λ r. ForSome r.limit (λ l. (1 ≤ l.seconds) × (l.seconds ≤ 2_147_483_647))) feed.transfer_rules
   pub limit_kinds : All (λ r. ForSome r.limit (λ l. l.kind ≤ 3)) feed.transfer_rules

@@ -1,7 +1,7 @@
 -- What holds of the rows of a feed that has no fault.
 use Rattle.feed_rows.specs.FeedRows.{FeedRows}
 use Rattle.feed_rows.specs.SoundNames.{IsNameList}
-use Rattle.feed_rows.specs.SoundTrips.{AreSoundStops, AreSoundRoutes, AreSoundTrips, AreSoundStopTimes, AreSoundCalls, AreSoundServices, AreSoundExceptions, AreSoundFrequencies, AreSoundLinks}
+use Rattle.feed_rows.specs.SoundTimetable.{AreSoundStops, AreSoundRoutes, AreSoundTrips, AreSoundStopTimes, AreOrderedCalls, AreSoundServices, AreSoundExceptions, AreSoundFrequencies, AreSoundLinks}
 use Rattle.feed_rows.specs.SoundFares.{AreSoundAreas, AreSoundStopAreas, AreSoundTimeframes, AreSoundRiders, AreSoundMedia, AreSoundProducts, AreSoundLegRules, AreSoundTransferRules, IsSoundCurrency}
 
 -- the rows have no fault
@@ -10,7 +10,7 @@ pub record IsSoundFeed (feed : FeedRows) : Type 0 where
   pub routes : AreSoundRoutes feed
   pub trips : AreSoundTrips feed
   pub stop_times : AreSoundStopTimes feed
-  pub calls : AreSoundCalls feed
+  pub calls : AreOrderedCalls feed
   pub services : AreSoundServices feed
   pub exceptions : AreSoundExceptions feed
   pub frequencies : AreSoundFrequencies feed

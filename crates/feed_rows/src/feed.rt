@@ -100,7 +100,7 @@ impl Model for Feed {
     ghost Value = { FeedRows };
 
     ghost use Rattle.feed_rows.specs.SoundFeed.{IsSoundFeed};
-    ghost use Rattle.feed_rows.specs.FieldsOfFeed.{rows_of};
+    ghost use Rattle.feed_rows.specs.Feed.{rows_of};
 
     ghost view = { rows_of };
 

@@ -1,8 +1,8 @@
--- The fields of a `Feed` as the record that contracts see.
+-- What contracts see of a `Feed`.
 use Rattle.feed_rows.specs.declared.feed.Feed.TheInside.{Inside}
 use Rattle.feed_rows.specs.FeedRows.{FeedRows}
 
--- the lists of the fields
+-- the fields as one record
 abbrev pub rows_of : Inside → FeedRows
 rows_of fields =
     record {

@@ -4,6 +4,7 @@ use Rattle.std.specs.Option.{ForSome, option_or}
 use Rattle.transit_base.specs.declared.calendar.Day.{Day}
 use Rattle.feed_rows.specs.declared.rows.StopTimeRow.{StopTimeRow}
 use Rattle.feed_rows.specs.FeedRows.{FeedRows}
+use Rattle.feed_rows.specs.Items.{ForItem}
 use Rattle.feed_rows.specs.SoundNames.{IsIdText}
 
 -- a day of the years 1 to 9999
@@ -18,10 +19,9 @@ pub record AreSoundStops (feed : FeedRows) : Type 0 where
   pub no_doubles : AllPairs (λ s t. s.id ≢ t.id) feed.stops
   pub kinds : All (λ s. s.kind ≤ 4) feed.stops
   pub parents : All (λ s. ForSome s.parent (λ p. p.0 < length feed.stops)) feed.stops
-  -- what a platform names as its parent is a station
-  pub stations : All (λ s. s.kind ≡ 0 → ForSome s.parent (λ p. IsSomeAnd (slice_get feed.stops p.0) (λ t. t.kind ≡ 1))) feed.stops
-  -- only a platform has a parent
-  pub childless : All (λ s. 1 ≤ s.kind → IsNone s.parent) feed.stops
+  -- a parent is a station, and only a platform has one
+  pub stations : All (λ s. ForSome s.parent (λ p. ForItem feed.stops p.0 (λ t. t.kind ≡ 1))) feed.stops
+  pub platforms : All (λ s. ForSome s.parent (λ p. s.kind ≡ 0)) feed.stops
 
 -- routes.txt
 pub record AreSoundRoutes (feed : FeedRows) : Type 0 where
@@ -46,11 +46,6 @@ first_time row = option_or row.arrival row.departure
 abbrev pub last_time : StopTimeRow → Option ℕ
 last_time row = option_or row.departure row.arrival
 
--- two rows of one trip, the first of the lesser sequence
-pub record IsEarlierCall (row later : StopTimeRow) : Type 0 where
-  pub trip : row.trip.0 ≡ later.trip.0
-  pub before : row.sequence < later.sequence
-
 -- no row of its trip has a lesser sequence
 abbrev pub IsFirstCall : FeedRows → StopTimeRow → Type 0
 IsFirstCall feed row = All (λ other. other.trip.0 ≡ row.trip.0 → row.sequence ≤ other.sequence) feed.stop_times
@@ -64,21 +59,21 @@ pub record AreSoundStopTimes (feed : FeedRows) : Type 0 where
   pub few : length feed.stop_times ≤ 4_000_000
   pub trips : All (λ c. c.trip.0 < length feed.trips) feed.stop_times
   pub stops : All (λ c. c.stop.0 < length feed.stops) feed.stop_times
-  pub platforms : All (λ c. IsSomeAnd (slice_get feed.stops c.stop.0) (λ s. s.kind ≡ 0)) feed.stop_times
+  pub platforms : All (λ c. ForItem feed.stops c.stop.0 (λ s. s.kind ≡ 0)) feed.stop_times
   pub sequences : All (λ c. c.sequence ≤ 2_147_483_647) feed.stop_times
   pub arrivals : All (λ c. ForSome c.arrival (λ s. s ≤ 604_799)) feed.stop_times
   pub departures : All (λ c. ForSome c.departure (λ s. s ≤ 604_799)) feed.stop_times
 
--- the stop times of each trip, in the order of their sequences
-pub record AreSoundCalls (feed : FeedRows) : Type 0 where
+-- the rows of stop_times.txt beside one another
+pub record AreOrderedCalls (feed : FeedRows) : Type 0 where
   -- no two rows of a trip have one sequence
-  pub sequences : AllPairs (λ c d. c.trip.0 ≡ d.trip.0 → c.sequence ≢ d.sequence) feed.stop_times
-  -- the first row of a trip has a time, and so has the last
-  pub first_timed : All (λ c. IsFirstCall feed c → IsSome (first_time c)) feed.stop_times
-  pub last_timed : All (λ c. IsLastCall feed c → IsSome (last_time c)) feed.stop_times
-  -- times don't fall, in a row and from one row to any later one
-  pub stays : All (λ c. ForSome (first_time c) (λ a. ForSome (last_time c) (λ b. a ≤ b))) feed.stop_times
-  pub rises : All (λ c. All (λ d. IsEarlierCall c d → ForSome (last_time c) (λ a. ForSome (first_time d) (λ b. a ≤ b))) feed.stop_times) feed.stop_times
+  pub no_doubles : AllPairs (λ c d. c.trip.0 ≡ d.trip.0 → c.sequence ≢ d.sequence) feed.stop_times
+  -- the first and the last row of each trip have a time
+  pub firsts : All (λ c. IsFirstCall feed c → IsSome (first_time c)) feed.stop_times
+  pub lasts : All (λ c. IsLastCall feed c → IsSome (last_time c)) feed.stop_times
+  -- no time falls, in a row and from a row of a trip to each of greater sequence
+  pub within_rows : All (λ c. ForSome (first_time c) (λ a. ForSome (last_time c) (λ b. a ≤ b))) feed.stop_times
+  pub between_rows : All (λ c. All (λ d. c.trip.0 ≡ d.trip.0 → c.sequence < d.sequence → ForSome (last_time c) (λ a. ForSome (first_time d) (λ b. a ≤ b))) feed.stop_times) feed.stop_times
 
 -- calendar.txt
 pub record AreSoundServices (feed : FeedRows) : Type 0 where
