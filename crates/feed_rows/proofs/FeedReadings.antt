@@ -3,7 +3,9 @@ use Rattle.std.proofs.Common.{◌≡◌, ℕ, ◌+◌, ◌^◌, ◌<◌, ◌≤�
 use Rattle.std.specs.Prelude.{◌≢◌, All, AllPairs, slice_get, ℤ, pos, negsuc, ◌≤ℤ◌, nat_abs}
 use Rattle.std.specs.Option.{ForSome, option_or}
 use Rattle.std.proofs.lemmas.Bool.{cases_lt}
+use Rattle.std.proofs.lemmas.Int.{ints}
 use Rattle.std.proofs.lemmas.Option.{slice_get_within, get_or_from_slice_get}
+use Rattle.transit_base.specs.declared.numbers.StopId.{StopId}
 use Rattle.feed_rows.specs.declared.rows.StopRow.{StopRow}
 use Rattle.feed_rows.specs.declared.rows.RouteRow.{RouteRow}
 use Rattle.feed_rows.specs.declared.rows.TripRow.{TripRow}
@@ -135,3 +137,104 @@ same_timeframe feed i j time t u sound gi gj frame service t_from t_to u_from u_
       gi
       gj
       (frame, service, t_from, t_to, u_from, u_to)
+
+-- the parent of a stop is a station
+pub parent_kind : (feed : FeedRows) (i : ℕ) (s t : StopRow) (parent : StopId) → AreSoundStops feed → slice_get feed.stops i ≡ Some s → s.parent ≡ Some parent → slice_get feed.stops parent.0 ≡ Some t → t.kind ≡ 1
+parent_kind feed i s t parent sound got named found =
+    ForItem-slice_get (λ r. r.kind ≡ 1) feed.stops parent.0 t found (All-slice_get (λ r. ForSome r.parent (λ p. ForItem feed.stops p.0 (λ q. q.kind ≡ 1))) feed.stops i s got sound.stations parent named)
+
+-- a stop that is no platform has no parent
+pub no_parent : (feed : FeedRows) (i : ℕ) (s : StopRow) → AreSoundStops feed → slice_get feed.stops i ≡ Some s → 1 ≤ s.kind → s.parent ≡ None
+no_parent feed i s sound got kind = step s.parent (All-slice_get (λ r. ForSome r.parent (λ p. r.kind ≡ 0)) feed.stops i s got sound.platforms)
+  where
+  step : (parent : Option StopId) → ForSome parent (λ p. s.kind ≡ 0) → parent ≡ None
+  step None _ = refl
+  step (Some p) platform = let flat : s.kind ≡ 0 = platform p refl in absurd (omega arith)
+
+-- the stop of a stop time is a platform
+pub call_kind : (feed : FeedRows) (i : ℕ) (c : StopTimeRow) (s : StopRow) → AreSoundStopTimes feed → slice_get feed.stop_times i ≡ Some c → slice_get feed.stops c.stop.0 ≡ Some s → s.kind ≡ 0
+call_kind feed i c s sound got found =
+    ForItem-slice_get (λ r. r.kind ≡ 0) feed.stops c.stop.0 s found (All-slice_get (λ r. ForItem feed.stops r.stop.0 (λ q. q.kind ≡ 0)) feed.stop_times i c got sound.platforms)
+
+-- what bounds both of two times bounds the one that is there
+pub time-bound : (P : ℕ → Type 0) (o p : Option ℕ) (time : ℕ) → ForSome o P → ForSome p P → option_or o p ≡ Some time → P time
+time-bound P None p time first second is = second time is
+time-bound P (Some x) p time first second is = first time is
+
+-- the first time of a stop time is in its week
+pub first_time_small : (feed : FeedRows) (i time : ℕ) (c : StopTimeRow) → AreSoundStopTimes feed → slice_get feed.stop_times i ≡ Some c → first_time c ≡ Some time → time ≤ 604_799
+first_time_small feed i time c sound got =
+    time-bound
+      (λ t. t ≤ 604_799)
+      c.arrival
+      c.departure
+      time
+      (All-slice_get (λ r. ForSome r.arrival (λ t. t ≤ 604_799)) feed.stop_times i c got sound.arrivals)
+      (All-slice_get (λ r. ForSome r.departure (λ t. t ≤ 604_799)) feed.stop_times i c got sound.departures)
+
+-- the last time of a stop time is in its week
+pub last_time_small : (feed : FeedRows) (i time : ℕ) (c : StopTimeRow) → AreSoundStopTimes feed → slice_get feed.stop_times i ≡ Some c → last_time c ≡ Some time → time ≤ 604_799
+last_time_small feed i time c sound got =
+    time-bound
+      (λ t. t ≤ 604_799)
+      c.departure
+      c.arrival
+      time
+      (All-slice_get (λ r. ForSome r.departure (λ t. t ≤ 604_799)) feed.stop_times i c got sound.departures)
+      (All-slice_get (λ r. ForSome r.arrival (λ t. t ≤ 604_799)) feed.stop_times i c got sound.arrivals)
+
+-- a stop time with one of the two times has both a first and a last time
+pub last_time-first_time : (c : StopTimeRow) (time : ℕ) → first_time c ≡ Some time → (last : ℕ) × (last_time c ≡ Some last)
+last_time-first_time c time is = step c.arrival c.departure is
+  where
+  step : (arrival departure : Option ℕ) → option_or arrival departure ≡ Some time → (last : ℕ) × (option_or departure arrival ≡ Some last)
+  step arrival (Some d) _ = (d, refl)
+  step (Some a) None _ = (a, refl)
+  step None None none = absurd (cc)
+
+-- the times of a row don't fall
+pub times_within_row : (feed : FeedRows) (i a b : ℕ) (c : StopTimeRow) → AreOrderedCalls feed → slice_get feed.stop_times i ≡ Some c → first_time c ≡ Some a → last_time c ≡ Some b → a ≤ b
+times_within_row feed i a b c sound got first last =
+    All-slice_get (λ r. ForSome (first_time r) (λ s. ForSome (last_time r) (λ t. s ≤ t))) feed.stop_times i c got sound.within_rows a first b last
+
+-- the times of a trip don't fall from a row to one of greater sequence
+pub times_between_rows : (feed : FeedRows) (i j a b : ℕ) (c d : StopTimeRow) → AreOrderedCalls feed → slice_get feed.stop_times i ≡ Some c → slice_get feed.stop_times j ≡ Some d → c.trip.0 ≡ d.trip.0 → c.sequence < d.sequence → last_time c ≡ Some a → first_time d ≡ Some b → a ≤ b
+times_between_rows feed i j a b c d sound gc gd trip before last first =
+    All-slice_get
+      (λ r. c.trip.0 ≡ r.trip.0 → c.sequence < r.sequence → ForSome (last_time c) (λ s. ForSome (first_time r) (λ t. s ≤ t)))
+      feed.stop_times
+      j
+      d
+      gd
+      (All-slice_get (λ q. All (λ r. q.trip.0 ≡ r.trip.0 → q.sequence < r.sequence → ForSome (last_time q) (λ s. ForSome (first_time r) (λ t. s ≤ t))) feed.stop_times) feed.stop_times i c gc sound.between_rows)
+      trip
+      before
+      a
+      last
+      b
+      first
+
+-- the first row of a trip has a time
+pub first_timed : (feed : FeedRows) (i : ℕ) (c : StopTimeRow) → AreOrderedCalls feed → slice_get feed.stop_times i ≡ Some c → IsFirstCall feed c → IsSome (first_time c)
+first_timed feed i c sound got = All-slice_get (λ r. IsFirstCall feed r → IsSome (first_time r)) feed.stop_times i c got sound.firsts
+
+-- the last row of a trip has a time
+pub last_timed : (feed : FeedRows) (i : ℕ) (c : StopTimeRow) → AreOrderedCalls feed → slice_get feed.stop_times i ≡ Some c → IsLastCall feed c → IsSome (last_time c)
+last_timed feed i c sound got = All-slice_get (λ r. IsLastCall feed r → IsSome (last_time r)) feed.stop_times i c got sound.lasts
+
+-- an amount is at least -10^12 and at most 10^12
+pub amount_small : (feed : FeedRows) (i : ℕ) (p : ProductRow) → AreSoundProducts feed → slice_get feed.products i ≡ Some p → (negsuc 999_999_999_999 ≤ℤ p.amount.0) × (p.amount.0 ≤ℤ pos 1_000_000_000_000)
+amount_small feed i p sound got =
+    let small = All-slice_get (λ r. nat_abs r.amount.0 ≤ 10 ^ 12) feed.products i p got sound.amounts in (omega (arith, ints), omega (arith, ints))
+
+-- a rule between two leg groups, or from or to any, has no count
+pub uncounted : (feed : FeedRows) (i : ℕ) (r : TransferRuleRow) → AreSoundTransferRules feed → slice_get feed.transfer_rules i ≡ Some r → r.from ≢ r.to → r.count ≡ None
+uncounted feed i r sound got apart = step r.count (All-slice_get (λ q. ForSome q.count (λ n. q.from ≡ q.to)) feed.transfer_rules i r got sound.counted)
+  where
+  step : (count : Option ℕ) → ForSome count (λ n. r.from ≡ r.to) → count ≡ None
+  step None _ = refl
+  step (Some n) same = absurd (apart (same n refl))
+
+-- a feed with a product has a currency
+pub currency_known : (feed : FeedRows) (i : ℕ) → IsSoundCurrency feed → i < length feed.products → IsSome feed.currency
+currency_known feed i sound within = sound.known.1 (omega arith)
