@@ -1,6 +1,6 @@
 -- What a feed without a fault says of single rows.
-use Rattle.std.proofs.Common.{◌≡◌, ℕ, ◌+◌, ◌^◌, ◌<◌, ◌≤◌, ◌⊎◌, inl, inr, List, length, get_or, refl, sym, ◌∙◌, ap, subst, arith, ⊎_elim, Option, Some, None, IsSome, IsNone}
-use Rattle.std.specs.Prelude.{◌≢◌, All, AllPairs, slice_get, ℤ, pos, negsuc, ◌≤ℤ◌, nat_abs}
+use Rattle.std.proofs.Common.{◌≡◌, ℕ, ◌^◌, ◌<◌, ◌≤◌, ◌⊎◌, inl, inr, List, length, refl, sym, subst, arith, ⊎_elim, Option, Some, None, IsSome}
+use Rattle.std.specs.Prelude.{◌≢◌, All, AllPairs, slice_get, pos, negsuc, ◌≤ℤ◌, nat_abs}
 use Rattle.std.specs.Option.{ForSome, option_or}
 use Rattle.std.proofs.lemmas.Bool.{cases_lt}
 use Rattle.std.proofs.lemmas.Int.{ints}
@@ -37,10 +37,10 @@ ForItem-slice_get P xs i x got item = subst P (get_or_from_slice_get xs i x x go
 pub same-place : {X : Type 0} (R : X → X → Type 0) (xs : List X) (i j : ℕ) (x y : X) → AllPairs (λ a b. ¬ (R a b)) xs → (R x y → R y x) → slice_get xs i ≡ Some x → slice_get xs j ≡ Some y → R x y → i ≡ j
 same-place R xs i j x y apart turn gx gy same = step (cases_lt i j) (cases_lt j i)
   where
-  step : (i < j) ⊎ (j ≤ i) → (j < i) ⊎ (i ≤ j) → i ≡ j
-  step (inl lt) _ = absurd (apart i j x lt (slice_get_within xs j y gy) (rw (get_or_from_slice_get xs i x x gx, get_or_from_slice_get xs j y x gy) same))
-  step (inr le) (inl lt) = absurd (apart j i x lt (slice_get_within xs i x gx) (rw (get_or_from_slice_get xs j y x gy, get_or_from_slice_get xs i x x gx) (turn same)))
-  step (inr le) (inr ge) = omega arith
+    step : (i < j) ⊎ (j ≤ i) → (j < i) ⊎ (i ≤ j) → i ≡ j
+    step (inl lt) _ = absurd (apart i j x lt (slice_get_within xs j y gy) (rw (get_or_from_slice_get xs i x x gx, get_or_from_slice_get xs j y x gy) same))
+    step (inr le) (inl lt) = absurd (apart j i x lt (slice_get_within xs i x gx) (rw (get_or_from_slice_get xs j y x gy, get_or_from_slice_get xs i x x gx) (turn same)))
+    step (inr le) (inr ge) = omega arith
 
 -- two rows with one key are one row
 pub same-key : {X K : Type 0} (key : X → K) (xs : List X) (i j : ℕ) (x y : X) → AllPairs (λ a b. key a ≢ key b) xs → slice_get xs i ≡ Some x → slice_get xs j ≡ Some y → key x ≡ key y → i ≡ j
@@ -50,17 +50,17 @@ same-key key xs i j x y apart gx gy same = same-place (λ a b. key a ≡ key b) 
 pub same-keys : {X K L : Type 0} (key : X → K) (part : X → L) (xs : List X) (i j : ℕ) (x y : X) → AllPairs (λ a b. key a ≡ key b → part a ≢ part b) xs → slice_get xs i ≡ Some x → slice_get xs j ≡ Some y → key x ≡ key y → part x ≡ part y → i ≡ j
 same-keys key part xs i j x y apart gx gy same also =
     same-place
-      (λ a b. (key a ≡ key b) × (part a ≡ part b))
-      xs
-      i
-      j
-      x
-      y
-      (λ a b d lt within both. apart a b d lt within both.0 both.1)
-      (λ both. (sym both.0, sym both.1))
-      gx
-      gy
-      (same, also)
+    (λ a b. (key a ≡ key b) × (part a ≡ part b))
+    xs
+    i
+    j
+    x
+    y
+    (λ a b d lt within both. apart a b d lt within both.0 both.1)
+    (λ both. (sym both.0, sym both.1))
+    gx
+    gy
+    (same, also)
 
 -- two stops with one id are one stop
 pub same_stop : (feed : FeedRows) (i j : ℕ) (s t : StopRow) → AreSoundStops feed → slice_get feed.stops i ≡ Some s → slice_get feed.stops j ≡ Some t → s.id ≡ t.id → i ≡ j
@@ -110,33 +110,33 @@ same_call feed i j c d sound = same-keys (λ r. r.trip.0) (λ r. r.sequence) fee
 pub same_product : (feed : FeedRows) (i j : ℕ) (p q : ProductRow) → AreSoundProducts feed → slice_get feed.products i ≡ Some p → slice_get feed.products j ≡ Some q → p.product.0 ≡ q.product.0 → p.rider ≡ q.rider → p.medium ≡ q.medium → i ≡ j
 same_product feed i j p q sound gi gj product rider medium =
     same-place
-      (λ a b. (a.product.0 ≡ b.product.0) × (a.rider ≡ b.rider) × (a.medium ≡ b.medium))
-      feed.products
-      i
-      j
-      p
-      q
-      (λ a b d lt within all. sound.no_doubles a b d lt within all.0 all.1 all.2)
-      (λ all. (sym all.0, sym all.1, sym all.2))
-      gi
-      gj
-      (product, rider, medium)
+    (λ a b. (a.product.0 ≡ b.product.0) × (a.rider ≡ b.rider) × (a.medium ≡ b.medium))
+    feed.products
+    i
+    j
+    p
+    q
+    (λ a b d lt within all. sound.no_doubles a b d lt within all.0 all.1 all.2)
+    (λ all. (sym all.0, sym all.1, sym all.2))
+    gi
+    gj
+    (product, rider, medium)
 
 -- a time of day lies in one timeframe of a group and a service at most
 pub same_timeframe : (feed : FeedRows) (i j time : ℕ) (t u : TimeframeRow) → AreSoundTimeframes feed → slice_get feed.timeframes i ≡ Some t → slice_get feed.timeframes j ≡ Some u → t.frame.0 ≡ u.frame.0 → t.service.0 ≡ u.service.0 → t.start ≤ time → time < t.end → u.start ≤ time → time < u.end → i ≡ j
 same_timeframe feed i j time t u sound gi gj frame service t_from t_to u_from u_to =
     same-place
-      (λ a b. (a.frame.0 ≡ b.frame.0) × (a.service.0 ≡ b.service.0) × (a.start ≤ time) × (time < a.end) × (b.start ≤ time) × (time < b.end))
-      feed.timeframes
-      i
-      j
-      t
-      u
-      (λ a b d lt within all. ⊎_elim (λ before. omega arith) (λ after. omega arith) (sound.apart a b d lt within all.0 all.1))
-      (λ all. (sym all.0, sym all.1, all.4, all.5, all.2, all.3))
-      gi
-      gj
-      (frame, service, t_from, t_to, u_from, u_to)
+    (λ a b. (a.frame.0 ≡ b.frame.0) × (a.service.0 ≡ b.service.0) × (a.start ≤ time) × (time < a.end) × (b.start ≤ time) × (time < b.end))
+    feed.timeframes
+    i
+    j
+    t
+    u
+    (λ a b d lt within all. ⊎_elim (λ before. omega arith) (λ after. omega arith) (sound.apart a b d lt within all.0 all.1))
+    (λ all. (sym all.0, sym all.1, all.4, all.5, all.2, all.3))
+    gi
+    gj
+    (frame, service, t_from, t_to, u_from, u_to)
 
 -- the parent of a stop is a station
 pub parent_kind : (feed : FeedRows) (i : ℕ) (s t : StopRow) (parent : StopId) → AreSoundStops feed → slice_get feed.stops i ≡ Some s → s.parent ≡ Some parent → slice_get feed.stops parent.0 ≡ Some t → t.kind ≡ 1
@@ -147,9 +147,9 @@ parent_kind feed i s t parent sound got named found =
 pub no_parent : (feed : FeedRows) (i : ℕ) (s : StopRow) → AreSoundStops feed → slice_get feed.stops i ≡ Some s → 1 ≤ s.kind → s.parent ≡ None
 no_parent feed i s sound got kind = step s.parent (All-slice_get (λ r. ForSome r.parent (λ p. r.kind ≡ 0)) feed.stops i s got sound.platforms)
   where
-  step : (parent : Option StopId) → ForSome parent (λ p. s.kind ≡ 0) → parent ≡ None
-  step None _ = refl
-  step (Some p) platform = let flat : s.kind ≡ 0 = platform p refl in absurd (omega arith)
+    step : (parent : Option StopId) → ForSome parent (λ p. s.kind ≡ 0) → parent ≡ None
+    step None _ = refl
+    step (Some p) platform = let flat : s.kind ≡ 0 = platform p refl in absurd (omega arith)
 
 -- the stop of a stop time is a platform
 pub call_kind : (feed : FeedRows) (i : ℕ) (c : StopTimeRow) (s : StopRow) → AreSoundStopTimes feed → slice_get feed.stop_times i ≡ Some c → slice_get feed.stops c.stop.0 ≡ Some s → s.kind ≡ 0
@@ -165,32 +165,32 @@ time-bound P (Some x) p time first second is = first time is
 pub first_time_small : (feed : FeedRows) (i time : ℕ) (c : StopTimeRow) → AreSoundStopTimes feed → slice_get feed.stop_times i ≡ Some c → first_time c ≡ Some time → time ≤ 604_799
 first_time_small feed i time c sound got =
     time-bound
-      (λ t. t ≤ 604_799)
-      c.arrival
-      c.departure
-      time
-      (All-slice_get (λ r. ForSome r.arrival (λ t. t ≤ 604_799)) feed.stop_times i c got sound.arrivals)
-      (All-slice_get (λ r. ForSome r.departure (λ t. t ≤ 604_799)) feed.stop_times i c got sound.departures)
+    (λ t. t ≤ 604_799)
+    c.arrival
+    c.departure
+    time
+    (All-slice_get (λ r. ForSome r.arrival (λ t. t ≤ 604_799)) feed.stop_times i c got sound.arrivals)
+    (All-slice_get (λ r. ForSome r.departure (λ t. t ≤ 604_799)) feed.stop_times i c got sound.departures)
 
 -- the last time of a stop time is in its week
 pub last_time_small : (feed : FeedRows) (i time : ℕ) (c : StopTimeRow) → AreSoundStopTimes feed → slice_get feed.stop_times i ≡ Some c → last_time c ≡ Some time → time ≤ 604_799
 last_time_small feed i time c sound got =
     time-bound
-      (λ t. t ≤ 604_799)
-      c.departure
-      c.arrival
-      time
-      (All-slice_get (λ r. ForSome r.departure (λ t. t ≤ 604_799)) feed.stop_times i c got sound.departures)
-      (All-slice_get (λ r. ForSome r.arrival (λ t. t ≤ 604_799)) feed.stop_times i c got sound.arrivals)
+    (λ t. t ≤ 604_799)
+    c.departure
+    c.arrival
+    time
+    (All-slice_get (λ r. ForSome r.departure (λ t. t ≤ 604_799)) feed.stop_times i c got sound.departures)
+    (All-slice_get (λ r. ForSome r.arrival (λ t. t ≤ 604_799)) feed.stop_times i c got sound.arrivals)
 
 -- a stop time with one of the two times has both a first and a last time
 pub last_time-first_time : (c : StopTimeRow) (time : ℕ) → first_time c ≡ Some time → (last : ℕ) × (last_time c ≡ Some last)
 last_time-first_time c time is = step c.arrival c.departure is
   where
-  step : (arrival departure : Option ℕ) → option_or arrival departure ≡ Some time → (last : ℕ) × (option_or departure arrival ≡ Some last)
-  step arrival (Some d) _ = (d, refl)
-  step (Some a) None _ = (a, refl)
-  step None None none = absurd (cc)
+    step : (arrival departure : Option ℕ) → option_or arrival departure ≡ Some time → (last : ℕ) × (option_or departure arrival ≡ Some last)
+    step arrival (Some d) _ = (d, refl)
+    step (Some a) None _ = (a, refl)
+    step None None none = absurd (cc)
 
 -- the times of a row don't fall
 pub times_within_row : (feed : FeedRows) (i a b : ℕ) (c : StopTimeRow) → AreOrderedCalls feed → slice_get feed.stop_times i ≡ Some c → first_time c ≡ Some a → last_time c ≡ Some b → a ≤ b
@@ -201,18 +201,18 @@ times_within_row feed i a b c sound got first last =
 pub times_between_rows : (feed : FeedRows) (i j a b : ℕ) (c d : StopTimeRow) → AreOrderedCalls feed → slice_get feed.stop_times i ≡ Some c → slice_get feed.stop_times j ≡ Some d → c.trip.0 ≡ d.trip.0 → c.sequence < d.sequence → last_time c ≡ Some a → first_time d ≡ Some b → a ≤ b
 times_between_rows feed i j a b c d sound gc gd trip before last first =
     All-slice_get
-      (λ r. c.trip.0 ≡ r.trip.0 → c.sequence < r.sequence → ForSome (last_time c) (λ s. ForSome (first_time r) (λ t. s ≤ t)))
-      feed.stop_times
-      j
-      d
-      gd
-      (All-slice_get (λ q. All (λ r. q.trip.0 ≡ r.trip.0 → q.sequence < r.sequence → ForSome (last_time q) (λ s. ForSome (first_time r) (λ t. s ≤ t))) feed.stop_times) feed.stop_times i c gc sound.between_rows)
-      trip
-      before
-      a
-      last
-      b
-      first
+    (λ r. c.trip.0 ≡ r.trip.0 → c.sequence < r.sequence → ForSome (last_time c) (λ s. ForSome (first_time r) (λ t. s ≤ t)))
+    feed.stop_times
+    j
+    d
+    gd
+    (All-slice_get (λ q. All (λ r. q.trip.0 ≡ r.trip.0 → q.sequence < r.sequence → ForSome (last_time q) (λ s. ForSome (first_time r) (λ t. s ≤ t))) feed.stop_times) feed.stop_times i c gc sound.between_rows)
+    trip
+    before
+    a
+    last
+    b
+    first
 
 -- the first row of a trip has a time
 pub first_timed : (feed : FeedRows) (i : ℕ) (c : StopTimeRow) → AreOrderedCalls feed → slice_get feed.stop_times i ≡ Some c → IsFirstCall feed c → IsSome (first_time c)
@@ -231,9 +231,9 @@ amount_small feed i p sound got =
 pub uncounted : (feed : FeedRows) (i : ℕ) (r : TransferRuleRow) → AreSoundTransferRules feed → slice_get feed.transfer_rules i ≡ Some r → r.from ≢ r.to → r.count ≡ None
 uncounted feed i r sound got apart = step r.count (All-slice_get (λ q. ForSome q.count (λ n. q.from ≡ q.to)) feed.transfer_rules i r got sound.counted)
   where
-  step : (count : Option ℕ) → ForSome count (λ n. r.from ≡ r.to) → count ≡ None
-  step None _ = refl
-  step (Some n) same = absurd (apart (same n refl))
+    step : (count : Option ℕ) → ForSome count (λ n. r.from ≡ r.to) → count ≡ None
+    step None _ = refl
+    step (Some n) same = absurd (apart (same n refl))
 
 -- a feed with a product has a currency
 pub currency_known : (feed : FeedRows) (i : ℕ) → IsSoundCurrency feed → i < length feed.products → IsSome feed.currency

@@ -1,5 +1,5 @@
 -- What holds of the areas, timeframes, rider categories, media, products and fare rules of a feed.
-use Rattle.std.specs.Prelude.{◌≡◌, ◌≢◌, ℕ, ◌^◌, ◌<◌, ◌≤◌, ◌⊎◌, ◌↔◌, nat_abs, Bool, length, All, AllPairs, IsTrue, IsSome, IsNone, false}
+use Rattle.std.specs.Prelude.{◌≡◌, ◌≢◌, ◌^◌, ◌<◌, ◌≤◌, ◌⊎◌, ◌↔◌, nat_abs, length, All, AllPairs, IsSome, IsNone, false}
 use Rattle.std.specs.Option.{ForSome}
 use Rattle.feed_rows.specs.FeedRows.{FeedRows}
 use Rattle.feed_rows.specs.SoundNames.{IsIdText}

@@ -1,5 +1,5 @@
 -- What holds of the ids and names of a feed.
-use Rattle.std.specs.Prelude.{◌≡◌, ◌≢◌, ℕ, ◌≤◌, List, length, All, AllPairs}
+use Rattle.std.specs.Prelude.{◌≢◌, ℕ, ◌≤◌, List, length, All, AllPairs}
 
 -- the text of an id or a name: 1 to 255 bytes, none of them a tab or an end of line
 pub record IsIdText (text : List ℕ) : Type 0 where

@@ -1,5 +1,5 @@
 -- What holds of the stops, routes, trips, stop times, services, frequencies and links of a feed.
-use Rattle.std.specs.Prelude.{◌≡◌, ◌≢◌, ℕ, ◌<◌, ◌≤◌, pos, negsuc, ◌≤ℤ◌, Option, length, slice_get, All, AllPairs, IsSome, IsNone, IsSomeAnd}
+use Rattle.std.specs.Prelude.{◌≡◌, ◌≢◌, ℕ, ◌<◌, ◌≤◌, pos, negsuc, ◌≤ℤ◌, Option, length, All, AllPairs, IsSome}
 use Rattle.std.specs.Option.{ForSome, option_or}
 use Rattle.transit_base.specs.declared.calendar.Day.{Day}
 use Rattle.feed_rows.specs.declared.rows.StopTimeRow.{StopTimeRow}
@@ -46,6 +46,10 @@ first_time row = option_or row.arrival row.departure
 abbrev pub last_time : StopTimeRow → Option ℕ
 last_time row = option_or row.departure row.arrival
 
+-- where both rows have times, the last of this row is at most the first of the other
+abbrev pub EndsBy : StopTimeRow → StopTimeRow → Type 0
+EndsBy row other = ForSome (last_time row) (λ a. ForSome (first_time other) (λ b. a ≤ b))
+
 -- no row of its trip has a lesser sequence
 abbrev pub IsFirstCall : FeedRows → StopTimeRow → Type 0
 IsFirstCall feed row = All (λ other. other.trip.0 ≡ row.trip.0 → row.sequence ≤ other.sequence) feed.stop_times
@@ -73,7 +77,7 @@ pub record AreOrderedCalls (feed : FeedRows) : Type 0 where
   pub lasts : All (λ c. IsLastCall feed c → IsSome (last_time c)) feed.stop_times
   -- no time falls, in a row and from a row of a trip to each of greater sequence
   pub within_rows : All (λ c. ForSome (first_time c) (λ a. ForSome (last_time c) (λ b. a ≤ b))) feed.stop_times
-  pub between_rows : All (λ c. All (λ d. c.trip.0 ≡ d.trip.0 → c.sequence < d.sequence → ForSome (last_time c) (λ a. ForSome (first_time d) (λ b. a ≤ b))) feed.stop_times) feed.stop_times
+  pub between_rows : All (λ c. All (λ d. c.trip.0 ≡ d.trip.0 → c.sequence < d.sequence → EndsBy c d) feed.stop_times) feed.stop_times
 
 -- calendar.txt
 pub record AreSoundServices (feed : FeedRows) : Type 0 where

@@ -1,9 +1,12 @@
 //! A feed: the rows of its files, with what holds of them.
-use std::marker::Model;
-
 use crate::ids::Id;
 use crate::lists::ItemList;
-use crate::rows::{AreaRow, ExceptionRow, FrequencyRow, LegRuleRow, LinkRow, MediumRow, ProductRow, RiderRow, RouteRow, ServiceRow, StopAreaRow, StopRow, StopTimeRow, TimeframeRow, TransferRuleRow, TripRow};
+use crate::rows::{
+    AreaRow, ExceptionRow, FrequencyRow, LegRuleRow, LinkRow, MediumRow, ProductRow, RiderRow,
+    RouteRow, ServiceRow, StopAreaRow, StopRow, StopTimeRow, TimeframeRow, TransferRuleRow,
+    TripRow,
+};
+use std::marker::Model;
 
 /// The rows of `stops.txt`.
 pub type StopRows = ItemList<StopRow>;
