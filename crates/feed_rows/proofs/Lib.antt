@@ -5,3 +5,4 @@ pub mod BaseFeed
 pub mod WorkedRides
 pub mod WorkedEntries
 pub mod WorkedTexts
+pub mod FeedReadings

@@ -28,3 +28,9 @@ pub mod MoneyText
 pub mod CommandTexts
 pub mod EntryText
 pub mod PriceTexts
+pub mod Items
+pub mod SoundNames
+pub mod SoundTimetable
+pub mod SoundFares
+pub mod SoundFeed
+pub mod Feed
