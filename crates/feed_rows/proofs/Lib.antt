@@ -3,3 +3,5 @@ pub mod TransferLaws
 pub mod BelowLaws
 pub mod StrictLaws
 pub mod SequenceLaws
+pub mod TimedLaws
+pub mod CallLaws
