@@ -5,3 +5,4 @@ pub mod StrictLaws
 pub mod SequenceLaws
 pub mod TimedLaws
 pub mod CallLaws
+pub mod CallTimes
