@@ -6,3 +6,9 @@ pub mod WorkedRides
 pub mod WorkedEntries
 pub mod WorkedTexts
 pub mod FeedReadings
+pub mod BelowLaws
+pub mod StrictLaws
+pub mod SequenceLaws
+pub mod TimedLaws
+pub mod CallLaws
+pub mod CallTimes

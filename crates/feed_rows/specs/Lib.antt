@@ -5,6 +5,7 @@ pub mod Words
 pub mod FeedRows
 pub mod ServiceDays
 pub mod Calls
+pub mod CallWalk
 pub mod Shifts
 pub mod Rides
 pub mod StopLinks
