@@ -11,3 +11,4 @@ pub mod StopTimeLinks
 pub mod NetworkLinks
 pub mod FareLinks
 pub mod FirstFault
+pub mod AcceptedFeed
