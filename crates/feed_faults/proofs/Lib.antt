@@ -1,2 +1,4 @@
 pub mod OnLiterals
+pub mod Folders
 pub mod GrammarChecks
+pub mod BaseFeed
