@@ -7,3 +7,4 @@ pub mod WorkedFaults
 pub mod ExporterForm
 pub mod FormChecks
 pub mod LinkChecks
+pub mod DateChecks
