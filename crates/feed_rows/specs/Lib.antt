@@ -35,3 +35,5 @@ pub mod SoundTimetable
 pub mod SoundFares
 pub mod SoundFeed
 pub mod Feed
+pub mod HeldFiles
+pub mod FaultCounts
