@@ -1,1 +1,2 @@
 pub mod AscendingLaws
+pub mod WordChecks
