@@ -1,2 +1,4 @@
 pub mod AscendingLaws
 pub mod WordChecks
+pub mod SmallFeed
+pub mod TextChecks

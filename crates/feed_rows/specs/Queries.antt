@@ -1,5 +1,5 @@
 -- The query that a plan's words give over a feed.
-use Rattle.std.specs.Prelude.{ℕ, Bool, nat_lt, nat_le, if◌then◌else◌, List, length, Option, Some, None, ok_or, option_map, Result, Ok, Err, bytes_eq}
+use Rattle.std.specs.Prelude.{ℕ, Bool, nat_lt, nat_le, if◌then◌else◌, List, length, Option, Some, None, ok_or, Result, Ok, Err, bytes_eq}
 use Rattle.transit_base.specs.declared.StopId.{StopId}
 use Rattle.transit_base.specs.declared.RiderId.{RiderId}
 use Rattle.feed_rows.specs.Words.{at_and, when, first_below, count_below}

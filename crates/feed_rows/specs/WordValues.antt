@@ -35,7 +35,7 @@ abbrev pub word_date : List ℕ → Option ℤ
 word_date word =
     if (length word == 10) && (slice_index word 4 == 45) && (slice_index word 7 == 45)
     then query_day (day_value
-        (number_value (slice_range word 0 4)) (number_value (slice_range word 5 7)) (number_value (slice_range word 8 10)))
+    (number_value (slice_range word 0 4)) (number_value (slice_range word 5 7)) (number_value (slice_range word 8 10)))
     else None
 
 -- TIME: a time of at most 23:59:59
