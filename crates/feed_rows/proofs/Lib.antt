@@ -1,4 +1,5 @@
 pub mod AscendingLaws
+pub mod FirstLaws
 pub mod WordChecks
 pub mod SmallFeed
 pub mod TextChecks
