@@ -6,7 +6,7 @@ use Rattle.feed_rows.specs.MoneyText.{money_text}
 use Rattle.feed_rows.specs.CommandTexts.{usage_line, refused_line, check_text}
 use Rattle.feed_rows.specs.FeedRows.{FeedRows}
 use Rattle.feed_rows.specs.Requests.{PlanRequest}
-use Rattle.feed_rows.specs.Queries.{query_of}
+use Rattle.feed_rows.specs.Queries.{query_of, has_stop_id, has_rider_id, is_default_rider}
 use Rattle.feed_rows.specs.declared.rows.RiderRow.{RiderRow}
 use Rattle.feed_rows.specs.declared.journeys.Query.{Query}
 use Rattle.feed_rows.specs.declared.names.FileName.TheVariants as file
@@ -100,6 +100,7 @@ pub unknown_stops :
     ≡ query_for None ∷ Err (usage.UnknownStop stop_word.To) ∷ Err (usage.UnknownStop stop_word.From)
     ∷ Err (usage.UnknownStop stop_word.From) ∷ Err (usage.UnknownStop stop_word.From)
     ∷ Err (usage.UnknownStop stop_word.To) ∷ Err (usage.UnknownStop stop_word.To) ∷ []
+unfolding has_stop_id has_rider_id is_default_rider
 unknown_stops = refl
 
 -- the small feed with stop A of this kind, a station P, and the kinds from 2 on
@@ -111,16 +112,19 @@ with_kinds kind = record small_feed {
 pub stop_kinds :
     map (λ to. query_of (with_kinds 0) (between (codes "A") to None)) (codes "C" ∷ codes "E" ∷ codes "N" ∷ codes "Q" ∷ [])
     ≡ query_for None ∷ Err (usage.WrongStopKind stop_word.To) ∷ Err (usage.WrongStopKind stop_word.To) ∷ Err (usage.WrongStopKind stop_word.To) ∷ []
+unfolding has_stop_id has_rider_id is_default_rider
 stop_kinds = refl
 
 -- a station may be named
 pub station : query_of (with_kinds 1) (between (codes "A") (codes "C") None) ≡ query_for None
+unfolding has_stop_id has_rider_id is_default_rider
 station = refl
 
 -- the kind of FROM is told before anything of TO
 pub from_kind_first :
     map (λ to. query_of (with_kinds 2) (between (codes "A") to None)) (codes "C" ∷ codes "X" ∷ codes "E" ∷ [])
     ≡ Err (usage.WrongStopKind stop_word.From) ∷ Err (usage.WrongStopKind stop_word.From) ∷ Err (usage.WrongStopKind stop_word.From) ∷ []
+unfolding has_stop_id has_rider_id is_default_rider
 from_kind_first = refl
 
 -- the query of a rider's word over a feed with these categories
@@ -131,18 +135,22 @@ rider_query riders rider = query_of (record small_feed { riders = riders }) (bet
 pub one_default :
     map (rider_query (category (codes "adult") true ∷ category (codes "child") false ∷ [])) (None ∷ Some (codes "child") ∷ Some (codes "adult") ∷ Some (codes "senior") ∷ [])
     ≡ query_for (Some 0) ∷ query_for (Some 1) ∷ query_for (Some 0) ∷ Err usage.UnknownRider ∷ []
+unfolding has_stop_id has_rider_id is_default_rider
 one_default = refl
 
 -- child alone is marked
 pub later_default : rider_query (category (codes "adult") false ∷ category (codes "child") true ∷ []) None ≡ query_for (Some 1)
+unfolding has_stop_id has_rider_id is_default_rider
 later_default = refl
 
 -- both are marked
 pub two_defaults :
     map (rider_query (category (codes "adult") true ∷ category (codes "child") true ∷ [])) (None ∷ Some (codes "child") ∷ [])
     ≡ Err usage.RiderNeeded ∷ query_for (Some 1) ∷ []
+unfolding has_stop_id has_rider_id is_default_rider
 two_defaults = refl
 
 -- none is marked, or there is none
 pub no_default : map (λ riders. rider_query riders None) ((category (codes "adult") false ∷ []) ∷ [] ∷ []) ≡ query_for None ∷ query_for None ∷ []
+unfolding has_stop_id has_rider_id is_default_rider
 no_default = refl

@@ -4,7 +4,7 @@ use Rattle.jiff_core.specs.Calendar.{days_from_civil, day_count, days_of_years, 
 use Rattle.transit_base.specs.Dates.{day_number}
 use Rattle.feed_rows.specs.Numerals.{number_value}
 use Rattle.feed_rows.specs.WordValues.{word_number, word_date, word_time}
-use Rattle.feed_rows.specs.CommandWords.{CommandForm, role_at, fits_form, positional_words, has_flag}
+use Rattle.feed_rows.specs.CommandWords.{CommandForm, role_at, value_at, fits_form, positional_words, has_flag}
 use Rattle.feed_rows.specs.Requests.{Request, Plan, Check, read_words}
 use Rattle.feed_rows.specs.declared.usage.UsageFault.{UsageFault}
 use Rattle.feed_rows.specs.declared.usage.UsageFault.TheVariants as usage
@@ -83,7 +83,7 @@ pub plans :
     ∷ plan_with 0 (Some (codes "child")) 259_200 ∷ plan_with 8 None 1
     ∷ plan_with 4 (Some (codes "-x")) 86_400 ∷ plan_with 4 (Some (codes "=")) 86_400
     ∷ plan_with 1 None 86_400 ∷ Ok Check ∷ []
-unfolding read_words role_at fits_form number_value days_from_civil day_count days_of_years days_of_months
+unfolding read_words role_at value_at fits_form number_value days_from_civil day_count days_of_years days_of_months
 plans = refl
 
 -- no words at all
@@ -97,7 +97,7 @@ pub wrong_commands :
     (codes "" ∷ codes "-" ∷ codes "--" ∷ codes "--help" ∷ codes "-h" ∷ codes "--version" ∷ codes "Plan" ∷ codes "plans" ∷ codes "price" ∷ codes "gen 7 2"
     ∷ codes "check A" ∷ codes "check --rides 1" ∷ codes "check " ∷ codes "plan" ∷ codes "plan A C 2025-06-02" ∷ codes "plan A C 2025-06-02 08:00:00 D" ∷ [])
     ≡ wrong ∷ wrong ∷ wrong ∷ wrong ∷ wrong ∷ wrong ∷ wrong ∷ wrong ∷ wrong ∷ wrong ∷ wrong ∷ wrong ∷ wrong ∷ wrong ∷ wrong ∷ wrong ∷ []
-unfolding read_words role_at fits_form
+unfolding read_words role_at value_at fits_form
 wrong_commands = refl
 
 -- words that begin with `-`, empty words, and options without a value or given twice
@@ -114,7 +114,7 @@ pub wrong_options :
     ∷ codes "plan A C 2025-06-02 08:00:00 --help" ∷ codes "plan A C 2025-06-02 08:00:00 --version" ∷ codes "plan A C 2025-06-02 08:00:00 -h" ∷ [])
     ≡ wrong ∷ wrong ∷ wrong ∷ wrong ∷ wrong ∷ wrong ∷ wrong ∷ wrong ∷ wrong ∷ wrong ∷ wrong ∷ wrong
     ∷ wrong ∷ wrong ∷ wrong ∷ wrong ∷ wrong ∷ wrong ∷ wrong ∷ wrong ∷ wrong ∷ wrong ∷ wrong ∷ wrong ∷ []
-unfolding read_words role_at fits_form
+unfolding read_words role_at value_at fits_form
 wrong_options = refl
 
 -- values out of their range, and their order: first the words as a whole, then DATE, TIME, --rides, --within
@@ -129,7 +129,7 @@ pub faults_in_order :
     ≡ Err usage.BadDate ∷ Err usage.BadTime ∷ Err usage.BadRides ∷ Err usage.BadRides ∷ Err usage.BadRides
     ∷ Err usage.BadRides ∷ Err usage.BadRides ∷ Err usage.BadWindow ∷ Err usage.BadWindow ∷ Err usage.BadWindow
     ∷ wrong ∷ Err usage.BadDate ∷ Err usage.BadTime ∷ Err usage.BadRides ∷ Err usage.BadTime ∷ []
-unfolding read_words role_at fits_form number_value days_from_civil day_count days_of_years days_of_months
+unfolding read_words role_at value_at fits_form number_value days_from_civil day_count days_of_years days_of_months
 faults_in_order = refl
 
 -- a command with a flag and one to three positional words
@@ -141,7 +141,7 @@ pub flags :
     (codes "--stats A" ∷ codes "A --stats B" ∷ codes "A B C" ∷ codes "A --stats --stats" ∷ codes "A --stats=1" ∷ codes "A --stats=" ∷ codes "--stats"
     ∷ codes "A B C D" ∷ codes "--rider --stats A" ∷ codes "--rider stats A" ∷ [])
     ≡ true ∷ true ∷ true ∷ false ∷ false ∷ false ∷ false ∷ false ∷ false ∷ true ∷ []
-unfolding role_at fits_form
+unfolding role_at value_at fits_form
 flags = refl
 
 pub flag_words : positional_words flag_form (spaced (codes "A --rider child --stats B")) ≡ codes "A" ∷ codes "B" ∷ []

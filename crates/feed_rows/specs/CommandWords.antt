@@ -72,7 +72,7 @@ abbrev pub positional_words : CommandForm → List (List ℕ) → List (List ℕ
 positional_words form words = picks_below (length words) (λ i. is_positional (role_at form words i)) (word_at words)
 
 -- the value that word i gives to the option: the next word after `--name`, or what stands behind `--name=`
-abbrev pub value_at : List (List ℕ) → List ℕ → ℕ → Option (List ℕ)
+unfoldable pub value_at : List (List ℕ) → List ℕ → ℕ → Option (List ℕ)
 value_at words option i =
     if bytes_eq (word_at words i) option then slice_get words (i + 1) else joined_value option (word_at words i)
 

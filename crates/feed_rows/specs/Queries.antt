@@ -13,7 +13,7 @@ use Rattle.feed_rows.specs.declared.usage.UsageFault.{UsageFault}
 use Rattle.feed_rows.specs.declared.usage.UsageFault.TheVariants as usage
 
 -- stop i has this id
-abbrev pub has_stop_id : FeedRows → List ℕ → ℕ → Bool
+unfoldable pub has_stop_id : FeedRows → List ℕ → ℕ → Bool
 has_stop_id feed id i = at_and feed.stops i (λ row. bytes_eq row.id id)
 
 -- the first stop with this id
@@ -31,7 +31,7 @@ named_stop feed word id =
     if is_travel_stop feed stop then Ok stop else Err (usage.WrongStopKind word))
 
 -- rider category i has this id
-abbrev pub has_rider_id : FeedRows → List ℕ → ℕ → Bool
+unfoldable pub has_rider_id : FeedRows → List ℕ → ℕ → Bool
 has_rider_id feed id i = at_and feed.riders i (λ row. bytes_eq row.id id)
 
 -- the first rider category with this id
@@ -39,7 +39,7 @@ abbrev pub find_rider : FeedRows → List ℕ → Option RiderId
 find_rider feed id = option_map (λ i. record { 0 = i }) (find_below (length feed.riders) (has_rider_id feed id))
 
 -- rider category i is marked as default
-abbrev pub is_default_rider : FeedRows → ℕ → Bool
+unfoldable pub is_default_rider : FeedRows → ℕ → Bool
 is_default_rider feed i = at_and feed.riders i (λ row. row.default)
 
 -- the rider category that is named; where none is, the one that is marked as default, or no category where none is marked
