@@ -1,5 +1,10 @@
 pub mod AscendingLaws
 pub mod FirstLaws
 pub mod WordChecks
-pub mod SmallFeed
 pub mod TextChecks
+pub mod TransferLaws
+pub mod EntryChecks
+pub mod BaseFeed
+pub mod WorkedRides
+pub mod WorkedEntries
+pub mod WorkedTexts

@@ -1,5 +1,5 @@
 -- What the definitions make of names and texts, by examples.
-use Rattle.std.specs.Prelude.{◌≡◌, refl, ℕ, ◌==◌, true, false, if◌then◌else◌, List, [], ◌∷◌, map, replicate, Option, Some, None, Result, Ok, Err, pos, negsuc, codes}
+use Rattle.std.specs.Prelude.{◌≡◌, refl, ℕ, ◌==◌, Bool, true, false, if◌then◌else◌, List, [], ◌∷◌, map, replicate, Option, Some, None, Result, Ok, Err, pos, negsuc, codes}
 use Rattle.std.specs.Fmt.{digits}
 use Rattle.feed_rows.specs.Lines.{line}
 use Rattle.feed_rows.specs.MoneyText.{money_text}
@@ -7,6 +7,7 @@ use Rattle.feed_rows.specs.CommandTexts.{usage_line, refused_line, check_text}
 use Rattle.feed_rows.specs.FeedRows.{FeedRows}
 use Rattle.feed_rows.specs.Requests.{PlanRequest}
 use Rattle.feed_rows.specs.Queries.{query_of, has_stop_id, has_rider_id, is_default_rider}
+use Rattle.feed_rows.specs.declared.rows.StopRow.{StopRow}
 use Rattle.feed_rows.specs.declared.rows.RiderRow.{RiderRow}
 use Rattle.feed_rows.specs.declared.journeys.Query.{Query}
 use Rattle.feed_rows.specs.declared.names.FileName.TheVariants as file
@@ -15,7 +16,15 @@ use Rattle.feed_rows.specs.declared.faults.FaultKind.TheVariants as kind
 use Rattle.feed_rows.specs.declared.usage.StopWord.TheVariants as stop_word
 use Rattle.feed_rows.specs.declared.usage.UsageFault.{UsageFault}
 use Rattle.feed_rows.specs.declared.usage.UsageFault.TheVariants as usage
-use Rattle.feed_rows.proofs.SmallFeed.{small_feed, stop, category}
+use Rattle.feed_rows.proofs.BaseFeed.{base}
+
+-- a stop of this kind without a parent
+abbrev stop : List ℕ → ℕ → StopRow
+stop id kind = record { id = id; kind = kind; parent = None }
+
+-- a rider category
+abbrev category : List ℕ → Bool → RiderRow
+category id default = record { id = id; default = default }
 
 -- a text with `|` for each tab, as a line with its line feed
 abbrev tabbed : List ℕ → List ℕ
@@ -59,8 +68,8 @@ pub refused_lines :
 unfolding digits
 refused_lines = refl
 
--- `check` on the small feed
-pub check_line : check_text small_feed ≡ tabbed (codes "accepted|3|2|3|6|2|1")
+-- `check` on the base feed
+pub check_line : check_text base ≡ tabbed (codes "accepted|3|2|3|6|2|1")
 unfolding digits
 check_line = refl
 
@@ -93,7 +102,7 @@ query_for (Some n) = Ok (record { from = record { 0 = 0 }; to = record { 0 = 2 }
 
 -- stops that there are not, and of which FROM is told first
 pub unknown_stops :
-    map (query_of small_feed)
+    map (query_of base)
     (between (codes "A") (codes "C") None ∷ between (codes "A") (codes "X") None ∷ between (codes "X") (codes "C") None
     ∷ between (codes "X") (codes "Y") None ∷ between (codes "a") (codes "C") None
     ∷ between (codes "A") (replicate 256 65) None ∷ between (codes "A") (codes "X") (Some (codes "senior")) ∷ [])
@@ -103,9 +112,9 @@ pub unknown_stops :
 unfolding has_stop_id has_rider_id is_default_rider
 unknown_stops = refl
 
--- the small feed with stop A of this kind, a station P, and the kinds from 2 on
+-- the base feed with stop A of this kind, a station P, and the kinds from 2 on
 abbrev with_kinds : ℕ → FeedRows
-with_kinds kind = record small_feed {
+with_kinds kind = record base {
   stops = stop (codes "A") kind ∷ stop (codes "P") 1 ∷ stop (codes "C") 0 ∷ stop (codes "E") 2 ∷ stop (codes "N") 3 ∷ stop (codes "Q") 4 ∷ [];
 }
 
@@ -129,7 +138,7 @@ from_kind_first = refl
 
 -- the query of a rider's word over a feed with these categories
 abbrev rider_query : List RiderRow → Option (List ℕ) → Result Query UsageFault
-rider_query riders rider = query_of (record small_feed { riders = riders }) (between (codes "A") (codes "C") rider)
+rider_query riders rider = query_of (record base { riders = riders }) (between (codes "A") (codes "C") rider)
 
 -- adult is marked as default
 pub one_default :

@@ -3,6 +3,19 @@ pub mod Faults
 pub mod Ascending
 pub mod Words
 pub mod FeedRows
+pub mod ServiceDays
+pub mod Calls
+pub mod Shifts
+pub mod Rides
+pub mod StopLinks
+pub mod Journeys
+pub mod Legs
+pub mod LegRules
+pub mod TransferRules
+pub mod FareChoices
+pub mod FareSums
+pub mod ParetoTriples
+pub mod JourneyEntries
 pub mod UsageFaults
 pub mod Numerals
 pub mod TimeGrammar
@@ -13,3 +26,5 @@ pub mod Queries
 pub mod Lines
 pub mod MoneyText
 pub mod CommandTexts
+pub mod EntryText
+pub mod PriceTexts

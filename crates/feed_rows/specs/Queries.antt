@@ -1,9 +1,10 @@
 -- The query that a plan's words give over a feed.
-use Rattle.std.specs.Prelude.{ℕ, Bool, nat_lt, nat_le, if◌then◌else◌, List, length, Option, Some, None, ok_or, option_map, Result, Ok, Err, bytes_eq}
+use Rattle.std.specs.Prelude.{ℕ, Bool, ◌||◌, nat_lt, if◌then◌else◌, List, length, Option, Some, None, ok_or, option_map, Result, Ok, Err, bytes_eq}
 use Rattle.transit_base.specs.declared.StopId.{StopId}
 use Rattle.transit_base.specs.declared.RiderId.{RiderId}
 use Rattle.feed_rows.specs.Words.{at_and, find_below, count_below}
 use Rattle.feed_rows.specs.FeedRows.{FeedRows}
+use Rattle.feed_rows.specs.StopLinks.{is_platform, is_station}
 use Rattle.feed_rows.specs.UsageFaults.{unless_fault}
 use Rattle.feed_rows.specs.Requests.{PlanRequest}
 use Rattle.feed_rows.specs.declared.journeys.Query.{Query}
@@ -20,15 +21,11 @@ has_stop_id feed id i = at_and feed.stops i (λ row. bytes_eq row.id id)
 abbrev pub find_stop : FeedRows → List ℕ → Option StopId
 find_stop feed id = option_map (λ i. record { 0 = i }) (find_below (length feed.stops) (has_stop_id feed id))
 
--- the stop is a platform or a station
-abbrev pub is_travel_stop : FeedRows → StopId → Bool
-is_travel_stop feed stop = at_and feed.stops stop.0 (λ row. nat_le row.kind 1)
-
 -- the platform or station that a word names
 abbrev pub named_stop : FeedRows → StopWord → List ℕ → Result StopId UsageFault
 named_stop feed word id =
     unless_fault (ok_or (find_stop feed id) (usage.UnknownStop word)) (λ stop.
-    if is_travel_stop feed stop then Ok stop else Err (usage.WrongStopKind word))
+    if is_platform feed stop || is_station feed stop then Ok stop else Err (usage.WrongStopKind word))
 
 -- rider category i has this id
 unfoldable pub has_rider_id : FeedRows → List ℕ → ℕ → Bool

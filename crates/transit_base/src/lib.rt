@@ -4,7 +4,14 @@
 mod calendar;
 mod moments;
 mod numbers;
+#[cfg(test)]
+mod tests;
+mod texts;
 
-pub use calendar::{day_of, Day};
+pub use calendar::{Day, day_of};
 pub use moments::{Moment, Money, Secs};
-pub use numbers::{AreaId, FrameId, LegGroupId, MediumId, NetworkId, ProductId, ProductRowId, RiderId, RouteId, RuleId, ServiceId, StopId, TripId, XferId};
+pub use numbers::{
+    AreaId, FrameId, LegGroupId, MediumId, NetworkId, ProductId, ProductRowId, RiderId, RouteId,
+    RuleId, ServiceId, StopId, TripId, XferId,
+};
+pub use texts::{TimeText, date_text, time_text};

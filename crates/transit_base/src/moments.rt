@@ -9,7 +9,7 @@ use crate::calendar::Day;
 #[derive(Clone, Copy, Debug, PartialEq, Eq, PartialOrd, Ord)]
 pub struct Moment(pub i64);
 
-/// An amount of money in whole minor units of a feed's one currency, as cents. It may be negative.
+/// An amount of money in whole minor units of a feed's one currency, such as cents. It may be negative.
 #[derive(Clone, Copy, Debug, PartialEq, Eq, PartialOrd, Ord)]
 pub struct Money(pub i64);
 
@@ -18,8 +18,8 @@ pub struct Money(pub i64);
 pub struct Secs(pub u32);
 
 impl Moment {
-    /// The moment so many seconds after the start of a day; a service day's times go past midnight, and a shift may
-    /// be negative.
+    /// The moment so many seconds after 00:00:00 of a day. A service day's times go past midnight, and a shift may be
+    /// negative. Both the day and the seconds lie from -4,000,000 to 4,000,000.
     pub fn at(day: Day, seconds: i64) -> Moment
         requires day_low { negsuc 3_999_999 ≤ℤ day.0 }
         requires day_high { day.0 ≤ℤ pos 4_000_000 }
@@ -30,7 +30,7 @@ impl Moment {
         Moment(day.0 * 86_400 + seconds)
     }
 
-    /// The moment so many seconds later.
+    /// The moment so many seconds later, which lies below 2^62 seconds.
     pub fn plus(self, more: Secs) -> Moment
         requires { (self.0 +ℤ pos more.0) <ℤ pos (2 ^ 62) }
         ensures { result.0 ≡ self.0 +ℤ pos more.0 }
@@ -38,14 +38,14 @@ impl Moment {
         Moment(self.0 + i64::from(more.0))
     }
 
-    /// The civil day of the moment, also before 1970.
+    /// The civil day of the moment, rounded down, so that it is right before 1970 too.
     pub fn day(self) -> Day
         ensures { result.0 ≡ civil_day self.0 }
     {
         Day(self.0.div_euclid(86_400))
     }
 
-    /// The seconds since the start of that day, from 0 to 86,399.
+    /// The seconds since 00:00:00 of the moment's civil day, from 0 to 86,399, before 1970 too.
     pub fn time_of_day(self) -> Secs
         ensures { result.0 ≡ time_of_day self.0 }
     {

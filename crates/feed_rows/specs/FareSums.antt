@@ -1,0 +1,67 @@
+-- Which legs are charged, and the sum of a choice. (GTFS Schedule Reference: fare_transfer_type in
+-- fare_transfer_rules.txt; which legs of a longer chain are charged is the profile's.)
+use Rattle.std.specs.Prelude.{ℕ, zero, suc, Bool, true, false, not, ◌&&◌, ◌||◌, ◌==◌, if◌then◌else◌, List, length, slice_get, Option, is_none, ℤ, pos, ◌+ℤ◌, option_map, option_and_then}
+use Rattle.std.specs.Option.{option_map_or}
+use Rattle.transit_base.specs.declared.numbers.ProductRowId.{ProductRowId}
+use Rattle.transit_base.specs.declared.numbers.RiderId.{RiderId}
+use Rattle.feed_rows.specs.declared.fares.ChangeChoice.{ChangeChoice}
+use Rattle.feed_rows.specs.declared.fares.Choice.{Choice}
+use Rattle.feed_rows.specs.declared.journeys.LegFacts.{LegFacts}
+use Rattle.feed_rows.specs.FeedRows.{FeedRows}
+use Rattle.feed_rows.specs.FareChoices.{is_fare_choice}
+use Rattle.feed_rows.specs.Words.{filled_and, sum_below, when}
+
+-- the type of the row by which change i is arranged; none where the change is not arranged
+unfoldable pub transfer_kind : FeedRows → Choice → ℕ → Option ℕ
+transfer_kind feed choice i =
+    option_and_then
+    (λ place. option_and_then (λ pick. option_map (λ row. row.kind) (slice_get feed.transfer_rules pick.rule.0)) place)
+    (slice_get choice.changes i)
+
+-- leg i is the first of its chain, where `kind` gives each change's type: no arranged change leads to it
+unfoldable pub starts_chain : (ℕ → Option ℕ) → ℕ → Bool
+starts_chain kind zero = true
+starts_chain kind (suc before) = is_none (kind before)
+
+-- leg i is entered by an arranged change of type 0 or 2
+abbrev pub is_entered_free : (ℕ → Option ℕ) → ℕ → Bool
+is_entered_free kind zero = false
+is_entered_free kind (suc before) = filled_and (kind before) (λ k. (k == 0) || (k == 2))
+
+-- leg i is left by an arranged change of type 2
+abbrev pub is_left_free : (ℕ → Option ℕ) → ℕ → Bool
+is_left_free kind i = filled_and (kind i) (λ k. k == 2)
+
+-- leg i is charged, unless it is entered by a change of type 0 or 2, or is first of its chain and left by one of type 2
+unfoldable pub is_charged : (ℕ → Option ℕ) → ℕ → Bool
+is_charged kind i = not (is_entered_free kind i || (starts_chain kind i && is_left_free kind i))
+
+-- the amount of a product row; one that the feed lacks is in no fare choice
+unfoldable pub amount_of : FeedRows → ProductRowId → ℤ
+amount_of feed row = option_map_or (λ r. r.amount.0) (slice_get feed.products row.0) (pos 0)
+
+-- the amount of leg i's ticket
+abbrev pub leg_amount : FeedRows → Choice → ℕ → ℤ
+leg_amount feed choice i = option_map_or (λ pick. amount_of feed pick.product) (slice_get choice.legs i) (pos 0)
+
+-- what leg i adds to the sum
+unfoldable pub leg_charge : FeedRows → Choice → ℕ → ℤ
+leg_charge feed choice i = if is_charged (transfer_kind feed choice) i then leg_amount feed choice i else pos 0
+
+-- what an arranged change adds to the sum: the amount of its product row, if it has one
+abbrev pub pick_amount : FeedRows → ChangeChoice → ℤ
+pick_amount feed pick = option_map_or (amount_of feed) pick.product (pos 0)
+
+-- what change i adds to the sum
+unfoldable pub change_charge : FeedRows → Choice → ℕ → ℤ
+change_charge feed choice i =
+    option_map_or (λ place. option_map_or (pick_amount feed) place (pos 0)) (slice_get choice.changes i) (pos 0)
+
+-- the sum of a choice: the amounts of the charged legs and of the arranged changes
+unfoldable pub fare_sum : FeedRows → Choice → ℤ
+fare_sum feed choice =
+    sum_below (length choice.legs) (leg_charge feed choice) +ℤ sum_below (length choice.changes) (change_charge feed choice)
+
+-- the price of the legs by the choice; none where it doesn't pay them for the rider
+abbrev pub fare_price : FeedRows → List LegFacts → Choice → Option RiderId → Option ℤ
+fare_price feed legs choice rider = when (is_fare_choice feed legs choice rider) (fare_sum feed choice)

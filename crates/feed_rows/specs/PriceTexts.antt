@@ -1,0 +1,35 @@
+-- The least price of given rides, and its printed text.
+use Rattle.std.specs.Prelude.{◌≡◌, ℕ, ◌⊎◌, List, [], ◌∷◌, ◌++◌, length, Option, Some, None, ℤ, ◌≤ℤ◌, codes, decimal}
+use Rattle.std.specs.List.{concat}
+use Rattle.transit_base.specs.declared.numbers.RiderId.{RiderId}
+use Rattle.feed_rows.specs.declared.journeys.Ride.{Ride}
+use Rattle.feed_rows.specs.declared.fares.Choice.{Choice}
+use Rattle.feed_rows.specs.FeedRows.{FeedRows}
+use Rattle.feed_rows.specs.JourneyEntries.{rides_price}
+use Rattle.feed_rows.specs.EntryText.{amount_text, currency_text, fare_lines}
+use Rattle.feed_rows.specs.Lines.{line}
+
+-- the choice pays the rides for the rider at this price, and no other choice pays them at less
+pub record IsLeastPrice (feed : FeedRows) (rides : List Ride) (rider : Option RiderId) (choice : Choice) (price : ℤ) : Type 0 where
+  pub paid : rides_price feed rides choice rider ≡ Some price
+  pub least : (other : Choice) (sum : ℤ) → rides_price feed rides other rider ≡ Some sum → price ≤ℤ sum
+
+-- no choice pays the rides for the rider
+abbrev pub IsUncovered : FeedRows → List Ride → Option RiderId → Type 0
+IsUncovered feed rides rider = (choice : Choice) → rides_price feed rides choice rider ≡ None
+
+-- the line of the price of so many rides, and the fare lines of the choice
+unfoldable pub price_text : FeedRows → ℕ → Choice → ℤ → List ℕ
+price_text feed rides choice price =
+    line (codes "price") (decimal rides ∷ amount_text feed price ∷ currency_text feed ∷ []) ++ concat (fare_lines feed choice)
+
+-- what is printed where no choice pays the rides
+abbrev pub uncovered_text : List ℕ
+uncovered_text = line (codes "uncovered") []
+
+-- the text is that of the least price of the rides
+abbrev pub IsPriceText : FeedRows → List Ride → Option RiderId → List ℕ → Type 0
+IsPriceText feed rides rider text =
+    ((choice : Choice) × (price : ℤ) × IsLeastPrice feed rides rider choice price
+    × (text ≡ price_text feed (length rides) choice price))
+    ⊎ (IsUncovered feed rides rider × (text ≡ uncovered_text))

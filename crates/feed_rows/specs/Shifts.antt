@@ -1,0 +1,43 @@
+-- By how many seconds the runs of a trip are shifted against its stop times. (GTFS Schedule Reference:
+-- frequencies.txt; both values of exact_times are read as exact departures, which is the profile's.)
+use Rattle.std.specs.Prelude.{ℕ, ◌+◌, ◌-◌, ◌*◌, ◌/◌, Bool, ◌==◌, if◌then◌else◌, List, [], ◌∷◌, map, filter, ℤ, pos, ◌-ℤ◌, int_lt}
+use Rattle.std.specs.List.{list_any, flat_map}
+use Rattle.transit_base.specs.declared.numbers.TripId.{TripId}
+use Rattle.feed_rows.specs.declared.rows.FrequencyRow.{FrequencyRow}
+use Rattle.feed_rows.specs.FeedRows.{FeedRows}
+use Rattle.feed_rows.specs.Calls.{first_departure}
+use Rattle.feed_rows.specs.Words.{int_same, list_below}
+
+-- how many runs a frequency row has: as many as x from 0 on with start + x * headway before the end
+abbrev pub run_count : FrequencyRow → ℕ
+run_count row = (row.end - row.start + row.headway - 1) / row.headway
+
+-- the departures of a frequency row's runs from the first stop, in seconds of the service day
+abbrev pub run_starts : FrequencyRow → List ℕ
+run_starts row = list_below (run_count row) (λ x. row.start + x * row.headway)
+
+-- the number put into an ascending list, where it doesn't stand yet
+abbrev pub with_number : ℤ → List ℤ → List ℤ
+with_number z [] = z ∷ []
+with_number z (y ∷ ys) = if int_lt z y then z ∷ y ∷ ys else if int_same z y then y ∷ ys else y ∷ with_number z ys
+
+-- the numbers in ascending order, each once
+abbrev pub ascending_of : List ℤ → List ℤ
+ascending_of [] = []
+ascending_of (z ∷ zs) = with_number z (ascending_of zs)
+
+-- the frequency rows of a trip
+abbrev pub trip_frequencies : FeedRows → TripId → List FrequencyRow
+trip_frequencies feed trip = filter (λ f. f.trip.0 == trip.0) feed.frequencies
+
+-- the trip has frequency rows
+abbrev pub has_frequencies : FeedRows → TripId → Bool
+has_frequencies feed trip = list_any (λ f. f.trip.0 == trip.0) feed.frequencies
+
+-- the shifts of a trip: 0 alone without frequency rows, and else for each run of these the seconds by which it departs
+-- later than the trip's own first departure; ascending, each once
+unfoldable pub shifts_of : FeedRows → TripId → List ℤ
+shifts_of feed trip =
+    if has_frequencies feed trip
+    then ascending_of (map (λ start. pos start -ℤ pos (first_departure feed trip)) (flat_map run_starts (trip_frequencies feed trip)))
+    else pos 0 ∷ []

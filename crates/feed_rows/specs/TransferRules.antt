@@ -1,0 +1,133 @@
+-- The changes between the legs of a journey: where a run of legs starts, how many changes it has, and which rows of
+-- fare_transfer_rules.txt are selected. Legs and changes are counted from 0: change i lies between legs i and i + 1.
+-- (GTFS Schedule Reference: fare_transfer_rules.txt; how changes are counted and compared, that a limit counts from the
+-- run's first leg, and that a leg without group is never in an arranged change, are the profile's.)
+use Rattle.std.specs.Prelude.{ℕ, zero, suc, ◌+◌, ◌-◌, Bool, true, false, not, ◌&&◌, ◌||◌, ◌==◌, nat_le, if◌then◌else◌, List, [], Option, Some, None, ℤ, pos, ◌-ℤ◌, int_le, option_and_then}
+use Rattle.std.specs.List.{list_any, list_all}
+use Rattle.std.specs.Option.{option_map_or}
+use Rattle.transit_base.specs.declared.numbers.LegGroupId.{LegGroupId}
+use Rattle.transit_base.specs.declared.numbers.XferId.{XferId}
+use Rattle.transit_base.specs.declared.moments.Moment.{Moment}
+use Rattle.feed_rows.specs.declared.rows.TransferRuleRow.{TransferRuleRow}
+use Rattle.feed_rows.specs.declared.rows.Limit.{Limit}
+use Rattle.feed_rows.specs.declared.fares.TransferFacts.{TransferFacts}
+use Rattle.feed_rows.specs.FeedRows.{FeedRows}
+use Rattle.feed_rows.specs.Words.{empty_or, filled_and, ids_where}
+
+-- a leg as changes see it: the leg group of its rule, and its moments
+pub record FareLeg : Type 0 where
+  pub group : Option LegGroupId
+  pub departure : Moment
+  pub arrival : Moment
+
+-- some row names the leg group in this column
+abbrev pub is_listed_group : FeedRows → (TransferRuleRow → Option LegGroupId) → LegGroupId → Bool
+is_listed_group feed column group = list_any (λ row. filled_and (column row) (λ g. g.0 == group.0)) feed.transfer_rules
+
+-- a filled group is the leg's; an empty one matches each group that no row names in this column
+unfoldable pub group_matches : FeedRows → (TransferRuleRow → Option LegGroupId) → Option LegGroupId → LegGroupId → Bool
+group_matches feed column (Some g) group = g.0 == group.0
+group_matches feed column None group = not (is_listed_group feed column group)
+
+-- the moment from which a limit counts: the departure of the run's first leg for types 0 and 1, and its arrival for
+-- types 2 and 3
+abbrev pub counted_from : ℕ → TransferFacts → ℤ
+counted_from kind change =
+    if (kind == 0) || (kind == 1) then change.first_departure.0 else change.first_arrival.0
+
+-- the moment to which a limit counts: the arrival of the leg after the change for types 0 and 3, and its departure for
+-- types 1 and 2
+abbrev pub counted_to : ℕ → TransferFacts → ℤ
+counted_to kind change = if (kind == 0) || (kind == 3) then change.next_arrival.0 else change.next_departure.0
+
+-- the seconds that a limit of this type looks at
+abbrev pub elapsed : ℕ → TransferFacts → ℤ
+elapsed kind change = counted_to kind change -ℤ counted_from kind change
+
+-- the elapsed seconds are at most the limit
+unfoldable pub limit_holds : TransferFacts → Limit → Bool
+limit_holds change limit = int_le (elapsed limit.kind change) (pos limit.seconds)
+
+-- the row is a candidate for the change: its groups match, and its limit is empty or holds
+unfoldable pub is_candidate : FeedRows → TransferFacts → TransferRuleRow → Bool
+is_candidate feed change row =
+    group_matches feed (λ r. r.from) row.from change.from
+    && group_matches feed (λ r. r.to) row.to change.to
+    && empty_or row.limit (limit_holds change)
+
+-- the row is a candidate whose count is at least the change's; an empty count is unlimited
+unfoldable pub suffices : FeedRows → TransferFacts → TransferRuleRow → Bool
+suffices feed change row = is_candidate feed change row && empty_or row.count (nat_le change.count)
+
+-- the one count is at most the other; an empty one is greater than every number
+abbrev pub count_le : Option ℕ → Option ℕ → Bool
+count_le count None = true
+count_le None (Some n) = false
+count_le (Some m) (Some n) = nat_le m n
+
+-- no candidate whose count suffices has a lesser one
+unfoldable pub is_least_count : FeedRows → TransferFacts → Option ℕ → Bool
+is_least_count feed change count =
+    list_all (λ row. not (suffices feed change row) || count_le count row.count) feed.transfer_rules
+
+-- the row is selected for the change: its count suffices, and is the least among those that do
+unfoldable pub is_selected_transfer : FeedRows → TransferFacts → TransferRuleRow → Bool
+is_selected_transfer feed change row = suffices feed change row && is_least_count feed change row.count
+
+-- the rows that are selected for a change, in file order
+abbrev pub selected_transfers : FeedRows → TransferFacts → List XferId
+selected_transfers feed change = ids_where (λ i. record { 0 = i }) (is_selected_transfer feed change) feed.transfer_rules
+
+-- the change is arranged: some row is selected for it
+unfoldable pub is_arranged : FeedRows → TransferFacts → Bool
+is_arranged feed change = list_any (is_selected_transfer feed change) feed.transfer_rules
+
+-- both groups are there, and equal
+abbrev pub same_group : Option LegGroupId → Option LegGroupId → Bool
+same_group a b = filled_and a (λ g. filled_and b (λ h. g.0 == h.0))
+
+-- the change to the leg `next` from a leg of the one group to one of the other, where the run began with the leg
+-- `first` and had so many changes before; none where a leg has no group
+abbrev pub change_between : FareLeg → ℕ → FareLeg → Option LegGroupId → Option LegGroupId → Option TransferFacts
+change_between first changes next (Some g) (Some h) =
+    Some (record {
+      from = g;
+      to = h;
+      count = (if g.0 == h.0 then changes + 1 else 1);
+      first_departure = first.departure;
+      first_arrival = first.arrival;
+      next_departure = next.departure;
+      next_arrival = next.arrival;
+    })
+change_between first changes next (Some g) None = None
+change_between first changes next None to = None
+
+-- change i, where `leg` gives each leg by its number and the run of leg i began with leg b
+abbrev pub change_from : (ℕ → Option FareLeg) → ℕ → ℕ → Option TransferFacts
+change_from leg b i =
+    option_and_then (λ first. option_and_then (λ before. option_and_then (λ next.
+    change_between first (i - b) next before.group next.group) (leg (i + 1))) (leg i)) (leg b)
+
+-- leg i + 1 goes on with the run of leg i that began with leg b: both are of one group, and change i is arranged
+unfoldable pub goes_on : FeedRows → (ℕ → Option FareLeg) → ℕ → ℕ → Bool
+goes_on feed leg b i =
+    filled_and (leg i) (λ before. filled_and (leg (i + 1)) (λ next. same_group before.group next.group))
+    && filled_and (change_from leg b i) (is_arranged feed)
+
+-- the leg with which the run of leg i starts
+unfoldable pub run_start : FeedRows → (ℕ → Option FareLeg) → ℕ → ℕ
+run_start feed leg zero = 0
+run_start feed leg (suc i) =
+    let b = run_start feed leg i in if goes_on feed leg b i then b else i + 1
+
+-- change i; none where one of its legs has no group
+unfoldable pub change_at : FeedRows → (ℕ → Option FareLeg) → ℕ → Option TransferFacts
+change_at feed leg i = change_from leg (run_start feed leg i) i
+
+-- change i is arranged
+abbrev pub is_arranged_at : FeedRows → (ℕ → Option FareLeg) → ℕ → Bool
+is_arranged_at feed leg i = filled_and (change_at feed leg i) (is_arranged feed)
+
+-- the rows that are selected for change i; none where one of its legs has no group
+abbrev pub transfers_at : FeedRows → (ℕ → Option FareLeg) → ℕ → List XferId
+transfers_at feed leg i = option_map_or (selected_transfers feed) (change_at feed leg i) []
