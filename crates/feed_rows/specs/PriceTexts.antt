@@ -31,5 +31,5 @@ uncovered_text = line (codes "uncovered") []
 abbrev pub IsPriceText : FeedRows → List Ride → Option RiderId → List ℕ → Type 0
 IsPriceText feed rides rider text =
     ((choice : Choice) × (price : ℤ) × IsLeastPrice feed rides rider choice price
-    × (text ≡ price_text feed (length rides) choice price))
+      × (text ≡ price_text feed (length rides) choice price))
     ⊎ (IsUncovered feed rides rider × (text ≡ uncovered_text))
