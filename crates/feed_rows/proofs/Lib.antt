@@ -1,4 +1,7 @@
 pub mod AscendingLaws
+pub mod FirstLaws
+pub mod WordChecks
+pub mod TextChecks
 pub mod TransferLaws
 pub mod EntryChecks
 pub mod BaseFeed
