@@ -1,5 +1,5 @@
--- Which legs are charged, and the sum of a choice. (GTFS Schedule Reference: fare_transfer_type in
--- fare_transfer_rules.txt; which legs of a longer chain are charged is the profile's.)
+-- Which legs are charged, and the sum of a choice. (GTFS Schedule Reference: fare_transfer_rules.txt,
+-- fare_transfer_type.)
 use Rattle.std.specs.Prelude.{ℕ, zero, suc, ◌+◌, Bool, true, false, not, ◌&&◌, ◌||◌, ◌==◌, if◌then◌else◌, List, length, slice_get, Option, Some, None, is_none, ℤ, pos, ◌+ℤ◌, option_map, option_and_then}
 use Rattle.std.specs.Option.{option_map_or}
 use Rattle.transit_base.specs.declared.numbers.ProductRowId.{ProductRowId}

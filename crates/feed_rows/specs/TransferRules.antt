@@ -1,7 +1,8 @@
 -- The changes between the legs of a journey: where a run of legs starts, how many changes it has, and which rows of
 -- fare_transfer_rules.txt are selected. Legs and changes are counted from 0: change i lies between legs i and i + 1.
--- (GTFS Schedule Reference: fare_transfer_rules.txt; how changes are counted and compared, that a limit counts from the
--- run's first leg, and that a leg without group is never in an arranged change, are the profile's.)
+-- (GTFS Schedule Reference: fare_transfer_rules.txt; the profile's are how the changes of a run are counted, that an
+-- empty count is greater than every number, that limits are judged before counts and count from the run's first leg, and
+-- that a leg without group is never in an arranged change.)
 use Rattle.std.specs.Prelude.{ℕ, zero, suc, ◌+◌, ◌-◌, Bool, true, false, not, ◌&&◌, ◌||◌, ◌==◌, nat_le, if◌then◌else◌, List, [], Option, Some, None, ℤ, pos, ◌-ℤ◌, int_le, option_and_then}
 use Rattle.std.specs.List.{list_any, list_all}
 use Rattle.std.specs.Option.{option_map_or}
