@@ -6,3 +6,4 @@ pub mod SequenceLaws
 pub mod TimedLaws
 pub mod CallLaws
 pub mod CallTimes
+pub mod ShiftLaws
