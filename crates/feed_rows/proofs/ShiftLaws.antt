@@ -113,20 +113,15 @@ pub ascending_of-strict : (zs : List ℤ) → AllPairs ◌<ℤ◌ (ascending_of 
 ascending_of-strict [] = λ i j d lt within. absurd (omega arith)
 ascending_of-strict (z ∷ zs) = with_number-strict z (ascending_of zs) (ascending_of-strict zs)
 
--- so they are a list that ascends by the order of numbers
-pub ascending_of-ascending : (zs : List ℤ) → IsAscending int_cmp (ascending_of zs)
-ascending_of-ascending zs = λ i j d lt within. tell (get_or (ascending_of zs) i d) (get_or (ascending_of zs) j d) (ascending_of-strict zs i j d lt within)
+-- to ascend by the relation and by the order of numbers is one
+pub ascending_from_strict : (zs : List ℤ) → AllPairs ◌<ℤ◌ zs → IsAscending int_cmp zs
+ascending_from_strict zs ups = λ i j d lt within. tell (get_or zs i d) (get_or zs j d) (ups i j d lt within)
   where
   tell : (a b : ℤ) → a <ℤ b → int_cmp a b ≡ Less
   tell a b lt = let e : int_lt a b ≡ true = grind (arith, ints) in rw e refl
 
--- and the only one that has their members
-pub ascending_of-only : (zs sorted : List ℤ) → IsAscending int_cmp sorted → HaveSameMembers zs sorted → sorted ≡ ascending_of zs
-ascending_of-only zs sorted ups same =
-    same_from_members ◌<ℤ◌ less-order sorted (ascending_of zs) (λ i j d lt within. tell (get_or sorted i d) (get_or sorted j d) (ups i j d lt within)) (ascending_of-strict zs) (record {
-      there = λ x at. (ascending_of-members zs).there x (same.back x at);
-      back = λ x at. same.there x ((ascending_of-members zs).back x at);
-    })
+pub strict_from_ascending : (zs : List ℤ) → IsAscending int_cmp zs → AllPairs ◌<ℤ◌ zs
+strict_from_ascending zs ups = λ i j d lt within. tell (get_or zs i d) (get_or zs j d) (ups i j d lt within)
   where
   tell : (a b : ℤ) → int_cmp a b ≡ Less → a <ℤ b
   tell a b e = step (int_lt a b) refl (int_lt b a) refl
@@ -135,6 +130,18 @@ ascending_of-only zs sorted ups same =
     step true p t q = less_told a b p
     step false p true q = absurd (let no = rw (p, q) at e in cc)
     step false p false q = absurd (let no = rw (p, q) at e in cc)
+
+-- so they are a list that ascends by the order of numbers
+pub ascending_of-ascending : (zs : List ℤ) → IsAscending int_cmp (ascending_of zs)
+ascending_of-ascending zs = ascending_from_strict (ascending_of zs) (ascending_of-strict zs)
+
+-- and the only one that has their members
+pub ascending_of-only : (zs sorted : List ℤ) → IsAscending int_cmp sorted → HaveSameMembers zs sorted → sorted ≡ ascending_of zs
+ascending_of-only zs sorted ups same =
+    same_from_members ◌<ℤ◌ less-order sorted (ascending_of zs) (strict_from_ascending sorted ups) (ascending_of-strict zs) (record {
+      there = λ x at. (ascending_of-members zs).there x (same.back x at);
+      back = λ x at. same.there x ((ascending_of-members zs).back x at);
+    })
 
 -- a member passes a test where one of the numbers does
 pub list_any-ascending_of : (p : ℤ → Bool) (zs : List ℤ) → list_any p (ascending_of zs) ≡ list_any p zs
@@ -156,3 +163,217 @@ list_any-ascending_of p (z ∷ zs) = put z (ascending_of zs) ∙ ap (λ b. p z |
     step rest true e b f = rw e refl
     step rest false e true f = let same = same_told w y f in rw (e, f, same) (twice (p y) (list_any p ys))
     step rest false e false f = rw (e, f, rest) (turn (p y) (p w) (list_any p ys))
+
+-- a run of a frequency row departs at this second
+pub record IsRunStart (row : FrequencyRow) (s : ℕ) : Type 0 where
+  pub some : 0 < row.headway
+  pub from : row.start ≤ s
+  pub until : s < row.end
+  pub steps : (s - row.start) % row.headway ≡ 0
+
+-- how often a headway fits below a length
+fits-below : (x n headway : ℕ) → 0 < headway → x < (n + headway - 1) / headway → x * headway < n
+fits-below x n headway some lt =
+    let more : (x + 1) * headway ≤ (n + headway - 1) / headway * headway = mul-le-mul_right headway (omega arith) in
+    let most : (n + headway - 1) / headway * headway ≤ n + headway - 1 = div-mul-le_self (n + headway - 1) headway in
+    let spread : (x + 1) * headway ≡ x * headway + 1 * headway = add-mul x 1 headway in
+    omega (arith, more, most, spread)
+
+below-fits : (x n headway : ℕ) → 0 < headway → x * headway < n → x < (n + headway - 1) / headway
+below-fits x n headway some lt =
+    let spread : (x + 1) * headway ≡ x * headway + 1 * headway = add-mul x 1 headway in
+    let less : x + 1 ≤ (n + headway - 1) / headway = le-div (x + 1) (n + headway - 1) headway some (omega (arith, spread)) in
+    omega (arith, less)
+
+-- the runs of a row are those before its end
+pub run_count-tells : (row : FrequencyRow) (x : ℕ) → x < run_count row → (0 < row.headway) × (row.start + x * row.headway < row.end)
+run_count-tells row x lt = step (cases_eq row.headway 0)
+  where
+  step : (row.headway ≡ 0) ⊎ (row.headway ≡ 0 → ⊥) → (0 < row.headway) × (row.start + x * row.headway < row.end)
+  step (inl none) =
+      let nothing : run_count row ≡ 0 = rw none (div-zero (row.end - row.start + 0 - 1)) in
+      absurd (omega (arith, nothing))
+  step (inr some) =
+      let within = fits-below x (row.end - row.start) row.headway (omega arith) lt in
+      (omega arith, omega (arith, within))
+
+pub run_count-hit : (row : FrequencyRow) (x : ℕ) → 0 < row.headway → row.start + x * row.headway < row.end → x < run_count row
+run_count-hit row x some lt = below-fits x (row.end - row.start) row.headway some (omega arith)
+
+-- the start of a run, by its number
+pub run_start-at : (row : FrequencyRow) (x : ℕ) → 0 < row.headway → row.start + x * row.headway < row.end → IsRunStart row (row.start + x * row.headway)
+run_start-at row x some lt =
+    let past : row.start + x * row.headway - row.start ≡ x * row.headway = omega arith in
+    record { some = some; from = omega arith; until = lt; steps = rw past (mul-mod_left x row.headway) }
+
+-- and its number, by its start
+pub run_start-number : (row : FrequencyRow) (s : ℕ) → IsRunStart row s → (x : ℕ) × (x < run_count row) × (row.start + x * row.headway ≡ s)
+run_start-number row s run =
+    let some = run.some in
+    let from = run.from in
+    let until = run.until in
+    let whole : (s - row.start) / row.headway * row.headway + (s - row.start) % row.headway ≡ s - row.start = div-add-mod' (s - row.start) row.headway in
+    let rest = run.steps in
+    let here : row.start + (s - row.start) / row.headway * row.headway ≡ s = omega (arith, whole, rest) in
+    ((s - row.start) / row.headway, run_count-hit row ((s - row.start) / row.headway) some (omega (arith, here)), here)
+
+-- the starts of a row's runs: exactly those between start and end that are whole headways after the start
+pub run_starts-tells : (row : FrequencyRow) (s : ℕ) → Contains (run_starts row) s → IsRunStart row s
+run_starts-tells row s at =
+    let found = list_below-tells (run_count row) (λ x. row.start + x * row.headway) s at in
+    let within = run_count-tells row found.0 found.1 in
+    subst (IsRunStart row) found.2 (run_start-at row found.0 within.0 within.1)
+
+pub run_starts-hit : (row : FrequencyRow) (s : ℕ) → IsRunStart row s → Contains (run_starts row) s
+run_starts-hit row s run =
+    let found = run_start-number row s run in
+    subst (Contains (run_starts row)) found.2 (Contains-list_below (run_count row) (λ x. row.start + x * row.headway) found.0 found.1)
+
+-- the same by the number of the run
+pub run_starts-number : (row : FrequencyRow) (s : ℕ) → Contains (run_starts row) s → (x : ℕ) × (0 < row.headway) × (s ≡ row.start + x * row.headway) × (row.start + x * row.headway < row.end)
+run_starts-number row s at =
+    let found = list_below-tells (run_count row) (λ x. row.start + x * row.headway) s at in
+    let within = run_count-tells row found.0 found.1 in
+    (found.0, within.0, sym found.2, within.1)
+
+pub run_starts-at : (row : FrequencyRow) (x : ℕ) → 0 < row.headway → row.start + x * row.headway < row.end → Contains (run_starts row) (row.start + x * row.headway)
+run_starts-at row x some lt = Contains-list_below (run_count row) (λ k. row.start + k * row.headway) x (run_count-hit row x some lt)
+
+-- the test of a run's start
+pub is_run_start-hit : (row : FrequencyRow) (s : ℕ) → IsRunStart row s → is_run_start row (pos s) ≡ true
+unfolding is_run_start
+is_run_start-hit row s run =
+    let some = run.some in
+    let from = run.from in
+    let until = run.until in
+    let a : nat_lt 0 row.headway ≡ true = grind (arith, nat_tests) in
+    let b : int_le (pos row.start) (pos s) ≡ true = grind (arith, ints) in
+    let c : int_lt (pos s) (pos row.end) ≡ true = grind (arith, ints) in
+    let d : ((s - row.start) % row.headway == 0) ≡ true = rw run.steps refl in
+    and_from _ _ (and_from _ _ (and_from _ _ a b) c) d
+
+no_run : (a c d : Bool) → ((a && false) && c) && d ≡ true → ⊥
+no_run true c d = λ (e : false ≡ true). cc
+no_run false c d = λ (e : false ≡ true). cc
+
+pub is_run_start-tells : (row : FrequencyRow) (z : ℤ) → is_run_start row z ≡ true → (s : ℕ) × (z ≡ pos s) × IsRunStart row s
+unfolding is_run_start
+is_run_start-tells row (pos s) e =
+    let parts = and_parts _ _ e in
+    let more = and_parts _ _ parts.0 in
+    let most = and_parts _ _ more.0 in
+    (s, refl, tell s (most.0) (most.1) (more.1) (parts.1))
+  where
+  tell : (s : ℕ) → nat_lt 0 row.headway ≡ true → int_le (pos row.start) (pos s) ≡ true → int_lt (pos s) (pos row.end) ≡ true → ((s - row.start) % row.headway == 0) ≡ true → IsRunStart row s
+  tell s a b c d = record { some = grind (arith, nat_tests); from = grind (arith, ints); until = grind (arith, ints); steps = grind (arith, nat_tests) }
+is_run_start-tells row (negsuc s) e = absurd (no_run (nat_lt 0 row.headway) (int_lt (negsuc s) (pos row.end)) ((unsigned_abs (negsuc s) - row.start) % row.headway == 0) e)
+
+-- both pass or neither
+same_from_both : (a b : Bool) → (a ≡ true → b ≡ true) → (b ≡ true → a ≡ true) → a ≡ b
+same_from_both true b there back = sym (there refl)
+same_from_both false true there back = back refl
+same_from_both false false there back = refl
+
+-- a test of some item, where the items come of others
+module _ {X Y : Type 0} where
+  pub list_any-map : (p : Y → Bool) (f : X → Y) (xs : List X) → list_any p (map f xs) ≡ list_any (λ x. p (f x)) xs
+  list_any-map p f [] = refl
+  list_any-map p f (x ∷ xs) = ap (λ b. p (f x) || b) (list_any-map p f xs)
+
+  pub list_any-flat_map : (p : Y → Bool) (h : X → List Y) (xs : List X) → list_any p (flat_map h xs) ≡ list_any (λ x. list_any p (h x)) xs
+  list_any-flat_map p h [] = refl
+  list_any-flat_map p h (x ∷ xs) = list_any-append p (h x) (flat_map h xs) ∙ ap (λ b. list_any p (h x) || b) (list_any-flat_map p h xs)
+
+module _ {X : Type 0} where
+  pub list_any-filter : (p q : X → Bool) (xs : List X) → list_any p (filter q xs) ≡ list_any (λ x. q x && p x) xs
+  list_any-filter p q [] = refl
+  list_any-filter p q (x ∷ xs) = step (q x) refl (list_any-filter p q xs)
+    where
+    step : (b : Bool) → q x ≡ b → list_any p (filter q xs) ≡ list_any (λ y. q y && p y) xs → list_any p (filter q (x ∷ xs)) ≡ list_any (λ y. q y && p y) (x ∷ xs)
+    step true e rest = rw (e, rest) refl
+    step false e rest = rw (e, rest) refl
+
+  pub list_any-same : (p q : X → Bool) (xs : List X) → ((x : X) → p x ≡ q x) → list_any p xs ≡ list_any q xs
+  list_any-same p q [] same = refl
+  list_any-same p q (x ∷ xs) same = rw (same x, list_any-same p q xs same) refl
+
+-- a number is a shift by a frequency row where the departure that it leads to is a start of its runs
+pub list_any-run_starts : (row : FrequencyRow) (z : ℤ) (first : ℕ) → list_any (λ start. int_same z (pos start -ℤ pos first)) (run_starts row) ≡ is_run_start row (z +ℤ pos first)
+list_any-run_starts row z first =
+    let test = λ (x : ℕ). int_same z (pos (row.start + x * row.headway) -ℤ pos first) in
+    list_any-list_below (λ start. int_same z (pos start -ℤ pos first)) (run_count row) (λ x. row.start + x * row.headway)
+    ∙ same_from_both (any_below (run_count row) test) (is_run_start row (z +ℤ pos first)) (λ e. there (any-tells test (run_count row) e)) (λ e. back (is_run_start-tells row (z +ℤ pos first) e))
+  where
+  there : (k : ℕ) × (k < run_count row) × (int_same z (pos (row.start + k * row.headway) -ℤ pos first) ≡ true) → is_run_start row (z +ℤ pos first) ≡ true
+  there found =
+      let within = run_count-tells row found.0 found.1 in
+      let same : z ≡ pos (row.start + found.0 * row.headway) -ℤ pos first = same_told z _ found.2 in
+      let leads : z +ℤ pos first ≡ pos (row.start + found.0 * row.headway) = omega (arith, ints, same) in
+      rw leads (is_run_start-hit row (row.start + found.0 * row.headway) (run_start-at row found.0 within.0 within.1))
+  back : (s : ℕ) × (z +ℤ pos first ≡ pos s) × IsRunStart row s → any_below (run_count row) (λ x. int_same z (pos (row.start + x * row.headway) -ℤ pos first)) ≡ true
+  back found =
+      let number = run_start-number row found.0 found.2 in
+      let leads = found.1 in
+      let same : z ≡ pos found.0 -ℤ pos first = omega (arith, ints, leads) in
+      let here : z ≡ pos (row.start + number.0 * row.headway) -ℤ pos first = rw number.2 same in
+      any-hit (λ x. int_same z (pos (row.start + x * row.headway) -ℤ pos first)) (run_count row) number.0 number.1 (same_here z _ here)
+
+-- a number is among the shifts of a trip where the test says so
+pub list_any-shifts_of : (feed : FeedRows) (trip : TripId) (z : ℤ) → list_any (int_same z) (shifts_of feed trip) ≡ is_shift feed trip z
+unfolding shifts_of is_shift
+list_any-shifts_of feed trip z = step (has_frequencies feed trip) refl
+  where
+  alone : (b : Bool) → (b || false) ≡ b
+  alone true = refl
+  alone false = refl
+  step : (b : Bool) → has_frequencies feed trip ≡ b → list_any (int_same z) (shifts_of feed trip) ≡ is_shift feed trip z
+  step false e = rw e (alone (int_same z (pos 0)))
+  step true e =
+      let first = first_departure feed trip in
+      let shift = λ (start : ℕ). pos start -ℤ pos first in
+      let test = λ (f : FrequencyRow). list_any (λ start. int_same z (pos start -ℤ pos first)) (run_starts f) in
+      rw e (list_any-ascending_of (int_same z) (map shift (flat_map run_starts (trip_frequencies feed trip)))
+        ∙ list_any-map (int_same z) shift (flat_map run_starts (trip_frequencies feed trip))
+        ∙ list_any-flat_map (λ start. int_same z (pos start -ℤ pos first)) run_starts (trip_frequencies feed trip)
+        ∙ list_any-filter test (λ f. f.trip.0 == trip.0) feed.frequencies
+        ∙ list_any-same (λ f. f.trip.0 == trip.0 && test f) (λ f. f.trip.0 == trip.0 && is_run_start f (z +ℤ pos first)) feed.frequencies (λ f. ap (λ b. f.trip.0 == trip.0 && b) (list_any-run_starts f z first)))
+
+-- to be a member is to be found
+pub Contains-found : (zs : List ℤ) (z : ℤ) → Contains zs z → list_any (int_same z) zs ≡ true
+Contains-found [] z at = let lt = at.1 in absurd (omega arith)
+Contains-found (y ∷ ys) z at = step (Contains-found ys z) (Contains-cases y ys z at)
+  where
+  later : (a b : Bool) → b ≡ true → (a || b) ≡ true
+  later true b e = refl
+  later false b e = e
+  step : (Contains ys z → list_any (int_same z) ys ≡ true) → (y ≡ z) ⊎ Contains ys z → list_any (int_same z) (y ∷ ys) ≡ true
+  step rest (inl here) = rw (same_here z y (sym here)) refl
+  step rest (inr there) = later (int_same z y) (list_any (int_same z) ys) (rest there)
+
+pub found-Contains : (zs : List ℤ) (z : ℤ) → list_any (int_same z) zs ≡ true → Contains zs z
+found-Contains [] z e = absurd (cc)
+found-Contains (y ∷ ys) z e = step (found-Contains ys z) (int_same z y) refl
+  where
+  step : (list_any (int_same z) ys ≡ true → Contains ys z) → (b : Bool) → int_same z y ≡ b → Contains (y ∷ ys) z
+  step rest true same = subst (Contains (y ∷ ys)) (sym (same_told z y same)) (Contains-first y ys)
+  step rest false apart = Contains-later y ys z (rest (rw apart at e))
+
+-- the shifts of a trip ascend
+pub shifts_of-strict : (feed : FeedRows) (trip : TripId) → AllPairs ◌<ℤ◌ (shifts_of feed trip)
+unfolding shifts_of
+shifts_of-strict feed trip = step (has_frequencies feed trip) refl
+  where
+  step : (b : Bool) → has_frequencies feed trip ≡ b → AllPairs ◌<ℤ◌ (shifts_of feed trip)
+  step true e = rw e (ascending_of-strict (map (λ start. pos start -ℤ pos (first_departure feed trip)) (flat_map run_starts (trip_frequencies feed trip))))
+  step false e = rw e (λ i j d lt within. absurd (omega arith))
+
+pub shifts_of-ascending : (feed : FeedRows) (trip : TripId) → IsAscending int_cmp (shifts_of feed trip)
+shifts_of-ascending feed trip = ascending_from_strict (shifts_of feed trip) (shifts_of-strict feed trip)
+
+-- a list that ascends and has those numbers that the test passes is that of the shifts
+pub shifts_of-only : (feed : FeedRows) (trip : TripId) (sorted : List ℤ) → IsAscending int_cmp sorted → ((z : ℤ) → list_any (int_same z) sorted ≡ is_shift feed trip z) → sorted ≡ shifts_of feed trip
+shifts_of-only feed trip sorted ups same =
+    same_from_members ◌<ℤ◌ less-order sorted (shifts_of feed trip) (strict_from_ascending sorted ups) (shifts_of-strict feed trip) (record {
+      there = λ z at. found-Contains (shifts_of feed trip) z (list_any-shifts_of feed trip z ∙ sym (same z) ∙ Contains-found sorted z at);
+      back = λ z at. found-Contains sorted z (same z ∙ sym (list_any-shifts_of feed trip z) ∙ Contains-found (shifts_of feed trip) z at);
+    })
