@@ -7,3 +7,4 @@ pub mod TimedLaws
 pub mod CallLaws
 pub mod CallTimes
 pub mod ShiftLaws
+pub mod RideLaws

@@ -1,5 +1,5 @@
 -- The shifts of a trip: they ascend, each run of a frequency row gives one, and none else is one.
-use Rattle.std.proofs.Common.{◌≡◌, refl, sym, ◌∙◌, ap, subst, ℕ, zero, suc, ◌+◌, ◌-◌, ◌*◌, ◌/◌, ◌%◌, ◌<◌, ◌≤◌, ◌⊎◌, inl, inr, Bool, true, false, ◌&&◌, ◌||◌, ◌==◌, cond, nat_lt, List, [], ◌∷◌, ◌++◌, map, filter, flat_map, length, get_or, All, AllPairs, Contains, ℤ, pos, negsuc, ◌+ℤ◌, ◌-ℤ◌, ◌<ℤ◌, int_lt, int_le, unsigned_abs, arith, int_cmp, mul-le-mul_right, div-mul-le_self, div-add-mod', add-mul}
+use Rattle.std.proofs.Common.{◌≡◌, refl, sym, ◌∙◌, ap, subst, ℕ, zero, suc, ◌+◌, ◌-◌, ◌*◌, ◌/◌, ◌%◌, ◌<◌, ◌≤◌, ◌⊎◌, inl, inr, Bool, true, false, ◌&&◌, ◌||◌, ◌==◌, cond, nat_lt, List, [], ◌∷◌, ◌++◌, map, filter, flat_map, length, get_or, All, AllPairs, Contains, ℤ, pos, negsuc, ◌+ℤ◌, ◌-ℤ◌, ◌<ℤ◌, ◌≤ℤ◌, int_lt, int_le, unsigned_abs, arith, int_cmp, mul-le-mul_right, div-mul-le_self, div-add-mod', add-mul}
 use Rattle.std.specs.Prelude.{if◌then◌else◌}
 use Rattle.std.specs.List.{list_any}
 use Rattle.std.specs.declared.cmp.Ordering.TheVariants.{Less}
@@ -377,3 +377,74 @@ shifts_of-only feed trip sorted ups same =
       there = λ z at. found-Contains (shifts_of feed trip) z (list_any-shifts_of feed trip z ∙ sym (same z) ∙ Contains-found sorted z at);
       back = λ z at. found-Contains sorted z (same z ∙ sym (list_any-shifts_of feed trip z) ∙ Contains-found (shifts_of feed trip) z at);
     })
+
+-- a run of a trip that departs from its first stop at this second, and the shift that leads to it
+pub record IsRunOf (feed : FeedRows) (trip : TripId) (z : ℤ) (s : ℕ) : Type 0 where
+  pub leads : z +ℤ pos (first_departure feed trip) ≡ pos s
+  pub row : FrequencyRow
+  pub member : Contains feed.frequencies row
+  pub of_trip : row.trip.0 ≡ trip.0
+  pub start : IsRunStart row s
+
+-- some item passes: which
+pub list_any-tells : {X : Type 0} (p : X → Bool) (xs : List X) → list_any p xs ≡ true → (x : X) × Contains xs x × (p x ≡ true)
+list_any-tells p [] e = absurd (cc)
+list_any-tells {X} p (x ∷ xs) e = step (list_any-tells p xs) (p x) refl
+  where
+  step : (list_any p xs ≡ true → (y : X) × Contains xs y × (p y ≡ true)) → (b : Bool) → p x ≡ b → (y : X) × Contains (x ∷ xs) y × (p y ≡ true)
+  step rest true here = (x, Contains-first x xs, here)
+  step rest false none = let found = rest (rw none at e) in (found.0, Contains-later x xs found.0 found.1, found.2)
+
+-- a shift of a trip with frequency rows leads to a run of one of them
+pub is_shift-run : (feed : FeedRows) (trip : TripId) (z : ℤ) → has_frequencies feed trip ≡ true → is_shift feed trip z ≡ true → (s : ℕ) × IsRunOf feed trip z s
+unfolding is_shift
+is_shift-run feed trip z frequent e =
+    let test = λ (f : FrequencyRow). f.trip.0 == trip.0 && is_run_start f (z +ℤ pos (first_departure feed trip)) in
+    let some : list_any test feed.frequencies ≡ true = rw frequent at e in
+    let found = list_any-tells test feed.frequencies some in
+    let both = and_parts (found.0.trip.0 == trip.0) (is_run_start found.0 (z +ℤ pos (first_departure feed trip))) found.2 in
+    let run = is_run_start-tells found.0 (z +ℤ pos (first_departure feed trip)) both.1 in
+    (run.0, record { leads = run.1; row = found.0; member = found.1; of_trip = told found.0.trip.0 trip.0 both.0; start = run.2 })
+  where
+  told : (a b : ℕ) → (a == b) ≡ true → a ≡ b
+  told a b e = grind (arith, nat_tests)
+
+-- and that of a trip without them is 0
+pub is_shift-none : (feed : FeedRows) (trip : TripId) (z : ℤ) → has_frequencies feed trip ≡ false → is_shift feed trip z ≡ true → z ≡ pos 0
+unfolding is_shift
+is_shift-none feed trip z bare e = same_told z (pos 0) (rw bare at e)
+
+-- the frequency rows end no later than this
+abbrev pub DoRunsEndBy : FeedRows → ℕ → Type 0
+DoRunsEndBy feed most = All (λ (f : FrequencyRow). f.end ≤ most) feed.frequencies
+
+-- a shift leads to a second of the service day that is no later than runs end and trips begin
+pub is_shift-leads : (feed : FeedRows) (trip : TripId) (z : ℤ) (most : ℕ) → DoRunsEndBy feed most → first_departure feed trip ≤ most → is_shift feed trip z ≡ true
+    → (s : ℕ) × (z +ℤ pos (first_departure feed trip) ≡ pos s) × (s ≤ most)
+is_shift-leads feed trip z most ends begins e = step (cases_Bool (has_frequencies feed trip))
+  where
+  at_none : (n : ℕ) → pos 0 +ℤ pos n ≡ pos n
+  at_none n = omega (arith, ints)
+  step : (has_frequencies feed trip ≡ true) ⊎ (has_frequencies feed trip ≡ false) → (s : ℕ) × (z +ℤ pos (first_departure feed trip) ≡ pos s) × (s ≤ most)
+  step (inl frequent) =
+      let found = is_shift-run feed trip z frequent e in
+      let run = found.1 in
+      let until = run.start.until in
+      let by = All-at (λ (f : FrequencyRow). f.end ≤ most) feed.frequencies run.row ends run.member in
+      (found.0, run.leads, omega (arith, until, by))
+  step (inr bare) = let none = is_shift-none feed trip z bare e in (first_departure feed trip, rw none (at_none (first_departure feed trip)), begins)
+
+-- so it lies within bounds
+pub is_shift-bounds : (feed : FeedRows) (trip : TripId) (z : ℤ) (most : ℕ) → 0 < most → DoRunsEndBy feed most → first_departure feed trip ≤ most → is_shift feed trip z ≡ true
+    → ((pos 0 -ℤ pos most) ≤ℤ z) × (z <ℤ pos most)
+is_shift-bounds feed trip z most some ends begins e = step (cases_Bool (has_frequencies feed trip))
+  where
+  step : (has_frequencies feed trip ≡ true) ⊎ (has_frequencies feed trip ≡ false) → ((pos 0 -ℤ pos most) ≤ℤ z) × (z <ℤ pos most)
+  step (inl frequent) =
+      let found = is_shift-run feed trip z frequent e in
+      let run = found.1 in
+      let until = run.start.until in
+      let leads = run.leads in
+      let by = All-at (λ (f : FrequencyRow). f.end ≤ most) feed.frequencies run.row ends run.member in
+      (omega (arith, ints, leads, begins), omega (arith, ints, leads, until, by))
+  step (inr bare) = let none = is_shift-none feed trip z bare e in (omega (arith, ints, none), omega (arith, ints, none))
