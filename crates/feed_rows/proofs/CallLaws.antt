@@ -13,7 +13,8 @@ use Rattle.feed_rows.specs.Words.{at_and, collect_below}
 use Rattle.feed_rows.specs.Calls.{first_time, last_time, is_timed, timed_before, timed_after, time_between, filled_time, call_at, calls_of, trip_stop_times}
 use Rattle.feed_rows.specs.CallWalk.{TimedGap, gap_after, gap_at, time_in, call_in, walk_below, walk}
 use Rattle.feed_rows.proofs.BelowLaws.{collect-more, collect-tells, collect-some, IsCollected}
-use Rattle.feed_rows.proofs.TimedLaws.{first_at, last_at, is_timed_at, HasTimedEnds, IsTimedBefore, IsTimedAfter, IsInGap, in_gap, timed_before-hit, timed_after-hit, timed_after-gap, timed_at, timed_row, untimed_row}
+use Rattle.feed_rows.specs.TimedTrips.{first_at, last_at, is_timed_at, HasTimedEnds}
+use Rattle.feed_rows.proofs.TimedLaws.{IsTimedBefore, IsTimedAfter, IsInGap, in_gap, timed_before-hit, timed_after-hit, timed_after-gap, timed_at, timed_row, untimed_row}
 
 -- the gap goes on: a new one begins after a timed row
 pub gap_at-timed : (rows : List StopTimeRow) (m : ℕ) → is_timed_at rows m ≡ true → gap_at rows (m + 1) ≡ gap_after rows m

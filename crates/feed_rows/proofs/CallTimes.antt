@@ -11,18 +11,9 @@ use Rattle.feed_rows.specs.declared.journeys.Call.{Call}
 use Rattle.feed_rows.specs.FeedRows.{FeedRows}
 use Rattle.feed_rows.specs.CallWalk.{TimedGap, time_in}
 use Rattle.feed_rows.specs.Calls.{last_time, first_time, is_timed, time_between, timed_before, timed_after, calls_of, trip_stop_times, first_departure}
-use Rattle.feed_rows.proofs.TimedLaws.{first_at, last_at, is_timed_at, timed_within, HasTimedEnds, IsTimedBefore, IsTimedAfter, IsInGap, timed_before-hit, timed_after-hit, timed_at, untimed_row}
+use Rattle.feed_rows.specs.TimedTrips.{first_at, last_at, is_timed_at, HasTimedEnds, DoTimesRise, AreTimesAtMost}
+use Rattle.feed_rows.proofs.TimedLaws.{timed_within, IsTimedBefore, IsTimedAfter, IsInGap, timed_before-hit, timed_after-hit, timed_at, untimed_row}
 use Rattle.feed_rows.proofs.CallLaws.{HasOwnTimes, HasFilledTime, IsCallOf, IsAround, calls_of-row}
-
--- no time of the rows is greater than this
-pub record AreTimesAtMost (rows : List StopTimeRow) (most : ℕ) : Type 0 where
-  pub first : (m t : ℕ) → first_at rows m ≡ Some t → t ≤ most
-  pub last : (m t : ℕ) → last_at rows m ≡ Some t → t ≤ most
-
--- times don't fall: not in a row, and not from a timed row to a later one
-pub record DoTimesRise (rows : List StopTimeRow) : Type 0 where
-  pub stay : (m a d : ℕ) → first_at rows m ≡ Some a → last_at rows m ≡ Some d → a ≤ d
-  pub run : (i j d a : ℕ) → i < j → last_at rows i ≡ Some d → first_at rows j ≡ Some a → d ≤ a
 
 -- a part of a distance is at most the distance, and grows with the part
 pub share-le : (part whole distance : ℕ) → part ≤ whole → (part * distance) / whole ≤ distance

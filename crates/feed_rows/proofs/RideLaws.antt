@@ -16,9 +16,9 @@ use Rattle.feed_rows.specs.Words.{at_and, int_same}
 use Rattle.feed_rows.specs.Calls.{calls_of, trip_stop_times, first_departure}
 use Rattle.feed_rows.specs.Shifts.{shifts_of, is_shift}
 use Rattle.feed_rows.specs.Rides.{runs_on, is_ride, moment_of, facts_between, ride_facts}
-use Rattle.feed_rows.proofs.TimedLaws.{HasTimedEnds}
-use Rattle.feed_rows.proofs.CallTimes.{AreTimesAtMost, DoTimesRise, calls_of-most, calls_of-stays, calls_of-rise, first_departure-most, first_departure-least}
-use Rattle.feed_rows.proofs.ShiftLaws.{DoRunsEndBy, list_any-shifts_of, is_shift-leads}
+use Rattle.feed_rows.specs.TimedTrips.{IsTimedTrip}
+use Rattle.feed_rows.proofs.CallTimes.{calls_of-most, calls_of-stays, calls_of-rise, first_departure-most, first_departure-least}
+use Rattle.feed_rows.proofs.ShiftLaws.{list_any-shifts_of, is_shift-leads}
 
 -- what a ride with facts is
 pub record IsRideWith (feed : FeedRows) (ride : Ride) (facts : RideFacts) : Type 0 where
@@ -76,13 +76,6 @@ ride_facts-tells feed ride facts e = step (is_ride feed ride) refl (slice_get (c
         drop_off = rw alights at tested.drop_off;
         facts_are = same_Some _ _ same;
       }
-
--- a trip whose calls have times that don't fall, all no later than this, as its runs
-pub record IsTimedTrip (feed : FeedRows) (trip : TripId) (most : ℕ) : Type 0 where
-  pub ends : HasTimedEnds (trip_stop_times feed trip)
-  pub rise : DoTimesRise (trip_stop_times feed trip)
-  pub times : AreTimesAtMost (trip_stop_times feed trip) most
-  pub runs : DoRunsEndBy feed most
 
 -- when a ride goes: it departs on its day or later, arrives no sooner than it departs, and not after twice the greatest
 -- time

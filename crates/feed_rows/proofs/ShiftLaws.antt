@@ -17,6 +17,7 @@ use Rattle.feed_rows.specs.Ascending.{IsAscending}
 use Rattle.feed_rows.specs.Words.{int_same, any_below, list_below}
 use Rattle.feed_rows.specs.Calls.{first_departure}
 use Rattle.feed_rows.specs.Shifts.{run_count, run_starts, with_number, ascending_of, trip_frequencies, has_frequencies, shifts_of, is_run_start, is_shift}
+use Rattle.feed_rows.specs.TimedTrips.{DoRunsEndBy}
 use Rattle.feed_rows.proofs.BelowLaws.{any-hit, any-tells, Contains-list_below, list_below-tells, list_any-list_below}
 use Rattle.feed_rows.proofs.StrictLaws.{IsStrictOrder, HaveSameMembers, AllPairs-cons, AllPairs-tail, AllPairs-head, Contains-cases, Contains-first, Contains-later, All-at, same_from_members}
 
@@ -413,10 +414,6 @@ is_shift-run feed trip z frequent e =
 pub is_shift-none : (feed : FeedRows) (trip : TripId) (z : ℤ) → has_frequencies feed trip ≡ false → is_shift feed trip z ≡ true → z ≡ pos 0
 unfolding is_shift
 is_shift-none feed trip z bare e = same_told z (pos 0) (rw bare at e)
-
--- the frequency rows end no later than this
-abbrev pub DoRunsEndBy : FeedRows → ℕ → Type 0
-DoRunsEndBy feed most = All (λ (f : FrequencyRow). f.end ≤ most) feed.frequencies
 
 -- a shift leads to a second of the service day that is no later than runs end and trips begin
 pub is_shift-leads : (feed : FeedRows) (trip : TripId) (z : ℤ) (most : ℕ) → DoRunsEndBy feed most → first_departure feed trip ≤ most → is_shift feed trip z ≡ true

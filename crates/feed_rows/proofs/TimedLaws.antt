@@ -8,23 +8,8 @@ use Rattle.feed_rows.specs.declared.rows.StopTimeRow.{StopTimeRow}
 use Rattle.feed_rows.specs.Words.{at_and}
 use Rattle.feed_rows.specs.Calls.{first_time, last_time, is_timed, timed_before, timed_after}
 use Rattle.feed_rows.specs.CallWalk.{next_timed}
+use Rattle.feed_rows.specs.TimedTrips.{first_at, last_at, is_timed_at, HasTimedEnds}
 use Rattle.feed_rows.proofs.BelowLaws.{find-none, find-hit, find-tells, find-some, find-same, last-hit, last-tells, last-some}
-
--- the times of the row at a position
-abbrev pub first_at : List StopTimeRow → ℕ → Option ℕ
-first_at rows m = option_and_then first_time (slice_get rows m)
-
-abbrev pub last_at : List StopTimeRow → ℕ → Option ℕ
-last_at rows m = option_and_then last_time (slice_get rows m)
-
--- the row at a position has a time
-abbrev pub is_timed_at : List StopTimeRow → ℕ → Bool
-is_timed_at rows m = at_and rows m is_timed
-
--- the first and the last row have times
-pub record HasTimedEnds (rows : List StopTimeRow) : Type 0 where
-  pub first : 0 < length rows → is_timed_at rows 0 ≡ true
-  pub last : 0 < length rows → is_timed_at rows (length rows - 1) ≡ true
 
 -- p is the nearest timed position before m
 pub record IsTimedBefore (rows : List StopTimeRow) (m p : ℕ) : Type 0 where
