@@ -15,3 +15,5 @@ pub mod SequenceLaws
 pub mod TimedLaws
 pub mod CallLaws
 pub mod CallTimes
+pub mod ShiftLaws
+pub mod RideLaws

@@ -6,6 +6,7 @@ pub mod FeedRows
 pub mod ServiceDays
 pub mod Calls
 pub mod CallWalk
+pub mod TimedTrips
 pub mod Shifts
 pub mod Rides
 pub mod StopLinks
