@@ -1,2 +1,4 @@
 pub mod AscendingLaws
 pub mod TransferLaws
+pub mod MemberLaws
+pub mod ParetoLaws
