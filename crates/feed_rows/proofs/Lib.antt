@@ -2,3 +2,4 @@ pub mod AscendingLaws
 pub mod TransferLaws
 pub mod MemberLaws
 pub mod ParetoLaws
+pub mod ExactLaws
