@@ -3,3 +3,4 @@ pub mod TransferLaws
 pub mod MemberLaws
 pub mod ParetoLaws
 pub mod ExactLaws
+pub mod WalkLaws
