@@ -4,3 +4,4 @@ pub mod MemberLaws
 pub mod ParetoLaws
 pub mod ExactLaws
 pub mod WalkLaws
+pub mod JourneyLaws

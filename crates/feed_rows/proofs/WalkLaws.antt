@@ -1,7 +1,7 @@
 -- Steps in a row, by number and from the front.
 use Rattle.std.proofs.Common.{◌≡◌, refl, sym, ◌∙◌, ap, subst, ℕ, zero, suc, ◌+◌, ◌<◌, ◌≤◌, List, [], ◌∷◌, ◌++◌, length, arith, add-one}
 use Rattle.std.specs.Prelude.{Option, Some, None, slice_get, option_and_then}
-use Rattle.feed_rows.specs.JourneyWalk.{after, after_first}
+use Rattle.feed_rows.specs.Walks.{after, after_first}
 
 -- one thing after another, and then a third
 pub option_and_then-assoc : {A B C : Type 0} (f : A → Option B) (g : B → Option C) (o : Option A) →

@@ -9,6 +9,7 @@ pub mod Shifts
 pub mod Rides
 pub mod StopLinks
 pub mod Journeys
+pub mod Walks
 pub mod JourneyWalk
 pub mod Legs
 pub mod LegRules
