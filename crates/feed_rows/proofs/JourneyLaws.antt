@@ -220,3 +220,77 @@ journey_of_walked feed query journey arrival w =
       arrives = arrival_of_stand feed query journey (length journey.rides) w.stand w.stands ∙ w.arrives;
       in_time = w.in_time;
     }
+
+-- one more ride at the end is taken from where one stands after the others
+pub stand_after-push : (feed : FeedRows) (query : Query) (first : StopId) (rides : List Ride) (ride : Ride) →
+  stand_after feed query first (rides ++ ride ∷ []) (length rides + 1) ≡ option_and_then (λ stand. next_stand feed query stand ride) (stand_after feed query first rides (length rides))
+stand_after-push feed query first rides ride = after_first-push (next_stand feed query) (first_stand query first) rides ride
+
+-- the walk along the first rides looks at no ride that comes later
+pub stand_after-append : (feed : FeedRows) (query : Query) (first : StopId) (rides more : List Ride) (n : ℕ) → n ≤ length rides →
+  stand_after feed query first (rides ++ more) n ≡ stand_after feed query first rides n
+stand_after-append feed query first rides more n le = after_first-append (next_stand feed query) (first_stand query first) rides more n le
+
+-- the walk along all rides is the walk from the front
+pub stand_after-all : (feed : FeedRows) (query : Query) (first : StopId) (rides : List Ride) →
+  stand_after feed query first rides (length rides) ≡ after (next_stand feed query) (first_stand query first) rides
+stand_after-all feed query first rides = after_first-all (next_stand feed query) (first_stand query first) rides
+
+-- what it is to take a ride from where one stands
+pub record IsTaken (feed : FeedRows) (query : Query) (before : Stand) (ride : Ride) (stand : Stand) : Type 0 where
+  pub facts : RideFacts
+  pub is : ride_facts feed ride ≡ Some facts
+  pub caught : is_caught before.at (way_to feed query before facts.from) facts ≡ true
+  pub stands : stand_at_end facts ≡ stand
+
+-- the next stand is at the end of a ride that is caught
+pub taken_of_next : (feed : FeedRows) (query : Query) (before : Stand) (ride : Ride) (stand : Stand) →
+  next_stand feed query before ride ≡ Some stand → IsTaken feed query before ride stand
+unfolding next_stand
+taken_of_next feed query before ride stand e =
+    let f = chain_gives (stand_by feed query before) (ride_facts feed ride) stand e in
+    let c = when_some (is_caught before.at (way_to feed query before f.value.from) f.value) (stand_at_end f.value) stand f.gives in
+    record { facts = f.value; is = f.is; caught = c.0; stands = c.1 }
+
+-- where a ride is caught, the next stand is at its end
+pub next_of_taken : (feed : FeedRows) (query : Query) (before : Stand) (ride : Ride) (stand : Stand) →
+  IsTaken feed query before ride stand → next_stand feed query before ride ≡ Some stand
+unfolding next_stand
+next_of_taken feed query before ride stand t =
+    let gives : option_and_then (stand_by feed query before) (ride_facts feed ride) ≡ Some (stand_at_end t.facts) = rw (t.is, t.caught) refl in
+    gives ∙ ap Some t.stands
+
+-- a ride that can be taken is one of the feed
+pub is_ride-of_next : (feed : FeedRows) (query : Query) (before : Stand) (ride : Ride) (stand : Stand) →
+  next_stand feed query before ride ≡ Some stand → is_ride feed ride ≡ true
+is_ride-of_next feed query before ride stand e =
+    let t = taken_of_next feed query before ride stand e in is_ride-of_facts feed ride t.facts t.is
+
+-- a walk from the front that ends in time is a journey
+pub journey_of_after : (feed : FeedRows) (query : Query) (journey : Journey) (arrival : ℤ) (stand : Stand) →
+  IsTrue (stands_for feed query.from journey.first) → IsTrue (stands_for feed query.to journey.last) → length journey.rides ≤ query.rides →
+  after (next_stand feed query) (first_stand query journey.first) journey.rides ≡ Some stand →
+  end_arrival feed query stand journey.last ≡ Some arrival → arrival ≤ℤ (query.departure.0 +ℤ pos query.window) → IsJourney feed query journey arrival
+journey_of_after feed query journey arrival stand starts ends few stands arrives in_time =
+    journey_of_walked feed query journey arrival
+      (record {
+        starts = starts;
+        ends = ends;
+        few = few;
+        stand = stand;
+        stands = stand_after-all feed query journey.first journey.rides ∙ stands;
+        arrives = arrives;
+        in_time = in_time;
+      })
+
+-- the walk from the front along a journey's rides, and the arrival from its end
+pub record IsWalkFromFront (feed : FeedRows) (query : Query) (journey : Journey) (arrival : ℤ) : Type 0 where
+  pub stand : Stand
+  pub stands : after (next_stand feed query) (first_stand query journey.first) journey.rides ≡ Some stand
+  pub arrives : end_arrival feed query stand journey.last ≡ Some arrival
+
+-- a journey is a walk from the front
+pub after_of_journey : (feed : FeedRows) (query : Query) (journey : Journey) (arrival : ℤ) → IsJourney feed query journey arrival → IsWalkFromFront feed query journey arrival
+after_of_journey feed query journey arrival j =
+    let w = walked_of_journey feed query journey arrival j in
+    record { stand = w.stand; stands = sym (stand_after-all feed query journey.first journey.rides) ∙ w.stands; arrives = w.arrives }

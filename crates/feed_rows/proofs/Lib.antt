@@ -5,3 +5,4 @@ pub mod ParetoLaws
 pub mod ExactLaws
 pub mod WalkLaws
 pub mod JourneyLaws
+pub mod FareLaws

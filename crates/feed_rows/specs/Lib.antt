@@ -16,6 +16,7 @@ pub mod LegRules
 pub mod TransferRules
 pub mod FareChoices
 pub mod FareSums
+pub mod FareWalk
 pub mod ParetoTriples
 pub mod JourneyEntries
 pub mod UsageFaults
