@@ -6,3 +6,4 @@ pub mod ExactLaws
 pub mod WalkLaws
 pub mod JourneyLaws
 pub mod FareLaws
+pub mod SumLaws

@@ -1,10 +1,11 @@
 -- The walk along legs: the run of the leg that was met last, and what one more leg adds to the sum.
 use Rattle.std.specs.Prelude.{ℕ, zero, suc, ◌+◌, Bool, true, false, ◌&&◌, ◌||◌, ◌==◌, if◌then◌else◌, List, [], ◌∷◌, Option, Some, None, is_none, ℤ, pos, ◌+ℤ◌, ◌-ℤ◌, slice_get, option_map, option_and_then}
+use Rattle.std.specs.Option.{option_map_or}
 use Rattle.feed_rows.specs.declared.fares.ChangeChoice.{ChangeChoice}
 use Rattle.feed_rows.specs.declared.fares.TransferFacts.{TransferFacts}
 use Rattle.feed_rows.specs.FeedRows.{FeedRows}
 use Rattle.feed_rows.specs.TransferRules.{FareLeg, change_between, same_group, is_arranged}
-use Rattle.feed_rows.specs.FareSums.{starts_chain, is_charged}
+use Rattle.feed_rows.specs.FareSums.{starts_chain, is_charged, pick_amount}
 use Rattle.feed_rows.specs.Words.{filled_and, sum_below}
 
 -- the run of the leg that was met last: its first leg, how many changes it has, and that leg
@@ -86,3 +87,7 @@ next_total total held kind amount change = total +ℤ (added kind amount +ℤ ch
 -- the type of the row by which the place of a change says that it is arranged
 abbrev pub place_kind : FeedRows → Option ChangeChoice → Option ℕ
 place_kind feed place = option_and_then (λ pick. option_map (λ row. row.kind) (slice_get feed.transfer_rules pick.rule.0)) place
+
+-- what the place of a change adds to the sum
+abbrev pub place_charge : FeedRows → Option ChangeChoice → ℤ
+place_charge feed place = option_map_or (pick_amount feed) place (pos 0)
