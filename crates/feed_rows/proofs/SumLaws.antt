@@ -123,3 +123,115 @@ next_total-both total held amount change = omega (arith, ints)
 -- a leg that a change of type 2 enters is free, and so is the leg before it where that is the first of its chain
 pub next_total-change_alone : (total held amount change : ℤ) → next_total total held (Some 2) amount change ≡ total +ℤ change -ℤ held
 next_total-change_alone total held amount change = omega (arith, ints)
+
+-- the one choice is the other with one more leg, and the place of the change to it
+pub record IsPushed (choice : Choice) (place : Option ChangeChoice) (pick : LegChoice) (more : Choice) (n : ℕ) : Type 0 where
+  pub legs : length choice.legs ≡ suc n
+  pub changes : length choice.changes ≡ n
+  pub more_legs : more.legs ≡ choice.legs ++ pick ∷ []
+  pub more_changes : more.changes ≡ choice.changes ++ place ∷ []
+
+-- the sum of a choice is the sum of its legs and changes by number
+pub fare_sum-total : (feed : FeedRows) (choice : Choice) (n : ℕ) → length choice.legs ≡ suc n → length choice.changes ≡ n →
+  fare_sum feed choice ≡ total (transfer_kind feed choice) (leg_amount feed choice) (change_charge feed choice) n
+unfolding fare_sum leg_charge
+fare_sum-total feed choice n legs changes = rw (legs, changes) refl
+
+-- no change has a type past the places of a choice
+pub transfer_kind_past : (feed : FeedRows) (choice : Choice) (n : ℕ) → length choice.changes ≤ n → transfer_kind feed choice n ≡ None
+unfolding transfer_kind
+transfer_kind_past feed choice n past = rw (slice_get_past choice.changes n past) refl
+
+-- the place of a change gives its type
+pub transfer_kind_at : (feed : FeedRows) (choice : Choice) (n : ℕ) (place : Option ChangeChoice) → slice_get choice.changes n ≡ Some place → transfer_kind feed choice n ≡ place_kind feed place
+unfolding transfer_kind
+transfer_kind_at feed choice n place is = rw is refl
+
+-- the place of a change gives what it adds
+pub change_charge_at : (feed : FeedRows) (choice : Choice) (n : ℕ) (place : Option ChangeChoice) → slice_get choice.changes n ≡ Some place → change_charge feed choice n ≡ place_charge feed place
+unfolding change_charge
+change_charge_at feed choice n place is = rw is refl
+
+-- the choice of a leg gives its amount
+pub leg_amount_at : (feed : FeedRows) (choice : Choice) (n : ℕ) (pick : LegChoice) → slice_get choice.legs n ≡ Some pick → leg_amount feed choice n ≡ amount_of feed pick.product
+leg_amount_at feed choice n pick is = rw is refl
+
+same_kind : (feed : FeedRows) (a b : Choice) (i : ℕ) → slice_get a.changes i ≡ slice_get b.changes i → transfer_kind feed a i ≡ transfer_kind feed b i
+unfolding transfer_kind
+same_kind feed a b i same = rw same refl
+
+same_charge : (feed : FeedRows) (a b : Choice) (i : ℕ) → slice_get a.changes i ≡ slice_get b.changes i → change_charge feed a i ≡ change_charge feed b i
+unfolding change_charge
+same_charge feed a b i same = rw same refl
+
+same_amount : (feed : FeedRows) (a b : Choice) (i : ℕ) → slice_get a.legs i ≡ slice_get b.legs i → leg_amount feed a i ≡ leg_amount feed b i
+same_amount feed a b i same = rw same refl
+
+-- the choices of the legs and changes before the new ones stay
+kept : {X : Type 0} (xs ys : List X) (x : X) (i : ℕ) → ys ≡ xs ++ x ∷ [] → i < length xs → slice_get xs i ≡ slice_get ys i
+kept xs ys x i e lt = rw e (sym (slice_get-append_left xs (x ∷ []) i lt))
+
+-- the new choice is the last
+new_at : {X : Type 0} (xs ys : List X) (x : X) (n : ℕ) → length xs ≡ n → ys ≡ xs ++ x ∷ [] → slice_get ys n ≡ Some x
+new_at xs ys x n long e = rw (e, ← long) (slice_get_push xs x)
+
+-- such a choice says of one more leg
+pub more_of_pushed : (feed : FeedRows) (choice : Choice) (place : Option ChangeChoice) (pick : LegChoice) (more : Choice) (n : ℕ) → IsPushed choice place pick more n →
+  IsOneMore (transfer_kind feed choice) (leg_amount feed choice) (change_charge feed choice) (transfer_kind feed more) (leg_amount feed more) (change_charge feed more) n
+more_of_pushed feed choice place pick more n p =
+    let legs = p.legs in
+    let changes = p.changes in
+    let long : length more.changes ≡ n + 1 = ap length p.more_changes ∙ length_push choice.changes place ∙ ap (λ k. k + 1) changes in
+    record {
+      kinds = λ i lt. same_kind feed choice more i (kept choice.changes more.changes place i p.more_changes (omega arith));
+      amounts = λ i le. same_amount feed choice more i (kept choice.legs more.legs pick i p.more_legs (omega arith));
+      changes = λ i lt. same_charge feed choice more i (kept choice.changes more.changes place i p.more_changes (omega arith));
+      ends = transfer_kind_past feed choice n (omega arith);
+      ends_later = transfer_kind_past feed more (suc n) (omega arith);
+    }
+
+same_next_total : (t t' held : ℤ) (k k' : Option ℕ) (a a' c c' : ℤ) → t ≡ t' → k ≡ k' → a ≡ a' → c ≡ c' → next_total t held k a c ≡ next_total t' held k' a' c'
+same_next_total t t' held k k' a a' c c' e f g h = rw (e, f, g, h) refl
+
+-- the sum of a choice with one more leg
+pub fare_sum-push : (feed : FeedRows) (choice : Choice) (place : Option ChangeChoice) (pick : LegChoice) (more : Choice) (n : ℕ) → IsPushed choice place pick more n →
+  fare_sum feed more ≡ next_total (fare_sum feed choice) (held_at (transfer_kind feed choice) (leg_amount feed choice) n) (place_kind feed place) (amount_of feed pick.product) (place_charge feed place)
+fare_sum-push feed choice place pick more n p =
+    let legs : length more.legs ≡ suc (suc n) = ap length p.more_legs ∙ length_push choice.legs pick ∙ ap (λ k. k + 1) p.legs ∙ omega arith in
+    let changes : length more.changes ≡ suc n = ap length p.more_changes ∙ length_push choice.changes place ∙ ap (λ k. k + 1) p.changes ∙ omega arith in
+    let kind = transfer_kind_at feed more n place (new_at choice.changes more.changes place n p.changes p.more_changes) in
+    let charge = change_charge_at feed more n place (new_at choice.changes more.changes place n p.changes p.more_changes) in
+    let amount = leg_amount_at feed more (suc n) pick (new_at choice.legs more.legs pick (suc n) p.legs p.more_legs) in
+    let old = fare_sum-total feed choice n p.legs p.changes in
+    let step = total-more _ _ _ (transfer_kind feed more) (leg_amount feed more) (change_charge feed more) n (more_of_pushed feed choice place pick more n p) in
+    fare_sum-total feed more (suc n) legs changes ∙ step ∙ same_next_total _ _ _ _ _ _ _ _ _ (sym old) kind amount charge
+
+-- what is held after one more leg of a choice
+pub held_at-push : (feed : FeedRows) (choice : Choice) (place : Option ChangeChoice) (pick : LegChoice) (more : Choice) (n : ℕ) → IsPushed choice place pick more n →
+  held_at (transfer_kind feed more) (leg_amount feed more) (suc n) ≡ next_held (place_kind feed place) (amount_of feed pick.product)
+held_at-push feed choice place pick more n p =
+    let kind = transfer_kind_at feed more n place (new_at choice.changes more.changes place n p.changes p.more_changes) in
+    let amount = leg_amount_at feed more (suc n) pick (new_at choice.legs more.legs pick (suc n) p.legs p.more_legs) in
+    held_at-more (transfer_kind feed more) (leg_amount feed more) n
+    ∙ ap (λ (k : Option ℕ). next_held k (leg_amount feed more (suc n))) kind
+    ∙ ap (λ (a : ℤ). next_held (place_kind feed place) a) amount
+
+-- the sum of a choice for one leg
+pub fare_sum-first : (feed : FeedRows) (choice : Choice) (pick : LegChoice) → choice.legs ≡ pick ∷ [] → choice.changes ≡ [] → fare_sum feed choice ≡ amount_of feed pick.product
+fare_sum-first feed choice pick legs changes =
+    let e : length choice.legs ≡ suc 0 = ap length legs in
+    let f : length choice.changes ≡ 0 = ap length changes in
+    let is : slice_get choice.legs 0 ≡ Some pick = ap (λ xs. slice_get xs 0) legs in
+    fare_sum-total feed choice 0 e f
+    ∙ total-first (transfer_kind feed choice) (leg_amount feed choice) (change_charge feed choice) (transfer_kind_past feed choice 0 (omega arith))
+    ∙ leg_amount_at feed choice 0 pick is
+
+-- what is held after the first leg of a choice
+pub held_at-first : (feed : FeedRows) (choice : Choice) (pick : LegChoice) → choice.legs ≡ pick ∷ [] → held_at (transfer_kind feed choice) (leg_amount feed choice) 0 ≡ amount_of feed pick.product
+unfolding starts_chain
+held_at-first feed choice pick legs = leg_amount_at feed choice 0 pick (ap (λ xs. slice_get xs 0) legs)
+
+-- a choice for no leg costs nothing
+pub fare_sum_none : (feed : FeedRows) (choice : Choice) → choice.legs ≡ [] → choice.changes ≡ [] → fare_sum feed choice ≡ pos 0
+unfolding fare_sum
+fare_sum_none feed choice legs changes = rw (legs, changes) refl
