@@ -153,3 +153,17 @@ change_at-prefix feed leg leg' i same =
     let at_last = same i (omega arith) in
     let at_next = same (i + 1) (omega arith) in
     rw (before, at_start, at_last, at_next) refl
+
+-- the run of a leg looks at no leg after it
+pub IsRunAt-prefix : (feed : FeedRows) (leg leg' : ℕ → Option FareLeg) (i : ℕ) (run : Run) →
+  ((j : ℕ) → j ≤ i → leg j ≡ leg' j) → IsRunAt feed leg i run → IsRunAt feed leg' i run
+IsRunAt-prefix feed leg leg' i run same at =
+    let start = run_start-prefix feed leg leg' i same in
+    let begun = at.begun in
+    let changes = at.changes in
+    record {
+      begun = omega arith;
+      first = sym (ap leg' start) ∙ sym (same (run_start feed leg i) begun) ∙ at.first;
+      changes = omega arith;
+      last = sym (same i (omega arith)) ∙ at.last;
+    }

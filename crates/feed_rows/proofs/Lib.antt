@@ -7,3 +7,4 @@ pub mod WalkLaws
 pub mod JourneyLaws
 pub mod FareLaws
 pub mod SumLaws
+pub mod ChoiceLaws

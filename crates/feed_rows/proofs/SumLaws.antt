@@ -109,20 +109,20 @@ unfolding is_charged starts_chain
 total-first kind amount change ends = rw ends (omega (arith, ints))
 
 -- a leg that no arranged change enters adds its amount
-pub next_total-apart : (total held amount change : ℤ) → next_total total held None amount change ≡ total +ℤ amount +ℤ change
-next_total-apart total held amount change = omega (arith, ints)
+pub next_total-apart : (sum held amount change : ℤ) → next_total sum held None amount change ≡ sum +ℤ amount +ℤ change
+next_total-apart sum held amount change = omega (arith, ints)
 
 -- a leg that a change of type 0 enters is free
-pub next_total-free : (total held amount change : ℤ) → next_total total held (Some 0) amount change ≡ total +ℤ change
-next_total-free total held amount change = omega (arith, ints)
+pub next_total-free : (sum held amount change : ℤ) → next_total sum held (Some 0) amount change ≡ sum +ℤ change
+next_total-free sum held amount change = omega (arith, ints)
 
 -- a leg that a change of type 1 enters adds its amount
-pub next_total-both : (total held amount change : ℤ) → next_total total held (Some 1) amount change ≡ total +ℤ amount +ℤ change
-next_total-both total held amount change = omega (arith, ints)
+pub next_total-both : (sum held amount change : ℤ) → next_total sum held (Some 1) amount change ≡ sum +ℤ amount +ℤ change
+next_total-both sum held amount change = omega (arith, ints)
 
 -- a leg that a change of type 2 enters is free, and so is the leg before it where that is the first of its chain
-pub next_total-change_alone : (total held amount change : ℤ) → next_total total held (Some 2) amount change ≡ total +ℤ change -ℤ held
-next_total-change_alone total held amount change = omega (arith, ints)
+pub next_total-change_alone : (sum held amount change : ℤ) → next_total sum held (Some 2) amount change ≡ sum +ℤ change -ℤ held
+next_total-change_alone sum held amount change = omega (arith, ints)
 
 -- the one choice is the other with one more leg, and the place of the change to it
 pub record IsPushed (choice : Choice) (place : Option ChangeChoice) (pick : LegChoice) (more : Choice) (n : ℕ) : Type 0 where

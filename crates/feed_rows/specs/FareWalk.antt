@@ -82,7 +82,7 @@ next_held kind amount = if is_none kind then amount else pos 0
 
 -- the sum after one more leg, with what the change before it costs
 abbrev pub next_total : ℤ → ℤ → Option ℕ → ℤ → ℤ → ℤ
-next_total total held kind amount change = total +ℤ (added kind amount +ℤ change) -ℤ taken_back kind held
+next_total sum held kind amount change = sum +ℤ (added kind amount +ℤ change) -ℤ taken_back kind held
 
 -- the type of the row by which the place of a change says that it is arranged
 abbrev pub place_kind : FeedRows → Option ChangeChoice → Option ℕ

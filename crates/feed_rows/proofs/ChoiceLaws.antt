@@ -1,0 +1,106 @@
+-- What one more ride does to the legs of a journey, and one more leg to a choice that pays them.
+use Rattle.std.proofs.Common.{◌≡◌, refl, sym, ◌∙◌, ap, subst, ℕ, zero, suc, ◌+◌, ◌-◌, ◌<◌, ◌≤◌, Bool, true, false, ◌&&◌, List, [], ◌∷◌, ◌++◌, length, arith, add-one}
+use Rattle.std.specs.Prelude.{Option, Some, None, ◌==◌, slice_get, option_map, option_and_then}
+use Rattle.std.proofs.lemmas.Bool.{eq-eqb}
+use Rattle.std.proofs.lemmas.List.{length_push}
+use Rattle.transit_base.specs.declared.numbers.RiderId.{RiderId}
+use Rattle.feed_rows.specs.declared.journeys.LegFacts.{LegFacts}
+use Rattle.feed_rows.specs.declared.journeys.Ride.{Ride}
+use Rattle.feed_rows.specs.declared.rows.LegRuleRow.{LegRuleRow}
+use Rattle.feed_rows.specs.declared.fares.ChangeChoice.{ChangeChoice}
+use Rattle.feed_rows.specs.declared.fares.LegChoice.{LegChoice}
+use Rattle.feed_rows.specs.declared.fares.Choice.{Choice}
+use Rattle.feed_rows.specs.FeedRows.{FeedRows}
+use Rattle.feed_rows.specs.Words.{all_below, at_and, collect_below, filled_and}
+use Rattle.feed_rows.specs.Rides.{ride_facts}
+use Rattle.feed_rows.specs.Journeys.{facts_at}
+use Rattle.feed_rows.specs.Legs.{leg_facts, legs_of}
+use Rattle.feed_rows.specs.TransferRules.{FareLeg, change_at}
+use Rattle.feed_rows.specs.FareChoices.{fare_leg, is_leg_choice, is_change_choice, is_leg_paid, is_change_paid, is_fare_choice}
+use Rattle.feed_rows.specs.FareWalk.{Run, change_to}
+use Rattle.feed_rows.proofs.WalkLaws.{slice_get-append_left, slice_get_push}
+use Rattle.feed_rows.proofs.FareLaws.{IsRunAt, IsRunAt-prefix, change_at-prefix, change_of_run}
+use Rattle.feed_rows.proofs.SumLaws.{IsPushed}
+
+-- equal items are collected to equal lists
+pub collect_below-same : {X : Type 0} (n : ℕ) (f g : ℕ → Option X) → ((i : ℕ) → i < n → f i ≡ g i) → collect_below n f ≡ collect_below n g
+collect_below-same zero f g same = refl
+collect_below-same (suc n) f g same =
+    let before = collect_below-same n f g (λ i h. same i (omega arith)) in
+    let last = same n (omega arith) in
+    rw (before, last) refl
+
+-- equal tests hold of equal numbers
+pub all_below-same : (n : ℕ) (f g : ℕ → Bool) → ((i : ℕ) → i < n → f i ≡ g i) → all_below n f ≡ all_below n g
+all_below-same zero f g same = refl
+all_below-same (suc n) f g same =
+    let before = all_below-same n f g (λ i h. same i (omega arith)) in
+    let last = same n (omega arith) in
+    rw (before, last) refl
+
+-- the legs of one more ride
+pub legs_of-push : (feed : FeedRows) (rides : List Ride) (ride : Ride) →
+  legs_of feed (rides ++ ride ∷ []) ≡ option_and_then (λ legs. option_map (λ leg. legs ++ leg ∷ []) (option_map (leg_facts feed) (ride_facts feed ride))) (legs_of feed rides)
+unfolding legs_of
+legs_of-push feed rides ride =
+    let before = collect_below-same (length rides) (λ i. option_map (leg_facts feed) (facts_at feed (rides ++ ride ∷ []) i)) (λ i. option_map (leg_facts feed) (facts_at feed rides i))
+      (λ i lt. ap (λ o. option_map (leg_facts feed) (option_and_then (ride_facts feed) o)) (slice_get-append_left rides (ride ∷ []) i lt)) in
+    let last = slice_get_push rides ride in
+    rw (length_push rides ride, add-one, before, last) refl
+
+-- the legs before a new one stay, as changes see them
+pub fare_leg-append : (feed : FeedRows) (legs more_legs : List LegFacts) (picks more_picks : List LegChoice) (i : ℕ) → i < length legs → i < length picks →
+  fare_leg feed (legs ++ more_legs) (picks ++ more_picks) i ≡ fare_leg feed legs picks i
+fare_leg-append feed legs more_legs picks more_picks i lt lt' =
+    let leg = slice_get-append_left legs more_legs i lt in
+    let pick = slice_get-append_left picks more_picks i lt' in
+    rw (leg, pick) refl
+
+-- the new leg, as changes see it
+pub fare_leg_push : (feed : FeedRows) (legs : List LegFacts) (leg : LegFacts) (picks : List LegChoice) (pick : LegChoice) (rule : LegRuleRow) (n : ℕ) →
+  length legs ≡ n → length picks ≡ n → slice_get feed.leg_rules pick.rule.0 ≡ Some rule →
+  fare_leg feed (legs ++ leg ∷ []) (picks ++ pick ∷ []) n ≡ Some (record { group = rule.group; departure = leg.departure; arrival = leg.arrival })
+fare_leg_push feed legs leg picks pick rule n long long' is =
+    let last : slice_get (legs ++ leg ∷ []) n ≡ Some leg = subst (λ k. slice_get (legs ++ leg ∷ []) k ≡ Some leg) long (slice_get_push legs leg) in
+    let last_pick : slice_get (picks ++ pick ∷ []) n ≡ Some pick = subst (λ k. slice_get (picks ++ pick ∷ []) k ≡ Some pick) long' (slice_get_push picks pick) in
+    rw (last, last_pick, is) refl
+
+-- the change to a new leg is the change from the run of the last
+pub change_at_push : (feed : FeedRows) (legs : List LegFacts) (leg : LegFacts) (picks : List LegChoice) (pick : LegChoice) (rule : LegRuleRow) (n : ℕ) (run : Run) →
+  length legs ≡ suc n → length picks ≡ suc n → slice_get feed.leg_rules pick.rule.0 ≡ Some rule → IsRunAt feed (fare_leg feed legs picks) n run →
+  change_at feed (fare_leg feed (legs ++ leg ∷ []) (picks ++ pick ∷ [])) n ≡ change_to run (record { group = rule.group; departure = leg.departure; arrival = leg.arrival })
+change_at_push feed legs leg picks pick rule n run long long' is at =
+    change_of_run feed (fare_leg feed (legs ++ leg ∷ []) (picks ++ pick ∷ [])) n run _
+      (IsRunAt-prefix feed (fare_leg feed legs picks) (fare_leg feed (legs ++ leg ∷ []) (picks ++ pick ∷ [])) n run
+        (λ j le. sym (fare_leg-append feed legs (leg ∷ []) picks (pick ∷ []) j (omega arith) (omega arith))) at)
+      (fare_leg_push feed legs leg picks pick rule (n + 1) (omega arith) (omega arith) is)
+
+same_paid_leg : (feed : FeedRows) (legs legs' : List LegFacts) (a b : Choice) (rider : Option RiderId) (i : ℕ) →
+  slice_get legs i ≡ slice_get legs' i → slice_get a.legs i ≡ slice_get b.legs i → is_leg_paid feed legs a rider i ≡ is_leg_paid feed legs' b rider i
+unfolding is_leg_paid
+same_paid_leg feed legs legs' a b rider i leg pick = rw (leg, pick) refl
+
+same_paid_change : (feed : FeedRows) (legs legs' : List LegFacts) (a b : Choice) (rider : Option RiderId) (i : ℕ) →
+  slice_get a.changes i ≡ slice_get b.changes i → change_at feed (fare_leg feed legs a.legs) i ≡ change_at feed (fare_leg feed legs' b.legs) i →
+  is_change_paid feed legs a rider i ≡ is_change_paid feed legs' b rider i
+unfolding is_change_paid
+same_paid_change feed legs legs' a b rider i place change = rw (place, change) refl
+
+-- a new leg is paid by its choice
+paid_leg : (feed : FeedRows) (legs : List LegFacts) (choice : Choice) (rider : Option RiderId) (i : ℕ) (leg : LegFacts) (pick : LegChoice) →
+  slice_get legs i ≡ Some leg → slice_get choice.legs i ≡ Some pick → is_leg_paid feed legs choice rider i ≡ is_leg_choice feed rider leg pick
+unfolding is_leg_paid
+paid_leg feed legs choice rider i leg pick is is_pick = rw (is, is_pick) refl
+
+-- a new change is paid by its place
+paid_change : (feed : FeedRows) (legs : List LegFacts) (choice : Choice) (rider : Option RiderId) (i : ℕ) (place : Option ChangeChoice) →
+  slice_get choice.changes i ≡ Some place → is_change_paid feed legs choice rider i ≡ is_change_choice feed rider (change_at feed (fare_leg feed legs choice.legs) i) place
+unfolding is_change_paid
+paid_change feed legs choice rider i place is = rw is refl
+
+-- four tests in another order
+in_turn : (a b c d : Bool) → (a && b) && (c && d) ≡ (a && c) && (b && d)
+in_turn true b true d = refl
+in_turn true true false d = refl
+in_turn true false false d = refl
+in_turn false b c d = refl
