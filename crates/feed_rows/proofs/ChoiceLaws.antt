@@ -20,7 +20,7 @@ use Rattle.feed_rows.specs.FareChoices.{fare_leg, is_leg_choice, is_change_choic
 use Rattle.feed_rows.specs.FareWalk.{Run, change_to}
 use Rattle.feed_rows.proofs.WalkLaws.{slice_get-append_left, slice_get_push}
 use Rattle.feed_rows.proofs.FareLaws.{IsRunAt, IsRunAt-prefix, change_at-prefix, change_of_run}
-use Rattle.feed_rows.proofs.SumLaws.{IsPushed}
+use Rattle.feed_rows.proofs.SumLaws.{IsPushed, kept, new_at}
 
 -- equal items are collected to equal lists
 pub collect_below-same : {X : Type 0} (n : ℕ) (f g : ℕ → Option X) → ((i : ℕ) → i < n → f i ≡ g i) → collect_below n f ≡ collect_below n g
@@ -104,3 +104,48 @@ in_turn true b true d = refl
 in_turn true true false d = refl
 in_turn true false false d = refl
 in_turn false b c d = refl
+
+-- a choice with the right number of places pays where each place is right
+pub is_fare_choice_by_places : (feed : FeedRows) (legs : List LegFacts) (choice : Choice) (rider : Option RiderId) (n : ℕ) →
+  length legs ≡ suc n → length choice.legs ≡ suc n → length choice.changes ≡ n →
+  is_fare_choice feed legs choice rider ≡ (all_below (suc n) (is_leg_paid feed legs choice rider) && all_below n (is_change_paid feed legs choice rider))
+unfolding is_fare_choice
+is_fare_choice_by_places feed legs choice rider n long picks changes =
+    let same_legs = eq-eqb (length choice.legs) (length legs) (picks ∙ sym long) in
+    let before : length legs - 1 ≡ n = omega arith in
+    let same_changes = eq-eqb (length choice.changes) (length legs - 1) (changes ∙ sym before) in
+    rw (same_legs, same_changes, before, long) refl
+
+-- a choice with one more leg pays where it paid before, and the new leg and the new change have their choices
+pub is_fare_choice-push : (feed : FeedRows) (legs : List LegFacts) (leg : LegFacts) (choice : Choice) (place : Option ChangeChoice) (pick : LegChoice) (more : Choice) (rider : Option RiderId) (n : ℕ) →
+  length legs ≡ suc n → IsPushed choice place pick more n →
+  is_fare_choice feed (legs ++ leg ∷ []) more rider
+    ≡ (is_fare_choice feed legs choice rider
+      && (is_leg_choice feed rider leg pick && is_change_choice feed rider (change_at feed (fare_leg feed (legs ++ leg ∷ []) more.legs) n) place))
+is_fare_choice-push feed legs leg choice place pick more rider n long p =
+    let picks = p.legs in
+    let changes = p.changes in
+    let long' : length (legs ++ leg ∷ []) ≡ suc (suc n) = length_push legs leg ∙ ap (λ k. k + 1) long ∙ omega arith in
+    let picks' : length more.legs ≡ suc (suc n) = ap length p.more_legs ∙ length_push choice.legs pick ∙ ap (λ k. k + 1) picks ∙ omega arith in
+    let changes' : length more.changes ≡ suc n = ap length p.more_changes ∙ length_push choice.changes place ∙ ap (λ k. k + 1) changes ∙ omega arith in
+    let leg_at : slice_get (legs ++ leg ∷ []) (suc n) ≡ Some leg = subst (λ k. slice_get (legs ++ leg ∷ []) k ≡ Some leg) long (slice_get_push legs leg) in
+    let new_leg = paid_leg feed (legs ++ leg ∷ []) more rider (suc n) leg pick leg_at (new_at choice.legs more.legs pick (suc n) picks p.more_legs) in
+    let new_change = paid_change feed (legs ++ leg ∷ []) more rider n place (new_at choice.changes more.changes place n changes p.more_changes) in
+    let old_legs = all_below-same (suc n) (is_leg_paid feed (legs ++ leg ∷ []) more rider) (is_leg_paid feed legs choice rider) (λ i lt.
+      same_paid_leg feed (legs ++ leg ∷ []) legs more choice rider i
+        (slice_get-append_left legs (leg ∷ []) i (omega arith)) (sym (kept choice.legs more.legs pick i p.more_legs (omega arith)))) in
+    let old_changes = all_below-same n (is_change_paid feed (legs ++ leg ∷ []) more rider) (is_change_paid feed legs choice rider) (λ i lt.
+      same_paid_change feed (legs ++ leg ∷ []) legs more choice rider i
+        (sym (kept choice.changes more.changes place i p.more_changes (omega arith)))
+        (change_at-prefix feed (fare_leg feed (legs ++ leg ∷ []) more.legs) (fare_leg feed legs choice.legs) i (λ j le. old_leg j (omega arith) (omega arith)))) in
+    is_fare_choice_by_places feed (legs ++ leg ∷ []) more rider (suc n) long' picks' changes'
+    ∙ both _ _ _ _ _ _ _ _ old_legs new_leg old_changes new_change
+    ∙ in_turn (all_below (suc n) (is_leg_paid feed legs choice rider)) (is_leg_choice feed rider leg pick) (all_below n (is_change_paid feed legs choice rider)) _
+    ∙ ap (λ (b : Bool). b && (is_leg_choice feed rider leg pick && is_change_choice feed rider (change_at feed (fare_leg feed (legs ++ leg ∷ []) more.legs) n) place))
+      (sym (is_fare_choice_by_places feed legs choice rider n long picks changes))
+  where
+  old_leg : (j : ℕ) → j < length legs → j < length choice.legs → fare_leg feed (legs ++ leg ∷ []) more.legs j ≡ fare_leg feed legs choice.legs j
+  old_leg j lt lt' = ap (λ picks. fare_leg feed (legs ++ leg ∷ []) picks j) p.more_legs ∙ fare_leg-append feed legs (leg ∷ []) choice.legs (pick ∷ []) j lt lt'
+
+  both : (a a' b b' c c' d d' : Bool) → a ≡ a' → b ≡ b' → c ≡ c' → d ≡ d' → ((a && b) && (c && d)) ≡ ((a' && b') && (c' && d'))
+  both a a' b b' c c' d d' e f g h = rw (e, f, g, h) refl

@@ -168,11 +168,11 @@ same_amount : (feed : FeedRows) (a b : Choice) (i : ℕ) → slice_get a.legs i 
 same_amount feed a b i same = rw same refl
 
 -- the choices of the legs and changes before the new ones stay
-kept : {X : Type 0} (xs ys : List X) (x : X) (i : ℕ) → ys ≡ xs ++ x ∷ [] → i < length xs → slice_get xs i ≡ slice_get ys i
+pub kept : {X : Type 0} (xs ys : List X) (x : X) (i : ℕ) → ys ≡ xs ++ x ∷ [] → i < length xs → slice_get xs i ≡ slice_get ys i
 kept xs ys x i e lt = rw e (sym (slice_get-append_left xs (x ∷ []) i lt))
 
 -- the new choice is the last
-new_at : {X : Type 0} (xs ys : List X) (x : X) (n : ℕ) → length xs ≡ n → ys ≡ xs ++ x ∷ [] → slice_get ys n ≡ Some x
+pub new_at : {X : Type 0} (xs ys : List X) (x : X) (n : ℕ) → length xs ≡ n → ys ≡ xs ++ x ∷ [] → slice_get ys n ≡ Some x
 new_at xs ys x n long e = rw (e, ← long) (slice_get_push xs x)
 
 -- such a choice says of one more leg
