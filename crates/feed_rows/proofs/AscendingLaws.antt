@@ -1,6 +1,5 @@
 -- Lists whose items ascend: one more item, and what is at most an item.
-use Rattle.std.proofs.Common.{◌≡◌, ℕ, ◌+◌, ◌-◌, ◌<◌, ◌≤◌, ◌⊎◌, inl, inr, List, [], ◌∷◌, ◌++◌, length, get_or, refl, sym, subst, arith, ⊎_elim}
-use Rattle.std.specs.Prelude.{AllPairs}
+use Rattle.std.proofs.Common.{◌≡◌, ℕ, ◌-◌, ◌<◌, ◌≤◌, ◌⊎◌, inl, inr, List, [], ◌∷◌, ◌++◌, length, get_or, arith}
 use Rattle.std.specs.declared.cmp.Ordering.{Ordering}
 use Rattle.std.specs.declared.cmp.Ordering.TheVariants.{Less}
 use Rattle.std.specs.Cmp.{IsTotalOrder}
@@ -12,9 +11,9 @@ use Rattle.feed_rows.specs.Ascending.{IsAscending, IsPastLast}
 pub past_each : {X : Type 0} (cmp : X → X → Ordering) → IsTotalOrder cmp → (xs : List X) (x : X) → IsAscending cmp xs → IsPastLast cmp xs x → (k : ℕ) (d : X) → k < length xs → cmp (get_or xs k d) x ≡ Less
 past_each {X} cmp o xs x rises past k d lt = step (cases_lt k (length xs - 1))
   where
-  step : (k < length xs - 1) ⊎ (length xs - 1 ≤ k) → cmp (get_or xs k d) x ≡ Less
-  step (inl before) = o.trans _ _ _ (rises k (length xs - 1) d before (omega arith)) (past (length xs - 1) d (omega arith))
-  step (inr last) = past k d (omega arith)
+    step : (k < length xs - 1) ⊎ (length xs - 1 ≤ k) → cmp (get_or xs k d) x ≡ Less
+    step (inl before) = o.trans _ _ _ (rises k (length xs - 1) d before (omega arith)) (past (length xs - 1) d (omega arith))
+    step (inr last) = past k d (omega arith)
 
 -- one more item, greater than the last
 pub ascending-push : {X : Type 0} (cmp : X → X → Ordering) → IsTotalOrder cmp → (xs : List X) (x : X) → IsAscending cmp xs → IsPastLast cmp xs x → IsAscending cmp (xs ++ x ∷ [])

@@ -18,25 +18,11 @@ use Rattle.feed_rows.specs.Legs.{leg_facts, legs_of}
 use Rattle.feed_rows.specs.TransferRules.{FareLeg, change_at}
 use Rattle.feed_rows.specs.FareChoices.{fare_leg, is_leg_choice, is_change_choice, is_leg_paid, is_change_paid, is_fare_choice}
 use Rattle.feed_rows.specs.FareWalk.{Run, change_to}
-use Rattle.feed_rows.proofs.WalkLaws.{slice_get-append_left, slice_get_push}
+use Rattle.feed_rows.proofs.WordLaws.{collect_below-same, all_below-same}
+use Rattle.feed_rows.proofs.WalkLaws.{slice_get-append_left}
+use Rattle.feed_rows.proofs.BelowLaws.{slice_get-push_last}
 use Rattle.feed_rows.proofs.FareLaws.{IsRunAt, IsRunAt-prefix, change_at-prefix, change_of_run}
 use Rattle.feed_rows.proofs.SumLaws.{IsPushed, kept, new_at}
-
--- equal items are collected to equal lists
-pub collect_below-same : {X : Type 0} (n : ℕ) (f g : ℕ → Option X) → ((i : ℕ) → i < n → f i ≡ g i) → collect_below n f ≡ collect_below n g
-collect_below-same zero f g same = refl
-collect_below-same (suc n) f g same =
-    let before = collect_below-same n f g (λ i h. same i (omega arith)) in
-    let last = same n (omega arith) in
-    rw (before, last) refl
-
--- equal tests hold of equal numbers
-pub all_below-same : (n : ℕ) (f g : ℕ → Bool) → ((i : ℕ) → i < n → f i ≡ g i) → all_below n f ≡ all_below n g
-all_below-same zero f g same = refl
-all_below-same (suc n) f g same =
-    let before = all_below-same n f g (λ i h. same i (omega arith)) in
-    let last = same n (omega arith) in
-    rw (before, last) refl
 
 -- the legs of one more ride
 pub legs_of-push : (feed : FeedRows) (rides : List Ride) (ride : Ride) →
@@ -45,7 +31,7 @@ unfolding legs_of
 legs_of-push feed rides ride =
     let before = collect_below-same (length rides) (λ i. option_map (leg_facts feed) (facts_at feed (rides ++ ride ∷ []) i)) (λ i. option_map (leg_facts feed) (facts_at feed rides i))
       (λ i lt. ap (λ o. option_map (leg_facts feed) (option_and_then (ride_facts feed) o)) (slice_get-append_left rides (ride ∷ []) i lt)) in
-    let last = slice_get_push rides ride in
+    let last = slice_get-push_last rides ride (length rides) refl in
     rw (length_push rides ride, add-one, before, last) refl
 
 -- the legs before a new one stay, as changes see them
@@ -61,8 +47,8 @@ pub fare_leg_push : (feed : FeedRows) (legs : List LegFacts) (leg : LegFacts) (p
   length legs ≡ n → length picks ≡ n → slice_get feed.leg_rules pick.rule.0 ≡ Some rule →
   fare_leg feed (legs ++ leg ∷ []) (picks ++ pick ∷ []) n ≡ Some (record { group = rule.group; departure = leg.departure; arrival = leg.arrival })
 fare_leg_push feed legs leg picks pick rule n long long' is =
-    let last : slice_get (legs ++ leg ∷ []) n ≡ Some leg = subst (λ k. slice_get (legs ++ leg ∷ []) k ≡ Some leg) long (slice_get_push legs leg) in
-    let last_pick : slice_get (picks ++ pick ∷ []) n ≡ Some pick = subst (λ k. slice_get (picks ++ pick ∷ []) k ≡ Some pick) long' (slice_get_push picks pick) in
+    let last : slice_get (legs ++ leg ∷ []) n ≡ Some leg = slice_get-push_last legs leg _ (sym long) in
+    let last_pick : slice_get (picks ++ pick ∷ []) n ≡ Some pick = slice_get-push_last picks pick _ (sym long') in
     rw (last, last_pick, is) refl
 
 -- the change to a new leg is the change from the run of the last
@@ -128,7 +114,7 @@ is_fare_choice-push feed legs leg choice place pick more rider n long p =
     let long' : length (legs ++ leg ∷ []) ≡ suc (suc n) = length_push legs leg ∙ ap (λ k. k + 1) long ∙ omega arith in
     let picks' : length more.legs ≡ suc (suc n) = ap length p.more_legs ∙ length_push choice.legs pick ∙ ap (λ k. k + 1) picks ∙ omega arith in
     let changes' : length more.changes ≡ suc n = ap length p.more_changes ∙ length_push choice.changes place ∙ ap (λ k. k + 1) changes ∙ omega arith in
-    let leg_at : slice_get (legs ++ leg ∷ []) (suc n) ≡ Some leg = subst (λ k. slice_get (legs ++ leg ∷ []) k ≡ Some leg) long (slice_get_push legs leg) in
+    let leg_at : slice_get (legs ++ leg ∷ []) (suc n) ≡ Some leg = slice_get-push_last legs leg _ (sym long) in
     let new_leg = paid_leg feed (legs ++ leg ∷ []) more rider (suc n) leg pick leg_at (new_at choice.legs more.legs pick (suc n) picks p.more_legs) in
     let new_change = paid_change feed (legs ++ leg ∷ []) more rider n place (new_at choice.changes more.changes place n changes p.more_changes) in
     let old_legs = all_below-same (suc n) (is_leg_paid feed (legs ++ leg ∷ []) more rider) (is_leg_paid feed legs choice rider) (λ i lt.

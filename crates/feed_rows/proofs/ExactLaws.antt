@@ -12,7 +12,7 @@ use Rattle.feed_rows.specs.declared.fares.Entry.{Entry}
 use Rattle.feed_rows.specs.FeedRows.{FeedRows}
 use Rattle.feed_rows.specs.ParetoTriples.{at_most, is_before}
 use Rattle.feed_rows.specs.JourneyEntries.{IsEntry, IsOffered, IsMinimal, IsExactAnswer}
-use Rattle.feed_rows.proofs.MemberLaws.{same_from_members}
+use Rattle.feed_rows.proofs.StrictLaws.{same_from_members}
 use Rattle.feed_rows.proofs.ParetoLaws.{at_most-trans, at_most-antisym, is_before-irrefl, is_before-trans, is_before-of_at_most}
 
 -- of two minimal triples neither is at most the other, unless they are equal
@@ -77,11 +77,10 @@ triple_in_other feed query xs ys p q z h =
 pub same_triples : (feed : FeedRows) (query : Query) (xs ys : List Entry) → IsExactAnswer feed query xs → IsExactAnswer feed query ys → map (λ e. e.triple) xs ≡ map (λ e. e.triple) ys
 same_triples feed query xs ys p q =
     same_from_members (λ a b. IsTrue (is_before a b))
-      (λ a h. both_ways (is_before a a) (is_before-irrefl a) h)
-      is_before-trans
+      (record { irreflexive = λ a h. both_ways (is_before a a) (is_before-irrefl a) h; transitive = is_before-trans })
       (map (λ e. e.triple) xs) (map (λ e. e.triple) ys)
       (AllPairs-triples (λ a b. IsTrue (is_before a b)) xs p.in_order) (AllPairs-triples (λ a b. IsTrue (is_before a b)) ys q.in_order)
-      (triple_in_other feed query xs ys p q) (triple_in_other feed query ys xs q p)
+      (record { there = triple_in_other feed query xs ys p q; back = triple_in_other feed query ys xs q p })
 
 -- entries of the query, strictly in order and none at most a later one, that cover each entry of the query are an exact
 -- answer

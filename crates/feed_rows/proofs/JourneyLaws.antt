@@ -15,28 +15,8 @@ use Rattle.feed_rows.specs.Journeys.{stands_for, facts_at, is_caught, catches_fi
 use Rattle.feed_rows.specs.JourneyWalk.{Stand, first_stand, stand_at_end, way_to, stand_by, next_stand, stand_after, end_arrival}
 use Rattle.feed_rows.specs.Walks.{after, after_first}
 use Rattle.feed_rows.specs.Words.{filled_and, when}
+use Rattle.feed_rows.proofs.WordLaws.{Filled, filled_and-true, when_some, cond_gives, holds_else}
 use Rattle.feed_rows.proofs.WalkLaws.{option_and_then-assoc, ChainGives, chain_gives, after_first-push, after_first-append, after_first-all}
-
--- a filled field that passes a test
-pub record Filled {X : Type 0} (o : Option X) (test : X → Bool) : Type 0 where
-  pub value : X
-  pub is : o ≡ Some value
-  pub passes : test value ≡ true
-
--- what `filled_and` says
-pub filled_and-true : {X : Type 0} (o : Option X) (test : X → Bool) → filled_and o test ≡ true → Filled o test
-filled_and-true None test h = absurd (cc)
-filled_and-true (Some x) test h = record { value = x; is = refl; passes = h }
-
--- what `when` gives where it gives something
-pub when_some : {X : Type 0} (test : Bool) (x y : X) → when test x ≡ Some y → (test ≡ true) × (x ≡ y)
-when_some true x y e = (refl, cc)
-when_some false x y e = absurd (cc)
-
--- a choice of something or nothing that gives something
-cond_gives : {X : Type 0} (test : Bool) (o : Option X) (y : X) → cond test o None ≡ Some y → test ≡ true
-cond_gives true o y e = refl
-cond_gives false o y e = absurd (cc)
 
 -- a ride whose facts are known is one of the feed
 pub is_ride-of_facts : (feed : FeedRows) (ride : Ride) (facts : RideFacts) → ride_facts feed ride ≡ Some facts → is_ride feed ride ≡ true
@@ -94,11 +74,6 @@ record IsRidden (feed : FeedRows) (query : Query) (journey : Journey) (n : ℕ) 
   pub ride : RideFacts
   pub is : facts_at feed journey.rides n ≡ Some ride
   pub stands : stand_after feed query journey.first journey.rides (suc n) ≡ Some (stand_at_end ride)
-
--- what must hold where a test fails
-holds_else : (test other : Bool) → test ≡ false → cond test true other ≡ true → other ≡ true
-holds_else true other fails h = absurd (cc)
-holds_else false other fails h = h
 
 -- the first ride of a journey is caught from its first stop
 first_ridden : (feed : FeedRows) (query : Query) (journey : Journey) → 0 < length journey.rides → catches_first feed query journey ≡ true → IsRidden feed query journey 0

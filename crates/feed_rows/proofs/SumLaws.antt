@@ -12,15 +12,9 @@ use Rattle.feed_rows.specs.FeedRows.{FeedRows}
 use Rattle.feed_rows.specs.Words.{filled_and, sum_below}
 use Rattle.feed_rows.specs.FareSums.{transfer_kind, starts_chain, is_entered_free, is_charged, amount_of, leg_amount, leg_charge, change_charge, fare_sum}
 use Rattle.feed_rows.specs.FareWalk.{cost, total, held_at, frees_next, frees_first, added, taken_back, next_held, next_total, place_kind, place_charge}
-use Rattle.feed_rows.proofs.WalkLaws.{slice_get-append_left, slice_get_push}
-
--- equal terms have equal sums
-pub sum_below-same : (n : ℕ) (f g : ℕ → ℤ) → ((i : ℕ) → i < n → f i ≡ g i) → sum_below n f ≡ sum_below n g
-sum_below-same zero f g same = refl
-sum_below-same (suc n) f g same =
-    let before = sum_below-same n f g (λ i h. same i (omega arith)) in
-    let last = same n (omega arith) in
-    rw (before, last) refl
+use Rattle.feed_rows.proofs.WordLaws.{sum_below-same}
+use Rattle.feed_rows.proofs.WalkLaws.{slice_get-append_left}
+use Rattle.feed_rows.proofs.BelowLaws.{slice_get-push_last}
 
 -- the one says of n + 1 legs, and the n changes between them, what the other says of these and one leg more
 pub record IsOneMore (kind : ℕ → Option ℕ) (amount change : ℕ → ℤ) (kind' : ℕ → Option ℕ) (amount' change' : ℕ → ℤ) (n : ℕ) : Type 0 where
@@ -173,7 +167,7 @@ kept xs ys x i e lt = rw e (sym (slice_get-append_left xs (x ∷ []) i lt))
 
 -- the new choice is the last
 pub new_at : {X : Type 0} (xs ys : List X) (x : X) (n : ℕ) → length xs ≡ n → ys ≡ xs ++ x ∷ [] → slice_get ys n ≡ Some x
-new_at xs ys x n long e = rw (e, ← long) (slice_get_push xs x)
+new_at xs ys x n long e = rw e (slice_get-push_last xs x n (sym long))
 
 -- such a choice says of one more leg
 pub more_of_pushed : (feed : FeedRows) (choice : Choice) (place : Option ChangeChoice) (pick : LegChoice) (more : Choice) (n : ℕ) → IsPushed choice place pick more n →

@@ -2,6 +2,7 @@
 use Rattle.std.proofs.Common.{◌≡◌, refl, sym, ◌∙◌, ap, subst, ℕ, zero, suc, ◌+◌, ◌<◌, ◌≤◌, List, [], ◌∷◌, ◌++◌, length, arith, add-one}
 use Rattle.std.specs.Prelude.{Option, Some, None, slice_get, option_and_then}
 use Rattle.feed_rows.specs.Walks.{after, after_first}
+use Rattle.feed_rows.proofs.BelowLaws.{slice_get-push_last}
 
 -- one thing after another, and then a third
 pub option_and_then-assoc : {A B C : Type 0} (f : A → Option B) (g : B → Option C) (o : Option A) →
@@ -25,11 +26,6 @@ slice_get-append_left [] ys i lt = absurd (omega arith)
 slice_get-append_left (x ∷ xs) ys zero lt = refl
 slice_get-append_left (x ∷ xs) ys (suc i) lt = slice_get-append_left xs ys i (omega arith)
 
--- the item that was appended
-pub slice_get_push : {X : Type 0} (xs : List X) (x : X) → slice_get (xs ++ x ∷ []) (length xs) ≡ Some x
-slice_get_push [] x = refl
-slice_get_push (y ∷ xs) x = slice_get_push xs x
-
 -- the first n steps are the same where the lists agree on them
 pub after_first-same : {S R : Type 0} (next : S → R → Option S) (s : S) (rs rs' : List R) (n : ℕ) →
   ((i : ℕ) → i < n → slice_get rs i ≡ slice_get rs' i) → after_first next s rs n ≡ after_first next s rs' n
@@ -50,7 +46,7 @@ pub after_first-push : {S R : Type 0} (next : S → R → Option S) (s : S) (rs 
   after_first next s (rs ++ r ∷ []) (length rs + 1) ≡ option_and_then (λ p. next p r) (after_first next s rs (length rs))
 after_first-push next s rs r =
     let before = after_first-append next s rs (r ∷ []) (length rs) (omega arith) in
-    let last = slice_get_push rs r in
+    let last = slice_get-push_last rs r (length rs) refl in
     rw (add-one, before, last) refl
 
 -- the first of a list's steps is made before the others

@@ -22,11 +22,11 @@ place_text (Some column) = column_text column
 abbrev pub refused_line : FeedFault → List ℕ
 refused_line fault =
     line (codes "refused")
-      (decimal (fault_number fault.kind) ∷ fault_text fault.kind ∷ file_text fault.file ∷ decimal fault.row ∷ place_text fault.column ∷ [])
+    (decimal (fault_number fault.kind) ∷ fault_text fault.kind ∷ file_text fault.file ∷ decimal fault.row ∷ place_text fault.column ∷ [])
 
 -- the text of `check` for an accepted feed: how many rows its main files have
 abbrev pub check_text : FeedRows → List ℕ
 check_text feed =
     line (codes "accepted")
-      (decimal (length feed.stops) ∷ decimal (length feed.routes) ∷ decimal (length feed.trips) ∷ decimal (length feed.stop_times)
-       ∷ decimal (length feed.leg_rules) ∷ decimal (length feed.transfer_rules) ∷ [])
+    (decimal (length feed.stops) ∷ decimal (length feed.routes) ∷ decimal (length feed.trips) ∷ decimal (length feed.stop_times)
+    ∷ decimal (length feed.leg_rules) ∷ decimal (length feed.transfer_rules) ∷ [])

@@ -1,5 +1,5 @@
 -- The grammar of the words behind a command: options with values, flags and positional words, in any order.
-use Rattle.std.specs.Prelude.{ℕ, ◌+◌, ◌-◌, ◌==◌, Bool, true, false, not, ◌&&◌, nat_lt, nat_le, if◌then◌else◌, List, [], ◌∷◌, length, take, drop, slice_get, slice_index, slice_index_or, Option, is_some, codes, bytes_eq}
+use Rattle.std.specs.Prelude.{ℕ, ◌+◌, ◌-◌, ◌==◌, Bool, true, false, ◌&&◌, nat_lt, nat_le, if◌then◌else◌, List, [], ◌∷◌, length, take, drop, slice_get, slice_index, slice_index_or, Option, is_some, codes, bytes_eq}
 use Rattle.std.specs.List.{list_any, list_all}
 use Rattle.feed_rows.specs.Words.{when, all_below, any_below, count_below, picks_below, first_below}
 use Rattle.feed_rows.specs.declared.usage.WordRole.{WordRole}
@@ -29,7 +29,7 @@ is_dashed word = slice_index word 0 == 45
 abbrev pub joined_value : List ℕ → List ℕ → Option (List ℕ)
 joined_value option word =
     when (bytes_eq (take (length option) word) option && (slice_index word (length option) == 61) && nat_lt (length option + 1) (length word))
-         (drop (length option + 1) word)
+    (drop (length option + 1) word)
 
 -- the word before word i names an option. As no value begins with `-`, that word alone tells it
 abbrev pub follows_option : CommandForm → List (List ℕ) → ℕ → Bool
@@ -72,7 +72,7 @@ abbrev pub positional_words : CommandForm → List (List ℕ) → List (List ℕ
 positional_words form words = picks_below (length words) (λ i. is_positional (role_at form words i)) (word_at words)
 
 -- the value that word i gives to the option: the next word after `--name`, or what stands behind `--name=`
-abbrev pub value_at : List (List ℕ) → List ℕ → ℕ → Option (List ℕ)
+unfoldable pub value_at : List (List ℕ) → List ℕ → ℕ → Option (List ℕ)
 value_at words option i =
     if bytes_eq (word_at words i) option then slice_get words (i + 1) else joined_value option (word_at words i)
 

@@ -5,6 +5,7 @@ pub mod Words
 pub mod FeedRows
 pub mod ServiceDays
 pub mod Calls
+pub mod CallWalk
 pub mod Shifts
 pub mod Rides
 pub mod StopLinks
@@ -31,3 +32,11 @@ pub mod MoneyText
 pub mod CommandTexts
 pub mod EntryText
 pub mod PriceTexts
+pub mod Items
+pub mod SoundNames
+pub mod SoundTimetable
+pub mod SoundFares
+pub mod SoundFeed
+pub mod Feed
+pub mod HeldFiles
+pub mod FaultCounts

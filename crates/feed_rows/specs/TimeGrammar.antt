@@ -13,12 +13,11 @@ clock_seconds None minutes seconds = None
 -- the seconds of a time whose first colon stands at this place
 abbrev pub time_at : ℕ → ℕ → List ℕ → Option ℕ
 time_at colon most text =
+    let hours = at_most 167 (number_value (take colon text)) in
+    let minutes = at_most 59 (number_value (slice_range text (colon + 1) (colon + 3))) in
+    let seconds = at_most 59 (number_value (drop (colon + 4) text)) in
     if (slice_index text colon == 58) && (slice_index text (colon + 3) == 58)
-    then at_most most (clock_seconds
-        (at_most 167 (number_value (take colon text)))
-        (at_most 59 (number_value (slice_range text (colon + 1) (colon + 3))))
-        (at_most 59 (number_value (drop (colon + 4) text))))
-    else None
+    then at_most most (clock_seconds hours minutes seconds) else None
 
 -- the seconds of a time of at most so many seconds; its first colon stands six places before its end
 abbrev pub time_value : ℕ → List ℕ → Option ℕ

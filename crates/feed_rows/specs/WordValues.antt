@@ -33,10 +33,11 @@ query_day (Some day) = when (is_query_day day) day
 -- DATE: YYYY-MM-DD, an existing date from 1900-01-01 to 2999-12-31
 abbrev pub word_date : List ℕ → Option ℤ
 word_date word =
+    let year = number_value (slice_range word 0 4) in
+    let month = number_value (slice_range word 5 7) in
+    let day = number_value (slice_range word 8 10) in
     if (length word == 10) && (slice_index word 4 == 45) && (slice_index word 7 == 45)
-    then query_day (day_value
-        (number_value (slice_range word 0 4)) (number_value (slice_range word 5 7)) (number_value (slice_range word 8 10)))
-    else None
+    then query_day (day_value year month day) else None
 
 -- TIME: a time of at most 23:59:59
 abbrev pub word_time : List ℕ → Option ℕ

@@ -1,8 +1,7 @@
 //! The fares of journeys as plain data: rules chosen for legs and changes, prices, and entries of an answer.
-use transit_base::{LegGroupId, Moment, Money, ProductRowId, RuleId, XferId};
-
 use crate::journeys::Journey;
 use crate::lists::ItemList;
+use transit_base::{LegGroupId, Moment, Money, ProductRowId, RuleId, XferId};
 
 /// Rows of `fare_products.txt`, in file order.
 pub type RowList = ItemList<ProductRowId>;

@@ -1,7 +1,6 @@
 //! Queries, rides and journeys as plain data.
-use transit_base::{AreaId, Day, FrameId, Moment, NetworkId, RiderId, StopId, TripId};
-
 use crate::lists::{AscendingList, ItemList};
+use transit_base::{AreaId, Day, FrameId, Moment, NetworkId, RiderId, StopId, TripId};
 
 /// What a traveller asks: the journeys from a stop to a stop from a moment on.
 #[derive(Clone, Copy, Debug)]

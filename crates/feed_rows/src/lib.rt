@@ -3,18 +3,35 @@
 
 mod fares;
 mod faults;
+mod feed;
 mod ids;
 mod journeys;
 mod lists;
 mod names;
 mod rows;
+#[cfg(test)]
+mod tests;
 mod usage;
 
-pub use fares::{ChangeChoice, ChangeChoices, Choice, Entries, Entry, LegChoice, LegChoices, RowList, RuleList, TransferFacts, Triple, XferList};
+pub use fares::{
+    ChangeChoice, ChangeChoices, Choice, Entries, Entry, LegChoice, LegChoices, RowList, RuleList,
+    TransferFacts, Triple, XferList,
+};
 pub use faults::{FaultKind, FeedFault};
+pub use feed::{
+    AreaRows, ExceptionRows, Feed, FrequencyRows, LegRuleRows, LinkRows, MediumRows, NameList,
+    ProductRows, RiderRows, RouteRows, ServiceRows, StopAreaRows, StopRows, StopTimeRows,
+    TimeframeRows, TransferRuleRows, TripRows,
+};
 pub use ids::Id;
-pub use journeys::{AreaList, Call, FrameList, Journey, LegFacts, LegList, Query, Ride, RideFacts, RideList, Shifts};
+pub use journeys::{
+    AreaList, Call, FrameList, Journey, LegFacts, LegList, Query, Ride, RideFacts, RideList, Shifts,
+};
 pub use lists::{AscendingList, ItemList};
 pub use names::{ColumnName, FileName};
-pub use rows::{AreaRow, ExceptionRow, FrequencyRow, LegRuleRow, Limit, LinkRow, MediumRow, ProductRow, RiderRow, RouteRow, ServiceRow, StopAreaRow, StopRow, StopTimeRow, TimeframeRow, TransferRuleRow, TripRow};
 pub use usage::{StopWord, UsageFault, WordRole};
+pub use rows::{
+    AreaRow, ExceptionRow, FrequencyRow, LegRuleRow, Limit, LinkRow, MediumRow, ProductRow,
+    RiderRow, RouteRow, ServiceRow, StopAreaRow, StopRow, StopTimeRow, TimeframeRow,
+    TransferRuleRow, TripRow,
+};

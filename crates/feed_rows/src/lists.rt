@@ -9,7 +9,7 @@ use std::marker::Model;
 /// A list of items that grows at its end. Contracts see it as a list.
 #[derive(Debug, Drop)]
 pub struct ItemList<T> {
-    kept: Vec<T>,
+    items: Vec<T>,
 }
 
 impl<T> Model for ItemList<T> {
@@ -17,7 +17,7 @@ impl<T> Model for ItemList<T> {
 
     ghost Value = { List T };
 
-    ghost view = { λ s. s.kept.items };
+    ghost view = { λ s. s.items.items };
 }
 
 impl<T: Drop> ItemList<T> {
@@ -26,7 +26,7 @@ impl<T: Drop> ItemList<T> {
         ensures { result ≡ [] }
     {
         ItemList {
-            kept: Vec::new(alloc),
+            items: Vec::new(alloc),
         }
     }
 
@@ -38,7 +38,7 @@ impl<T: Drop> ItemList<T> {
         ensures ok { OnOk result (self.new ≡ self.old ++ item ∷ []) }
         ensures err { OnErr result (self.new ≡ self.old) }
     {
-        self.kept.push(item)?;
+        self.items.push(item)?;
         Ok(())
     }
 
@@ -47,7 +47,7 @@ impl<T: Drop> ItemList<T> {
         ensures value { result.now ≡ self.now }
         ensures len { length result.now ≡ length self.now }
     {
-        self.kept.as_slice()
+        self.items.as_slice()
     }
 }
 

@@ -1,7 +1,9 @@
 //! One struct for the rows of each file. Ids are resolved to row numbers, and empty fields to `None` or their default.
-use transit_base::{AreaId, Day, FrameId, LegGroupId, MediumId, Money, NetworkId, ProductId, RiderId, RouteId, ServiceId, StopId, TripId};
-
 use crate::ids::Id;
+use transit_base::{
+    AreaId, Day, FrameId, LegGroupId, MediumId, Money, NetworkId, ProductId, RiderId, RouteId,
+    ServiceId, StopId, TripId,
+};
 
 /// A row of `stops.txt`: a platform, a station, or a place of another kind.
 #[derive(Debug, Drop)]

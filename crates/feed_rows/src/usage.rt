@@ -11,7 +11,7 @@ pub enum StopWord {
     To,
 }
 
-/// A fault of the words of a command. Numbers of rides count the words that name rides, from 1.
+/// A fault of the words of a command, or of the names that they give. The words that name rides are numbered from 1.
 #[derive(Clone, Copy, Debug, PartialEq, Eq)]
 pub enum UsageFault {
     /// The words are not those of a command.
@@ -24,7 +24,7 @@ pub enum UsageFault {
     BadRides,
     /// `--within` is no number from 1 to 259,200.
     BadWindow,
-    /// This word is none that names a ride; the first such word.
+    /// The ride word of this number is not of the form of one, and those before it are.
     BadRide(u32),
     /// `SEED` is no number from 0 to 65,535.
     BadSeed,
@@ -34,9 +34,10 @@ pub enum UsageFault {
     UnknownStop(StopWord),
     /// The stop is neither a platform nor a station.
     WrongStopKind(StopWord),
-    /// This word names no ride of the feed; the first such word.
+    /// The ride word of this number names no ride of the feed, and those before it do.
     NoSuchRide(u32),
-    /// The ride after this one departs too early to change to it, or no link leads to it; the first such ride.
+    /// The ride after that of this number departs before it can be reached, or no link leads to it, and those before it can
+    /// be reached.
     NoChange(u32),
     /// No rider category has the id.
     UnknownRider,
@@ -79,7 +80,7 @@ pub enum WordRole {
     OptionWithValue,
     /// `--name`, where the flag has no value.
     Flag,
-    /// A word that is told by its place among its like.
+    /// A word that its place among the positional words tells, such as `FROM`.
     Positional,
     /// A word that the command does not take.
     Refused,

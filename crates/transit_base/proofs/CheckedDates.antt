@@ -1,5 +1,5 @@
 -- Values of the definitions, as they are known from calendars.
-use Rattle.std.proofs.Common.{◌≡◌, pos, negsuc, true, false, refl}
+use Rattle.std.proofs.Common.{◌≡◌, pos, negsuc, true, false, [], refl}
 use Rattle.std.specs.Prelude.{codes}
 use Rattle.jiff_core.specs.Calendar.{days_of_years, days_of_months, day_count, days_from_civil}
 use Rattle.transit_base.specs.Moments.{moment_at, civil_day, time_of_day}
@@ -134,3 +134,12 @@ time_text-end = refl
 moment_text-2025_06_02 : moment_text (moment_at (pos 20241) (pos 37_805)) ≡ codes "2025-06-02 10:30:05"
 unfolding date_in_year date_from_year date_of date_text time_text
 moment_text-2025_06_02 = refl
+
+-- a day before the year 1 or after 9999, and 168 hours, have no text
+date_text-none : (date_text (negsuc 719_162) ≡ []) × (date_text (pos 2_932_897) ≡ [])
+unfolding date_text
+date_text-none = (refl, refl)
+
+time_text-none : time_text 604_800 ≡ []
+unfolding time_text
+time_text-none = refl

@@ -286,5 +286,5 @@ civil_text-injective first second same =
 pub date_text-injective : (first second : ℤ) → IsTrue (is_dated first) → IsTrue (is_dated second) → date_text first ≡ date_text second → first ≡ second
 unfolding date_text
 date_text-injective first second is_first is_second same =
-    let date = civil_text-injective (date_of first) (date_of second) same in
+    let date = civil_text-injective (date_of first) (date_of second) (rw (is_first, is_second) at same) in
     sym (day_number-date_of first is_first) ∙ ap (λ d. day_number d.year d.month d.day) date ∙ day_number-date_of second is_second

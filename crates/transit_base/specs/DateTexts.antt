@@ -1,7 +1,7 @@
 -- The texts of dates, times and moments.
 use Rattle.std.specs.Prelude.{ℕ, ◌+◌, ◌/◌, ◌%◌, nat_lt, if◌then◌else◌, List, [], ◌∷◌, ◌++◌, ℤ}
 use Rattle.transit_base.specs.Moments.{civil_day, time_of_day}
-use Rattle.transit_base.specs.Dates.{CivilDate, date_of}
+use Rattle.transit_base.specs.Dates.{CivilDate, date_of, is_dated}
 
 -- the digit of a number below 10
 abbrev pub digit : ℕ → ℕ
@@ -19,14 +19,18 @@ hours_text n = if nat_lt n 100 then two_digits n else digit (n / 100) ∷ two_di
 abbrev pub civil_text : CivilDate → List ℕ
 civil_text d = two_digits (d.year / 100) ++ two_digits (d.year % 100) ++ 45 ∷ two_digits d.month ++ 45 ∷ two_digits d.day
 
--- a day from 0001-01-01 to 9999-12-31 as YYYY-MM-DD
+-- a day from 0001-01-01 to 9999-12-31 as YYYY-MM-DD; any other day has no text
 unfoldable pub date_text : ℤ → List ℕ
-date_text day = civil_text (date_of day)
+date_text day = if is_dated day then civil_text (date_of day) else []
 
--- seconds below 604,800 as HH:MM:SS, with three digits of hours from 100 on
-unfoldable pub time_text : ℕ → List ℕ
-time_text seconds =
+-- hours, minutes and seconds as HH:MM:SS
+abbrev pub clock_text : ℕ → List ℕ
+clock_text seconds =
     hours_text (seconds / 3600) ++ 58 ∷ two_digits (seconds / 60 % 60) ++ 58 ∷ two_digits (seconds % 60)
+
+-- seconds below 604,800 as HH:MM:SS, with three digits of hours from 100 on; more seconds have no text
+unfoldable pub time_text : ℕ → List ℕ
+time_text seconds = if nat_lt seconds 604_800 then clock_text seconds else []
 
 -- a moment as YYYY-MM-DD HH:MM:SS
 abbrev pub moment_text : ℤ → List ℕ

@@ -8,10 +8,12 @@ unfolding time_text
 returns-then-hours-lt100 c =
     let short = lt-ltb (c.args.seconds.0 / 3600) 100 c.if-hours-lt100.true in
     let same : c.args.seconds.0 / 3600 % 100 ≡ c.args.seconds.0 / 3600 = omega arith in
-    rw (short, c.two_digits.ensures, c.two_digits-2.ensures, c.two_digits-3.ensures, same) refl
+    let early = lt-ltb c.args.seconds.0 604_800 c.requires in
+    rw (early, short, c.two_digits.ensures, c.two_digits-2.ensures, c.two_digits-3.ensures, same) refl
 
 pub returns-else-hours-lt100 : goal.returns-else-hours-lt100
 unfolding time_text
 returns-else-hours-lt100 c =
     let long = le-ltb (c.args.seconds.0 / 3600) 100 c.if-hours-lt100.false in
-    rw (long, c.two_digits.ensures, c.two_digits-2.ensures, c.two_digits-3.ensures) refl
+    let early = lt-ltb c.args.seconds.0 604_800 c.requires in
+    rw (early, long, c.two_digits.ensures, c.two_digits-2.ensures, c.two_digits-3.ensures) refl

@@ -1,5 +1,3 @@
-use Rattle.std.proofs.Common.{◌∙◌, ap, sym}
-use Rattle.feed_rows.specs.Ascending.{IsAscending, IsPastLast}
 use Rattle.feed_rows.proofs.AscendingLaws.{ascending-push}
 use Rattle.feed_rows.proofs.lists.AscendingList.push.Goals as goal
 

@@ -1,0 +1,10 @@
+pub mod OnLiterals
+pub mod Folders
+pub mod GrammarChecks
+pub mod BaseFeed
+pub mod Expected
+pub mod WorkedFaults
+pub mod ExporterForm
+pub mod FormChecks
+pub mod LinkChecks
+pub mod DateChecks

@@ -1,0 +1,330 @@
+-- The rows of a feed, as its files give them: defined for every feed, and meant for those without fault. Rows are in file
+-- order. A reference is the number of the earliest row with the id; services, networks, timeframe groups, products and leg
+-- groups are numbered by the first appearance of their names. What no row has gives the number after the last, which is
+-- no row.
+use Rattle.std.specs.Prelude.{ℕ, zero, suc, ◌+◌, ◌&&◌, ◌==◌, not, nat_lt, if◌then◌else◌, Bool, List, [], ◌∷◌, ◌++◌, length, get_or, bytes_eq, is_some, is_none, unwrap_or, Option, None, Some, option_map, option_and_then, ℤ, pos, negsuc}
+use Rattle.std.specs.Option.{option_map_or}
+use Rattle.transit_base.specs.declared.calendar.Day.{Day}
+use Rattle.transit_base.specs.declared.numbers.StopId.{StopId}
+use Rattle.transit_base.specs.declared.numbers.NetworkId.{NetworkId}
+use Rattle.feed_rows.specs.declared.names.FileName.{FileName}
+use Rattle.feed_rows.specs.declared.names.ColumnName.{ColumnName}
+use Rattle.feed_rows.specs.declared.names.ColumnName.TheVariants as column
+use Rattle.feed_rows.specs.declared.rows.StopRow.{StopRow}
+use Rattle.feed_rows.specs.declared.rows.RouteRow.{RouteRow}
+use Rattle.feed_rows.specs.declared.rows.TripRow.{TripRow}
+use Rattle.feed_rows.specs.declared.rows.StopTimeRow.{StopTimeRow}
+use Rattle.feed_rows.specs.declared.rows.ServiceRow.{ServiceRow}
+use Rattle.feed_rows.specs.declared.rows.ExceptionRow.{ExceptionRow}
+use Rattle.feed_rows.specs.declared.rows.FrequencyRow.{FrequencyRow}
+use Rattle.feed_rows.specs.declared.rows.LinkRow.{LinkRow}
+use Rattle.feed_rows.specs.declared.rows.AreaRow.{AreaRow}
+use Rattle.feed_rows.specs.declared.rows.StopAreaRow.{StopAreaRow}
+use Rattle.feed_rows.specs.declared.rows.TimeframeRow.{TimeframeRow}
+use Rattle.feed_rows.specs.declared.rows.RiderRow.{RiderRow}
+use Rattle.feed_rows.specs.declared.rows.MediumRow.{MediumRow}
+use Rattle.feed_rows.specs.declared.rows.ProductRow.{ProductRow}
+use Rattle.feed_rows.specs.declared.rows.LegRuleRow.{LegRuleRow}
+use Rattle.feed_rows.specs.declared.rows.Limit.{Limit}
+use Rattle.feed_rows.specs.declared.rows.TransferRuleRow.{TransferRuleRow}
+use Rattle.feed_rows.specs.FeedRows.{FeedRows}
+use Rattle.feed_rows.specs.HeldFiles.{HeldFile}
+use Rattle.feed_rows.specs.Words.{when, find_below, list_below, picks_below}
+use Rattle.feed_faults.specs.Records.{FileTable, row_count, column_of, field, is_filled}
+use Rattle.feed_faults.specs.FieldGrammars.{count_value, time_value, currency_decimals}
+use Rattle.feed_faults.specs.FileColumns.{most_int}
+use Rattle.feed_faults.specs.FormFaults.{is_passed_over}
+use Rattle.feed_faults.specs.FeedTables.{FeedTables, tables_of}
+use Rattle.feed_faults.specs.FieldValues.{whole, whole_or_zero, time, day, amount, stop_kind, frame_start, frame_end}
+use Rattle.feed_faults.specs.RowKeys.{row_of}
+
+-- what a filled field gives
+abbrev pub if_filled : {X : Type 0} → List ℕ → X → Option X
+if_filled text x = when (is_filled text) x
+
+-- the number of the earliest row with this id
+abbrev pub row_number : FileTable → ColumnName → List ℕ → ℕ
+row_number table name id = unwrap_or (row_of table name id) (row_count table)
+
+-- the place of a name among names
+unfoldable pub place_of_name : List (List ℕ) → List ℕ → Option ℕ
+place_of_name names name = find_below (length names) (λ i. bytes_eq name (get_or names i []))
+
+-- the number of a name
+abbrev pub name_number : List (List ℕ) → List ℕ → ℕ
+name_number names name = unwrap_or (place_of_name names name) (length names)
+
+-- names with one more at their end, where it is filled and new
+unfoldable pub with_name : List (List ℕ) → List ℕ → List (List ℕ)
+with_name names name = if is_filled name && is_none (place_of_name names name) then names ++ name ∷ [] else names
+
+-- names with those of the first n rows of a column
+abbrev pub with_names : List (List ℕ) → FileTable → ColumnName → ℕ → List (List ℕ)
+with_names names table column zero = names
+with_names names table column (suc n) = with_name (with_names names table column n) (field table n column)
+
+-- names with those of a whole column
+abbrev pub with_column : List (List ℕ) → FileTable → ColumnName → List (List ℕ)
+with_column names table column = with_names names table column (row_count table)
+
+-- the names by first appearance: of services in trips, calendars and timeframes, of networks in routes and networks.txt, of
+-- timeframe groups, products and leg groups in their files
+unfoldable pub service_names : FeedTables → List (List ℕ)
+service_names t =
+    with_column (with_column (with_column (with_column [] t.trips column.ServiceId)
+      t.calendar column.ServiceId) t.calendar_dates column.ServiceId) t.timeframes column.ServiceId
+
+unfoldable pub network_names : FeedTables → List (List ℕ)
+network_names t = with_column (with_column [] t.routes column.NetworkId) t.networks column.NetworkId
+
+unfoldable pub frame_names : FeedTables → List (List ℕ)
+frame_names t = with_column [] t.timeframes column.TimeframeGroupId
+
+unfoldable pub product_names : FeedTables → List (List ℕ)
+product_names t = with_column [] t.fare_products column.FareProductId
+
+unfoldable pub group_names : FeedTables → List (List ℕ)
+group_names t = with_column [] t.fare_leg_rules column.LegGroupId
+
+-- the parent of a platform; the field of another kind of stop isn't looked at
+unfoldable pub parent_of : FileTable → ℕ → Option StopId
+parent_of stops row =
+    let parent = field stops row column.ParentStation in
+    if stop_kind stops row == 0 then if_filled parent (record { 0 = row_number stops column.StopId parent }) else None
+
+-- stops.txt
+unfoldable pub stop_row : FeedTables → ℕ → StopRow
+stop_row t row =
+    record {
+      id = field t.stops row column.StopId;
+      kind = stop_kind t.stops row;
+      parent = parent_of t.stops row;
+    }
+
+-- the network of a route: that of its own row, or else that of its row in route_networks.txt; the empty text where it has
+-- none
+unfoldable pub network_of_route : FeedTables → ℕ → List ℕ
+network_of_route t row =
+    let own = field t.routes row column.NetworkId in
+    if is_filled own then own
+    else option_map_or (λ r. field t.route_networks r column.NetworkId)
+      (row_of t.route_networks column.RouteId (field t.routes row column.RouteId)) []
+
+-- routes.txt
+unfoldable pub route_row : FeedTables → ℕ → RouteRow
+route_row t row =
+    let network = network_of_route t row in
+    record {
+      id = field t.routes row column.RouteId;
+      network = if_filled network (record { 0 = name_number (network_names t) network });
+    }
+
+-- trips.txt
+unfoldable pub trip_row : FeedTables → ℕ → TripRow
+trip_row t row =
+    record {
+      id = field t.trips row column.TripId;
+      route = record { 0 = row_number t.routes column.RouteId (field t.trips row column.RouteId) };
+      service = record { 0 = name_number (service_names t) (field t.trips row column.ServiceId) };
+    }
+
+-- a pickup or drop-off type permits: 1 forbids, and 0, 2, 3 and empty permit
+abbrev pub permits : List ℕ → Bool
+permits text = not (whole_or_zero 3 text == 1)
+
+-- stop_times.txt
+unfoldable pub stop_time_row : FeedTables → ℕ → StopTimeRow
+stop_time_row t row =
+    record {
+      trip = record { 0 = row_number t.trips column.TripId (field t.stop_times row column.TripId) };
+      stop = record { 0 = row_number t.stops column.StopId (field t.stop_times row column.StopId) };
+      sequence = whole most_int (field t.stop_times row column.StopSequence);
+      arrival = time_value 604799 (field t.stop_times row column.ArrivalTime);
+      departure = time_value 604799 (field t.stop_times row column.DepartureTime);
+      pickup = permits (field t.stop_times row column.PickupType);
+      drop_off = permits (field t.stop_times row column.DropOffType);
+    }
+
+-- a service runs on a weekday
+abbrev pub runs_on : FileTable → ℕ → ColumnName → Bool
+runs_on calendar row weekday = whole 1 (field calendar row weekday) == 1
+
+-- calendar.txt
+unfoldable pub service_row : FeedTables → ℕ → ServiceRow
+service_row t row =
+    record {
+      service = record { 0 = name_number (service_names t) (field t.calendar row column.ServiceId) };
+      days = runs_on t.calendar row column.Monday ∷ runs_on t.calendar row column.Tuesday ∷ runs_on t.calendar row column.Wednesday
+        ∷ runs_on t.calendar row column.Thursday ∷ runs_on t.calendar row column.Friday ∷ runs_on t.calendar row column.Saturday
+        ∷ runs_on t.calendar row column.Sunday ∷ [];
+      first = record { 0 = day (field t.calendar row column.StartDate) };
+      last = record { 0 = day (field t.calendar row column.EndDate) };
+    }
+
+-- calendar_dates.txt
+unfoldable pub exception_row : FeedTables → ℕ → ExceptionRow
+exception_row t row =
+    record {
+      service = record { 0 = name_number (service_names t) (field t.calendar_dates row column.ServiceId) };
+      day = record { 0 = day (field t.calendar_dates row column.Date) };
+      added = whole 2 (field t.calendar_dates row column.ExceptionType) == 1;
+    }
+
+-- frequencies.txt
+unfoldable pub frequency_row : FeedTables → ℕ → FrequencyRow
+frequency_row t row =
+    record {
+      trip = record { 0 = row_number t.trips column.TripId (field t.frequencies row column.TripId) };
+      start = time 604799 (field t.frequencies row column.StartTime);
+      end = time 604799 (field t.frequencies row column.EndTime);
+      headway = whole most_int (field t.frequencies row column.HeadwaySecs);
+    }
+
+-- transfers.txt; a row that forbids has its seconds like any other
+unfoldable pub link_row : FeedTables → ℕ → LinkRow
+link_row t row =
+    record {
+      from = record { 0 = row_number t.stops column.StopId (field t.transfers row column.FromStopId) };
+      to = record { 0 = row_number t.stops column.StopId (field t.transfers row column.ToStopId) };
+      forbidden = whole_or_zero 5 (field t.transfers row column.TransferType) == 3;
+      seconds = whole_or_zero most_int (field t.transfers row column.MinTransferTime);
+    }
+
+-- areas.txt
+unfoldable pub area_row : FeedTables → ℕ → AreaRow
+area_row t row = record { id = field t.areas row column.AreaId }
+
+-- stop_areas.txt
+unfoldable pub stop_area_row : FeedTables → ℕ → StopAreaRow
+stop_area_row t row =
+    record {
+      area = record { 0 = row_number t.areas column.AreaId (field t.stop_areas row column.AreaId) };
+      stop = record { 0 = row_number t.stops column.StopId (field t.stop_areas row column.StopId) };
+    }
+
+-- timeframes.txt
+unfoldable pub timeframe_row : FeedTables → ℕ → TimeframeRow
+timeframe_row t row =
+    record {
+      frame = record { 0 = name_number (frame_names t) (field t.timeframes row column.TimeframeGroupId) };
+      start = frame_start t.timeframes row;
+      end = frame_end t.timeframes row;
+      service = record { 0 = name_number (service_names t) (field t.timeframes row column.ServiceId) };
+    }
+
+-- rider_categories.txt
+unfoldable pub rider_row : FeedTables → ℕ → RiderRow
+rider_row t row =
+    record {
+      id = field t.rider_categories row column.RiderCategoryId;
+      default = whole_or_zero 1 (field t.rider_categories row column.IsDefaultFareCategory) == 1;
+    }
+
+-- fare_media.txt
+unfoldable pub medium_row : FeedTables → ℕ → MediumRow
+medium_row t row = record { id = field t.fare_media row column.FareMediaId }
+
+-- fare_products.txt
+unfoldable pub product_row : FeedTables → ℕ → ProductRow
+product_row t row =
+    let rider = field t.fare_products row column.RiderCategoryId in
+    let medium = field t.fare_products row column.FareMediaId in
+    record {
+      product = record { 0 = name_number (product_names t) (field t.fare_products row column.FareProductId) };
+      rider = if_filled rider (record { 0 = row_number t.rider_categories column.RiderCategoryId rider });
+      medium = if_filled medium (record { 0 = row_number t.fare_media column.FareMediaId medium });
+      amount = record { 0 = amount (field t.fare_products row column.Currency) (field t.fare_products row column.Amount) };
+    }
+
+-- fare_leg_rules.txt
+unfoldable pub leg_rule_row : FeedTables → ℕ → LegRuleRow
+leg_rule_row t row =
+    let group = field t.fare_leg_rules row column.LegGroupId in
+    let network = field t.fare_leg_rules row column.NetworkId in
+    let from_area = field t.fare_leg_rules row column.FromAreaId in
+    let to_area = field t.fare_leg_rules row column.ToAreaId in
+    let from_frame = field t.fare_leg_rules row column.FromTimeframeGroupId in
+    let to_frame = field t.fare_leg_rules row column.ToTimeframeGroupId in
+    record {
+      group = if_filled group (record { 0 = name_number (group_names t) group });
+      network = if_filled network (record { 0 = name_number (network_names t) network });
+      from_area = if_filled from_area (record { 0 = row_number t.areas column.AreaId from_area });
+      to_area = if_filled to_area (record { 0 = row_number t.areas column.AreaId to_area });
+      from_frame = if_filled from_frame (record { 0 = name_number (frame_names t) from_frame });
+      to_frame = if_filled to_frame (record { 0 = name_number (frame_names t) to_frame });
+      product = record { 0 = name_number (product_names t) (field t.fare_leg_rules row column.FareProductId) };
+      priority = whole_or_zero most_int (field t.fare_leg_rules row column.RulePriority);
+    }
+
+-- a number from 1 on, if the field is one; -1 and empty stand for no number
+abbrev pub finite_count : Option ℤ → Option ℕ
+finite_count None = None
+finite_count (Some (pos n)) = Some n
+finite_count (Some (negsuc n)) = None
+
+-- the limit of a transfer rule
+unfoldable pub limit_of : FileTable → ℕ → Option Limit
+limit_of rules row =
+    let seconds = field rules row column.DurationLimit in
+    if_filled seconds (record { seconds = whole most_int seconds; kind = whole 3 (field rules row column.DurationLimitType) })
+
+-- fare_transfer_rules.txt
+unfoldable pub transfer_rule_row : FeedTables → ℕ → TransferRuleRow
+transfer_rule_row t row =
+    let from = field t.fare_transfer_rules row column.FromLegGroupId in
+    let to = field t.fare_transfer_rules row column.ToLegGroupId in
+    let product = field t.fare_transfer_rules row column.FareProductId in
+    record {
+      from = if_filled from (record { 0 = name_number (group_names t) from });
+      to = if_filled to (record { 0 = name_number (group_names t) to });
+      count = finite_count (count_value (field t.fare_transfer_rules row column.TransferCount));
+      limit = limit_of t.fare_transfer_rules row;
+      kind = whole 2 (field t.fare_transfer_rules row column.FareTransferType);
+      product = if_filled product (record { 0 = name_number (product_names t) product });
+    }
+
+-- the currency of the products, if there is one
+unfoldable pub feed_currency : FileTable → Option (List ℕ)
+feed_currency products = when (nat_lt 0 (row_count products)) (field products 0 column.Currency)
+
+-- its decimals, or 2 where there is no product; 4 stands for what is no currency
+unfoldable pub feed_decimals : FileTable → ℕ
+feed_decimals products = option_map_or (λ currency. unwrap_or (currency_decimals currency) 4) (feed_currency products) 2
+
+-- what a row function gives at each row of a table
+abbrev pub rows_of : {X : Type 0} → FileTable → (ℕ → X) → List X
+rows_of table row = list_below (row_count table) row
+
+-- the rows of these tables
+unfoldable pub rows_of_tables : FeedTables → FeedRows
+rows_of_tables t =
+    record {
+      stops = rows_of t.stops (stop_row t);
+      routes = rows_of t.routes (route_row t);
+      trips = rows_of t.trips (trip_row t);
+      stop_times = rows_of t.stop_times (stop_time_row t);
+      services = rows_of t.calendar (service_row t);
+      exceptions = rows_of t.calendar_dates (exception_row t);
+      frequencies = rows_of t.frequencies (frequency_row t);
+      links = picks_below (row_count t.transfers) (λ row. not (is_passed_over t.transfers row)) (link_row t);
+      areas = rows_of t.areas (area_row t);
+      stop_areas = rows_of t.stop_areas (stop_area_row t);
+      timeframes = rows_of t.timeframes (timeframe_row t);
+      riders = rows_of t.rider_categories (rider_row t);
+      media = rows_of t.fare_media (medium_row t);
+      products = rows_of t.fare_products (product_row t);
+      leg_rules = rows_of t.fare_leg_rules (leg_rule_row t);
+      transfer_rules = rows_of t.fare_transfer_rules (transfer_rule_row t);
+      service_names = service_names t;
+      network_names = network_names t;
+      frame_names = frame_names t;
+      product_names = product_names t;
+      group_names = group_names t;
+      has_priority = is_some (column_of t.fare_leg_rules column.RulePriority);
+      currency = feed_currency t.fare_products;
+      decimals = feed_decimals t.fare_products;
+    }
+
+-- the rows of the files that are held
+unfoldable pub feed_of : (FileName → HeldFile) → FeedRows
+feed_of files = rows_of_tables (tables_of files)

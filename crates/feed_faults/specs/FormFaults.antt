@@ -1,0 +1,163 @@
+-- The first pass: what is wrong with a file by itself. A file is judged as a whole, then by its header, then row by row,
+-- and in a row column by column; the first fault counts.
+use Rattle.std.specs.Prelude.{ℕ, ◌+◌, ◌&&◌, ◌||◌, not, nat_lt, nat_le, if◌then◌else◌, Bool, true, false, List, [], ◌∷◌, length, get_or, take, bytes_eq, is_some, is_none, Option, None, Some, option_map, pos}
+use Rattle.std.specs.Option.{option_or}
+use Rattle.std.specs.Str.{is_utf8}
+use Rattle.feed_rows.specs.declared.names.FileName.{FileName}
+use Rattle.feed_rows.specs.declared.names.FileName.TheVariants as file
+use Rattle.feed_rows.specs.declared.names.ColumnName.{ColumnName}
+use Rattle.feed_rows.specs.declared.names.ColumnName.TheVariants as column
+use Rattle.feed_rows.specs.declared.faults.FaultKind.{FaultKind}
+use Rattle.feed_rows.specs.declared.faults.FaultKind.TheVariants as kind
+use Rattle.feed_rows.specs.declared.faults.FeedFault.{FeedFault}
+use Rattle.feed_rows.specs.Names.{column_text}
+use Rattle.feed_rows.specs.Words.{when, any_below, first_below, first_in, first_of}
+use Rattle.feed_rows.specs.HeldFiles.{HeldFile}
+use Rattle.feed_faults.specs.declared.columns.EmptyField.{EmptyField}
+use Rattle.feed_faults.specs.declared.columns.EmptyField.TheVariants as empty
+use Rattle.feed_faults.specs.declared.columns.ColumnRule.{ColumnRule}
+use Rattle.feed_faults.specs.Records.{FileTable, file_records, table_of_bytes, header, row_count, column_of, field, is_filled, is_long}
+use Rattle.feed_faults.specs.FieldGrammars.{int_value}
+use Rattle.feed_faults.specs.FileColumns.{columns_of, fits, misfit}
+use Rattle.feed_faults.specs.FaultPlaces.{file_fault, column_fault, row_fault, field_fault}
+
+-- the greatest number of data rows of a file (profile)
+abbrev pub most_rows : ℕ
+most_rows = 4000000
+
+-- a column stands twice in a header
+unfoldable pub is_twice : FileTable → ColumnName → Bool
+is_twice table name =
+    any_below (length (header table)) (λ later. bytes_eq (get_or (header table) later []) (column_text name)
+      && any_below later (λ earlier. bytes_eq (get_or (header table) earlier []) (column_text name)))
+
+-- a listed column stands twice (profile)
+unfoldable pub doubled_column : FileName → FileTable → ColumnRule → Option FeedFault
+doubled_column file table rule = when (is_twice table rule.name) (column_fault file rule.name kind.DoubledColumn)
+
+-- a column must be there
+abbrev pub is_needed_column : EmptyField → Bool
+is_needed_column empty.Fine = false
+is_needed_column empty.Fault = true
+is_needed_column empty.FaultOrFlex = true
+
+-- a column that must be there isn't (Field Definitions: Required)
+unfoldable pub missing_column : FileName → FileTable → ColumnRule → Option FeedFault
+missing_column file table rule =
+    when (is_needed_column rule.empty && is_none (column_of table rule.name)) (column_fault file rule.name kind.MissingColumn)
+
+-- the first fault of a header: every doubled column comes before every missing one
+unfoldable pub header_fault : FileName → FileTable → Option FeedFault
+header_fault file table =
+    option_or (first_in (columns_of file) (doubled_column file table)) (first_in (columns_of file) (missing_column file table))
+
+-- a stop time names a place of GTFS-Flex: a location group or a location
+unfoldable pub names_flex_place : FileTable → ℕ → Bool
+names_flex_place table row =
+    is_filled (field table row column.LocationGroupId) || is_filled (field table row column.LocationId)
+
+-- what an empty field is: GTFS-Flex is out of scope, so a stop time without a stop is a fault either way
+abbrev pub empty_misfit : FileTable → ℕ → EmptyField → Option FaultKind
+empty_misfit table row empty.Fine = None
+empty_misfit table row empty.Fault = Some kind.EmptyRequired
+empty_misfit table row empty.FaultOrFlex = Some (if names_flex_place table row then kind.FlexRow else kind.EmptyRequired)
+
+-- what is wrong with the field of a row in a column
+unfoldable pub field_misfit : FileTable → ℕ → ColumnRule → Option FaultKind
+field_misfit table row rule =
+    if is_filled (field table row rule.name)
+    then when (not (fits rule.grammar (field table row column.Currency) (field table row rule.name))) (misfit rule.grammar)
+    else empty_misfit table row rule.empty
+
+-- a row of transfers.txt is passed over: it is of type 4 or 5, or it names routes or trips (profile)
+unfoldable pub is_passed_over : FileTable → ℕ → Bool
+is_passed_over table row =
+    is_some (int_value (pos 4) (pos 5) (field table row column.TransferType))
+    || is_filled (field table row column.FromRouteId) || is_filled (field table row column.ToRouteId)
+    || is_filled (field table row column.FromTripId) || is_filled (field table row column.ToTripId)
+
+-- the columns of a row that are judged: of a row that is passed over, the type alone
+abbrev pub judged_columns : FileName → FileTable → ℕ → List ColumnRule
+judged_columns file.Transfers table row =
+    if is_passed_over table row then take 1 (columns_of file.Transfers) else columns_of file.Transfers
+judged_columns file table row = columns_of file
+
+-- the first fault of a row: a field past the header, then the columns in order
+unfoldable pub form_fault_of_row : FileName → FileTable → ℕ → Option FeedFault
+form_fault_of_row file table row =
+    option_or (when (is_long table row) (row_fault file row kind.LongRow))
+      (first_in (judged_columns file table row)
+        (λ rule. option_map (field_fault file row rule.name) (field_misfit table row rule)))
+
+-- the first fault of a table's rows
+unfoldable pub form_fault_of_rows : FileName → FileTable → Option FeedFault
+form_fault_of_rows file table = first_below (row_count table) (form_fault_of_row file table)
+
+-- the first fault of a table before its rows, where it may have so many of them; a table without a record is a file that
+-- isn't there (profile), and a fault where the file is needed
+unfoldable pub form_fault_of_table : Bool → ℕ → FileName → FileTable → Option FeedFault
+form_fault_of_table needed most file table =
+    if nat_lt 0 (length table)
+    then option_or (when (nat_lt most (row_count table)) (file_fault file kind.TooManyRows)) (header_fault file table)
+    else when needed (file_fault file kind.MissingFile)
+
+-- the first fault of a file's bytes before the rows of their table
+unfoldable pub form_fault_of_bytes : Bool → ℕ → FileName → List ℕ → Option FeedFault
+form_fault_of_bytes needed most file bytes =
+    option_or (when (not (is_utf8 bytes)) (file_fault file kind.NotUtf8))
+      (form_fault_of_table needed most file (table_of_bytes bytes))
+
+-- the first fault of a file as it is held
+abbrev pub form_fault_of_held : Bool → FileName → HeldFile → Option FeedFault
+form_fault_of_held needed file HeldFile.Missing = when needed (file_fault file kind.MissingFile)
+form_fault_of_held needed file HeldFile.TooLarge = Some (file_fault file kind.FileTooLarge)
+form_fault_of_held needed file (HeldFile.Bytes bytes) =
+    option_or (form_fault_of_bytes needed most_rows file bytes) (form_fault_of_rows file (table_of_bytes bytes))
+
+-- a file has a record; one that is too large counts as having records
+abbrev pub has_record : HeldFile → Bool
+has_record HeldFile.Missing = false
+has_record HeldFile.TooLarge = true
+has_record (HeldFile.Bytes bytes) = nat_lt 0 (length (file_records bytes))
+
+-- a feed needs the file, whatever else it holds (Dataset Files; the fare files are of the profile)
+abbrev pub is_always_needed : FileName → Bool
+is_always_needed file.Stops = true
+is_always_needed file.Routes = true
+is_always_needed file.Trips = true
+is_always_needed file.StopTimes = true
+is_always_needed file.FareProducts = true
+is_always_needed file.FareLegRules = true
+is_always_needed file = false
+
+-- a feed needs the file: calendar.txt where calendar_dates.txt has no record (Dataset Files)
+abbrev pub is_needed : (FileName → HeldFile) → FileName → Bool
+is_needed files file.Calendar = not (has_record (files file.CalendarDates))
+is_needed files file = is_always_needed file
+
+-- the first fault of a file by itself
+unfoldable pub form_fault : (FileName → HeldFile) → FileName → Option FeedFault
+form_fault files file = form_fault_of_held (is_needed files file) file (files file)
+
+-- the first fault of the files of the timetable, each by itself
+unfoldable pub timetable_form_fault : (FileName → HeldFile) → Option FeedFault
+timetable_form_fault files =
+    first_of (form_fault files file.Stops ∷ form_fault files file.Routes ∷ form_fault files file.Trips
+      ∷ form_fault files file.StopTimes ∷ form_fault files file.Calendar ∷ form_fault files file.CalendarDates ∷ [])
+
+-- the same of frequencies, transfers, areas and networks
+unfoldable pub network_form_fault : (FileName → HeldFile) → Option FeedFault
+network_form_fault files =
+    first_of (form_fault files file.Frequencies ∷ form_fault files file.Transfers ∷ form_fault files file.Areas
+      ∷ form_fault files file.StopAreas ∷ form_fault files file.Networks ∷ form_fault files file.RouteNetworks ∷ [])
+
+-- the same of the other files of fares
+unfoldable pub fare_form_fault : (FileName → HeldFile) → Option FeedFault
+fare_form_fault files =
+    first_of (form_fault files file.Timeframes ∷ form_fault files file.RiderCategories ∷ form_fault files file.FareMedia
+      ∷ form_fault files file.FareProducts ∷ form_fault files file.FareLegRules ∷ form_fault files file.FareTransferRules ∷ [])
+
+-- the first fault of the first pass, over all files in their order
+abbrev pub first_form_fault : (FileName → HeldFile) → Option FeedFault
+first_form_fault files =
+    first_of (timetable_form_fault files ∷ network_form_fault files ∷ fare_form_fault files ∷ [])

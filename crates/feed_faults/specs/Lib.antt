@@ -1,0 +1,14 @@
+pub mod Records
+pub mod FieldGrammars
+pub mod FileColumns
+pub mod FaultPlaces
+pub mod FormFaults
+pub mod FeedTables
+pub mod FieldValues
+pub mod RowKeys
+pub mod TimetableLinks
+pub mod StopTimeLinks
+pub mod NetworkLinks
+pub mod FareLinks
+pub mod FirstFault
+pub mod AcceptedFeed

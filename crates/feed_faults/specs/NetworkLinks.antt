@@ -1,0 +1,70 @@
+-- The second pass over frequencies, transfers, areas and networks.
+use Rattle.std.specs.Prelude.{ℕ, ◌&&◌, ◌==◌, not, nat_lt, Bool, List, [], ◌∷◌, Option}
+use Rattle.feed_rows.specs.declared.names.FileName.{FileName}
+use Rattle.feed_rows.specs.declared.names.FileName.TheVariants as file
+use Rattle.feed_rows.specs.declared.names.ColumnName.TheVariants.{TripId, StartTime, StopId, FromStopId, ToStopId, AreaId, NetworkId, RouteId}
+use Rattle.feed_rows.specs.declared.faults.FaultKind.TheVariants.{UnknownReference, DoubledKey, ForbiddenTogether}
+use Rattle.feed_rows.specs.declared.faults.FeedFault.{FeedFault}
+use Rattle.feed_rows.specs.Words.{when, any_below, first_of}
+use Rattle.feed_faults.specs.Records.{FileTable, row_count, field, is_filled}
+use Rattle.feed_faults.specs.FormFaults.{is_passed_over}
+use Rattle.feed_faults.specs.FaultPlaces.{file_fault, field_fault}
+use Rattle.feed_faults.specs.FeedTables.{FeedTables}
+use Rattle.feed_faults.specs.FieldValues.{time}
+use Rattle.feed_faults.specs.RowKeys.{is_unknown, same_field, is_repeated, is_doubled}
+
+-- two rows are of one trip and one start
+unfoldable pub same_start : FileTable → ℕ → ℕ → Bool
+same_start frequencies a b =
+    same_field frequencies TripId a b && (time 604799 (field frequencies a StartTime) == time 604799 (field frequencies b StartTime))
+
+-- frequencies.txt
+unfoldable pub frequency_fault : FeedTables → ℕ → Option FeedFault
+frequency_fault t row =
+    first_of (when (is_unknown t.trips TripId (field t.frequencies row TripId)) (field_fault file.Frequencies row TripId UnknownReference)
+      ∷ when (is_repeated (same_start t.frequencies) row) (field_fault file.Frequencies row StartTime DoubledKey)
+      ∷ [])
+
+-- a row of transfers.txt that isn't passed over names a stop that isn't there
+unfoldable pub is_transfer_stop_unknown : FeedTables → ℕ → List ℕ → Bool
+is_transfer_stop_unknown t row stop = not (is_passed_over t.transfers row) && is_unknown t.stops StopId stop
+
+-- transfers.txt
+unfoldable pub transfer_fault : FeedTables → ℕ → Option FeedFault
+transfer_fault t row =
+    first_of (when (is_transfer_stop_unknown t row (field t.transfers row FromStopId)) (field_fault file.Transfers row FromStopId UnknownReference)
+      ∷ when (is_transfer_stop_unknown t row (field t.transfers row ToStopId)) (field_fault file.Transfers row ToStopId UnknownReference)
+      ∷ [])
+
+-- areas.txt
+unfoldable pub area_fault : FeedTables → ℕ → Option FeedFault
+area_fault t row = when (is_doubled t.areas AreaId row) (field_fault file.Areas row AreaId DoubledKey)
+
+-- stop_areas.txt
+unfoldable pub stop_area_fault : FeedTables → ℕ → Option FeedFault
+stop_area_fault t row =
+    first_of (when (is_unknown t.areas AreaId (field t.stop_areas row AreaId)) (field_fault file.StopAreas row AreaId UnknownReference)
+      ∷ when (is_unknown t.stops StopId (field t.stop_areas row StopId)) (field_fault file.StopAreas row StopId UnknownReference)
+      ∷ [])
+
+-- some route has a network of its own
+unfoldable pub has_own_networks : FileTable → Bool
+has_own_networks routes = any_below (row_count routes) (λ row. is_filled (field routes row NetworkId))
+
+-- a file of networks has a row beside a route with a network of its own (networks.txt, route_networks.txt: Conditionally
+-- Forbidden)
+unfoldable pub forbidden_fault : FeedTables → FileName → FileTable → Option FeedFault
+forbidden_fault t file table =
+    when (nat_lt 0 (row_count table) && has_own_networks t.routes) (file_fault file ForbiddenTogether)
+
+-- networks.txt
+unfoldable pub network_fault : FeedTables → ℕ → Option FeedFault
+network_fault t row = when (is_doubled t.networks NetworkId row) (field_fault file.Networks row NetworkId DoubledKey)
+
+-- route_networks.txt
+unfoldable pub route_network_fault : FeedTables → ℕ → Option FeedFault
+route_network_fault t row =
+    first_of (when (is_doubled t.route_networks RouteId row) (field_fault file.RouteNetworks row RouteId DoubledKey)
+      ∷ when (is_unknown t.networks NetworkId (field t.route_networks row NetworkId)) (field_fault file.RouteNetworks row NetworkId UnknownReference)
+      ∷ when (is_unknown t.routes RouteId (field t.route_networks row RouteId)) (field_fault file.RouteNetworks row RouteId UnknownReference)
+      ∷ [])

@@ -1,0 +1,108 @@
+-- The second pass over stop_times.txt. Stop times belong to one trip where their trip ids are equal. First, last and before
+-- go by stop_sequence, and among equal sequences by row, over all rows of the file.
+use Rattle.std.specs.Prelude.{ℕ, ◌&&◌, ◌||◌, ◌==◌, not, nat_lt, Bool, List, [], ◌∷◌, length, bytes_eq, is_some, Option}
+use Rattle.std.specs.Option.{option_or}
+use Rattle.feed_rows.specs.declared.names.FileName.TheVariants as file
+use Rattle.feed_rows.specs.declared.names.ColumnName.TheVariants.{TripId, StopId, StopSequence, ArrivalTime, DepartureTime}
+use Rattle.feed_rows.specs.declared.faults.FaultKind.TheVariants.{UnknownReference, WrongStopKind, DoubledKey, EndTimeMissing, TimesDecrease}
+use Rattle.feed_rows.specs.declared.faults.FeedFault.{FeedFault}
+use Rattle.feed_rows.specs.Words.{when, filled_and, at_and, any_below, list_below, first_of}
+use Rattle.feed_faults.specs.Records.{FileTable, row_count, field}
+use Rattle.feed_faults.specs.FieldGrammars.{time_value}
+use Rattle.feed_faults.specs.FileColumns.{most_int}
+use Rattle.feed_faults.specs.FaultPlaces.{field_fault}
+use Rattle.feed_faults.specs.FeedTables.{FeedTables}
+use Rattle.feed_faults.specs.FieldValues.{whole, stop_kind}
+use Rattle.feed_faults.specs.RowKeys.{row_of, is_unknown, is_repeated}
+
+-- a stop time's trip, its place in the trip, and its times in seconds of the service day
+pub record TimedRow : Type 0 where
+  pub trip : List ℕ
+  pub sequence : ℕ
+  pub arrival : Option ℕ
+  pub departure : Option ℕ
+
+-- the stop time of a row
+unfoldable pub timed_row : FileTable → ℕ → TimedRow
+timed_row table row =
+    record {
+      trip = field table row TripId;
+      sequence = whole most_int (field table row StopSequence);
+      arrival = time_value 604799 (field table row ArrivalTime);
+      departure = time_value 604799 (field table row DepartureTime);
+    }
+
+-- the stop times of a file
+unfoldable pub timed_rows : FileTable → List TimedRow
+timed_rows table = list_below (row_count table) (timed_row table)
+
+-- a stop time has at least one time
+abbrev pub is_timed : TimedRow → Bool
+is_timed x = is_some x.arrival || is_some x.departure
+
+-- its first time: the arrival, or else the departure
+abbrev pub first_time : TimedRow → Option ℕ
+first_time x = option_or x.arrival x.departure
+
+-- its last time: the departure, or else the arrival
+abbrev pub last_time : TimedRow → Option ℕ
+last_time x = option_or x.departure x.arrival
+
+-- both times are there, and the first is less than the second
+abbrev pub is_earlier : Option ℕ → Option ℕ → Bool
+is_earlier a b = filled_and a (λ x. filled_and b (λ y. nat_lt x y))
+
+-- a test of the stop times at two places
+abbrev pub both_and : List TimedRow → ℕ → ℕ → (TimedRow → TimedRow → Bool) → Bool
+both_and times a b test = at_and times a (λ x. at_and times b (λ y. test x y))
+
+-- two stop times have one place in one trip
+unfoldable pub same_place : List TimedRow → ℕ → ℕ → Bool
+same_place times a b = both_and times a b (λ x y. bytes_eq x.trip y.trip && (x.sequence == y.sequence))
+
+-- the stop time of one row comes before that of another in their trip
+unfoldable pub comes_before : List TimedRow → ℕ → ℕ → Bool
+comes_before times a b =
+    both_and times a b (λ x y. bytes_eq x.trip y.trip
+      && (nat_lt x.sequence y.sequence || ((x.sequence == y.sequence) && nat_lt a b)))
+
+-- a row is the first of its trip, and the last of it
+unfoldable pub is_first : List TimedRow → ℕ → Bool
+is_first times row = not (any_below (length times) (λ other. comes_before times other row))
+
+unfoldable pub is_last : List TimedRow → ℕ → Bool
+is_last times row = not (any_below (length times) (λ other. comes_before times row other))
+
+-- a trip's first or last stop time has neither time (stop_times.txt: arrival_time, departure_time)
+unfoldable pub is_end_time_missing : List TimedRow → ℕ → Bool
+is_end_time_missing times row = at_and times row (λ x. not (is_timed x)) && (is_first times row || is_last times row)
+
+-- a row is the nearest timed one before another
+unfoldable pub is_nearest_before : List TimedRow → ℕ → ℕ → Bool
+is_nearest_before times near row =
+    comes_before times near row && at_and times near is_timed
+    && not (any_below (length times)
+      (λ other. comes_before times near other && comes_before times other row && at_and times other is_timed))
+
+-- a timed row's last time is less than its first, or its first is less than the last time of the nearest timed row before
+-- it (stop_times.txt: arrival_time, departure_time)
+unfoldable pub do_times_decrease : List TimedRow → ℕ → Bool
+do_times_decrease times row =
+    at_and times row (λ x. is_earlier (last_time x) (first_time x)
+      || any_below (length times) (λ near. is_nearest_before times near row
+        && at_and times near (λ y. is_earlier (first_time x) (last_time y))))
+
+-- a stop time is at a platform; an id of several rows is that of the earliest
+unfoldable pub is_at_platform : FeedTables → ℕ → Bool
+is_at_platform t row = filled_and (row_of t.stops StopId (field t.stop_times row StopId)) (λ stop. stop_kind t.stops stop == 0)
+
+-- stop_times.txt
+unfoldable pub stop_time_fault : FeedTables → ℕ → Option FeedFault
+stop_time_fault t row =
+    first_of (when (is_unknown t.trips TripId (field t.stop_times row TripId)) (field_fault file.StopTimes row TripId UnknownReference)
+      ∷ when (is_unknown t.stops StopId (field t.stop_times row StopId)) (field_fault file.StopTimes row StopId UnknownReference)
+      ∷ when (not (is_at_platform t row)) (field_fault file.StopTimes row StopId WrongStopKind)
+      ∷ when (is_repeated (same_place (timed_rows t.stop_times)) row) (field_fault file.StopTimes row StopSequence DoubledKey)
+      ∷ when (is_end_time_missing (timed_rows t.stop_times) row) (field_fault file.StopTimes row ArrivalTime EndTimeMissing)
+      ∷ when (do_times_decrease (timed_rows t.stop_times) row) (field_fault file.StopTimes row ArrivalTime TimesDecrease)
+      ∷ [])

@@ -1,0 +1,6 @@
+//! What the files of a feed say, and what is wrong with them: the definitions, and the columns of each file as data.
+#![tactic(auto)]
+
+mod columns;
+
+pub use columns::{columns_of, ColumnRule, EmptyField, Grammar};

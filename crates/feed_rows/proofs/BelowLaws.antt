@@ -1,0 +1,193 @@
+-- Laws of the first and the last number below a bound that pass a test, and of what is collected number by number.
+use Rattle.std.proofs.Common.{◌≡◌, refl, sym, ◌∙◌, ap, subst, ℕ, zero, suc, ◌+◌, ◌-◌, ◌<◌, ◌≤◌, ◌⊎◌, inl, inr, ⊎_elim, Bool, true, false, List, [], ◌∷◌, ◌++◌, length, arith}
+use Rattle.std.specs.Prelude.{Option, Some, None, slice_get, option_map, option_and_then}
+use Rattle.std.proofs.lemmas.Bool.{cases_lt, cases_Bool}
+use Rattle.std.proofs.lemmas.List.{length_push}
+use Rattle.std.proofs.lemmas.Option.{same_Some, none-some}
+use Rattle.feed_rows.specs.Words.{find_below, last_below, collect_below, list_below}
+
+-- i is the first number below n that passes
+pub record IsFirst (test : ℕ → Bool) (n i : ℕ) : Type 0 where
+  pub within : i < n
+  pub passes : test i ≡ true
+  pub earlier : (k : ℕ) → k < i → test k ≡ false
+
+-- i is the last number below n that passes
+pub record IsLast (test : ℕ → Bool) (n i : ℕ) : Type 0 where
+  pub within : i < n
+  pub passes : test i ≡ true
+  pub later : (k : ℕ) → i < k → k < n → test k ≡ false
+
+-- none passes below n
+abbrev pub NonePass : (ℕ → Bool) → ℕ → Type 0
+NonePass test n = (k : ℕ) → k < n → test k ≡ false
+
+-- where none passes, none is found
+pub find-none : (test : ℕ → Bool) (n : ℕ) → NonePass test n → find_below n test ≡ None
+find-none test zero none = refl
+find-none test (suc n) none = rw (find-none test n (λ k lt. none k (omega arith)), none n (omega arith)) refl
+
+-- the first that passes is found
+pub find-hit : (test : ℕ → Bool) (n i : ℕ) → IsFirst test n i → find_below n test ≡ Some i
+find-hit test zero i first = let lt = first.within in absurd (omega arith)
+find-hit test (suc n) i first = step (λ lt. find-hit test n i (record { within = lt; passes = first.passes; earlier = first.earlier })) (cases_lt i n)
+  where
+  step : (i < n → find_below n test ≡ Some i) → (i < n) ⊎ (n ≤ i) → find_below (suc n) test ≡ Some i
+  step before (inl lt) = rw (before lt) refl
+  step before (inr ge) =
+      let within = first.within in
+      let same : n ≡ i = omega arith in
+      let here : test n ≡ true = rw same first.passes in
+      rw (find-none test n (λ k lt. first.earlier k (omega arith)), here) (ap Some same)
+
+-- the first that passes, or none
+pub find-cases : (test : ℕ → Bool) (n : ℕ) → ((i : ℕ) × (find_below n test ≡ Some i) × IsFirst test n i) ⊎ ((find_below n test ≡ None) × NonePass test n)
+find-cases test zero = inr (refl, λ k lt. absurd (omega arith))
+find-cases test (suc n) = step (find-cases test n) (cases_Bool (test n))
+  where
+  Both : Type 0
+  Both = ((i : ℕ) × (find_below (suc n) test ≡ Some i) × IsFirst test (suc n) i) ⊎ ((find_below (suc n) test ≡ None) × NonePass test (suc n))
+  step : ((i : ℕ) × (find_below n test ≡ Some i) × IsFirst test n i) ⊎ ((find_below n test ≡ None) × NonePass test n) → (test n ≡ true) ⊎ (test n ≡ false) →
+      ((i : ℕ) × (find_below (suc n) test ≡ Some i) × IsFirst test (suc n) i) ⊎ ((find_below (suc n) test ≡ None) × NonePass test (suc n))
+  step (inl found) here =
+      let first = found.2 in
+      let within = first.within in
+      let wider : IsFirst test (suc n) found.0 = record { within = omega arith; passes = first.passes; earlier = first.earlier } in
+      inl (found.0, find-hit test (suc n) found.0 wider, wider)
+  step (inr none) (inl here) =
+      let first : IsFirst test (suc n) n = record { within = omega arith; passes = here; earlier = none.1 } in
+      inl (n, find-hit test (suc n) n first, first)
+  step (inr none) (inr here) =
+      let all : NonePass test (suc n) = λ k lt. ⊎_elim (λ below. none.1 k below) (λ past. let same : n ≡ k = omega arith in subst (λ m. test m ≡ false) same here) (cases_lt k n) in
+      inr (find-none test (suc n) all, all)
+
+-- what is found is the first that passes
+pub find-tells : (test : ℕ → Bool) (n i : ℕ) → find_below n test ≡ Some i → IsFirst test n i
+find-tells test n i e = step (find-cases test n)
+  where
+  step : ((i : ℕ) × (find_below n test ≡ Some i) × IsFirst test n i) ⊎ ((find_below n test ≡ None) × NonePass test n) → IsFirst test n i
+  step (inl found) = subst (IsFirst test n) (same_Some _ _ (sym found.1 ∙ e)) found.2
+  step (inr none) = absurd (none-some i (sym none.0 ∙ e))
+
+-- where one passes, one is found
+pub find-some : (test : ℕ → Bool) (n k : ℕ) → k < n → test k ≡ true → (i : ℕ) × (find_below n test ≡ Some i) × IsFirst test n i
+find-some test n k lt here = step (find-cases test n)
+  where
+  step : ((i : ℕ) × (find_below n test ≡ Some i) × IsFirst test n i) ⊎ ((find_below n test ≡ None) × NonePass test n) → (i : ℕ) × (find_below n test ≡ Some i) × IsFirst test n i
+  step (inl found) = found
+  step (inr none) = absurd (let no : true ≡ false = sym here ∙ none.1 k lt in cc)
+
+-- tests that agree below n find the same
+pub find-same : (test other : ℕ → Bool) (n : ℕ) → ((k : ℕ) → k < n → test k ≡ other k) → find_below n test ≡ find_below n other
+find-same test other zero same = refl
+find-same test other (suc n) same = rw (find-same test other n (λ k lt. same k (omega arith)), same n (omega arith)) refl
+
+-- where none passes, there is no last
+pub last-none : (test : ℕ → Bool) (n : ℕ) → NonePass test n → last_below n test ≡ None
+last-none test zero none = refl
+last-none test (suc n) none = rw (none n (omega arith)) (last-none test n (λ k lt. none k (omega arith)))
+
+-- the last that passes is found
+pub last-hit : (test : ℕ → Bool) (n i : ℕ) → IsLast test n i → last_below n test ≡ Some i
+last-hit test zero i last = let lt = last.within in absurd (omega arith)
+last-hit test (suc n) i last = step (λ lt. last-hit test n i (record { within = lt; passes = last.passes; later = λ k from to. last.later k from (omega arith) })) (cases_lt i n)
+  where
+  step : (i < n → last_below n test ≡ Some i) → (i < n) ⊎ (n ≤ i) → last_below (suc n) test ≡ Some i
+  step before (inl lt) = rw (last.later n lt (omega arith)) (before lt)
+  step before (inr ge) =
+      let within = last.within in
+      let same : n ≡ i = omega arith in
+      let here : test n ≡ true = rw same last.passes in
+      rw here (ap Some same)
+
+-- the last that passes, or none
+pub last-cases : (test : ℕ → Bool) (n : ℕ) → ((i : ℕ) × (last_below n test ≡ Some i) × IsLast test n i) ⊎ ((last_below n test ≡ None) × NonePass test n)
+last-cases test zero = inr (refl, λ k lt. absurd (omega arith))
+last-cases test (suc n) = step (last-cases test n) (cases_Bool (test n))
+  where
+  step : ((i : ℕ) × (last_below n test ≡ Some i) × IsLast test n i) ⊎ ((last_below n test ≡ None) × NonePass test n) → (test n ≡ true) ⊎ (test n ≡ false) →
+      ((i : ℕ) × (last_below (suc n) test ≡ Some i) × IsLast test (suc n) i) ⊎ ((last_below (suc n) test ≡ None) × NonePass test (suc n))
+  step before (inl here) =
+      let last : IsLast test (suc n) n = record { within = omega arith; passes = here; later = λ k from to. absurd (omega arith) } in
+      inl (n, last-hit test (suc n) n last, last)
+  step (inl found) (inr here) =
+      let last = found.2 in
+      let within = last.within in
+      let wider : IsLast test (suc n) found.0 =
+            record {
+              within = omega arith;
+              passes = last.passes;
+              later = λ k from to. ⊎_elim (λ below. last.later k from below) (λ past. let same : n ≡ k = omega arith in subst (λ m. test m ≡ false) same here) (cases_lt k n);
+            } in
+      inl (found.0, last-hit test (suc n) found.0 wider, wider)
+  step (inr none) (inr here) =
+      let all : NonePass test (suc n) = λ k lt. ⊎_elim (λ below. none.1 k below) (λ past. let same : n ≡ k = omega arith in subst (λ m. test m ≡ false) same here) (cases_lt k n) in
+      inr (last-none test (suc n) all, all)
+
+-- what is found is the last that passes
+pub last-tells : (test : ℕ → Bool) (n i : ℕ) → last_below n test ≡ Some i → IsLast test n i
+last-tells test n i e = step (last-cases test n)
+  where
+  step : ((i : ℕ) × (last_below n test ≡ Some i) × IsLast test n i) ⊎ ((last_below n test ≡ None) × NonePass test n) → IsLast test n i
+  step (inl found) = subst (IsLast test n) (same_Some _ _ (sym found.1 ∙ e)) found.2
+  step (inr none) = absurd (none-some i (sym none.0 ∙ e))
+
+-- where one passes, there is a last
+pub last-some : (test : ℕ → Bool) (n k : ℕ) → k < n → test k ≡ true → (i : ℕ) × (last_below n test ≡ Some i) × IsLast test n i
+last-some test n k lt here = step (last-cases test n)
+  where
+  step : ((i : ℕ) × (last_below n test ≡ Some i) × IsLast test n i) ⊎ ((last_below n test ≡ None) × NonePass test n) → (i : ℕ) × (last_below n test ≡ Some i) × IsLast test n i
+  step (inl found) = found
+  step (inr none) = absurd (let no : true ≡ false = sym here ∙ none.1 k lt in cc)
+
+module _ {X : Type 0} where
+  -- an item before the one that is pushed
+  pub slice_get-push_before : (xs : List X) (x : X) (i : ℕ) → i < length xs → slice_get (xs ++ x ∷ []) i ≡ slice_get xs i
+  slice_get-push_before [] x i lt = absurd (omega arith)
+  slice_get-push_before (y ∷ xs) x zero lt = refl
+  slice_get-push_before (y ∷ xs) x (suc i) lt = slice_get-push_before xs x i (omega arith)
+
+  -- the item that is pushed
+  pub slice_get-push_last : (xs : List X) (x : X) (i : ℕ) → i ≡ length xs → slice_get (xs ++ x ∷ []) i ≡ Some x
+  slice_get-push_last [] x zero e = refl
+  slice_get-push_last [] x (suc i) e = absurd (omega arith)
+  slice_get-push_last (y ∷ xs) x zero e = absurd (omega arith)
+  slice_get-push_last (y ∷ xs) x (suc i) e = slice_get-push_last xs x i (omega arith)
+
+  -- one more that is collected
+  pub collect-more : (n : ℕ) (f : ℕ → Option X) (xs : List X) (x : X) → collect_below n f ≡ Some xs → f n ≡ Some x → collect_below (n + 1) f ≡ Some (xs ++ x ∷ [])
+  collect-more n f xs x before here = let e : n + 1 ≡ suc n = omega arith in rw (e, before, here) refl
+
+  -- what is collected, item by item
+  pub record IsCollected (n : ℕ) (f : ℕ → Option X) (xs : List X) : Type 0 where
+    pub length_is : length xs ≡ n
+    pub items : (i : ℕ) → i < n → slice_get xs i ≡ f i
+
+  pub collect-tells : (n : ℕ) (f : ℕ → Option X) (xs : List X) → collect_below n f ≡ Some xs → IsCollected n f xs
+  collect-tells zero f xs e = let none : [] ≡ xs = same_Some _ _ e in record { length_is = sym (ap length none); items = λ i lt. absurd (omega arith) }
+  collect-tells (suc n) f xs e = step (collect_below n f) refl (f n) refl (collect-tells n f)
+    where
+    step : (o : Option (List X)) → collect_below n f ≡ o → (p : Option X) → f n ≡ p → ((ys : List X) → collect_below n f ≡ Some ys → IsCollected n f ys) → IsCollected (suc n) f xs
+    step None before p here earlier = absurd (let no : None ≡ Some xs = rw before at e in none-some xs no)
+    step (Some ys) before None here earlier = absurd (let no : None ≡ Some xs = rw (before, here) at e in none-some xs no)
+    step (Some ys) before (Some x) here earlier =
+        let is : Some (ys ++ x ∷ []) ≡ Some xs = rw (before, here) at e in
+        let same : ys ++ x ∷ [] ≡ xs = same_Some _ _ is in
+        let was = earlier ys before in
+        let long = was.length_is in
+        let pushed = length_push ys x in
+        subst (IsCollected (suc n) f) same (record {
+          length_is = omega arith;
+          items = λ i lt. ⊎_elim
+            (λ (below : i < n). slice_get-push_before ys x i (omega arith) ∙ was.items i below)
+            (λ (past : n ≤ i). let at : n ≡ i = omega arith in slice_get-push_last ys x i (omega arith) ∙ sym here ∙ ap f at)
+            (cases_lt i n);
+        })
+
+  -- what is given at each number is collected
+  pub collect-some : (n : ℕ) (f : ℕ → Option X) → ((i : ℕ) → i < n → (x : X) × (f i ≡ Some x)) → (xs : List X) × (collect_below n f ≡ Some xs)
+  collect-some zero f each = ([], refl)
+  collect-some (suc n) f each =
+      let before = collect-some n f (λ i lt. each i (omega arith)) in
+      let here = each n (omega arith) in
+      (before.0 ++ here.0 ∷ [], rw (before.1, here.1) refl)
