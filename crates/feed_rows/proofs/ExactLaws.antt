@@ -1,5 +1,5 @@
 -- Which answers are exact: what a covering front gives, and that all exact answers have the same triples.
-use Rattle.std.proofs.Common.{◌≡◌, refl, sym, ◌∙◌, ap, subst, ℕ, zero, suc, [], ◌∷◌, Bool, ◌+◌, ◌<◌, ◌≤◌, ◌⊎◌, inl, inr, true, false, List, map, length, get_or, arith}
+use Rattle.std.proofs.Common.{◌≡◌, refl, sym, ◌∙◌, ap, subst, ℕ, [], ◌∷◌, Bool, ◌<◌, ◌≤◌, ◌⊎◌, inl, inr, true, false, List, map, length, get_or, arith}
 use Rattle.std.specs.Prelude.{All, AllPairs, Contains, IsTrue}
 use Rattle.std.specs.List.{list_any}
 use Rattle.std.proofs.lemmas.Bool.{cases_lt, cases_Bool, both_ways}
@@ -11,7 +11,7 @@ use Rattle.feed_rows.specs.declared.fares.Triple.{Triple}
 use Rattle.feed_rows.specs.declared.fares.Entry.{Entry}
 use Rattle.feed_rows.specs.FeedRows.{FeedRows}
 use Rattle.feed_rows.specs.ParetoTriples.{at_most, is_before}
-use Rattle.feed_rows.specs.JourneyEntries.{IsEntry, IsOffered, IsMinimal, IsExactAnswer}
+use Rattle.feed_rows.specs.JourneyEntries.{IsEntry, IsMinimal, IsExactAnswer}
 use Rattle.feed_rows.proofs.StrictLaws.{same_from_members}
 use Rattle.feed_rows.proofs.ParetoLaws.{at_most-trans, at_most-antisym, is_before-irrefl, is_before-trans, is_before-of_at_most}
 
@@ -46,26 +46,26 @@ triple_of_member entries entry h =
 pub member_of_triple : (entries : List Entry) (triple : Triple) → Contains (map (λ e. e.triple) entries) triple → (entry : Entry) × Contains entries entry × (entry.triple ≡ triple)
 member_of_triple entries triple h = by entries h.0 h.1 h.2
   where
-  by : (es : List Entry) (k : ℕ) → k < length (map (λ e. e.triple) es) → get_or (map (λ e. e.triple) es) k triple ≡ triple → (entry : Entry) × Contains es entry × (entry.triple ≡ triple)
-  by [] k lt e = absurd (omega arith)
-  by (x ∷ xs) k lt e =
-      let long = length-map (x ∷ xs) (λ e. e.triple) in
-      let within : k < length (x ∷ xs) = omega arith in
-      (get_or (x ∷ xs) k x, Contains-get_or (x ∷ xs) k x within, sym (get_or-map (λ e. e.triple) (x ∷ xs) k x triple within) ∙ e)
+    by : (es : List Entry) (k : ℕ) → k < length (map (λ e. e.triple) es) → get_or (map (λ e. e.triple) es) k triple ≡ triple → (entry : Entry) × Contains es entry × (entry.triple ≡ triple)
+    by [] k lt e = absurd (omega arith)
+    by (x ∷ xs) k lt e =
+        let long = length-map (x ∷ xs) (λ e. e.triple) in
+        let within : k < length (x ∷ xs) = omega arith in
+        (get_or (x ∷ xs) k x, Contains-get_or (x ∷ xs) k x within, sym (get_or-map (λ e. e.triple) (x ∷ xs) k x triple within) ∙ e)
 
 -- what holds between the triples of entries holds between those of their list
 pub AllPairs-triples : (R : Triple → Triple → Type 0) (entries : List Entry) → AllPairs (λ a b. R a.triple b.triple) entries → AllPairs R (map (λ e. e.triple) entries)
 AllPairs-triples R entries rises i j d lt within = by entries rises within
   where
-  by : (es : List Entry) → AllPairs (λ a b. R a.triple b.triple) es → j < length (map (λ e. e.triple) es) → R (get_or (map (λ e. e.triple) es) i d) (get_or (map (λ e. e.triple) es) j d)
-  by [] rises inside = absurd (omega arith)
-  by (x ∷ xs) rises inside =
-      let long = length-map (x ∷ xs) (λ e. e.triple) in
-      let in_i : i < length (x ∷ xs) = omega arith in
-      let in_j : j < length (x ∷ xs) = omega arith in
-      let at_i = get_or-map (λ e. e.triple) (x ∷ xs) i x d in_i in
-      let at_j = get_or-map (λ e. e.triple) (x ∷ xs) j x d in_j in
-      subst (λ a. R a (get_or (map (λ e. e.triple) (x ∷ xs)) j d)) (sym at_i) (subst (λ b. R (get_or (x ∷ xs) i x).triple b) (sym at_j) (rises i j x lt in_j))
+    by : (es : List Entry) → AllPairs (λ a b. R a.triple b.triple) es → j < length (map (λ e. e.triple) es) → R (get_or (map (λ e. e.triple) es) i d) (get_or (map (λ e. e.triple) es) j d)
+    by [] rises inside = absurd (omega arith)
+    by (x ∷ xs) rises inside =
+        let long = length-map (x ∷ xs) (λ e. e.triple) in
+        let in_i : i < length (x ∷ xs) = omega arith in
+        let in_j : j < length (x ∷ xs) = omega arith in
+        let at_i = get_or-map (λ e. e.triple) (x ∷ xs) i x d in_i in
+        let at_j = get_or-map (λ e. e.triple) (x ∷ xs) j x d in_j in
+        subst (λ a. R a (get_or (map (λ e. e.triple) (x ∷ xs)) j d)) (sym at_i) (subst (λ b. R (get_or (x ∷ xs) i x).triple b) (sym at_j) (rises i j x lt in_j))
 
 -- the triples of an exact answer are all in each other one
 triple_in_other : (feed : FeedRows) (query : Query) (xs ys : List Entry) → IsExactAnswer feed query xs → IsExactAnswer feed query ys → (z : Triple) → Contains (map (λ e. e.triple) xs) z → Contains (map (λ e. e.triple) ys) z
@@ -77,17 +77,17 @@ triple_in_other feed query xs ys p q z h =
 pub same_triples : (feed : FeedRows) (query : Query) (xs ys : List Entry) → IsExactAnswer feed query xs → IsExactAnswer feed query ys → map (λ e. e.triple) xs ≡ map (λ e. e.triple) ys
 same_triples feed query xs ys p q =
     same_from_members (λ a b. IsTrue (is_before a b))
-      (record { irreflexive = λ a h. both_ways (is_before a a) (is_before-irrefl a) h; transitive = is_before-trans })
-      (map (λ e. e.triple) xs) (map (λ e. e.triple) ys)
-      (AllPairs-triples (λ a b. IsTrue (is_before a b)) xs p.in_order) (AllPairs-triples (λ a b. IsTrue (is_before a b)) ys q.in_order)
-      (record { there = triple_in_other feed query xs ys p q; back = triple_in_other feed query ys xs q p })
+    (record { irreflexive = λ a h. both_ways (is_before a a) (is_before-irrefl a) h; transitive = is_before-trans })
+    (map (λ e. e.triple) xs) (map (λ e. e.triple) ys)
+    (AllPairs-triples (λ a b. IsTrue (is_before a b)) xs p.in_order) (AllPairs-triples (λ a b. IsTrue (is_before a b)) ys q.in_order)
+    (record { there = triple_in_other feed query xs ys p q; back = triple_in_other feed query ys xs q p })
 
 -- entries of the query, strictly in order and none at most a later one, that cover each entry of the query are an exact
 -- answer
 pub exact_of_front : (feed : FeedRows) (query : Query) (entries : List Entry) → All (IsEntry feed query) entries →
-  AllPairs (λ a b. IsTrue (is_before a.triple b.triple)) entries →
-  AllPairs (λ a b. at_most a.triple b.triple ≡ false) entries →
-  ((e : Entry) → IsEntry feed query e → is_covered entries e.triple ≡ true) → IsExactAnswer feed query entries
+    AllPairs (λ a b. IsTrue (is_before a.triple b.triple)) entries →
+    AllPairs (λ a b. at_most a.triple b.triple ≡ false) entries →
+    ((e : Entry) → IsEntry feed query e → is_covered entries e.triple ≡ true) → IsExactAnswer feed query entries
 exact_of_front feed query entries right in_order apart covers = record {
   right = right;
   minimal = λ k d lt. record {
@@ -125,11 +125,11 @@ pub front_of_exact : (feed : FeedRows) (query : Query) (entries : List Entry) �
 front_of_exact feed query entries exact i j d lt within =
     by (cases_Bool (at_most (get_or entries i d).triple (get_or entries j d).triple))
   where
-  in_i : i < length entries
-  in_i = omega arith
+    in_i : i < length entries
+    in_i = omega arith
 
-  by : (at_most (get_or entries i d).triple (get_or entries j d).triple ≡ true) ⊎ (at_most (get_or entries i d).triple (get_or entries j d).triple ≡ false) → at_most (get_or entries i d).triple (get_or entries j d).triple ≡ false
-  by (inr h) = h
-  by (inl h) =
-      let same = (exact.minimal j d within).least (get_or entries i d).triple (exact.minimal i d in_i).offered h in
-      absurd (both_ways _ (is_before-irrefl (get_or entries j d).triple) (subst (λ t. is_before t (get_or entries j d).triple ≡ true) same (exact.in_order i j d lt within)))
+    by : (at_most (get_or entries i d).triple (get_or entries j d).triple ≡ true) ⊎ (at_most (get_or entries i d).triple (get_or entries j d).triple ≡ false) → at_most (get_or entries i d).triple (get_or entries j d).triple ≡ false
+    by (inr h) = h
+    by (inl h) =
+        let same = (exact.minimal j d within).least (get_or entries i d).triple (exact.minimal i d in_i).offered h in
+        absurd (both_ways _ (is_before-irrefl (get_or entries j d).triple) (subst (λ t. is_before t (get_or entries j d).triple ≡ true) same (exact.in_order i j d lt within)))

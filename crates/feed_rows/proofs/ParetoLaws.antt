@@ -1,5 +1,5 @@
 -- The laws of the two orders of triples.
-use Rattle.std.proofs.Common.{◌≡◌, ℕ, Bool, true, false, ◌&&◌, arith, ap, ◌∙◌, sym, cond}
+use Rattle.std.proofs.Common.{◌≡◌, ℕ, true, false, arith, ap, ◌∙◌}
 use Rattle.std.specs.Prelude.{ℤ, int_le, int_lt, nat_le, ◌≢◌}
 use Rattle.std.proofs.lemmas.Int.{ints}
 use Rattle.std.proofs.lemmas.Bool.Decides.{nat_tests}
@@ -23,6 +23,7 @@ same_parts a b p q r =
 int_le-both : (x y : ℤ) → int_le x y ≡ true → int_le y x ≡ true → x ≡ y
 int_le-both x y p q = grind (arith, ints)
 
+-- what is at most a number that is at most a third is at most the third
 int_le-trans : (x y z : ℤ) → int_le x y ≡ true → int_le y z ≡ true → int_le x z ≡ true
 int_le-trans x y z p q = grind (arith, ints)
 
@@ -45,6 +46,7 @@ record Ahead (a b : Triple) : Type 0 where
   pub rides : int_le b.arrival.0 a.arrival.0 ≡ true → nat_le a.rides b.rides ≡ true
   pub price : int_le b.arrival.0 a.arrival.0 ≡ true → nat_le b.rides a.rides ≡ true → int_lt a.price.0 b.price.0 ≡ true
 
+-- what stands before another is ahead of it, part by part
 ahead_of_before : (a b : Triple) → is_before a b ≡ true → Ahead a b
 ahead_of_before a b h = record {
   arrival = grind (arith, ints, nat_tests);
@@ -52,9 +54,11 @@ ahead_of_before a b h = record {
   price = λ p q. grind (arith, ints, nat_tests);
 }
 
+-- and what is ahead, part by part, stands before
 before_of_ahead : (a b : Triple) → Ahead a b → is_before a b ≡ true
 before_of_ahead a b h = let p = h.arrival in let q = h.rides in let r = h.price in grind (arith, ints, nat_tests, q, r)
 
+-- what is ahead of a triple that is ahead of a third is ahead of the third
 ahead-trans : (a b c : Triple) → Ahead a b → Ahead b c → Ahead a c
 ahead-trans a b c p q = record {
   arrival = int_le-trans a.arrival.0 b.arrival.0 c.arrival.0 p.arrival q.arrival;
@@ -98,6 +102,6 @@ is_before-of_at_most a b p = grind (arith, ints, nat_tests)
 pub is_before-of_less : (a b : Triple) → at_most a b ≡ true → a ≢ b → is_before a b ≡ true
 is_before-of_less a b p differs = by (cases_Bool (is_before a b))
   where
-  by : (is_before a b ≡ true) ⊎ (is_before a b ≡ false) → is_before a b ≡ true
-  by (inl h) = h
-  by (inr h) = absurd (differs (is_before-total a b h (is_before-of_at_most a b p)))
+    by : (is_before a b ≡ true) ⊎ (is_before a b ≡ false) → is_before a b ≡ true
+    by (inl h) = h
+    by (inr h) = absurd (differs (is_before-total a b h (is_before-of_at_most a b p)))

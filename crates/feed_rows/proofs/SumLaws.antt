@@ -1,7 +1,6 @@
 -- What one more leg does to the sum.
-use Rattle.std.proofs.Common.{◌≡◌, refl, sym, ◌∙◌, ap, subst, ℕ, zero, suc, ◌+◌, ◌<◌, ◌≤◌, Bool, true, false, not, ◌&&◌, ◌||◌, List, [], ◌∷◌, ◌++◌, length, arith, cond}
-use Rattle.std.specs.Prelude.{Option, Some, None, is_none, ℤ, pos, ◌+ℤ◌, ◌-ℤ◌, slice_get, option_map, option_and_then}
-use Rattle.std.specs.Option.{option_map_or}
+use Rattle.std.proofs.Common.{◌≡◌, refl, sym, ◌∙◌, ap, ℕ, zero, suc, ◌+◌, ◌<◌, ◌≤◌, Bool, true, false, not, ◌&&◌, ◌||◌, List, [], ◌∷◌, ◌++◌, length, arith, cond}
+use Rattle.std.specs.Prelude.{Option, Some, None, is_none, ℤ, pos, ◌+ℤ◌, ◌-ℤ◌, slice_get}
 use Rattle.std.proofs.lemmas.Int.{ints}
 use Rattle.std.proofs.lemmas.List.{length_push}
 use Rattle.std.proofs.lemmas.Option.{slice_get_past}
@@ -9,8 +8,8 @@ use Rattle.feed_rows.specs.declared.fares.ChangeChoice.{ChangeChoice}
 use Rattle.feed_rows.specs.declared.fares.LegChoice.{LegChoice}
 use Rattle.feed_rows.specs.declared.fares.Choice.{Choice}
 use Rattle.feed_rows.specs.FeedRows.{FeedRows}
-use Rattle.feed_rows.specs.Words.{filled_and, sum_below}
-use Rattle.feed_rows.specs.FareSums.{transfer_kind, starts_chain, is_entered_free, is_charged, amount_of, leg_amount, leg_charge, change_charge, fare_sum}
+use Rattle.feed_rows.specs.Words.{sum_below}
+use Rattle.feed_rows.specs.FareSums.{transfer_kind, starts_chain, is_charged, amount_of, leg_amount, leg_charge, change_charge, fare_sum}
 use Rattle.feed_rows.specs.FareWalk.{cost, total, held_at, frees_next, frees_first, added, taken_back, next_held, next_total, place_kind, place_charge}
 use Rattle.feed_rows.proofs.WordLaws.{sum_below-same}
 use Rattle.feed_rows.proofs.WalkLaws.{slice_get-append_left}
@@ -26,7 +25,7 @@ pub record IsOneMore (kind : ℕ → Option ℕ) (amount change : ℕ → ℤ) (
 
 -- what a leg costs is seen in the changes at its two ends
 pub cost-same : (kind kind' : ℕ → Option ℕ) (amount amount' : ℕ → ℤ) (n : ℕ) → ((i : ℕ) → i < n → kind i ≡ kind' i) → ((i : ℕ) → i < n → amount i ≡ amount' i) →
-  (i : ℕ) → i < n → cost kind amount i ≡ cost kind' amount' i
+    (i : ℕ) → i < n → cost kind amount i ≡ cost kind' amount' i
 unfolding is_charged starts_chain
 cost-same kind kind' amount amount' n same cheap zero h = rw (same 0 h, cheap 0 h) refl
 cost-same kind kind' amount amount' n same cheap (suc i) h =
@@ -37,7 +36,7 @@ cost-same kind kind' amount amount' n same cheap (suc i) h =
 
 -- a leg costs less by what a change after it takes back
 cost_with : (entered starts frees : Bool) (a : ℤ) → (starts ≡ true → entered ≡ false) →
-  cond (not (entered || (starts && false))) a (pos 0) ≡ cond (not (entered || (starts && frees))) a (pos 0) +ℤ cond frees (cond starts a (pos 0)) (pos 0)
+    cond (not (entered || (starts && false))) a (pos 0) ≡ cond (not (entered || (starts && frees))) a (pos 0) +ℤ cond frees (cond starts a (pos 0)) (pos 0)
 cost_with true true frees a apart = absurd (let bad = apart refl in cc)
 cost_with true false true a apart = refl
 cost_with true false false a apart = refl
@@ -48,8 +47,8 @@ cost_with false false false a apart = omega (arith, ints)
 
 -- the leg that was last costs less by what the change after it takes back
 cost_of_last : (kind : ℕ → Option ℕ) (amount change : ℕ → ℤ) (kind' : ℕ → Option ℕ) (amount' change' : ℕ → ℤ) (n : ℕ) →
-  IsOneMore kind amount change kind' amount' change' n →
-  cost kind amount n ≡ cost kind' amount' n +ℤ taken_back (kind' n) (held_at kind amount n)
+    IsOneMore kind amount change kind' amount' change' n →
+    cost kind amount n ≡ cost kind' amount' n +ℤ taken_back (kind' n) (held_at kind amount n)
 unfolding is_charged starts_chain
 cost_of_last kind amount change kind' amount' change' zero more =
     let here = more.amounts 0 (omega arith) in
@@ -61,36 +60,37 @@ cost_of_last kind amount change kind' amount' change' (suc n) more =
     let ends = more.ends in
     rw (here, before, ends) (cost_with (frees_next (kind' n)) (is_none (kind' n)) (frees_first (kind' (suc n))) (amount' (suc n)) (apart (kind' n)))
   where
-  apart : (o : Option ℕ) → is_none o ≡ true → frees_next o ≡ false
-  apart None e = refl
-  apart (Some k) e = absurd (cc)
+    apart : (o : Option ℕ) → is_none o ≡ true → frees_next o ≡ false
+    apart None e = refl
+    apart (Some k) e = absurd (cc)
 
 -- the new leg costs what it adds
 cost_of_new : (kind' : ℕ → Option ℕ) (amount' : ℕ → ℤ) (n : ℕ) → kind' (suc n) ≡ None → cost kind' amount' (suc n) ≡ added (kind' n) (amount' (suc n))
 unfolding is_charged starts_chain
 cost_of_new kind' amount' n ends = rw ends (by (frees_next (kind' n)) (is_none (kind' n)))
   where
-  by : (free starts : Bool) → cond (not (free || (starts && false))) (amount' (suc n)) (pos 0) ≡ cond free (pos 0) (amount' (suc n))
-  by true starts = refl
-  by false true = refl
-  by false false = refl
+    by : (free starts : Bool) → cond (not (free || (starts && false))) (amount' (suc n)) (pos 0) ≡ cond free (pos 0) (amount' (suc n))
+    by true starts = refl
+    by false true = refl
+    by false false = refl
 
+-- the sums of the legs and of the changes, each with one more
 sum_with : (s c last last' new change held : ℤ) → last ≡ last' +ℤ held →
-  ((s +ℤ last') +ℤ new) +ℤ (c +ℤ change) ≡ ((s +ℤ last) +ℤ c) +ℤ (new +ℤ change) -ℤ held
+    ((s +ℤ last') +ℤ new) +ℤ (c +ℤ change) ≡ ((s +ℤ last) +ℤ c) +ℤ (new +ℤ change) -ℤ held
 sum_with s c last last' new change held e = omega (arith, ints)
 
 -- the sum after one more leg, by the type of the change before it
 pub total-more : (kind : ℕ → Option ℕ) (amount change : ℕ → ℤ) (kind' : ℕ → Option ℕ) (amount' change' : ℕ → ℤ) (n : ℕ) →
-  IsOneMore kind amount change kind' amount' change' n →
-  total kind' amount' change' (suc n) ≡ next_total (total kind amount change n) (held_at kind amount n) (kind' n) (amount' (suc n)) (change' n)
+    IsOneMore kind amount change kind' amount' change' n →
+    total kind' amount' change' (suc n) ≡ next_total (total kind amount change n) (held_at kind amount n) (kind' n) (amount' (suc n)) (change' n)
 total-more kind amount change kind' amount' change' n more =
     let legs = sum_below-same n (cost kind amount) (cost kind' amount') (cost-same kind kind' amount amount' n more.kinds (λ i h. more.amounts i (omega arith))) in
     let places = sum_below-same n change change' more.changes in
     let new = cost_of_new kind' amount' n more.ends_later in
     let last = cost_of_last kind amount change kind' amount' change' n more in
     rw (legs, places, new)
-      (sum_with (sum_below n (cost kind' amount')) (sum_below n change') (cost kind amount n) (cost kind' amount' n)
-        (added (kind' n) (amount' (suc n))) (change' n) (taken_back (kind' n) (held_at kind amount n)) last)
+    (sum_with (sum_below n (cost kind' amount')) (sum_below n change') (cost kind amount n) (cost kind' amount' n)
+    (added (kind' n) (amount' (suc n))) (change' n) (taken_back (kind' n) (held_at kind amount n)) last)
 
 -- what is held after one more leg
 pub held_at-more : (kind : ℕ → Option ℕ) (amount : ℕ → ℤ) (n : ℕ) → held_at kind amount (suc n) ≡ next_held (kind n) (amount (suc n))
@@ -127,7 +127,7 @@ pub record IsPushed (choice : Choice) (place : Option ChangeChoice) (pick : LegC
 
 -- the sum of a choice is the sum of its legs and changes by number
 pub fare_sum-total : (feed : FeedRows) (choice : Choice) (n : ℕ) → length choice.legs ≡ suc n → length choice.changes ≡ n →
-  fare_sum feed choice ≡ total (transfer_kind feed choice) (leg_amount feed choice) (change_charge feed choice) n
+    fare_sum feed choice ≡ total (transfer_kind feed choice) (leg_amount feed choice) (change_charge feed choice) n
 unfolding fare_sum leg_charge
 fare_sum-total feed choice n legs changes = rw (legs, changes) refl
 
@@ -150,14 +150,17 @@ change_charge_at feed choice n place is = rw is refl
 pub leg_amount_at : (feed : FeedRows) (choice : Choice) (n : ℕ) (pick : LegChoice) → slice_get choice.legs n ≡ Some pick → leg_amount feed choice n ≡ amount_of feed pick.product
 leg_amount_at feed choice n pick is = rw is refl
 
+-- choices with the same place have the same type there
 same_kind : (feed : FeedRows) (a b : Choice) (i : ℕ) → slice_get a.changes i ≡ slice_get b.changes i → transfer_kind feed a i ≡ transfer_kind feed b i
 unfolding transfer_kind
 same_kind feed a b i same = rw same refl
 
+-- choices with the same place add the same there
 same_charge : (feed : FeedRows) (a b : Choice) (i : ℕ) → slice_get a.changes i ≡ slice_get b.changes i → change_charge feed a i ≡ change_charge feed b i
 unfolding change_charge
 same_charge feed a b i same = rw same refl
 
+-- choices with the same pick have the same amount there
 same_amount : (feed : FeedRows) (a b : Choice) (i : ℕ) → slice_get a.legs i ≡ slice_get b.legs i → leg_amount feed a i ≡ leg_amount feed b i
 same_amount feed a b i same = rw same refl
 
@@ -171,7 +174,7 @@ new_at xs ys x n long e = rw e (slice_get-push_last xs x n (sym long))
 
 -- such a choice says of one more leg
 pub more_of_pushed : (feed : FeedRows) (choice : Choice) (place : Option ChangeChoice) (pick : LegChoice) (more : Choice) (n : ℕ) → IsPushed choice place pick more n →
-  IsOneMore (transfer_kind feed choice) (leg_amount feed choice) (change_charge feed choice) (transfer_kind feed more) (leg_amount feed more) (change_charge feed more) n
+    IsOneMore (transfer_kind feed choice) (leg_amount feed choice) (change_charge feed choice) (transfer_kind feed more) (leg_amount feed more) (change_charge feed more) n
 more_of_pushed feed choice place pick more n p =
     let legs = p.legs in
     let changes = p.changes in
@@ -184,12 +187,13 @@ more_of_pushed feed choice place pick more n p =
       ends_later = transfer_kind_past feed more (suc n) (omega arith);
     }
 
+-- equal parts give equal sums
 same_next_total : (t t' held : ℤ) (k k' : Option ℕ) (a a' c c' : ℤ) → t ≡ t' → k ≡ k' → a ≡ a' → c ≡ c' → next_total t held k a c ≡ next_total t' held k' a' c'
 same_next_total t t' held k k' a a' c c' e f g h = rw (e, f, g, h) refl
 
 -- the sum of a choice with one more leg
 pub fare_sum-push : (feed : FeedRows) (choice : Choice) (place : Option ChangeChoice) (pick : LegChoice) (more : Choice) (n : ℕ) → IsPushed choice place pick more n →
-  fare_sum feed more ≡ next_total (fare_sum feed choice) (held_at (transfer_kind feed choice) (leg_amount feed choice) n) (place_kind feed place) (amount_of feed pick.product) (place_charge feed place)
+    fare_sum feed more ≡ next_total (fare_sum feed choice) (held_at (transfer_kind feed choice) (leg_amount feed choice) n) (place_kind feed place) (amount_of feed pick.product) (place_charge feed place)
 fare_sum-push feed choice place pick more n p =
     let legs : length more.legs ≡ suc (suc n) = ap length p.more_legs ∙ length_push choice.legs pick ∙ ap (λ k. k + 1) p.legs ∙ omega arith in
     let changes : length more.changes ≡ suc n = ap length p.more_changes ∙ length_push choice.changes place ∙ ap (λ k. k + 1) p.changes ∙ omega arith in
@@ -202,7 +206,7 @@ fare_sum-push feed choice place pick more n p =
 
 -- what is held after one more leg of a choice
 pub held_at-push : (feed : FeedRows) (choice : Choice) (place : Option ChangeChoice) (pick : LegChoice) (more : Choice) (n : ℕ) → IsPushed choice place pick more n →
-  held_at (transfer_kind feed more) (leg_amount feed more) (suc n) ≡ next_held (place_kind feed place) (amount_of feed pick.product)
+    held_at (transfer_kind feed more) (leg_amount feed more) (suc n) ≡ next_held (place_kind feed place) (amount_of feed pick.product)
 held_at-push feed choice place pick more n p =
     let kind = transfer_kind_at feed more n place (new_at choice.changes more.changes place n p.changes p.more_changes) in
     let amount = leg_amount_at feed more (suc n) pick (new_at choice.legs more.legs pick (suc n) p.legs p.more_legs) in
