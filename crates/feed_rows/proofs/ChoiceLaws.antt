@@ -22,7 +22,7 @@ use Rattle.feed_rows.proofs.WordLaws.{collect_below-same, all_below-same}
 use Rattle.feed_rows.proofs.WalkLaws.{slice_get-append_left}
 use Rattle.feed_rows.proofs.BelowLaws.{slice_get-push_last}
 use Rattle.feed_rows.proofs.FareLaws.{IsRunAt, IsRunAt-prefix, change_at-prefix, change_of_run}
-use Rattle.feed_rows.proofs.SumLaws.{IsPushed, kept, new_at}
+use Rattle.feed_rows.proofs.SumLaws.{IsPushed, slice_get-old_item, slice_get-new_item}
 
 -- the legs of one more ride
 pub legs_of-push : (feed : FeedRows) (rides : List Ride) (ride : Ride) →
@@ -117,14 +117,14 @@ is_fare_choice-push feed legs leg choice place pick more rider n long p =
     let picks' : length more.legs ≡ suc (suc n) = ap length p.more_legs ∙ length_push choice.legs pick ∙ ap (λ k. k + 1) picks ∙ omega arith in
     let changes' : length more.changes ≡ suc n = ap length p.more_changes ∙ length_push choice.changes place ∙ ap (λ k. k + 1) changes ∙ omega arith in
     let leg_at : slice_get (legs ++ leg ∷ []) (suc n) ≡ Some leg = slice_get-push_last legs leg _ (sym long) in
-    let new_leg = paid_leg feed (legs ++ leg ∷ []) more rider (suc n) leg pick leg_at (new_at choice.legs more.legs pick (suc n) picks p.more_legs) in
-    let new_change = paid_change feed (legs ++ leg ∷ []) more rider n place (new_at choice.changes more.changes place n changes p.more_changes) in
+    let new_leg = paid_leg feed (legs ++ leg ∷ []) more rider (suc n) leg pick leg_at (slice_get-new_item choice.legs more.legs pick (suc n) picks p.more_legs) in
+    let new_change = paid_change feed (legs ++ leg ∷ []) more rider n place (slice_get-new_item choice.changes more.changes place n changes p.more_changes) in
     let old_legs = all_below-same (suc n) (is_leg_paid feed (legs ++ leg ∷ []) more rider) (is_leg_paid feed legs choice rider) (λ i lt.
     same_paid_leg feed (legs ++ leg ∷ []) legs more choice rider i
-    (slice_get-append_left legs (leg ∷ []) i (omega arith)) (sym (kept choice.legs more.legs pick i p.more_legs (omega arith)))) in
+    (slice_get-append_left legs (leg ∷ []) i (omega arith)) (sym (slice_get-old_item choice.legs more.legs pick i p.more_legs (omega arith)))) in
     let old_changes = all_below-same n (is_change_paid feed (legs ++ leg ∷ []) more rider) (is_change_paid feed legs choice rider) (λ i lt.
     same_paid_change feed (legs ++ leg ∷ []) legs more choice rider i
-    (sym (kept choice.changes more.changes place i p.more_changes (omega arith)))
+    (sym (slice_get-old_item choice.changes more.changes place i p.more_changes (omega arith)))
     (change_at-prefix feed (fare_leg feed (legs ++ leg ∷ []) more.legs) (fare_leg feed legs choice.legs) i (λ j le. old_leg j (omega arith) (omega arith)))) in
     is_fare_choice_by_places feed (legs ++ leg ∷ []) more rider (suc n) long' picks' changes'
     ∙ both _ _ _ _ _ _ _ _ old_legs new_leg old_changes new_change

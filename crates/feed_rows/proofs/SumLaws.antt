@@ -165,12 +165,12 @@ same_amount : (feed : FeedRows) (a b : Choice) (i : ℕ) → slice_get a.legs i 
 same_amount feed a b i same = rw same refl
 
 -- the choices of the legs and changes before the new ones stay
-pub kept : {X : Type 0} (xs ys : List X) (x : X) (i : ℕ) → ys ≡ xs ++ x ∷ [] → i < length xs → slice_get xs i ≡ slice_get ys i
-kept xs ys x i e lt = rw e (sym (slice_get-append_left xs (x ∷ []) i lt))
+pub slice_get-old_item : {X : Type 0} (xs ys : List X) (x : X) (i : ℕ) → ys ≡ xs ++ x ∷ [] → i < length xs → slice_get xs i ≡ slice_get ys i
+slice_get-old_item xs ys x i e lt = rw e (sym (slice_get-append_left xs (x ∷ []) i lt))
 
 -- the new choice is the last
-pub new_at : {X : Type 0} (xs ys : List X) (x : X) (n : ℕ) → length xs ≡ n → ys ≡ xs ++ x ∷ [] → slice_get ys n ≡ Some x
-new_at xs ys x n long e = rw e (slice_get-push_last xs x n (sym long))
+pub slice_get-new_item : {X : Type 0} (xs ys : List X) (x : X) (n : ℕ) → length xs ≡ n → ys ≡ xs ++ x ∷ [] → slice_get ys n ≡ Some x
+slice_get-new_item xs ys x n long e = rw e (slice_get-push_last xs x n (sym long))
 
 -- such a choice says of one more leg
 pub more_of_pushed : (feed : FeedRows) (choice : Choice) (place : Option ChangeChoice) (pick : LegChoice) (more : Choice) (n : ℕ) → IsPushed choice place pick more n →
@@ -180,9 +180,9 @@ more_of_pushed feed choice place pick more n p =
     let changes = p.changes in
     let long : length more.changes ≡ n + 1 = ap length p.more_changes ∙ length_push choice.changes place ∙ ap (λ k. k + 1) changes in
     record {
-      kinds = λ i lt. same_kind feed choice more i (kept choice.changes more.changes place i p.more_changes (omega arith));
-      amounts = λ i le. same_amount feed choice more i (kept choice.legs more.legs pick i p.more_legs (omega arith));
-      changes = λ i lt. same_charge feed choice more i (kept choice.changes more.changes place i p.more_changes (omega arith));
+      kinds = λ i lt. same_kind feed choice more i (slice_get-old_item choice.changes more.changes place i p.more_changes (omega arith));
+      amounts = λ i le. same_amount feed choice more i (slice_get-old_item choice.legs more.legs pick i p.more_legs (omega arith));
+      changes = λ i lt. same_charge feed choice more i (slice_get-old_item choice.changes more.changes place i p.more_changes (omega arith));
       ends = transfer_kind_past feed choice n (omega arith);
       ends_later = transfer_kind_past feed more (suc n) (omega arith);
     }
@@ -197,9 +197,9 @@ pub fare_sum-push : (feed : FeedRows) (choice : Choice) (place : Option ChangeCh
 fare_sum-push feed choice place pick more n p =
     let legs : length more.legs ≡ suc (suc n) = ap length p.more_legs ∙ length_push choice.legs pick ∙ ap (λ k. k + 1) p.legs ∙ omega arith in
     let changes : length more.changes ≡ suc n = ap length p.more_changes ∙ length_push choice.changes place ∙ ap (λ k. k + 1) p.changes ∙ omega arith in
-    let kind = transfer_kind_at feed more n place (new_at choice.changes more.changes place n p.changes p.more_changes) in
-    let charge = change_charge_at feed more n place (new_at choice.changes more.changes place n p.changes p.more_changes) in
-    let amount = leg_amount_at feed more (suc n) pick (new_at choice.legs more.legs pick (suc n) p.legs p.more_legs) in
+    let kind = transfer_kind_at feed more n place (slice_get-new_item choice.changes more.changes place n p.changes p.more_changes) in
+    let charge = change_charge_at feed more n place (slice_get-new_item choice.changes more.changes place n p.changes p.more_changes) in
+    let amount = leg_amount_at feed more (suc n) pick (slice_get-new_item choice.legs more.legs pick (suc n) p.legs p.more_legs) in
     let old = fare_sum-total feed choice n p.legs p.changes in
     let step = total-more _ _ _ (transfer_kind feed more) (leg_amount feed more) (change_charge feed more) n (more_of_pushed feed choice place pick more n p) in
     fare_sum-total feed more (suc n) legs changes ∙ step ∙ same_next_total _ _ _ _ _ _ _ _ _ (sym old) kind amount charge
@@ -208,8 +208,8 @@ fare_sum-push feed choice place pick more n p =
 pub held_at-push : (feed : FeedRows) (choice : Choice) (place : Option ChangeChoice) (pick : LegChoice) (more : Choice) (n : ℕ) → IsPushed choice place pick more n →
     held_at (transfer_kind feed more) (leg_amount feed more) (suc n) ≡ next_held (place_kind feed place) (amount_of feed pick.product)
 held_at-push feed choice place pick more n p =
-    let kind = transfer_kind_at feed more n place (new_at choice.changes more.changes place n p.changes p.more_changes) in
-    let amount = leg_amount_at feed more (suc n) pick (new_at choice.legs more.legs pick (suc n) p.legs p.more_legs) in
+    let kind = transfer_kind_at feed more n place (slice_get-new_item choice.changes more.changes place n p.changes p.more_changes) in
+    let amount = leg_amount_at feed more (suc n) pick (slice_get-new_item choice.legs more.legs pick (suc n) p.legs p.more_legs) in
     held_at-more (transfer_kind feed more) (leg_amount feed more) n
     ∙ ap (λ (k : Option ℕ). next_held k (leg_amount feed more (suc n))) kind
     ∙ ap (λ (a : ℤ). next_held (place_kind feed place) a) amount
