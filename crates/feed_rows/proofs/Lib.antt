@@ -17,3 +17,11 @@ pub mod CallLaws
 pub mod CallTimes
 pub mod ShiftLaws
 pub mod RideLaws
+pub mod WordLaws
+pub mod ParetoLaws
+pub mod ExactLaws
+pub mod WalkLaws
+pub mod JourneyLaws
+pub mod FareLaws
+pub mod SumLaws
+pub mod ChoiceLaws

@@ -11,11 +11,14 @@ pub mod Shifts
 pub mod Rides
 pub mod StopLinks
 pub mod Journeys
+pub mod Walks
+pub mod JourneyWalk
 pub mod Legs
 pub mod LegRules
 pub mod TransferRules
 pub mod FareChoices
 pub mod FareSums
+pub mod FareWalk
 pub mod ParetoTriples
 pub mod JourneyEntries
 pub mod UsageFaults
