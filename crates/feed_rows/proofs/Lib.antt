@@ -15,3 +15,4 @@ pub mod SequenceLaws
 pub mod TimedLaws
 pub mod CallLaws
 pub mod CallTimes
+pub mod FullFeed
