@@ -1,10 +1,14 @@
--- Laws of the first and the last number below a bound that pass a test, and of what is collected number by number.
-use Rattle.std.proofs.Common.{◌≡◌, refl, sym, ◌∙◌, ap, subst, ℕ, zero, suc, ◌+◌, ◌-◌, ◌<◌, ◌≤◌, ◌⊎◌, inl, inr, ⊎_elim, Bool, true, false, List, [], ◌∷◌, ◌++◌, length, arith}
+-- Laws of numbers below a bound: some that passes a test, the first and the last that do, and what is listed or
+-- collected number by number.
+use Rattle.std.proofs.Common.{◌≡◌, refl, sym, ◌∙◌, ap, subst, ℕ, zero, suc, ◌+◌, ◌-◌, ◌<◌, ◌≤◌, ◌⊎◌, inl, inr, ⊎_elim, Bool, true, false, ◌||◌, List, [], ◌∷◌, ◌++◌, length, Contains, arith}
 use Rattle.std.specs.Prelude.{Option, Some, None, slice_get, option_map, option_and_then}
+use Rattle.std.specs.List.{list_any}
 use Rattle.std.proofs.lemmas.Bool.{cases_lt, cases_Bool}
 use Rattle.std.proofs.lemmas.List.{length_push}
+use Rattle.std.proofs.lemmas.List.Elements.{Contains-push, Contains-push_cases, Contains-append_left}
+use Rattle.std.proofs.lemmas.List.Folds.{list_any-append}
 use Rattle.std.proofs.lemmas.Option.{same_Some, none-some}
-use Rattle.feed_rows.specs.Words.{find_below, last_below, collect_below, list_below}
+use Rattle.feed_rows.specs.Words.{any_below, find_below, last_below, collect_below, list_below}
 
 -- i is the first number below n that passes
 pub record IsFirst (test : ℕ → Bool) (n i : ℕ) : Type 0 where
@@ -140,7 +144,56 @@ last-some test n k lt here = step (last-cases test n)
   step (inl found) = found
   step (inr none) = absurd (let no : true ≡ false = sym here ∙ none.1 k lt in cc)
 
+-- some number passes where this one does
+pub any-hit : (test : ℕ → Bool) (n k : ℕ) → k < n → test k ≡ true → any_below n test ≡ true
+any-hit test zero k lt here = absurd (omega arith)
+any-hit test (suc n) k lt here = step (any-hit test n k) (cases_lt k n)
+  where
+  last : (b : Bool) → (b || true) ≡ true
+  last true = refl
+  last false = refl
+  step : (k < n → test k ≡ true → any_below n test ≡ true) → (k < n) ⊎ (n ≤ k) → any_below (suc n) test ≡ true
+  step before (inl below) = rw (before below here) refl
+  step before (inr past) = let same : k ≡ n = omega arith in let there : test n ≡ true = rw (← same) here in rw there (last (any_below n test))
+
+-- and only then
+pub any-tells : (test : ℕ → Bool) (n : ℕ) → any_below n test ≡ true → (k : ℕ) × (k < n) × (test k ≡ true)
+any-tells test zero e = absurd (cc)
+any-tells test (suc n) e = step (any-tells test n) (any_below n test) refl
+  where
+  step : (any_below n test ≡ true → (k : ℕ) × (k < n) × (test k ≡ true)) → (b : Bool) → any_below n test ≡ b → (k : ℕ) × (k < suc n) × (test k ≡ true)
+  step before true some = let found = before some in let lt = found.1 in (found.0, omega arith, found.2)
+  step before false none = (n, omega arith, rw none at e)
+
 module _ {X : Type 0} where
+  -- a list made number by number has what is given at each
+  pub Contains-list_below : (n : ℕ) (f : ℕ → X) (k : ℕ) → k < n → Contains (list_below n f) (f k)
+  Contains-list_below zero f k lt = absurd (omega arith)
+  Contains-list_below (suc n) f k lt = step (Contains-list_below n f k) (cases_lt k n)
+    where
+    step : (k < n → Contains (list_below n f) (f k)) → (k < n) ⊎ (n ≤ k) → Contains (list_below (suc n) f) (f k)
+    step before (inl below) = Contains-append_left (list_below n f) (f n ∷ []) (f k) (before below)
+    step before (inr past) = let same : n ≡ k = omega arith in subst (λ i. Contains (list_below (suc n) f) (f i)) same (Contains-push (list_below n f) (f n))
+
+  -- and nothing else
+  pub list_below-tells : (n : ℕ) (f : ℕ → X) (x : X) → Contains (list_below n f) x → (k : ℕ) × (k < n) × (f k ≡ x)
+  list_below-tells zero f x at = let lt = at.1 in absurd (omega arith)
+  list_below-tells (suc n) f x at = step (list_below-tells n f x) (Contains-push_cases (list_below n f) (f n) x at)
+    where
+    step : (Contains (list_below n f) x → (k : ℕ) × (k < n) × (f k ≡ x)) → Contains (list_below n f) x ⊎ (f n ≡ x) → (k : ℕ) × (k < suc n) × (f k ≡ x)
+    step before (inl there) = let found = before there in let lt = found.1 in (found.0, omega arith, found.2)
+    step before (inr here) = (n, omega arith, here)
+
+  -- some item of it passes where what is given at some number does
+  pub list_any-list_below : (p : X → Bool) (n : ℕ) (f : ℕ → X) → list_any p (list_below n f) ≡ any_below n (λ k. p (f k))
+  list_any-list_below p zero f = refl
+  list_any-list_below p (suc n) f = let before = list_any-list_below p n f in list_any-append p (list_below n f) (f n ∷ []) ∙ rw before (alone (any_below n (λ k. p (f k))) (p (f n)))
+    where
+    alone : (a b : Bool) → (a || (b || false)) ≡ (a || b)
+    alone true b = refl
+    alone false true = refl
+    alone false false = refl
+
   -- an item before the one that is pushed
   pub slice_get-push_before : (xs : List X) (x : X) (i : ℕ) → i < length xs → slice_get (xs ++ x ∷ []) i ≡ slice_get xs i
   slice_get-push_before [] x i lt = absurd (omega arith)

@@ -13,7 +13,8 @@ use Rattle.feed_rows.specs.Words.{at_and, collect_below}
 use Rattle.feed_rows.specs.Calls.{first_time, last_time, is_timed, timed_before, timed_after, time_between, filled_time, call_at, calls_of, trip_stop_times}
 use Rattle.feed_rows.specs.CallWalk.{TimedGap, gap_after, gap_at, time_in, call_in, walk_below, walk}
 use Rattle.feed_rows.proofs.BelowLaws.{collect-more, collect-tells, collect-some, IsCollected}
-use Rattle.feed_rows.proofs.TimedLaws.{first_at, last_at, is_timed_at, HasTimedEnds, IsTimedBefore, IsTimedAfter, IsInGap, in_gap, timed_before-hit, timed_after-hit, timed_after-gap, timed_at, timed_row, untimed_row}
+use Rattle.feed_rows.specs.TimedTrips.{first_at, last_at, is_timed_at, HasTimedEnds}
+use Rattle.feed_rows.proofs.TimedLaws.{IsTimedBefore, IsTimedAfter, IsInGap, in_gap, timed_before-hit, timed_after-hit, timed_after-gap, timed_at, timed_row, untimed_row}
 
 -- the gap goes on: a new one begins after a timed row
 pub gap_at-timed : (rows : List StopTimeRow) (m : ℕ) → is_timed_at rows m ≡ true → gap_at rows (m + 1) ≡ gap_after rows m
@@ -23,13 +24,13 @@ pub gap_at-untimed : (rows : List StopTimeRow) (m : ℕ) → is_timed_at rows m 
 gap_at-untimed rows m untimed = let e : m + 1 ≡ suc m = omega arith in rw (e, untimed) refl
 
 -- the gap that is carried begins at the nearest timed position before
-pub gap_at-before : (rows : List StopTimeRow) (m : ℕ) → gap_at rows m ≡ gap_after rows (unwrap_or (timed_before rows m) 0)
-gap_at-before rows zero = refl
-gap_at-before rows (suc m) = step (is_timed_at rows m) refl (gap_at-before rows m)
+pub gap_at-before : (rows : List StopTimeRow) (m p : ℕ) → timed_before rows m ≡ Some p → gap_at rows m ≡ gap_after rows p
+gap_at-before rows zero p e = absurd (none-some p e)
+gap_at-before rows (suc m) p e = step (is_timed_at rows m) refl (gap_at-before rows m p)
   where
-  step : (b : Bool) → is_timed_at rows m ≡ b → gap_at rows m ≡ gap_after rows (unwrap_or (timed_before rows m) 0) → gap_at rows (suc m) ≡ gap_after rows (unwrap_or (timed_before rows (suc m)) 0)
-  step true e before = rw e refl
-  step false e before = rw e before
+  step : (b : Bool) → is_timed_at rows m ≡ b → (timed_before rows m ≡ Some p → gap_at rows m ≡ gap_after rows p) → gap_at rows (suc m) ≡ gap_after rows p
+  step true timed before = let here : m ≡ p = same_Some m p (rw timed at e) in rw timed (ap (gap_after rows) here)
+  step false untimed before = rw untimed (before (rw untimed at e))
 
 -- the gap of a row without times
 pub gap_at-in : (rows : List StopTimeRow) (m p q left reached : ℕ) → IsInGap rows m p q → last_at rows p ≡ Some left → first_at rows q ≡ Some reached
@@ -37,7 +38,22 @@ pub gap_at-in : (rows : List StopTimeRow) (m p q left reached : ℕ) → IsInGap
 gap_at-in rows m p q left reached gap leaves reaches =
     let before = timed_before-hit rows m p gap.before in
     let after = timed_after-hit rows p q (timed_after-gap rows m p q gap.before gap.untimed gap.after) in
-    rw (gap_at-before rows m, before, after, leaves, reaches) refl
+    rw (gap_at-before rows m p before, after, leaves, reaches) refl
+
+-- the position lies in the gap, whose times are those of its rows
+pub record IsAround (rows : List StopTimeRow) (m : ℕ) (gap : TimedGap) : Type 0 where
+  pub around : IsInGap rows m gap.from gap.to
+  pub left_is : last_at rows gap.from ≡ Some gap.left
+  pub reached_is : first_at rows gap.to ≡ Some gap.reached
+
+-- a row without times lies in the gap that is carried to it
+pub gap_at-around : (rows : List StopTimeRow) (m : ℕ) → HasTimedEnds rows → m < length rows → is_timed_at rows m ≡ false → IsAround rows m (gap_at rows m)
+gap_at-around rows m ends lt untimed =
+    let found = in_gap rows m ends lt untimed in
+    let gap = found.2 in
+    let before = timed_at rows found.0 gap.before.timed in
+    let after = timed_at rows found.1 gap.after.timed in
+    rw (gap_at-in rows m found.0 found.1 before.1 after.0 gap before.3 after.2) (record { around = gap; left_is = before.3; reached_is = after.2 })
 
 -- the time that is filled in
 pub filled_time-in : (rows : List StopTimeRow) (m p q left reached : ℕ) → IsInGap rows m p q → last_at rows p ≡ Some left → first_at rows q ≡ Some reached

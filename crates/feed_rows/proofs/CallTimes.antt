@@ -9,19 +9,11 @@ use Rattle.transit_base.specs.declared.numbers.TripId.{TripId}
 use Rattle.feed_rows.specs.declared.rows.StopTimeRow.{StopTimeRow}
 use Rattle.feed_rows.specs.declared.journeys.Call.{Call}
 use Rattle.feed_rows.specs.FeedRows.{FeedRows}
+use Rattle.feed_rows.specs.CallWalk.{TimedGap, time_in}
 use Rattle.feed_rows.specs.Calls.{last_time, first_time, is_timed, time_between, timed_before, timed_after, calls_of, trip_stop_times, first_departure}
-use Rattle.feed_rows.proofs.TimedLaws.{first_at, last_at, is_timed_at, HasTimedEnds, IsTimedBefore, IsTimedAfter, IsInGap, timed_before-hit, timed_after-hit, timed_at, untimed_row}
-use Rattle.feed_rows.proofs.CallLaws.{HasOwnTimes, HasFilledTime, IsCallOf, calls_of-row}
-
--- no time of the rows is greater than this
-pub record AreTimesAtMost (rows : List StopTimeRow) (most : ℕ) : Type 0 where
-  pub first : (m t : ℕ) → first_at rows m ≡ Some t → t ≤ most
-  pub last : (m t : ℕ) → last_at rows m ≡ Some t → t ≤ most
-
--- times don't fall: not in a row, and not from a timed row to a later one
-pub record DoTimesRise (rows : List StopTimeRow) : Type 0 where
-  pub stay : (m a d : ℕ) → first_at rows m ≡ Some a → last_at rows m ≡ Some d → a ≤ d
-  pub run : (i j d a : ℕ) → i < j → last_at rows i ≡ Some d → first_at rows j ≡ Some a → d ≤ a
+use Rattle.feed_rows.specs.TimedTrips.{first_at, last_at, is_timed_at, HasTimedEnds, DoTimesRise, AreTimesAtMost}
+use Rattle.feed_rows.proofs.TimedLaws.{timed_within, IsTimedBefore, IsTimedAfter, IsInGap, timed_before-hit, timed_after-hit, timed_at, untimed_row}
+use Rattle.feed_rows.proofs.CallLaws.{HasOwnTimes, HasFilledTime, IsCallOf, IsAround, calls_of-row}
 
 -- a part of a distance is at most the distance, and grows with the part
 pub share-le : (part whole distance : ℕ) → part ≤ whole → (part * distance) / whole ≤ distance
@@ -46,6 +38,38 @@ time_between-most p m q left reached most le a b = let share = share-le (m - p) 
 -- and later ones are not less
 pub time_between-rises : (p m n q left reached : ℕ) → p < q → m ≤ n → time_between p m q left reached ≤ time_between p n q left reached
 time_between-rises p m n q left reached lt le = let share = share-rises (m - p) (n - p) (q - p) (reached - left) (omega arith) (omega arith) in omega (arith, share)
+
+-- a gap in numbers: it is around the position, ends at a row, and its times are at most the greatest
+pub record IsGapWithin (rows : List StopTimeRow) (m most : ℕ) (gap : TimedGap) : Type 0 where
+  pub low : gap.from < m
+  pub high : m < gap.to
+  pub within : gap.to < length rows
+  pub left : gap.left ≤ most
+  pub reached : gap.reached ≤ most
+  pub time : time_in gap m ≤ most
+
+pub around-within : (rows : List StopTimeRow) (m most : ℕ) (gap : TimedGap) → AreTimesAtMost rows most → IsAround rows m gap → IsGapWithin rows m most gap
+around-within rows m most gap bound around =
+    let near = around.around in
+    let high = near.after.after in
+    let left = bound.last gap.from gap.left around.left_is in
+    let reached = bound.first gap.to gap.reached around.reached_is in
+    record {
+      low = near.before.before;
+      high = high;
+      within = timed_within rows gap.to near.after.timed;
+      left = left;
+      reached = reached;
+      time = time_between-most gap.from m gap.to gap.left gap.reached most (omega arith) left reached;
+    }
+
+-- where times don't fall a gap is left no later than its end is reached
+pub around-rises : (rows : List StopTimeRow) (m : ℕ) (gap : TimedGap) → DoTimesRise rows → IsAround rows m gap → gap.left ≤ gap.reached
+around-rises rows m gap rise around =
+    let near = around.around in
+    let low = near.before.before in
+    let high = near.after.after in
+    rise.run gap.from gap.to gap.left gap.reached (omega arith) around.left_is around.reached_is
 
 -- a position with a time is timed
 pub last_at-timed : (rows : List StopTimeRow) (m t : ℕ) → last_at rows m ≡ Some t → is_timed_at rows m ≡ true

@@ -16,3 +16,13 @@ pub mod TimedLaws
 pub mod CallLaws
 pub mod CallTimes
 pub mod FullFeed
+pub mod ShiftLaws
+pub mod RideLaws
+pub mod WordLaws
+pub mod ParetoLaws
+pub mod ExactLaws
+pub mod WalkLaws
+pub mod JourneyLaws
+pub mod FareLaws
+pub mod SumLaws
+pub mod ChoiceLaws

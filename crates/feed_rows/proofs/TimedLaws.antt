@@ -1,29 +1,15 @@
 -- The timed rows of a trip: the nearest before and after a position, and how they go on from position to position.
 use Rattle.std.proofs.Common.{◌≡◌, refl, sym, ◌∙◌, ap, ℕ, suc, ◌+◌, ◌-◌, ◌<◌, ◌≤◌, ◌⊎◌, inl, inr, ⊎_elim, Bool, true, false, ◌&&◌, nat_lt, List, length, arith}
-use Rattle.std.specs.Prelude.{Option, Some, None, slice_get, option_and_then}
+use Rattle.std.specs.Prelude.{Option, Some, None, slice_get, unwrap_or, option_and_then}
 use Rattle.std.proofs.lemmas.Bool.{cases_lt, cases_eq, and_parts, and_from}
 use Rattle.std.proofs.lemmas.Bool.Decides.{nat_tests}
 use Rattle.std.proofs.lemmas.Option.{slice_get_past}
 use Rattle.feed_rows.specs.declared.rows.StopTimeRow.{StopTimeRow}
 use Rattle.feed_rows.specs.Words.{at_and}
 use Rattle.feed_rows.specs.Calls.{first_time, last_time, is_timed, timed_before, timed_after}
-use Rattle.feed_rows.proofs.BelowLaws.{find-hit, find-tells, find-some, find-same, last-hit, last-tells, last-some}
-
--- the times of the row at a position
-abbrev pub first_at : List StopTimeRow → ℕ → Option ℕ
-first_at rows m = option_and_then first_time (slice_get rows m)
-
-abbrev pub last_at : List StopTimeRow → ℕ → Option ℕ
-last_at rows m = option_and_then last_time (slice_get rows m)
-
--- the row at a position has a time
-abbrev pub is_timed_at : List StopTimeRow → ℕ → Bool
-is_timed_at rows m = at_and rows m is_timed
-
--- the first and the last row have times
-pub record HasTimedEnds (rows : List StopTimeRow) : Type 0 where
-  pub first : 0 < length rows → is_timed_at rows 0 ≡ true
-  pub last : 0 < length rows → is_timed_at rows (length rows - 1) ≡ true
+use Rattle.feed_rows.specs.CallWalk.{next_timed}
+use Rattle.feed_rows.specs.TimedTrips.{first_at, last_at, is_timed_at, HasTimedEnds}
+use Rattle.feed_rows.proofs.BelowLaws.{find-none, find-hit, find-tells, find-some, find-same, last-hit, last-tells, last-some}
 
 -- p is the nearest timed position before m
 pub record IsTimedBefore (rows : List StopTimeRow) (m p : ℕ) : Type 0 where
@@ -87,6 +73,30 @@ timed_after-tells rows m q e =
   less a b e = grind (arith, nat_tests)
   ends : (a k : ℕ) (b : Bool) → a < k → (nat_lt a k && b) ≡ false → b ≡ false
   ends a k b lt e = let yes : nat_lt a k ≡ true = grind (arith, nat_tests) in rw yes at e
+
+-- where no row after the position has times there is none
+pub timed_after-none : (rows : List StopTimeRow) (m : ℕ) → ((k : ℕ) → m < k → k < length rows → is_timed_at rows k ≡ false) → timed_after rows m ≡ None
+timed_after-none rows m none = find-none (λ k. nat_lt m k && is_timed_at rows k) (length rows) (λ k lt. step k lt (cases_lt m k))
+  where
+  starts : (a k : ℕ) (b : Bool) → k ≤ a → (nat_lt a k && b) ≡ false
+  starts a k b le = let past : nat_lt a k ≡ false = grind (arith, nat_tests) in rw past refl
+  ends : (a b : Bool) → b ≡ false → (a && b) ≡ false
+  ends true b e = e
+  ends false b e = refl
+  step : (k : ℕ) → k < length rows → (m < k) ⊎ (k ≤ m) → (nat_lt m k && is_timed_at rows k) ≡ false
+  step k lt (inl after) = ends (nat_lt m k) (is_timed_at rows k) (none k after lt)
+  step k lt (inr before) = starts m k (is_timed_at rows k) before
+
+-- the next timed position, as a search from the position after p on ends at it or at the end
+pub next_timed-hit : (rows : List StopTimeRow) (p q : ℕ) → p < q → q ≤ length rows → ((k : ℕ) → p < k → k < q → is_timed_at rows k ≡ false) → (q < length rows → is_timed_at rows q ≡ true) → next_timed rows p ≡ q
+next_timed-hit rows p q lt le none timed = step (cases_lt q (length rows))
+  where
+  step : (q < length rows) ⊎ (length rows ≤ q) → next_timed rows p ≡ q
+  step (inl within) = let found = timed_after-hit rows p q (record { after = lt; timed = timed within; between = none }) in rw found refl
+  step (inr past) =
+      let at_end : length rows ≡ q = omega arith in
+      let found = timed_after-none rows p (λ k from to. none k from (omega arith)) in
+      rw found at_end
 
 -- the nearest timed position after the next position is that after the present one, where the next row has no time
 pub timed_after-untimed : (rows : List StopTimeRow) (m : ℕ) → is_timed_at rows (m + 1) ≡ false → timed_after rows (m + 1) ≡ timed_after rows m

@@ -19,9 +19,9 @@ pub record TimedGap : Type 0 where
 abbrev pub time_at : (StopTimeRow → Option ℕ) → List StopTimeRow → ℕ → ℕ
 time_at time rows p = unwrap_or (option_and_then time (slice_get rows p)) 0
 
--- the next timed position after position p, and 0 where there is none
+-- the next timed position after position p, and the number of rows where there is none
 abbrev pub next_timed : List StopTimeRow → ℕ → ℕ
-next_timed rows p = unwrap_or (timed_after rows p) 0
+next_timed rows p = unwrap_or (timed_after rows p) (length rows)
 
 -- the gap that begins at position p
 abbrev pub gap_after : List StopTimeRow → ℕ → TimedGap
@@ -33,9 +33,9 @@ gap_after rows p =
       reached = time_at first_time rows (next_timed rows p);
     }
 
--- the gap that is carried to position m
+-- the gap that is carried to position m; none has begun before position 0
 abbrev pub gap_at : List StopTimeRow → ℕ → TimedGap
-gap_at rows zero = gap_after rows 0
+gap_at rows zero = record { from = 0; left = 0; to = 0; reached = 0 }
 gap_at rows (suc m) = if at_and rows m is_timed then gap_after rows m else gap_at rows m
 
 -- the time at position m of a gap

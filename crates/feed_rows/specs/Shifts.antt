@@ -1,6 +1,6 @@
 -- By how many seconds the runs of a trip are shifted against its stop times. (GTFS Schedule Reference:
 -- frequencies.txt; both values of exact_times are read as exact departures, which is the profile's.)
-use Rattle.std.specs.Prelude.{ℕ, ◌+◌, ◌-◌, ◌*◌, ◌/◌, Bool, ◌==◌, if◌then◌else◌, List, [], ◌∷◌, map, filter, ℤ, pos, ◌-ℤ◌, int_lt}
+use Rattle.std.specs.Prelude.{ℕ, ◌+◌, ◌-◌, ◌*◌, ◌/◌, ◌%◌, Bool, ◌&&◌, ◌==◌, nat_lt, if◌then◌else◌, List, [], ◌∷◌, map, filter, ℤ, pos, ◌+ℤ◌, ◌-ℤ◌, int_lt, int_le, unsigned_abs}
 use Rattle.std.specs.List.{list_any, flat_map}
 use Rattle.transit_base.specs.declared.numbers.TripId.{TripId}
 use Rattle.feed_rows.specs.declared.rows.FrequencyRow.{FrequencyRow}
@@ -41,3 +41,18 @@ shifts_of feed trip =
     if has_frequencies feed trip
     then ascending_of (map (λ start. pos start -ℤ pos (first_departure feed trip)) (flat_map run_starts (trip_frequencies feed trip)))
     else pos 0 ∷ []
+
+-- a run of the frequency row departs from the first stop at this second of the service day
+unfoldable pub is_run_start : FrequencyRow → ℤ → Bool
+is_run_start row z =
+    nat_lt 0 row.headway
+    && int_le (pos row.start) z
+    && int_lt z (pos row.end)
+    && (unsigned_abs z - row.start) % row.headway == 0
+
+-- the number is a shift of the trip, told without making the list
+unfoldable pub is_shift : FeedRows → TripId → ℤ → Bool
+is_shift feed trip z =
+    if has_frequencies feed trip
+    then list_any (λ f. f.trip.0 == trip.0 && is_run_start f (z +ℤ pos (first_departure feed trip))) feed.frequencies
+    else int_same z (pos 0)

@@ -1,0 +1,98 @@
+-- Steps in a row, by number and from the front.
+use Rattle.std.proofs.Common.{◌≡◌, refl, ◌∙◌, ℕ, zero, suc, ◌+◌, ◌<◌, ◌≤◌, List, [], ◌∷◌, ◌++◌, length, arith, add-one}
+use Rattle.std.specs.Prelude.{Option, Some, None, slice_get, option_and_then}
+use Rattle.feed_rows.specs.Walks.{after, after_first}
+use Rattle.feed_rows.proofs.BelowLaws.{slice_get-push_last}
+
+-- one thing after another, and then a third
+pub option_and_then-assoc : {A B C : Type 0} (f : A → Option B) (g : B → Option C) (o : Option A) →
+    option_and_then g (option_and_then f o) ≡ option_and_then (λ x. option_and_then g (f x)) o
+option_and_then-assoc f g None = refl
+option_and_then-assoc f g (Some x) = refl
+
+-- what a chain gives, it gives from a value
+pub record ChainGives {A B : Type 0} (f : A → Option B) (o : Option A) (y : B) : Type 0 where
+  pub value : A
+  pub is : o ≡ Some value
+  pub gives : f value ≡ Some y
+
+-- a chain that gives something gives it from a value
+pub chain_gives : {A B : Type 0} (f : A → Option B) (o : Option A) (y : B) → option_and_then f o ≡ Some y → ChainGives f o y
+chain_gives f None y e = absurd (cc)
+chain_gives f (Some x) y e = record { value = x; is = refl; gives = e }
+
+-- an item of the front part
+pub slice_get-append_left : {X : Type 0} (xs ys : List X) (i : ℕ) → i < length xs → slice_get (xs ++ ys) i ≡ slice_get xs i
+slice_get-append_left [] ys i lt = absurd (omega arith)
+slice_get-append_left (x ∷ xs) ys zero lt = refl
+slice_get-append_left (x ∷ xs) ys (suc i) lt = slice_get-append_left xs ys i (omega arith)
+
+-- the first n steps are the same where the lists agree on them
+pub after_first-same : {S R : Type 0} (next : S → R → Option S) (s : S) (rs rs' : List R) (n : ℕ) →
+    ((i : ℕ) → i < n → slice_get rs i ≡ slice_get rs' i) → after_first next s rs n ≡ after_first next s rs' n
+after_first-same next s rs rs' zero same = refl
+after_first-same next s rs rs' (suc n) same =
+    let before = after_first-same next s rs rs' n (λ i lt. same i (omega arith)) in
+    let last = same n (omega arith) in
+    rw (before, last) refl
+
+-- the first steps of a list look at no step that comes later
+pub after_first-append : {S R : Type 0} (next : S → R → Option S) (s : S) (rs more : List R) (n : ℕ) → n ≤ length rs →
+    after_first next s (rs ++ more) n ≡ after_first next s rs n
+after_first-append next s rs more n le =
+    after_first-same next s (rs ++ more) rs n (λ i lt. slice_get-append_left rs more i (omega arith))
+
+-- one more step at the end is made after the steps before it
+pub after_first-push : {S R : Type 0} (next : S → R → Option S) (s : S) (rs : List R) (r : R) →
+    after_first next s (rs ++ r ∷ []) (length rs + 1) ≡ option_and_then (λ p. next p r) (after_first next s rs (length rs))
+after_first-push next s rs r =
+    let before = after_first-append next s rs (r ∷ []) (length rs) (omega arith) in
+    let last = slice_get-push_last rs r (length rs) refl in
+    rw (add-one, before, last) refl
+
+-- the first of a list's steps is made before the others
+pub after_first-cons : {S R : Type 0} (next : S → R → Option S) (s : S) (r : R) (rs : List R) (n : ℕ) →
+    after_first next s (r ∷ rs) (suc n) ≡ option_and_then (λ p. after_first next p rs n) (next s r)
+after_first-cons {S} next s r rs zero = by (next s r)
+  where
+    by : (o : Option S) → o ≡ option_and_then (λ p. Some p) o
+    by None = refl
+    by (Some p) = refl
+after_first-cons next s r rs (suc n) =
+    let before = after_first-cons next s r rs n in
+    rw before (option_and_then-assoc (λ p. after_first next p rs n) (λ p. option_and_then (next p) (slice_get rs n)) (next s r))
+
+-- all steps by number are the steps from the front
+pub after_first-all : {S R : Type 0} (next : S → R → Option S) (s : S) (rs : List R) → after_first next s rs (length rs) ≡ after next s rs
+after_first-all next s [] = refl
+after_first-all {S} next s (r ∷ rs) =
+    after_first-cons next s r rs (length rs) ∙ by (next s r) (λ p. after_first-all next p rs)
+  where
+    by : (o : Option S) → ((p : S) → after_first next p rs (length rs) ≡ after next p rs) →
+        option_and_then (λ p. after_first next p rs (length rs)) o ≡ option_and_then (λ p. after next p rs) o
+    by None same = refl
+    by (Some p) same = same p
+
+-- steps of two lists in a row
+pub after-append : {S R : Type 0} (next : S → R → Option S) (s : S) (rs more : List R) →
+    after next s (rs ++ more) ≡ option_and_then (λ p. after next p more) (after next s rs)
+after-append next s [] more = refl
+after-append {S} next s (r ∷ rs) more = by (next s r) (λ p. after-append next p rs more)
+  where
+    by : (o : Option S) → ((p : S) → after next p (rs ++ more) ≡ option_and_then (λ q. after next q more) (after next p rs)) →
+        option_and_then (λ p. after next p (rs ++ more)) o ≡ option_and_then (λ q. after next q more) (option_and_then (λ p. after next p rs) o)
+    by None same = refl
+    by (Some p) same = same p
+
+-- one more step at the end, from the front
+pub after-push : {S R : Type 0} (next : S → R → Option S) (s : S) (rs : List R) (r : R) →
+    after next s (rs ++ r ∷ []) ≡ option_and_then (λ p. next p r) (after next s rs)
+after-push {S} next s rs r = after-append next s rs (r ∷ []) ∙ by (after next s rs)
+  where
+    one : (o : Option S) → option_and_then (λ q. Some q) o ≡ o
+    one None = refl
+    one (Some q) = refl
+
+    by : (o : Option S) → option_and_then (λ p. option_and_then (λ q. Some q) (next p r)) o ≡ option_and_then (λ p. next p r) o
+    by None = refl
+    by (Some p) = one (next p r)
