@@ -15,6 +15,7 @@ pub mod SequenceLaws
 pub mod TimedLaws
 pub mod CallLaws
 pub mod CallTimes
+pub mod FullFeed
 pub mod ShiftLaws
 pub mod RideLaws
 pub mod WordLaws
