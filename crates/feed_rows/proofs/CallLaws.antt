@@ -4,14 +4,14 @@ use Rattle.std.proofs.Common.{◌≡◌, refl, sym, ◌∙◌, ap, subst, ℕ, z
 use Rattle.std.specs.Prelude.{Option, Some, None, slice_get, unwrap_or, option_map, option_and_then}
 use Rattle.std.specs.Option.{option_or}
 use Rattle.std.proofs.lemmas.Bool.{cases_Bool}
-use Rattle.std.proofs.lemmas.Option.{same_Some, none-some, slice_get_within, slice_get_cases, slice_get_past}
+use Rattle.std.proofs.lemmas.Option.{same_Some, none-some, slice_get_within, slice_get_cases, slice_get-get_or}
 use Rattle.transit_base.specs.declared.numbers.TripId.{TripId}
 use Rattle.feed_rows.specs.declared.rows.StopTimeRow.{StopTimeRow}
 use Rattle.feed_rows.specs.declared.journeys.Call.{Call}
 use Rattle.feed_rows.specs.FeedRows.{FeedRows}
 use Rattle.feed_rows.specs.Words.{at_and, collect_below}
 use Rattle.feed_rows.specs.Calls.{first_time, last_time, is_timed, timed_before, timed_after, time_between, filled_time, call_at, calls_of, trip_stop_times}
-use Rattle.feed_rows.specs.CallWalk.{TimedGap, gap_after, gap_at, time_in, call_in, walk_below, walk}
+use Rattle.feed_rows.specs.CallWalk.{TimedGap, gap_after, gap_at, time_in, time_at, next_timed, call_in, walk_below, walk}
 use Rattle.feed_rows.proofs.BelowLaws.{collect-more, collect-tells, collect-some, IsCollected}
 use Rattle.feed_rows.specs.TimedTrips.{first_at, last_at, is_timed_at, HasTimedEnds}
 use Rattle.feed_rows.proofs.TimedLaws.{IsTimedBefore, IsTimedAfter, IsInGap, in_gap, timed_before-hit, timed_after-hit, timed_after-gap, timed_at, timed_row, untimed_row}
@@ -54,6 +54,19 @@ gap_at-around rows m ends lt untimed =
     let before = timed_at rows found.0 gap.before.timed in
     let after = timed_at rows found.1 gap.after.timed in
     rw (gap_at-in rows m found.0 found.1 before.1 after.0 gap before.3 after.2) (record { around = gap; left_is = before.3; reached_is = after.2 })
+
+-- the same of a gap that is known to be the carried one
+pub gap-around : (rows : List StopTimeRow) (m : ℕ) (gap : TimedGap) → HasTimedEnds rows → m < length rows → is_timed_at rows m ≡ false → gap ≡ gap_at rows m → IsAround rows m gap
+gap-around rows m gap ends lt untimed is = rw is (gap_at-around rows m ends lt untimed)
+
+-- the call of a timed row, and of one without times
+pub call_in-timed : (gap : TimedGap) (m : ℕ) (row : StopTimeRow) → is_timed row ≡ true
+    → call_in gap m row ≡ record { stop = row.stop; sequence = row.sequence; arrival = unwrap_or (first_time row) 0; departure = unwrap_or (last_time row) 0; pickup = row.pickup; drop_off = row.drop_off }
+call_in-timed gap m row timed = let times = timed_row row timed in rw (times.2, times.3) refl
+
+pub call_in-untimed : (gap : TimedGap) (m : ℕ) (row : StopTimeRow) → is_timed row ≡ false
+    → call_in gap m row ≡ record { stop = row.stop; sequence = row.sequence; arrival = time_in gap m; departure = time_in gap m; pickup = row.pickup; drop_off = row.drop_off }
+call_in-untimed gap m row untimed = let none = untimed_row row untimed in rw (none.0, none.1) refl
 
 -- the time that is filled in
 pub filled_time-in : (rows : List StopTimeRow) (m p q left reached : ℕ) → IsInGap rows m p q → last_at rows p ≡ Some left → first_at rows q ≡ Some reached
@@ -162,6 +175,34 @@ call_at-row rows m call ends e = step (slice_get_cases rows m).1
 -- the walk goes on by a call
 pub walk_below-more : (rows : List StopTimeRow) (m : ℕ) (row : StopTimeRow) → slice_get rows m ≡ Some row → walk_below rows (m + 1) ≡ walk_below rows m ++ call_in (gap_at rows m) m row ∷ []
 walk_below-more rows m row at = let e : m + 1 ≡ suc m = omega arith in rw (e, at) refl
+
+-- a turn of the walk at a timed row: its own times, and a new gap
+pub record IsTimedTurn (rows : List StopTimeRow) (m : ℕ) (row : StopTimeRow) : Type 0 where
+  pub calls : walk_below rows (m + 1) ≡ walk_below rows m ++ (record { stop = row.stop; sequence = row.sequence; arrival = unwrap_or (first_time row) 0; departure = unwrap_or (last_time row) 0; pickup = row.pickup; drop_off = row.drop_off }) ∷ []
+  pub gap : gap_at rows (m + 1) ≡ record { from = m; left = unwrap_or (last_time row) 0; to = next_timed rows m; reached = time_at first_time rows (next_timed rows m) }
+
+pub timed_turn : (rows : List StopTimeRow) (m : ℕ) (d : StopTimeRow) → m < length rows → is_timed (get_or rows m d) ≡ true → IsTimedTurn rows m (get_or rows m d)
+timed_turn rows m d lt timed =
+    let row = get_or rows m d in
+    let at : slice_get rows m ≡ Some row = slice_get-get_or rows m d lt in
+    record {
+      calls = rw (walk_below-more rows m row at, call_in-timed (gap_at rows m) m row timed) refl;
+      gap = gap_at-timed rows m (rw at timed) ∙ rw at refl;
+    }
+
+-- a turn at a row without times: the time in the gap, and the same gap
+pub record IsUntimedTurn (rows : List StopTimeRow) (m : ℕ) (row : StopTimeRow) : Type 0 where
+  pub calls : walk_below rows (m + 1) ≡ walk_below rows m ++ (record { stop = row.stop; sequence = row.sequence; arrival = time_in (gap_at rows m) m; departure = time_in (gap_at rows m) m; pickup = row.pickup; drop_off = row.drop_off }) ∷ []
+  pub gap : gap_at rows (m + 1) ≡ gap_at rows m
+
+pub untimed_turn : (rows : List StopTimeRow) (m : ℕ) (d : StopTimeRow) → m < length rows → is_timed (get_or rows m d) ≡ false → IsUntimedTurn rows m (get_or rows m d)
+untimed_turn rows m d lt untimed =
+    let row = get_or rows m d in
+    let at : slice_get rows m ≡ Some row = slice_get-get_or rows m d lt in
+    record {
+      calls = rw (walk_below-more rows m row at, call_in-untimed (gap_at rows m) m row untimed) refl;
+      gap = gap_at-untimed rows m (rw at untimed);
+    }
 
 -- it gives the calls of the rows
 pub walk_below-calls : (rows : List StopTimeRow) (m : ℕ) → HasTimedEnds rows → m ≤ length rows → collect_below m (call_at rows) ≡ Some (walk_below rows m)

@@ -1,9 +1,9 @@
 -- The timed rows of a trip: the nearest before and after a position, and how they go on from position to position.
-use Rattle.std.proofs.Common.{◌≡◌, refl, sym, ◌∙◌, ap, ℕ, suc, ◌+◌, ◌-◌, ◌<◌, ◌≤◌, ◌⊎◌, inl, inr, ⊎_elim, Bool, true, false, ◌&&◌, nat_lt, List, length, arith}
+use Rattle.std.proofs.Common.{◌≡◌, refl, sym, ◌∙◌, ap, ℕ, suc, ◌+◌, ◌-◌, ◌<◌, ◌≤◌, ◌⊎◌, inl, inr, ⊎_elim, Bool, true, false, ◌&&◌, nat_lt, List, length, get_or, arith}
 use Rattle.std.specs.Prelude.{Option, Some, None, slice_get, unwrap_or, option_and_then}
 use Rattle.std.proofs.lemmas.Bool.{cases_lt, cases_eq, and_parts, and_from}
 use Rattle.std.proofs.lemmas.Bool.Decides.{nat_tests}
-use Rattle.std.proofs.lemmas.Option.{slice_get_past}
+use Rattle.std.proofs.lemmas.Option.{slice_get_past, slice_get-get_or}
 use Rattle.feed_rows.specs.declared.rows.StopTimeRow.{StopTimeRow}
 use Rattle.feed_rows.specs.Words.{at_and}
 use Rattle.feed_rows.specs.Calls.{first_time, last_time, is_timed, timed_before, timed_after}
@@ -86,6 +86,18 @@ timed_after-none rows m none = find-none (λ k. nat_lt m k && is_timed_at rows k
   step : (k : ℕ) → k < length rows → (m < k) ⊎ (k ≤ m) → (nat_lt m k && is_timed_at rows k) ≡ false
   step k lt (inl after) = ends (nat_lt m k) (is_timed_at rows k) (none k after lt)
   step k lt (inr before) = starts m k (is_timed_at rows k) before
+
+-- a row at its position
+pub is_timed_at-row : (rows : List StopTimeRow) (m : ℕ) (d : StopTimeRow) → m < length rows → is_timed_at rows m ≡ is_timed (get_or rows m d)
+is_timed_at-row rows m d lt = rw (slice_get-get_or rows m d lt) refl
+
+-- one more row without times, as a search for the next timed one passes it
+pub untimed-more : (rows : List StopTimeRow) (p q : ℕ) → ((k : ℕ) → p < k → k < q → is_timed_at rows k ≡ false) → is_timed_at rows q ≡ false → (k : ℕ) → p < k → k < q + 1 → is_timed_at rows k ≡ false
+untimed-more rows p q before here k from to = step (cases_lt k q)
+  where
+  step : (k < q) ⊎ (q ≤ k) → is_timed_at rows k ≡ false
+  step (inl below) = before k from below
+  step (inr past) = let same : k ≡ q = omega arith in rw same here
 
 -- the next timed position, as a search from the position after p on ends at it or at the end
 pub next_timed-hit : (rows : List StopTimeRow) (p q : ℕ) → p < q → q ≤ length rows → ((k : ℕ) → p < k → k < q → is_timed_at rows k ≡ false) → (q < length rows → is_timed_at rows q ≡ true) → next_timed rows p ≡ q
