@@ -1,5 +1,5 @@
 -- The times of calls: none is greater than all times of the rows, and where the rows' times don't fall theirs don't.
-use Rattle.std.proofs.Common.{◌≡◌, refl, sym, ◌∙◌, ap, subst, ℕ, ◌+◌, ◌-◌, ◌*◌, ◌/◌, ◌<◌, ◌≤◌, ◌⊎◌, inl, inr, Bool, true, false, List, length, All, arith, mul-le-mul_right, div-mul-le_self}
+use Rattle.std.proofs.Common.{◌≡◌, refl, sym, ◌∙◌, ap, subst, ℕ, zero, suc, ◌+◌, ◌-◌, ◌*◌, ◌/◌, ◌<◌, ◌≤◌, ◌⊎◌, inl, inr, Bool, true, false, List, length, All, arith, mul-le-mul_right, div-mul-le_self}
 use Rattle.std.specs.Prelude.{Option, Some, None, slice_get, option_and_then, IfSome}
 use Rattle.std.proofs.Math.Nat.{div-le_of_le-mul}
 use Rattle.std.proofs.lemmas.Nat.{le-div}
@@ -13,7 +13,8 @@ use Rattle.feed_rows.specs.CallWalk.{TimedGap, time_in}
 use Rattle.feed_rows.specs.Calls.{last_time, first_time, is_timed, time_between, timed_before, timed_after, calls_of, trip_stop_times, first_departure}
 use Rattle.feed_rows.specs.TimedTrips.{first_at, last_at, is_timed_at, HasTimedEnds, DoTimesRise, AreTimesAtMost, DoTimesEndBy}
 use Rattle.feed_rows.proofs.SequenceLaws.{trip_stop_times_all}
-use Rattle.feed_rows.proofs.TimedLaws.{timed_within, IsTimedBefore, IsTimedAfter, IsInGap, timed_before_hit, timed_after_hit, timed_at, untimed_row}
+use Rattle.feed_rows.proofs.TimedLaws.{timed_within, IsTimedBefore, IsTimedAfter, IsInGap, timed_before_hit, timed_before_tells, timed_after_hit, timed_at, untimed_row}
+use Rattle.feed_rows.proofs.BelowLaws.{last_below_some}
 use Rattle.feed_rows.proofs.CallLaws.{HasOwnTimes, HasFilledTime, IsCallOf, IsAround, calls_of_row}
 
 -- no time of a row is greater than this
@@ -125,6 +126,37 @@ first_at_timed rows m t e = step (slice_get rows m) refl
   step : (o : Option StopTimeRow) → slice_get rows m ≡ o → is_timed_at rows m ≡ true
   step None none = absurd (none-some t (rw none at e))
   step (Some row) at = rw at (tell row (rw at at e) (cases_Bool (is_timed row)))
+
+-- times don't fall where none is less than that of the nearest timed row before
+pub record DoTimesRiseByNearest (rows : List StopTimeRow) : Type 0 where
+  pub stay : (m a d : ℕ) → first_at rows m ≡ Some a → last_at rows m ≡ Some d → a ≤ d
+  pub run : (p m d a : ℕ) → timed_before rows m ≡ Some p → last_at rows p ≡ Some d → first_at rows m ≡ Some a → d ≤ a
+
+pub rise_from_nearest : (rows : List StopTimeRow) → DoTimesRiseByNearest rows → DoTimesRise rows
+rise_from_nearest rows near = record { stay = near.stay; run = λ i j d a lt left reached. upto (suc j) i j d a (omega arith) lt left reached }
+  where
+  upto : (n i j d a : ℕ) → j < n → i < j → last_at rows i ≡ Some d → first_at rows j ≡ Some a → d ≤ a
+  upto zero i j d a below lt left reached = absurd (omega arith)
+  upto (suc n) i j d a below lt left reached =
+      let timed = last_at_timed rows i d left in
+      let found = last_below_some (λ k. is_timed_at rows k) j i lt timed in
+      let before = timed_before_tells rows j found.0 found.1 in
+      let times = timed_at rows found.0 before.timed in
+      let last = near.run found.0 j times.1 a found.1 times.3 reached in
+      step (upto n) found.0 before times last (cases_lt i found.0) (cases_lt found.0 i)
+    where
+    step : ((i j d a : ℕ) → j < n → i < j → last_at rows i ≡ Some d → first_at rows j ≡ Some a → d ≤ a) → (p : ℕ) → IsTimedBefore rows j p
+        → (times : (first : ℕ) × (last : ℕ) × (first_at rows p ≡ Some first) × (last_at rows p ≡ Some last)) → times.1 ≤ a → (i < p) ⊎ (p ≤ i) → (p < i) ⊎ (i ≤ p) → d ≤ a
+    step earlier p before times last (inl past) _ =
+        let within = before.before in
+        let run = earlier i p d times.0 (omega arith) past left times.2 in
+        let stays = near.stay p times.0 times.1 times.2 times.3 in
+        omega (arith, run, stays, last)
+    step earlier p before times last (inr _) (inl over) = absurd (let wrong : true ≡ false = sym (last_at_timed rows i d left) ∙ before.between i over lt in cc)
+    step earlier p before times last (inr le) (inr ge) =
+        let here : i ≡ p = omega arith in
+        let same : d ≡ times.1 = same_Some d times.1 (sym left ∙ ap (λ k. last_at rows k) here ∙ times.3) in
+        omega (arith, same, last)
 
 -- from row to row, times don't fall
 module _ (rows : List StopTimeRow) (rise : DoTimesRise rows) where
