@@ -1,20 +1,19 @@
 -- The calls of a trip: where the first and the last row have times each row has its call, and one walk over the rows
 -- gives them.
-use Rattle.std.proofs.Common.{◌≡◌, refl, sym, ◌∙◌, ap, subst, ℕ, zero, suc, ◌+◌, ◌-◌, ◌<◌, ◌≤◌, ◌⊎◌, inl, inr, ⊎_elim, Bool, true, false, List, [], ◌∷◌, ◌++◌, length, get_or, arith}
-use Rattle.std.specs.Prelude.{Option, Some, None, slice_get, unwrap_or, option_map, option_and_then}
-use Rattle.std.specs.Option.{option_or}
+use Rattle.std.proofs.Common.{◌≡◌, refl, sym, ◌∙◌, ap, subst, ℕ, zero, suc, ◌+◌, ◌<◌, ◌≤◌, ◌⊎◌, inl, inr, Bool, true, false, List, [], ◌∷◌, ◌++◌, length, get_or, arith}
+use Rattle.std.specs.Prelude.{Some, None, slice_get, unwrap_or}
 use Rattle.std.proofs.lemmas.Bool.{cases_Bool}
 use Rattle.std.proofs.lemmas.Option.{same_Some, none-some, slice_get_within, slice_get_cases, slice_get-get_or}
 use Rattle.transit_base.specs.declared.numbers.TripId.{TripId}
 use Rattle.feed_rows.specs.declared.rows.StopTimeRow.{StopTimeRow}
 use Rattle.feed_rows.specs.declared.journeys.Call.{Call}
 use Rattle.feed_rows.specs.FeedRows.{FeedRows}
-use Rattle.feed_rows.specs.Words.{at_and, collect_below}
-use Rattle.feed_rows.specs.Calls.{first_time, last_time, is_timed, timed_before, timed_after, time_between, filled_time, call_at, calls_of, trip_stop_times}
+use Rattle.feed_rows.specs.Words.{collect_below}
+use Rattle.feed_rows.specs.Calls.{first_time, last_time, is_timed, timed_before, time_between, filled_time, call_at, calls_of, trip_stop_times}
 use Rattle.feed_rows.specs.CallWalk.{TimedGap, gap_after, gap_at, time_in, time_at, next_timed, call_in, walk_below, walk}
-use Rattle.feed_rows.proofs.BelowLaws.{collect_below_more, collect_below_tells, collect_below_some, IsCollected}
+use Rattle.feed_rows.proofs.BelowLaws.{collect_below_tells, IsCollected}
 use Rattle.feed_rows.specs.TimedTrips.{first_at, last_at, is_timed_at, HasTimedEnds}
-use Rattle.feed_rows.proofs.TimedLaws.{IsTimedBefore, IsTimedAfter, IsInGap, in_gap, timed_before_hit, timed_after_hit, timed_after_gap, timed_at, timed_row, untimed_row}
+use Rattle.feed_rows.proofs.TimedLaws.{IsInGap, in_gap, timed_before_hit, timed_after_hit, timed_after_gap, timed_at, timed_row, untimed_row}
 
 -- the gap goes on: a new one begins after a timed row
 pub gap_at_timed : (rows : List StopTimeRow) (m : ℕ) → is_timed_at rows m ≡ true → gap_at rows (m + 1) ≡ gap_after rows m
@@ -28,9 +27,9 @@ pub gap_at_before : (rows : List StopTimeRow) (m p : ℕ) → timed_before rows 
 gap_at_before rows zero p e = absurd (none-some p e)
 gap_at_before rows (suc m) p e = step (is_timed_at rows m) refl (gap_at_before rows m p)
   where
-  step : (b : Bool) → is_timed_at rows m ≡ b → (timed_before rows m ≡ Some p → gap_at rows m ≡ gap_after rows p) → gap_at rows (suc m) ≡ gap_after rows p
-  step true timed before = let here : m ≡ p = same_Some m p (rw timed at e) in rw timed (ap (gap_after rows) here)
-  step false untimed before = rw untimed (before (rw untimed at e))
+    step : (b : Bool) → is_timed_at rows m ≡ b → (timed_before rows m ≡ Some p → gap_at rows m ≡ gap_after rows p) → gap_at rows (suc m) ≡ gap_after rows p
+    step true timed before = let here : m ≡ p = same_Some m p (rw timed at e) in rw timed (ap (gap_after rows) here)
+    step false untimed before = rw untimed (before (rw untimed at e))
 
 -- the gap of a row without times
 pub gap_at_in : (rows : List StopTimeRow) (m p q left reached : ℕ) → IsInGap rows m p q → last_at rows p ≡ Some left → first_at rows q ≡ Some reached
@@ -123,54 +122,54 @@ call_at_none rows m none = rw none refl
 pub walked : (rows : List StopTimeRow) (m : ℕ) (row : StopTimeRow) → HasTimedEnds rows → slice_get rows m ≡ Some row → IsWalked rows m row
 walked rows m row ends at = step (cases_Bool (is_timed row))
   where
-  step : (is_timed row ≡ true) ⊎ (is_timed row ≡ false) → IsWalked rows m row
-  step (inl timed) =
-      let times = timed_row row timed in
-      let call : Call = record { stop = row.stop; sequence = row.sequence; arrival = times.0; departure = times.1; pickup = row.pickup; drop_off = row.drop_off } in
-      let is : call_in (gap_at rows m) m row ≡ call = rw (times.2, times.3) refl in
-      record {
-        made = rw is (call_at_own rows m row times.0 times.1 at times.2 times.3);
-        call_of = rw is (record { stop = refl; sequence = refl; pickup = refl; drop_off = refl; times = inl (record { first = rw at times.2; last = rw at times.3 }) });
-      }
-  step (inr untimed) =
-      let here : is_timed_at rows m ≡ false = rw at untimed in
-      let found = in_gap rows m ends (slice_get_within rows m row at) here in
-      let gap = found.2 in
-      let before = timed_at rows found.0 gap.before.timed in
-      let after = timed_at rows found.1 gap.after.timed in
-      let carried = gap_at_in rows m found.0 found.1 before.1 after.0 gap before.3 after.2 in
-      let time = time_between found.0 m found.1 before.1 after.0 in
-      let none = untimed_row row untimed in
-      let call : Call = record { stop = row.stop; sequence = row.sequence; arrival = time; departure = time; pickup = row.pickup; drop_off = row.drop_off } in
-      let is : call_in (gap_at rows m) m row ≡ call = rw (carried, none.0, none.1) refl in
-      record {
-        made = rw is (call_at_filled rows m row time at none.0 none.1 (filled_time_in rows m found.0 found.1 before.1 after.0 gap before.3 after.2));
-        call_of = rw is (record {
-          stop = refl;
-          sequence = refl;
-          pickup = refl;
-          drop_off = refl;
-          times = inr (record { from = found.0; to = found.1; left = before.1; reached = after.0; gap = gap; left_is = before.3; reached_is = after.2; arrival = refl; departure = refl });
-        });
-      }
+    step : (is_timed row ≡ true) ⊎ (is_timed row ≡ false) → IsWalked rows m row
+    step (inl timed) =
+        let times = timed_row row timed in
+        let call : Call = record { stop = row.stop; sequence = row.sequence; arrival = times.0; departure = times.1; pickup = row.pickup; drop_off = row.drop_off } in
+        let is : call_in (gap_at rows m) m row ≡ call = rw (times.2, times.3) refl in
+        record {
+          made = rw is (call_at_own rows m row times.0 times.1 at times.2 times.3);
+          call_of = rw is (record { stop = refl; sequence = refl; pickup = refl; drop_off = refl; times = inl (record { first = rw at times.2; last = rw at times.3 }) });
+        }
+    step (inr untimed) =
+        let here : is_timed_at rows m ≡ false = rw at untimed in
+        let found = in_gap rows m ends (slice_get_within rows m row at) here in
+        let gap = found.2 in
+        let before = timed_at rows found.0 gap.before.timed in
+        let after = timed_at rows found.1 gap.after.timed in
+        let carried = gap_at_in rows m found.0 found.1 before.1 after.0 gap before.3 after.2 in
+        let time = time_between found.0 m found.1 before.1 after.0 in
+        let none = untimed_row row untimed in
+        let call : Call = record { stop = row.stop; sequence = row.sequence; arrival = time; departure = time; pickup = row.pickup; drop_off = row.drop_off } in
+        let is : call_in (gap_at rows m) m row ≡ call = rw (carried, none.0, none.1) refl in
+        record {
+          made = rw is (call_at_filled rows m row time at none.0 none.1 (filled_time_in rows m found.0 found.1 before.1 after.0 gap before.3 after.2));
+          call_of = rw is (record {
+            stop = refl;
+            sequence = refl;
+            pickup = refl;
+            drop_off = refl;
+            times = inr (record { from = found.0; to = found.1; left = before.1; reached = after.0; gap = gap; left_is = before.3; reached_is = after.2; arrival = refl; departure = refl });
+          });
+        }
 
 -- each row has its call
 pub call_at_some : (rows : List StopTimeRow) (m : ℕ) → HasTimedEnds rows → m < length rows → (call : Call) × (call_at rows m ≡ Some call)
 call_at_some rows m ends lt = step (slice_get_cases rows m).1
   where
-  step : ((row : StopTimeRow) × (m < length rows) × (slice_get rows m ≡ Some row) × (get_or rows m row ≡ row)) ⊎ ((length rows ≤ m) × (slice_get rows m ≡ None)) → (call : Call) × (call_at rows m ≡ Some call)
-  step (inl found) = (call_in (gap_at rows m) m found.0, (walked rows m found.0 ends found.2).made)
-  step (inr past) = let out = past.0 in absurd (omega arith)
+    step : ((row : StopTimeRow) × (m < length rows) × (slice_get rows m ≡ Some row) × (get_or rows m row ≡ row)) ⊎ ((length rows ≤ m) × (slice_get rows m ≡ None)) → (call : Call) × (call_at rows m ≡ Some call)
+    step (inl found) = (call_in (gap_at rows m) m found.0, (walked rows m found.0 ends found.2).made)
+    step (inr past) = let out = past.0 in absurd (omega arith)
 
 -- the row of a call
 pub call_at_row : (rows : List StopTimeRow) (m : ℕ) (call : Call) → HasTimedEnds rows → call_at rows m ≡ Some call → (row : StopTimeRow) × (slice_get rows m ≡ Some row) × IsCallOf rows m row call
 call_at_row rows m call ends e = step (slice_get_cases rows m).1
   where
-  step : ((row : StopTimeRow) × (m < length rows) × (slice_get rows m ≡ Some row) × (get_or rows m row ≡ row)) ⊎ ((length rows ≤ m) × (slice_get rows m ≡ None)) → (row : StopTimeRow) × (slice_get rows m ≡ Some row) × IsCallOf rows m row call
-  step (inl found) =
-      let made = walked rows m found.0 ends found.2 in
-      (found.0, found.2, subst (IsCallOf rows m found.0) (same_Some _ _ (sym made.made ∙ e)) made.call_of)
-  step (inr past) = absurd (none-some call (sym (call_at_none rows m past.1) ∙ e))
+    step : ((row : StopTimeRow) × (m < length rows) × (slice_get rows m ≡ Some row) × (get_or rows m row ≡ row)) ⊎ ((length rows ≤ m) × (slice_get rows m ≡ None)) → (row : StopTimeRow) × (slice_get rows m ≡ Some row) × IsCallOf rows m row call
+    step (inl found) =
+        let made = walked rows m found.0 ends found.2 in
+        (found.0, found.2, subst (IsCallOf rows m found.0) (same_Some _ _ (sym made.made ∙ e)) made.call_of)
+    step (inr past) = absurd (none-some call (sym (call_at_none rows m past.1) ∙ e))
 
 -- the walk goes on by a call
 pub walk_below_more : (rows : List StopTimeRow) (m : ℕ) (row : StopTimeRow) → slice_get rows m ≡ Some row → walk_below rows (m + 1) ≡ walk_below rows m ++ call_in (gap_at rows m) m row ∷ []
@@ -209,10 +208,10 @@ pub walk_below_calls : (rows : List StopTimeRow) (m : ℕ) → HasTimedEnds rows
 walk_below_calls rows zero ends le = refl
 walk_below_calls rows (suc m) ends le = step (walk_below_calls rows m ends (omega arith)) (slice_get_cases rows m).1
   where
-  step : collect_below m (call_at rows) ≡ Some (walk_below rows m) → ((row : StopTimeRow) × (m < length rows) × (slice_get rows m ≡ Some row) × (get_or rows m row ≡ row)) ⊎ ((length rows ≤ m) × (slice_get rows m ≡ None))
-      → collect_below (suc m) (call_at rows) ≡ Some (walk_below rows (suc m))
-  step before (inl found) = rw (before, (walked rows m found.0 ends found.2).made, found.2) refl
-  step before (inr past) = let out = past.0 in absurd (omega arith)
+    step : collect_below m (call_at rows) ≡ Some (walk_below rows m) → ((row : StopTimeRow) × (m < length rows) × (slice_get rows m ≡ Some row) × (get_or rows m row ≡ row)) ⊎ ((length rows ≤ m) × (slice_get rows m ≡ None))
+        → collect_below (suc m) (call_at rows) ≡ Some (walk_below rows (suc m))
+    step before (inl found) = rw (before, (walked rows m found.0 ends found.2).made, found.2) refl
+    step before (inr past) = let out = past.0 in absurd (omega arith)
 
 pub walk_calls : (rows : List StopTimeRow) → HasTimedEnds rows → collect_below (length rows) (call_at rows) ≡ Some (walk rows)
 walk_calls rows ends = walk_below_calls rows (length rows) ends (omega arith)

@@ -1,6 +1,6 @@
 -- The times of calls: none is greater than all times of the rows, and where the rows' times don't fall theirs don't.
-use Rattle.std.proofs.Common.{◌≡◌, refl, sym, ◌∙◌, ap, subst, ℕ, zero, suc, ◌+◌, ◌-◌, ◌*◌, ◌/◌, ◌<◌, ◌≤◌, ◌⊎◌, inl, inr, Bool, true, false, List, length, All, arith, mul-le-mul_right, div-mul-le_self}
-use Rattle.std.specs.Prelude.{Option, Some, None, slice_get, option_and_then, IfSome}
+use Rattle.std.proofs.Common.{◌≡◌, refl, sym, ◌∙◌, ap, subst, ℕ, zero, suc, ◌-◌, ◌*◌, ◌/◌, ◌<◌, ◌≤◌, ◌⊎◌, inl, inr, true, false, List, length, All, arith, mul-le-mul_right, div-mul-le_self}
+use Rattle.std.specs.Prelude.{Option, Some, None, slice_get, IfSome}
 use Rattle.std.proofs.Math.Nat.{div-le_of_le-mul}
 use Rattle.std.proofs.lemmas.Nat.{le-div}
 use Rattle.std.proofs.lemmas.Bool.{cases_lt, cases_Bool, cases_eq}
@@ -10,12 +10,12 @@ use Rattle.feed_rows.specs.declared.rows.StopTimeRow.{StopTimeRow}
 use Rattle.feed_rows.specs.declared.journeys.Call.{Call}
 use Rattle.feed_rows.specs.FeedRows.{FeedRows}
 use Rattle.feed_rows.specs.CallWalk.{TimedGap, time_in}
-use Rattle.feed_rows.specs.Calls.{last_time, first_time, is_timed, time_between, timed_before, timed_after, calls_of, trip_stop_times, first_departure}
+use Rattle.feed_rows.specs.Calls.{last_time, first_time, is_timed, time_between, timed_before, calls_of, trip_stop_times, first_departure}
 use Rattle.feed_rows.specs.TimedTrips.{first_at, last_at, is_timed_at, HasTimedEnds, DoTimesRise, AreTimesAtMost, DoTimesEndBy}
 use Rattle.feed_rows.proofs.SequenceLaws.{trip_stop_times_all}
-use Rattle.feed_rows.proofs.TimedLaws.{timed_within, IsTimedBefore, IsTimedAfter, IsInGap, timed_before_hit, timed_before_tells, timed_after_hit, timed_at, untimed_row}
+use Rattle.feed_rows.proofs.TimedLaws.{timed_within, IsTimedBefore, IsTimedAfter, timed_before_hit, timed_before_tells, timed_after_hit, timed_at, untimed_row}
 use Rattle.feed_rows.proofs.BelowLaws.{last_below_some}
-use Rattle.feed_rows.proofs.CallLaws.{HasOwnTimes, HasFilledTime, IsCallOf, IsAround, calls_of_row}
+use Rattle.feed_rows.proofs.CallLaws.{HasOwnTimes, HasFilledTime, IsAround, calls_of_row}
 
 -- no time of a row is greater than this
 abbrev IsRowWithin : ℕ → StopTimeRow → Type 0
@@ -24,18 +24,18 @@ IsRowWithin most r = IfSome r.arrival (λ t. t ≤ most) × IfSome r.departure (
 row_first : (most : ℕ) (row : StopTimeRow) (t : ℕ) → IsRowWithin most row → first_time row ≡ Some t → t ≤ most
 row_first most row t within e = step row.arrival refl row.departure refl
   where
-  step : (a : Option ℕ) → row.arrival ≡ a → (d : Option ℕ) → row.departure ≡ d → t ≤ most
-  step (Some a) p d q = let is : Some a ≡ Some t = rw p at e in subst (λ n. n ≤ most) (same_Some a t is) (rw p at within.0)
-  step None p (Some d) q = let is : Some d ≡ Some t = rw (p, q) at e in subst (λ n. n ≤ most) (same_Some d t is) (rw q at within.1)
-  step None p None q = absurd (none-some t (rw (p, q) at e))
+    step : (a : Option ℕ) → row.arrival ≡ a → (d : Option ℕ) → row.departure ≡ d → t ≤ most
+    step (Some a) p d q = let is : Some a ≡ Some t = rw p at e in subst (λ n. n ≤ most) (same_Some a t is) (rw p at within.0)
+    step None p (Some d) q = let is : Some d ≡ Some t = rw (p, q) at e in subst (λ n. n ≤ most) (same_Some d t is) (rw q at within.1)
+    step None p None q = absurd (none-some t (rw (p, q) at e))
 
 row_last : (most : ℕ) (row : StopTimeRow) (t : ℕ) → IsRowWithin most row → last_time row ≡ Some t → t ≤ most
 row_last most row t within e = step row.arrival refl row.departure refl
   where
-  step : (a : Option ℕ) → row.arrival ≡ a → (d : Option ℕ) → row.departure ≡ d → t ≤ most
-  step a p (Some d) q = let is : Some d ≡ Some t = rw q at e in subst (λ n. n ≤ most) (same_Some d t is) (rw q at within.1)
-  step (Some a) p None q = let is : Some a ≡ Some t = rw (q, p) at e in subst (λ n. n ≤ most) (same_Some a t is) (rw p at within.0)
-  step None p None q = absurd (none-some t (rw (q, p) at e))
+    step : (a : Option ℕ) → row.arrival ≡ a → (d : Option ℕ) → row.departure ≡ d → t ≤ most
+    step a p (Some d) q = let is : Some d ≡ Some t = rw q at e in subst (λ n. n ≤ most) (same_Some d t is) (rw q at within.1)
+    step (Some a) p None q = let is : Some a ≡ Some t = rw (q, p) at e in subst (λ n. n ≤ most) (same_Some a t is) (rw p at within.0)
+    step None p None q = absurd (none-some t (rw (q, p) at e))
 
 -- where the times of a feed are at most the greatest, those of a trip are
 pub trip_times_most : (feed : FeedRows) (trip : TripId) (most : ℕ) → DoTimesEndBy feed most → AreTimesAtMost (trip_stop_times feed trip) most
@@ -45,10 +45,11 @@ trip_times_most feed trip most within =
       last = λ m t e. option_and_then_some last_time (slice_get (trip_stop_times feed trip) m) t e (λ row at is. row_last most row t (here m row at) is);
     }
   where
-  all : All (IsRowWithin most) (trip_stop_times feed trip)
-  all = trip_stop_times_all (IsRowWithin most) feed trip within
-  here : (m : ℕ) (row : StopTimeRow) → slice_get (trip_stop_times feed trip) m ≡ Some row → IsRowWithin most row
-  here m row at = subst (IsRowWithin most) (get_or_from_slice_get (trip_stop_times feed trip) m row row at) (all m row (slice_get_within (trip_stop_times feed trip) m row at))
+    all : All (IsRowWithin most) (trip_stop_times feed trip)
+    all = trip_stop_times_all (IsRowWithin most) feed trip within
+
+    here : (m : ℕ) (row : StopTimeRow) → slice_get (trip_stop_times feed trip) m ≡ Some row → IsRowWithin most row
+    here m row at = subst (IsRowWithin most) (get_or_from_slice_get (trip_stop_times feed trip) m row row at) (all m row (slice_get_within (trip_stop_times feed trip) m row at))
 
 -- a part of a distance is at most the distance, and grows with the part
 pub share_le : (part whole distance : ℕ) → part ≤ whole → (part * distance) / whole ≤ distance
@@ -110,22 +111,24 @@ around_rises rows m gap rise around =
 pub last_at_timed : (rows : List StopTimeRow) (m t : ℕ) → last_at rows m ≡ Some t → is_timed_at rows m ≡ true
 last_at_timed rows m t e = step (slice_get rows m) refl
   where
-  tell : (row : StopTimeRow) → last_time row ≡ Some t → (is_timed row ≡ true) ⊎ (is_timed row ≡ false) → is_timed row ≡ true
-  tell row at (inl timed) = timed
-  tell row at (inr untimed) = absurd (none-some t (sym (untimed_row row untimed).1 ∙ at))
-  step : (o : Option StopTimeRow) → slice_get rows m ≡ o → is_timed_at rows m ≡ true
-  step None none = absurd (none-some t (rw none at e))
-  step (Some row) at = rw at (tell row (rw at at e) (cases_Bool (is_timed row)))
+    tell : (row : StopTimeRow) → last_time row ≡ Some t → (is_timed row ≡ true) ⊎ (is_timed row ≡ false) → is_timed row ≡ true
+    tell row at (inl timed) = timed
+    tell row at (inr untimed) = absurd (none-some t (sym (untimed_row row untimed).1 ∙ at))
+
+    step : (o : Option StopTimeRow) → slice_get rows m ≡ o → is_timed_at rows m ≡ true
+    step None none = absurd (none-some t (rw none at e))
+    step (Some row) at = rw at (tell row (rw at at e) (cases_Bool (is_timed row)))
 
 pub first_at_timed : (rows : List StopTimeRow) (m t : ℕ) → first_at rows m ≡ Some t → is_timed_at rows m ≡ true
 first_at_timed rows m t e = step (slice_get rows m) refl
   where
-  tell : (row : StopTimeRow) → first_time row ≡ Some t → (is_timed row ≡ true) ⊎ (is_timed row ≡ false) → is_timed row ≡ true
-  tell row at (inl timed) = timed
-  tell row at (inr untimed) = absurd (none-some t (sym (untimed_row row untimed).0 ∙ at))
-  step : (o : Option StopTimeRow) → slice_get rows m ≡ o → is_timed_at rows m ≡ true
-  step None none = absurd (none-some t (rw none at e))
-  step (Some row) at = rw at (tell row (rw at at e) (cases_Bool (is_timed row)))
+    tell : (row : StopTimeRow) → first_time row ≡ Some t → (is_timed row ≡ true) ⊎ (is_timed row ≡ false) → is_timed row ≡ true
+    tell row at (inl timed) = timed
+    tell row at (inr untimed) = absurd (none-some t (sym (untimed_row row untimed).0 ∙ at))
+
+    step : (o : Option StopTimeRow) → slice_get rows m ≡ o → is_timed_at rows m ≡ true
+    step None none = absurd (none-some t (rw none at e))
+    step (Some row) at = rw at (tell row (rw at at e) (cases_Bool (is_timed row)))
 
 -- times don't fall where none is less than that of the nearest timed row before
 pub record DoTimesRiseByNearest (rows : List StopTimeRow) : Type 0 where
@@ -135,52 +138,52 @@ pub record DoTimesRiseByNearest (rows : List StopTimeRow) : Type 0 where
 pub rise_from_nearest : (rows : List StopTimeRow) → DoTimesRiseByNearest rows → DoTimesRise rows
 rise_from_nearest rows near = record { stay = near.stay; run = λ i j d a lt left reached. upto (suc j) i j d a (omega arith) lt left reached }
   where
-  upto : (n i j d a : ℕ) → j < n → i < j → last_at rows i ≡ Some d → first_at rows j ≡ Some a → d ≤ a
-  upto zero i j d a below lt left reached = absurd (omega arith)
-  upto (suc n) i j d a below lt left reached =
-      let timed = last_at_timed rows i d left in
-      let found = last_below_some (λ k. is_timed_at rows k) j i lt timed in
-      let before = timed_before_tells rows j found.0 found.1 in
-      let times = timed_at rows found.0 before.timed in
-      let last = near.run found.0 j times.1 a found.1 times.3 reached in
-      step (upto n) found.0 before times last (cases_lt i found.0) (cases_lt found.0 i)
-    where
-    step : ((i j d a : ℕ) → j < n → i < j → last_at rows i ≡ Some d → first_at rows j ≡ Some a → d ≤ a) → (p : ℕ) → IsTimedBefore rows j p
-        → (times : (first : ℕ) × (last : ℕ) × (first_at rows p ≡ Some first) × (last_at rows p ≡ Some last)) → times.1 ≤ a → (i < p) ⊎ (p ≤ i) → (p < i) ⊎ (i ≤ p) → d ≤ a
-    step earlier p before times last (inl past) _ =
-        let within = before.before in
-        let run = earlier i p d times.0 (omega arith) past left times.2 in
-        let stays = near.stay p times.0 times.1 times.2 times.3 in
-        omega (arith, run, stays, last)
-    step earlier p before times last (inr _) (inl over) = absurd (let wrong : true ≡ false = sym (last_at_timed rows i d left) ∙ before.between i over lt in cc)
-    step earlier p before times last (inr le) (inr ge) =
-        let here : i ≡ p = omega arith in
-        let same : d ≡ times.1 = same_Some d times.1 (sym left ∙ ap (λ k. last_at rows k) here ∙ times.3) in
-        omega (arith, same, last)
+    upto : (n i j d a : ℕ) → j < n → i < j → last_at rows i ≡ Some d → first_at rows j ≡ Some a → d ≤ a
+    upto zero i j d a below lt left reached = absurd (omega arith)
+    upto (suc n) i j d a below lt left reached =
+        let timed = last_at_timed rows i d left in
+        let found = last_below_some (λ k. is_timed_at rows k) j i lt timed in
+        let before = timed_before_tells rows j found.0 found.1 in
+        let times = timed_at rows found.0 before.timed in
+        let last = near.run found.0 j times.1 a found.1 times.3 reached in
+        step (upto n) found.0 before times last (cases_lt i found.0) (cases_lt found.0 i)
+      where
+        step : ((i j d a : ℕ) → j < n → i < j → last_at rows i ≡ Some d → first_at rows j ≡ Some a → d ≤ a) → (p : ℕ) → IsTimedBefore rows j p
+            → (times : (first : ℕ) × (last : ℕ) × (first_at rows p ≡ Some first) × (last_at rows p ≡ Some last)) → times.1 ≤ a → (i < p) ⊎ (p ≤ i) → (p < i) ⊎ (i ≤ p) → d ≤ a
+        step earlier p before times last (inl past) _ =
+            let within = before.before in
+            let run = earlier i p d times.0 (omega arith) past left times.2 in
+            let stays = near.stay p times.0 times.1 times.2 times.3 in
+            omega (arith, run, stays, last)
+        step earlier p before times last (inr _) (inl over) = absurd (let wrong : true ≡ false = sym (last_at_timed rows i d left) ∙ before.between i over lt in cc)
+        step earlier p before times last (inr le) (inr ge) =
+            let here : i ≡ p = omega arith in
+            let same : d ≡ times.1 = same_Some d times.1 (sym left ∙ ap (λ k. last_at rows k) here ∙ times.3) in
+            omega (arith, same, last)
 
 -- from row to row, times don't fall
 module _ (rows : List StopTimeRow) (rise : DoTimesRise rows) where
   pub last_rises : (i j a b : ℕ) → i ≤ j → last_at rows i ≡ Some a → last_at rows j ≡ Some b → a ≤ b
   last_rises i j a b le left leaves = step (cases_eq i j)
     where
-    step : (i ≡ j) ⊎ (i ≡ j → ⊥) → a ≤ b
-    step (inl e) = let same : a ≡ b = same_Some a b (sym left ∙ ap (λ k. last_at rows k) e ∙ leaves) in omega arith
-    step (inr apart) =
-        let times = timed_at rows j (last_at_timed rows j b leaves) in
-        let there = rise.run i j a times.0 (omega arith) left times.2 in
-        let stays = rise.stay j times.0 b times.2 leaves in
-        omega arith
+      step : (i ≡ j) ⊎ (i ≡ j → ⊥) → a ≤ b
+      step (inl e) = let same : a ≡ b = same_Some a b (sym left ∙ ap (λ k. last_at rows k) e ∙ leaves) in omega arith
+      step (inr apart) =
+          let times = timed_at rows j (last_at_timed rows j b leaves) in
+          let there = rise.run i j a times.0 (omega arith) left times.2 in
+          let stays = rise.stay j times.0 b times.2 leaves in
+          omega arith
 
   pub first_rises : (i j a b : ℕ) → i ≤ j → first_at rows i ≡ Some a → first_at rows j ≡ Some b → a ≤ b
   first_rises i j a b le reached reaches = step (cases_eq i j)
     where
-    step : (i ≡ j) ⊎ (i ≡ j → ⊥) → a ≤ b
-    step (inl e) = let same : a ≡ b = same_Some a b (sym reached ∙ ap (λ k. first_at rows k) e ∙ reaches) in omega arith
-    step (inr apart) =
-        let times = timed_at rows i (first_at_timed rows i a reached) in
-        let stays = rise.stay i a times.1 reached times.3 in
-        let there = rise.run i j times.1 b (omega arith) times.3 reaches in
-        omega arith
+      step : (i ≡ j) ⊎ (i ≡ j → ⊥) → a ≤ b
+      step (inl e) = let same : a ≡ b = same_Some a b (sym reached ∙ ap (λ k. first_at rows k) e ∙ reaches) in omega arith
+      step (inr apart) =
+          let times = timed_at rows i (first_at_timed rows i a reached) in
+          let stays = rise.stay i a times.1 reached times.3 in
+          let there = rise.run i j times.1 b (omega arith) times.3 reaches in
+          omega arith
 
   pub first_last : (i j a b : ℕ) → i ≤ j → first_at rows i ≡ Some a → last_at rows j ≡ Some b → a ≤ b
   first_last i j a b le reached leaves =
@@ -221,25 +224,25 @@ module _ (rows : List StopTimeRow) (rise : DoTimesRise rows) where
       let there : b.arrival ≡ time_between x.from j x.to x.left x.reached = rw (from, to, left, reached) y.arrival in
       rw (x.departure, there) rises
     where
-    back : (k : ℕ) → x.from < k → (k < i) ⊎ (i ≤ k) → (k ≡ i) ⊎ (k ≡ i → ⊥) → k < j → is_timed_at rows k ≡ false
-    back k from (inl below) _ to = x.gap.before.between k from below
-    back k from (inr past) (inl here) to = rw here x.gap.untimed
-    back k from (inr past) (inr apart) to = x.gap.after.between k (omega arith) (omega arith)
+      back : (k : ℕ) → x.from < k → (k < i) ⊎ (i ≤ k) → (k ≡ i) ⊎ (k ≡ i → ⊥) → k < j → is_timed_at rows k ≡ false
+      back k from (inl below) _ to = x.gap.before.between k from below
+      back k from (inr past) (inl here) to = rw here x.gap.untimed
+      back k from (inr past) (inr apart) to = x.gap.after.between k (omega arith) (omega arith)
 
   -- a timed position before another one is not after the nearest one
   before_near : (i j p : ℕ) → IsTimedBefore rows j p → i < j → is_timed_at rows i ≡ true → i ≤ p
   before_near i j p near lt timed = step (cases_lt p i)
     where
-    step : (p < i) ⊎ (i ≤ p) → i ≤ p
-    step (inl past) = let no : true ≡ false = sym timed ∙ near.between i past lt in absurd (cc)
-    step (inr le) = le
+      step : (p < i) ⊎ (i ≤ p) → i ≤ p
+      step (inl past) = let no : true ≡ false = sym timed ∙ near.between i past lt in absurd (cc)
+      step (inr le) = le
 
   after_near : (i j q : ℕ) → IsTimedAfter rows i q → i < j → is_timed_at rows j ≡ true → q ≤ j
   after_near i j q near lt timed = step (cases_lt j q)
     where
-    step : (j < q) ⊎ (q ≤ j) → q ≤ j
-    step (inl inside) = let no : true ≡ false = sym timed ∙ near.between j lt inside in absurd (cc)
-    step (inr le) = le
+      step : (j < q) ⊎ (q ≤ j) → q ≤ j
+      step (inl inside) = let no : true ≡ false = sym timed ∙ near.between j lt inside in absurd (cc)
+      step (inr le) = le
 
   -- a later call is reached no sooner than an earlier one is left
   pub calls_rise : (i j : ℕ) (a b : Call) → i < j → HasOwnTimes rows i a ⊎ HasFilledTime rows i a → HasOwnTimes rows j b ⊎ HasFilledTime rows j b → a.departure ≤ b.arrival
@@ -256,18 +259,19 @@ module _ (rows : List StopTimeRow) (rise : DoTimesRise rows) where
       omega (arith, rises, high)
   calls_rise i j a b lt (inr x) (inr y) = step (cases_lt j x.to)
     where
-    past : (x.to ≡ j) ⊎ (x.to ≡ j → ⊥) → x.to ≤ j → x.to < j
-    past (inl e) le = let no : true ≡ false = sym x.gap.after.timed ∙ ap (λ k. is_timed_at rows k) e ∙ y.gap.untimed in absurd (cc)
-    past (inr apart) le = omega arith
-    step : (j < x.to) ⊎ (x.to ≤ j) → a.departure ≤ b.arrival
-    step (inl inside) = one_gap i j a b lt x y inside
-    step (inr outside) =
-        let before = past (cases_eq x.to j) outside in
-        let near = before_near x.to j y.from y.gap.before before x.gap.after.timed in
-        let rises = first_last x.to y.from x.reached y.left near x.reached_is y.left_is in
-        let high = filled_high i a x in
-        let low = filled_low j b y in
-        omega (arith, rises, low, high)
+      past : (x.to ≡ j) ⊎ (x.to ≡ j → ⊥) → x.to ≤ j → x.to < j
+      past (inl e) le = let no : true ≡ false = sym x.gap.after.timed ∙ ap (λ k. is_timed_at rows k) e ∙ y.gap.untimed in absurd (cc)
+      past (inr apart) le = omega arith
+
+      step : (j < x.to) ⊎ (x.to ≤ j) → a.departure ≤ b.arrival
+      step (inl inside) = one_gap i j a b lt x y inside
+      step (inr outside) =
+          let before = past (cases_eq x.to j) outside in
+          let near = before_near x.to j y.from y.gap.before before x.gap.after.timed in
+          let rises = first_last x.to y.from x.reached y.left near x.reached_is y.left_is in
+          let high = filled_high i a x in
+          let low = filled_low j b y in
+          omega (arith, rises, low, high)
 
 -- no time of a call is greater than the times of the rows
 pub call_most : (rows : List StopTimeRow) (most : ℕ) → AreTimesAtMost rows most → (m : ℕ) (call : Call) → HasOwnTimes rows m call ⊎ HasFilledTime rows m call → (call.arrival ≤ most) × (call.departure ≤ most)
@@ -304,22 +308,22 @@ calls_of_rise feed trip i j a b ends rise lt at_a at_b =
 pub first_departure_most : (feed : FeedRows) (trip : TripId) (most : ℕ) → HasTimedEnds (trip_stop_times feed trip) → AreTimesAtMost (trip_stop_times feed trip) most → first_departure feed trip ≤ most
 first_departure_most feed trip most ends bound = step (slice_get (calls_of feed trip) 0) refl
   where
-  step : (o : Option Call) → slice_get (calls_of feed trip) 0 ≡ o → first_departure feed trip ≤ most
-  step None e = rw e (omega arith)
-  step (Some call) e = rw e (calls_of_most feed trip most 0 call ends bound e).1
+    step : (o : Option Call) → slice_get (calls_of feed trip) 0 ≡ o → first_departure feed trip ≤ most
+    step None e = rw e (omega arith)
+    step (Some call) e = rw e (calls_of_most feed trip most 0 call ends bound e).1
 
 -- and no departure is sooner
 pub first_departure_least : (feed : FeedRows) (trip : TripId) (m : ℕ) (call : Call) → HasTimedEnds (trip_stop_times feed trip) → DoTimesRise (trip_stop_times feed trip) → slice_get (calls_of feed trip) m ≡ Some call
     → first_departure feed trip ≤ call.departure
 first_departure_least feed trip m call ends rise at = step (slice_get (calls_of feed trip) 0) refl (cases_eq m 0)
   where
-  step : (o : Option Call) → slice_get (calls_of feed trip) 0 ≡ o → (m ≡ 0) ⊎ (m ≡ 0 → ⊥) → first_departure feed trip ≤ call.departure
-  step None e _ = rw e (omega arith)
-  step (Some first) e (inl here) =
-      let same : first ≡ call = same_Some first call (sym e ∙ ap (λ k. slice_get (calls_of feed trip) k) (sym here) ∙ at) in
-      let equal = ap (λ (c : Call). c.departure) same in
-      rw e (omega (arith, equal))
-  step (Some first) e (inr later) =
-      let run = calls_of_rise feed trip 0 m first call ends rise (omega arith) e at in
-      let stays = calls_of_stays feed trip m call ends rise at in
-      rw e (omega (arith, run, stays))
+    step : (o : Option Call) → slice_get (calls_of feed trip) 0 ≡ o → (m ≡ 0) ⊎ (m ≡ 0 → ⊥) → first_departure feed trip ≤ call.departure
+    step None e _ = rw e (omega arith)
+    step (Some first) e (inl here) =
+        let same : first ≡ call = same_Some first call (sym e ∙ ap (λ k. slice_get (calls_of feed trip) k) (sym here) ∙ at) in
+        let equal = ap (λ (c : Call). c.departure) same in
+        rw e (omega (arith, equal))
+    step (Some first) e (inr later) =
+        let run = calls_of_rise feed trip 0 m first call ends rise (omega arith) e at in
+        let stays = calls_of_stays feed trip m call ends rise at in
+        rw e (omega (arith, run, stays))

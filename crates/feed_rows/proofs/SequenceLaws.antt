@@ -1,7 +1,5 @@
 -- The rows of a trip in order of stop_sequence: they are the same rows, they ascend, and no other order of them does.
-use Rattle.std.proofs.Common.{◌≡◌, refl, sym, ◌∙◌, ap, subst, ℕ, zero, suc, ◌+◌, ◌<◌, ◌≤◌, ◌⊎◌, inl, inr, ⊎_elim, Bool, true, false, List, [], ◌∷◌, length, get_or, All, AllPairs, Contains, nat_le, ◌==◌, filter, IsPermutation, arith}
-use Rattle.std.specs.Prelude.{if◌then◌else◌}
-use Rattle.std.specs.List.{IsDistinct}
+use Rattle.std.proofs.Common.{◌≡◌, refl, sym, ◌∙◌, ℕ, ◌<◌, ◌≤◌, Bool, true, false, List, [], ◌∷◌, length, get_or, All, AllPairs, nat_le, ◌==◌, filter, IsPermutation, arith}
 use Rattle.std.proofs.lemmas.Bool.Decides.{nat_tests}
 use Rattle.std.proofs.lemmas.List.Elements.{All-cons, All-weaker, All-nil, All-filter}
 use Rattle.std.proofs.lemmas.List.Sorted.{IsPermutation-refl, IsPermutation-trans, IsPermutation-cons, IsPermutation-middle, IsPermutation-sym, All-permutation, Contains-permutation, length_permutation}
@@ -27,9 +25,9 @@ pub IsPermutation-in_its_place : (row : StopTimeRow) (rows : List StopTimeRow) �
 IsPermutation-in_its_place row [] = IsPermutation-refl (row ∷ [])
 IsPermutation-in_its_place row (r ∷ rs) = step (nat_le row.sequence r.sequence) refl (IsPermutation-in_its_place row rs)
   where
-  step : (b : Bool) → nat_le row.sequence r.sequence ≡ b → IsPermutation (row ∷ rs) (in_its_place row rs) → IsPermutation (row ∷ r ∷ rs) (in_its_place row (r ∷ rs))
-  step true e rest = rw e (IsPermutation-refl (row ∷ r ∷ rs))
-  step false e rest = rw e (IsPermutation-trans _ _ _ (IsPermutation-middle (row ∷ []) r rs) (IsPermutation-cons r _ _ rest))
+    step : (b : Bool) → nat_le row.sequence r.sequence ≡ b → IsPermutation (row ∷ rs) (in_its_place row rs) → IsPermutation (row ∷ r ∷ rs) (in_its_place row (r ∷ rs))
+    step true e rest = rw e (IsPermutation-refl (row ∷ r ∷ rs))
+    step false e rest = rw e (IsPermutation-trans _ _ _ (IsPermutation-middle (row ∷ []) r rs) (IsPermutation-cons r _ _ rest))
 
 -- the rows in order are the rows
 pub IsPermutation-in_sequence : (rows : List StopTimeRow) → IsPermutation rows (in_sequence rows)
@@ -53,15 +51,15 @@ in_its_place_sorted : (row : StopTimeRow) (rows : List StopTimeRow) → AllPairs
 in_its_place_sorted row [] sorted = λ i j d lt within. absurd (omega arith)
 in_its_place_sorted row (r ∷ rs) sorted = step (nat_le row.sequence r.sequence) refl (in_its_place_sorted row rs (AllPairs-tail IsNotAfter r rs sorted))
   where
-  step : (b : Bool) → nat_le row.sequence r.sequence ≡ b → AllPairs IsNotAfter (in_its_place row rs) → AllPairs IsNotAfter (in_its_place row (r ∷ rs))
-  step true e rest =
-      let le : row.sequence ≤ r.sequence = grind (arith, nat_tests) in
-      let later : All (IsNotAfter row) (r ∷ rs) = All-cons (IsNotAfter row) r rs le (All-weaker (IsNotAfter r) (IsNotAfter row) (λ x further. omega arith) rs (AllPairs-head IsNotAfter r rs sorted)) in
-      rw e (AllPairs-cons IsNotAfter row (r ∷ rs) later sorted)
-  step false e rest =
-      let le : r.sequence ≤ row.sequence = grind (arith, nat_tests) in
-      let later : All (IsNotAfter r) (row ∷ rs) = All-cons (IsNotAfter r) row rs le (AllPairs-head IsNotAfter r rs sorted) in
-      rw e (AllPairs-cons IsNotAfter r (in_its_place row rs) (All-permutation (IsNotAfter r) (row ∷ rs) (in_its_place row rs) (IsPermutation-in_its_place row rs) later) rest)
+    step : (b : Bool) → nat_le row.sequence r.sequence ≡ b → AllPairs IsNotAfter (in_its_place row rs) → AllPairs IsNotAfter (in_its_place row (r ∷ rs))
+    step true e rest =
+        let le : row.sequence ≤ r.sequence = grind (arith, nat_tests) in
+        let later : All (IsNotAfter row) (r ∷ rs) = All-cons (IsNotAfter row) r rs le (All-weaker (IsNotAfter r) (IsNotAfter row) (λ x further. omega arith) rs (AllPairs-head IsNotAfter r rs sorted)) in
+        rw e (AllPairs-cons IsNotAfter row (r ∷ rs) later sorted)
+    step false e rest =
+        let le : r.sequence ≤ row.sequence = grind (arith, nat_tests) in
+        let later : All (IsNotAfter r) (row ∷ rs) = All-cons (IsNotAfter r) row rs le (AllPairs-head IsNotAfter r rs sorted) in
+        rw e (AllPairs-cons IsNotAfter r (in_its_place row rs) (All-permutation (IsNotAfter r) (row ∷ rs) (in_its_place row rs) (IsPermutation-in_its_place row rs) later) rest)
 
 -- the rows in order don't fall
 pub in_sequence_sorted : (rows : List StopTimeRow) → AllPairs IsNotAfter (in_sequence rows)
@@ -77,25 +75,26 @@ apart_permutation rows others same apart =
     let distinct = IsDistinct-IsPermutation is_same flips rows others same (IsDistinct-from_apart is_same rows unequal) in
     λ i j d lt within. told (get_or others i d) (get_or others j d) (apart_from_distinct is_same others i j d distinct lt within)
   where
-  tell : (a b : StopTimeRow) → IsApart a b → (a.sequence == b.sequence) ≡ false
-  tell a b apart = grind (arith, nat_tests)
-  told : (a b : StopTimeRow) → (a.sequence == b.sequence) ≡ false → IsApart a b
-  told a b e same = let no : ⊥ = grind (arith, nat_tests) in no
+    tell : (a b : StopTimeRow) → IsApart a b → (a.sequence == b.sequence) ≡ false
+    tell a b apart = grind (arith, nat_tests)
+
+    told : (a b : StopTimeRow) → (a.sequence == b.sequence) ≡ false → IsApart a b
+    told a b e same = let no : ⊥ = grind (arith, nat_tests) in no
 
 -- rows that don't fall and are apart ascend strictly
 pub before_from_sorted : (rows : List StopTimeRow) → AllPairs IsNotAfter rows → AllPairs IsApart rows → AllPairs IsBefore rows
 before_from_sorted rows sorted apart i j d lt within =
     less (get_or rows i d) (get_or rows j d) (sorted i j d lt within) (apart i j d lt within)
   where
-  less : (a b : StopTimeRow) → IsNotAfter a b → IsApart a b → IsBefore a b
-  less a b le apart = omega arith
+    less : (a b : StopTimeRow) → IsNotAfter a b → IsApart a b → IsBefore a b
+    less a b le apart = omega arith
 
 -- rows that ascend strictly are apart
 pub apart_from_before : (rows : List StopTimeRow) → AllPairs IsBefore rows → AllPairs IsApart rows
 apart_from_before rows before i j d lt within = unequal (get_or rows i d) (get_or rows j d) (before i j d lt within)
   where
-  unequal : (a b : StopTimeRow) → IsBefore a b → IsApart a b
-  unequal a b lt same = omega arith
+    unequal : (a b : StopTimeRow) → IsBefore a b → IsApart a b
+    unequal a b lt same = omega arith
 
 -- the rows in order ascend strictly where their sequences are apart
 pub in_sequence_strict : (rows : List StopTimeRow) → AllPairs IsApart rows → AllPairs IsBefore (in_sequence rows)
@@ -136,9 +135,9 @@ AllPairs-filter : (R : StopTimeRow → StopTimeRow → Type 0) (p : StopTimeRow 
 AllPairs-filter R p [] all = λ i j d lt within. absurd (omega arith)
 AllPairs-filter R p (r ∷ rs) all = step (p r) refl (AllPairs-filter R p rs (AllPairs-tail R r rs all))
   where
-  step : (b : Bool) → p r ≡ b → AllPairs R (filter p rs) → AllPairs R (filter p (r ∷ rs))
-  step true e rest = rw e (AllPairs-cons R r (filter p rs) (All-filter p (R r) rs (AllPairs-head R r rs all)) rest)
-  step false e rest = rw e rest
+    step : (b : Bool) → p r ≡ b → AllPairs R (filter p rs) → AllPairs R (filter p (r ∷ rs))
+    step true e rest = rw e (AllPairs-cons R r (filter p rs) (All-filter p (R r) rs (AllPairs-head R r rs all)) rest)
+    step false e rest = rw e rest
 
 -- no two rows of a feed have one trip and one sequence
 abbrev pub AreCallsApart : FeedRows → Type 0
@@ -153,15 +152,16 @@ trip_rows_apart feed trip apart =
     let all : All (λ (r : StopTimeRow). r.trip.0 ≡ trip.0) rows = of_trip feed.stop_times in
     λ i j d lt within. pairs i j d lt within (all i d (omega arith) ∙ sym (all j d within))
   where
-  told : (a b : ℕ) → (a == b) ≡ true → a ≡ b
-  told a b e = grind (arith, nat_tests)
-  of_trip : (rows : List StopTimeRow) → All (λ (r : StopTimeRow). r.trip.0 ≡ trip.0) (filter (λ r. r.trip.0 == trip.0) rows)
-  of_trip [] = All-nil (λ (r : StopTimeRow). r.trip.0 ≡ trip.0)
-  of_trip (r ∷ rs) = step (r.trip.0 == trip.0) refl (of_trip rs)
-    where
-    step : (b : Bool) → (r.trip.0 == trip.0) ≡ b → All (λ (x : StopTimeRow). x.trip.0 ≡ trip.0) (filter (λ x. x.trip.0 == trip.0) rs) → All (λ (x : StopTimeRow). x.trip.0 ≡ trip.0) (filter (λ x. x.trip.0 == trip.0) (r ∷ rs))
-    step true e rest = rw e (All-cons (λ (x : StopTimeRow). x.trip.0 ≡ trip.0) r (filter (λ x. x.trip.0 == trip.0) rs) (told r.trip.0 trip.0 e) rest)
-    step false e rest = rw e rest
+    told : (a b : ℕ) → (a == b) ≡ true → a ≡ b
+    told a b e = grind (arith, nat_tests)
+
+    of_trip : (rows : List StopTimeRow) → All (λ (r : StopTimeRow). r.trip.0 ≡ trip.0) (filter (λ r. r.trip.0 == trip.0) rows)
+    of_trip [] = All-nil (λ (r : StopTimeRow). r.trip.0 ≡ trip.0)
+    of_trip (r ∷ rs) = step (r.trip.0 == trip.0) refl (of_trip rs)
+      where
+        step : (b : Bool) → (r.trip.0 == trip.0) ≡ b → All (λ (x : StopTimeRow). x.trip.0 ≡ trip.0) (filter (λ x. x.trip.0 == trip.0) rs) → All (λ (x : StopTimeRow). x.trip.0 ≡ trip.0) (filter (λ x. x.trip.0 == trip.0) (r ∷ rs))
+        step true e rest = rw e (All-cons (λ (x : StopTimeRow). x.trip.0 ≡ trip.0) r (filter (λ x. x.trip.0 == trip.0) rs) (told r.trip.0 trip.0 e) rest)
+        step false e rest = rw e rest
 
 -- the stop times of a trip ascend strictly
 pub trip_stop_times_strict : (feed : FeedRows) (trip : TripId) → AreCallsApart feed → AllPairs IsBefore (trip_stop_times feed trip)

@@ -1,5 +1,5 @@
 -- Lists that ascend strictly: by their members alone they are told apart.
-use Rattle.std.proofs.Common.{◌≡◌, refl, sym, ◌∙◌, ap, subst, ℕ, zero, suc, ◌+◌, ◌-◌, ◌<◌, ◌≤◌, ◌⊎◌, inl, inr, ⊎_elim, List, [], ◌∷◌, length, get_or, All, AllPairs, Contains, arith}
+use Rattle.std.proofs.Common.{◌≡◌, refl, sym, ◌∙◌, subst, ℕ, zero, suc, ◌<◌, ◌⊎◌, inl, inr, List, [], ◌∷◌, length, get_or, All, AllPairs, Contains, arith}
 use Rattle.std.proofs.lemmas.List.Elements.{All-contains}
 
 -- a relation that ascends strictly
@@ -26,9 +26,9 @@ module _ {X : Type 0} where
   pub Contains-cons_cases : (x : X) (xs : List X) (y : X) → Contains (x ∷ xs) y → (x ≡ y) ⊎ Contains xs y
   Contains-cons_cases x xs y at = step at.0 at.1 at.2
     where
-    step : (k : ℕ) → k < length (x ∷ xs) → get_or (x ∷ xs) k y ≡ y → (x ≡ y) ⊎ Contains xs y
-    step zero lt is = inl is
-    step (suc k) lt is = inr (k, omega arith, is)
+      step : (k : ℕ) → k < length (x ∷ xs) → get_or (x ∷ xs) k y ≡ y → (x ≡ y) ⊎ Contains xs y
+      step zero lt is = inl is
+      step (suc k) lt is = inr (k, omega arith, is)
 
   pub Contains-cons_first : (x : X) (xs : List X) → Contains (x ∷ xs) x
   Contains-cons_first x xs = (0, omega arith, refl)
@@ -49,16 +49,17 @@ module _ {X : Type 0} where
   same_from_members R order (x ∷ xs) (y ∷ ys) ups downs same =
       let first = firsts (Contains-cons_cases y ys x (same.there x (Contains-cons_first x xs))) (Contains-cons_cases x xs y (same.back y (Contains-cons_first y ys))) in
       let rest = same_from_members R order xs ys (AllPairs-tail R x xs ups) (AllPairs-tail R y ys downs) (record {
-            there = λ z at. later y ys z (λ e. order.irreflexive x (subst (R x) (sym e ∙ sym first) (All-contains (R x) xs z (AllPairs-head R x xs ups) at))) (Contains-cons_cases y ys z (same.there z (Contains-cons_later x xs z at)));
-            back = λ z at. later x xs z (λ e. order.irreflexive y (subst (R y) (sym e ∙ first) (All-contains (R y) ys z (AllPairs-head R y ys downs) at))) (Contains-cons_cases x xs z (same.back z (Contains-cons_later y ys z at)));
-          }) in
+        there = λ z at. later y ys z (λ e. order.irreflexive x (subst (R x) (sym e ∙ sym first) (All-contains (R x) xs z (AllPairs-head R x xs ups) at))) (Contains-cons_cases y ys z (same.there z (Contains-cons_later x xs z at)));
+        back = λ z at. later x xs z (λ e. order.irreflexive y (subst (R y) (sym e ∙ first) (All-contains (R y) ys z (AllPairs-head R y ys downs) at))) (Contains-cons_cases x xs z (same.back z (Contains-cons_later y ys z at)));
+      }) in
       cc
     where
-    firsts : (y ≡ x) ⊎ Contains ys x → (x ≡ y) ⊎ Contains xs y → x ≡ y
-    firsts (inl e) _ = sym e
-    firsts (inr at) (inl e) = e
-    firsts (inr at) (inr there) =
-        absurd (order.irreflexive x (order.transitive x y x (All-contains (R x) xs y (AllPairs-head R x xs ups) there) (All-contains (R y) ys x (AllPairs-head R y ys downs) at)))
-    later : (u : X) (us : List X) (z : X) → (u ≡ z → ⊥) → (u ≡ z) ⊎ Contains us z → Contains us z
-    later u us z apart (inl e) = absurd (apart e)
-    later u us z apart (inr at) = at
+      firsts : (y ≡ x) ⊎ Contains ys x → (x ≡ y) ⊎ Contains xs y → x ≡ y
+      firsts (inl e) _ = sym e
+      firsts (inr at) (inl e) = e
+      firsts (inr at) (inr there) =
+          absurd (order.irreflexive x (order.transitive x y x (All-contains (R x) xs y (AllPairs-head R x xs ups) there) (All-contains (R y) ys x (AllPairs-head R y ys downs) at)))
+
+      later : (u : X) (us : List X) (z : X) → (u ≡ z → ⊥) → (u ≡ z) ⊎ Contains us z → Contains us z
+      later u us z apart (inl e) = absurd (apart e)
+      later u us z apart (inr at) = at
