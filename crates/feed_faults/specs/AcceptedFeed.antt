@@ -35,7 +35,7 @@ use Rattle.feed_faults.specs.FieldGrammars.{count_value, time_value, currency_de
 use Rattle.feed_faults.specs.FileColumns.{most_int}
 use Rattle.feed_faults.specs.FormFaults.{is_passed_over}
 use Rattle.feed_faults.specs.FeedTables.{FeedTables, tables_of}
-use Rattle.feed_faults.specs.FieldValues.{whole, whole_or_zero, time, day, amount, stop_kind, frame_start, frame_end}
+use Rattle.feed_faults.specs.FieldValues.{int_or_past, optional_int, time_or_past, day_or_past, amount_or_past, stop_kind, frame_start, frame_end}
 use Rattle.feed_faults.specs.RowKeys.{row_of}
 
 -- what a filled field gives
@@ -130,7 +130,7 @@ trip_row t row =
 
 -- a pickup or drop-off type permits: 1 forbids, and 0, 2, 3 and empty permit
 abbrev pub permits : List ℕ → Bool
-permits text = not (whole_or_zero 3 text == 1)
+permits text = not (optional_int 3 text == 1)
 
 -- stop_times.txt
 unfoldable pub stop_time_row : FeedTables → ℕ → StopTimeRow
@@ -138,7 +138,7 @@ stop_time_row t row =
     record {
       trip = record { 0 = row_number t.trips column.TripId (field t.stop_times row column.TripId) };
       stop = record { 0 = row_number t.stops column.StopId (field t.stop_times row column.StopId) };
-      sequence = whole most_int (field t.stop_times row column.StopSequence);
+      sequence = int_or_past most_int (field t.stop_times row column.StopSequence);
       arrival = time_value 604799 (field t.stop_times row column.ArrivalTime);
       departure = time_value 604799 (field t.stop_times row column.DepartureTime);
       pickup = permits (field t.stop_times row column.PickupType);
@@ -147,7 +147,7 @@ stop_time_row t row =
 
 -- a service runs on a weekday
 abbrev pub runs_on : FileTable → ℕ → ColumnName → Bool
-runs_on calendar row weekday = whole 1 (field calendar row weekday) == 1
+runs_on calendar row weekday = int_or_past 1 (field calendar row weekday) == 1
 
 -- calendar.txt
 unfoldable pub service_row : FeedTables → ℕ → ServiceRow
@@ -157,8 +157,8 @@ service_row t row =
       days = runs_on t.calendar row column.Monday ∷ runs_on t.calendar row column.Tuesday ∷ runs_on t.calendar row column.Wednesday
         ∷ runs_on t.calendar row column.Thursday ∷ runs_on t.calendar row column.Friday ∷ runs_on t.calendar row column.Saturday
         ∷ runs_on t.calendar row column.Sunday ∷ [];
-      first = record { 0 = day (field t.calendar row column.StartDate) };
-      last = record { 0 = day (field t.calendar row column.EndDate) };
+      first = record { 0 = day_or_past (field t.calendar row column.StartDate) };
+      last = record { 0 = day_or_past (field t.calendar row column.EndDate) };
     }
 
 -- calendar_dates.txt
@@ -166,8 +166,8 @@ unfoldable pub exception_row : FeedTables → ℕ → ExceptionRow
 exception_row t row =
     record {
       service = record { 0 = name_number (service_names t) (field t.calendar_dates row column.ServiceId) };
-      day = record { 0 = day (field t.calendar_dates row column.Date) };
-      added = whole 2 (field t.calendar_dates row column.ExceptionType) == 1;
+      day = record { 0 = day_or_past (field t.calendar_dates row column.Date) };
+      added = int_or_past 2 (field t.calendar_dates row column.ExceptionType) == 1;
     }
 
 -- frequencies.txt
@@ -175,9 +175,9 @@ unfoldable pub frequency_row : FeedTables → ℕ → FrequencyRow
 frequency_row t row =
     record {
       trip = record { 0 = row_number t.trips column.TripId (field t.frequencies row column.TripId) };
-      start = time 604799 (field t.frequencies row column.StartTime);
-      end = time 604799 (field t.frequencies row column.EndTime);
-      headway = whole most_int (field t.frequencies row column.HeadwaySecs);
+      start = time_or_past 604799 (field t.frequencies row column.StartTime);
+      end = time_or_past 604799 (field t.frequencies row column.EndTime);
+      headway = int_or_past most_int (field t.frequencies row column.HeadwaySecs);
     }
 
 -- transfers.txt; a row that forbids has its seconds like any other
@@ -186,8 +186,8 @@ link_row t row =
     record {
       from = record { 0 = row_number t.stops column.StopId (field t.transfers row column.FromStopId) };
       to = record { 0 = row_number t.stops column.StopId (field t.transfers row column.ToStopId) };
-      forbidden = whole_or_zero 5 (field t.transfers row column.TransferType) == 3;
-      seconds = whole_or_zero most_int (field t.transfers row column.MinTransferTime);
+      forbidden = optional_int 5 (field t.transfers row column.TransferType) == 3;
+      seconds = optional_int most_int (field t.transfers row column.MinTransferTime);
     }
 
 -- areas.txt
@@ -217,7 +217,7 @@ unfoldable pub rider_row : FeedTables → ℕ → RiderRow
 rider_row t row =
     record {
       id = field t.rider_categories row column.RiderCategoryId;
-      default = whole_or_zero 1 (field t.rider_categories row column.IsDefaultFareCategory) == 1;
+      default = optional_int 1 (field t.rider_categories row column.IsDefaultFareCategory) == 1;
     }
 
 -- fare_media.txt
@@ -233,7 +233,7 @@ product_row t row =
       product = record { 0 = name_number (product_names t) (field t.fare_products row column.FareProductId) };
       rider = if_filled rider (record { 0 = row_number t.rider_categories column.RiderCategoryId rider });
       medium = if_filled medium (record { 0 = row_number t.fare_media column.FareMediaId medium });
-      amount = record { 0 = amount (field t.fare_products row column.Currency) (field t.fare_products row column.Amount) };
+      amount = record { 0 = amount_or_past (field t.fare_products row column.Currency) (field t.fare_products row column.Amount) };
     }
 
 -- fare_leg_rules.txt
@@ -253,7 +253,7 @@ leg_rule_row t row =
       from_frame = if_filled from_frame (record { 0 = name_number (frame_names t) from_frame });
       to_frame = if_filled to_frame (record { 0 = name_number (frame_names t) to_frame });
       product = record { 0 = name_number (product_names t) (field t.fare_leg_rules row column.FareProductId) };
-      priority = whole_or_zero most_int (field t.fare_leg_rules row column.RulePriority);
+      priority = optional_int most_int (field t.fare_leg_rules row column.RulePriority);
     }
 
 -- a number from 1 on, if the field is one; -1 and empty stand for no number
@@ -266,7 +266,7 @@ finite_count (Some (negsuc n)) = None
 unfoldable pub limit_of : FileTable → ℕ → Option Limit
 limit_of rules row =
     let seconds = field rules row column.DurationLimit in
-    if_filled seconds (record { seconds = whole most_int seconds; kind = whole 3 (field rules row column.DurationLimitType) })
+    if_filled seconds (record { seconds = int_or_past most_int seconds; kind = int_or_past 3 (field rules row column.DurationLimitType) })
 
 -- fare_transfer_rules.txt
 unfoldable pub transfer_rule_row : FeedTables → ℕ → TransferRuleRow
@@ -279,7 +279,7 @@ transfer_rule_row t row =
       to = if_filled to (record { 0 = name_number (group_names t) to });
       count = finite_count (count_value (field t.fare_transfer_rules row column.TransferCount));
       limit = limit_of t.fare_transfer_rules row;
-      kind = whole 2 (field t.fare_transfer_rules row column.FareTransferType);
+      kind = int_or_past 2 (field t.fare_transfer_rules row column.FareTransferType);
       product = if_filled product (record { 0 = name_number (product_names t) product });
     }
 

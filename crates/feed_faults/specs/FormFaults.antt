@@ -118,7 +118,7 @@ form_fault_of_held needed file (HeldFile.Bytes bytes) =
 abbrev pub has_record : HeldFile → Bool
 has_record HeldFile.Missing = false
 has_record HeldFile.TooLarge = true
-has_record (HeldFile.Bytes bytes) = nat_lt 0 (length (file_records bytes))
+has_record (HeldFile.Bytes bytes) = nat_lt 0 (length (table_of_bytes bytes))
 
 -- a feed needs the file, whatever else it holds (Dataset Files; the fare files are of the profile)
 abbrev pub is_always_needed : FileName → Bool

@@ -10,13 +10,13 @@ use Rattle.feed_faults.specs.Records.{FileTable, row_count, field, is_filled}
 use Rattle.feed_faults.specs.FormFaults.{is_passed_over}
 use Rattle.feed_faults.specs.FaultPlaces.{file_fault, field_fault}
 use Rattle.feed_faults.specs.FeedTables.{FeedTables}
-use Rattle.feed_faults.specs.FieldValues.{time}
+use Rattle.feed_faults.specs.FieldValues.{time_or_past}
 use Rattle.feed_faults.specs.RowKeys.{is_unknown, same_field, is_repeated, is_doubled}
 
 -- two rows are of one trip and one start
 unfoldable pub same_start : FileTable → ℕ → ℕ → Bool
 same_start frequencies a b =
-    same_field frequencies TripId a b && (time 604799 (field frequencies a StartTime) == time 604799 (field frequencies b StartTime))
+    same_field frequencies TripId a b && (time_or_past 604799 (field frequencies a StartTime) == time_or_past 604799 (field frequencies b StartTime))
 
 -- frequencies.txt
 unfoldable pub frequency_fault : FeedTables → ℕ → Option FeedFault

@@ -9,7 +9,7 @@ use Rattle.feed_rows.specs.Words.{when, filled_and, first_of, int_same}
 use Rattle.feed_faults.specs.Records.{FileTable, field, is_filled}
 use Rattle.feed_faults.specs.FaultPlaces.{field_fault}
 use Rattle.feed_faults.specs.FeedTables.{FeedTables}
-use Rattle.feed_faults.specs.FieldValues.{day, stop_kind}
+use Rattle.feed_faults.specs.FieldValues.{day_or_past, stop_kind}
 use Rattle.feed_faults.specs.RowKeys.{row_of, is_unknown, same_field, is_repeated, is_doubled}
 
 -- a platform or a station names a parent; of other kinds the parent isn't looked at (profile)
@@ -50,7 +50,7 @@ trip_fault t row =
 
 -- the last day of a row lies before its first
 unfoldable pub are_dates_reversed : FileTable → ℕ → Bool
-are_dates_reversed calendar row = int_lt (day (field calendar row EndDate)) (day (field calendar row StartDate))
+are_dates_reversed calendar row = int_lt (day_or_past (field calendar row EndDate)) (day_or_past (field calendar row StartDate))
 
 -- calendar.txt
 unfoldable pub service_fault : FeedTables → ℕ → Option FeedFault
@@ -61,7 +61,7 @@ service_fault t row =
 
 -- two exceptions are of one service and one day
 unfoldable pub same_exception : FileTable → ℕ → ℕ → Bool
-same_exception dates a b = same_field dates ServiceId a b && int_same (day (field dates a Date)) (day (field dates b Date))
+same_exception dates a b = same_field dates ServiceId a b && int_same (day_or_past (field dates a Date)) (day_or_past (field dates b Date))
 
 -- calendar_dates.txt
 unfoldable pub exception_fault : FeedTables → ℕ → Option FeedFault
