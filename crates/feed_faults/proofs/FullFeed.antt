@@ -1,8 +1,7 @@
 -- A feed with a row in each file.
-use Rattle.std.proofs.Common.{◌≡◌, ℕ, Bool, true, false, List, [], ◌∷◌, Option, None, Some, refl}
+use Rattle.std.proofs.Common.{◌≡◌, true, false, [], ◌∷◌, None, Some, refl}
 use Rattle.std.specs.Prelude.{codes, pos, negsuc}
 use Rattle.transit_base.specs.Dates.{day_number}
-use Rattle.feed_rows.specs.FeedRows.{FeedRows}
 use Rattle.feed_faults.specs.FormFaults.{first_form_fault}
 use Rattle.feed_faults.specs.AcceptedFeed.{feed_of}
 use Rattle.feed_faults.proofs.OnLiterals.{feeds_on_literals}
@@ -37,46 +36,46 @@ full =
 full_read : feed_of (files_in full)
     ≡ record {
       stops = record { id = codes "P"; kind = 1; parent = None }
-        ∷ record { id = codes "A"; kind = 0; parent = Some (record { 0 = 0 }) }
-        ∷ record { id = codes "B"; kind = 0; parent = Some (record { 0 = 0 }) }
-        ∷ record { id = codes "C"; kind = 0; parent = None }
-        ∷ record { id = codes "E"; kind = 2; parent = None } ∷ [];
+          ∷ record { id = codes "A"; kind = 0; parent = Some (record { 0 = 0 }) }
+          ∷ record { id = codes "B"; kind = 0; parent = Some (record { 0 = 0 }) }
+          ∷ record { id = codes "C"; kind = 0; parent = None }
+          ∷ record { id = codes "E"; kind = 2; parent = None } ∷ [];
       routes = record { id = codes "R1"; network = Some (record { 0 = 1 }) }
-        ∷ record { id = codes "R2"; network = Some (record { 0 = 0 }) }
-        ∷ record { id = codes "R3"; network = None } ∷ [];
+          ∷ record { id = codes "R2"; network = Some (record { 0 = 0 }) }
+          ∷ record { id = codes "R3"; network = None } ∷ [];
       trips = record { id = codes "T1"; route = record { 0 = 0 }; service = record { 0 = 0 } }
-        ∷ record { id = codes "T2"; route = record { 0 = 1 }; service = record { 0 = 1 } }
-        ∷ record { id = codes "T3"; route = record { 0 = 2 }; service = record { 0 = 0 } } ∷ [];
+          ∷ record { id = codes "T2"; route = record { 0 = 1 }; service = record { 0 = 1 } }
+          ∷ record { id = codes "T3"; route = record { 0 = 2 }; service = record { 0 = 0 } } ∷ [];
       stop_times = record { trip = record { 0 = 0 }; stop = record { 0 = 1 }; sequence = 1; arrival = Some 28800; departure = None; pickup = true; drop_off = false }
-        ∷ record { trip = record { 0 = 0 }; stop = record { 0 = 2 }; sequence = 5; arrival = None; departure = None; pickup = true; drop_off = true }
-        ∷ record { trip = record { 0 = 0 }; stop = record { 0 = 3 }; sequence = 10; arrival = None; departure = Some 90600; pickup = false; drop_off = true } ∷ [];
+          ∷ record { trip = record { 0 = 0 }; stop = record { 0 = 2 }; sequence = 5; arrival = None; departure = None; pickup = true; drop_off = true }
+          ∷ record { trip = record { 0 = 0 }; stop = record { 0 = 3 }; sequence = 10; arrival = None; departure = Some 90600; pickup = false; drop_off = true } ∷ [];
       services = record { service = record { 0 = 2 }; days = true ∷ true ∷ true ∷ true ∷ true ∷ false ∷ false ∷ []; first = record { 0 = day_number 2025 1 1 }; last = record { 0 = day_number 2025 12 31 } }
-        ∷ record { service = record { 0 = 1 }; days = false ∷ false ∷ false ∷ false ∷ false ∷ true ∷ true ∷ []; first = record { 0 = day_number 2025 6 1 }; last = record { 0 = day_number 2025 6 2 } } ∷ [];
+          ∷ record { service = record { 0 = 1 }; days = false ∷ false ∷ false ∷ false ∷ false ∷ true ∷ true ∷ []; first = record { 0 = day_number 2025 6 1 }; last = record { 0 = day_number 2025 6 2 } } ∷ [];
       exceptions = record { service = record { 0 = 0 }; day = record { 0 = day_number 2025 6 2 }; added = true }
-        ∷ record { service = record { 0 = 3 }; day = record { 0 = day_number 2025 6 1 }; added = false }
-        ∷ record { service = record { 0 = 2 }; day = record { 0 = day_number 2025 6 2 }; added = false } ∷ [];
+          ∷ record { service = record { 0 = 3 }; day = record { 0 = day_number 2025 6 1 }; added = false }
+          ∷ record { service = record { 0 = 2 }; day = record { 0 = day_number 2025 6 2 }; added = false } ∷ [];
       frequencies = record { trip = record { 0 = 2 }; start = 30000; end = 33600; headway = 1800 } ∷ [];
       links = record { from = record { 0 = 1 }; to = record { 0 = 3 }; forbidden = false; seconds = 120 }
-        ∷ record { from = record { 0 = 0 }; to = record { 0 = 0 }; forbidden = true; seconds = 0 }
-        ∷ record { from = record { 0 = 4 }; to = record { 0 = 1 }; forbidden = false; seconds = 60 } ∷ [];
+          ∷ record { from = record { 0 = 0 }; to = record { 0 = 0 }; forbidden = true; seconds = 0 }
+          ∷ record { from = record { 0 = 4 }; to = record { 0 = 1 }; forbidden = false; seconds = 60 } ∷ [];
       areas = record { id = codes "z1" } ∷ record { id = codes "z2" } ∷ [];
       stop_areas = record { area = record { 0 = 1 }; stop = record { 0 = 1 } } ∷ record { area = record { 0 = 0 }; stop = record { 0 = 0 } } ∷ [];
       timeframes = record { frame = record { 0 = 0 }; start = 0; end = 32400; service = record { 0 = 1 } }
-        ∷ record { frame = record { 0 = 1 }; start = 0; end = 86400; service = record { 0 = 0 } }
-        ∷ record { frame = record { 0 = 0 }; start = 32400; end = 86400; service = record { 0 = 1 } } ∷ [];
+          ∷ record { frame = record { 0 = 1 }; start = 0; end = 86400; service = record { 0 = 0 } }
+          ∷ record { frame = record { 0 = 0 }; start = 32400; end = 86400; service = record { 0 = 1 } } ∷ [];
       riders = record { id = codes "adult"; default = true } ∷ record { id = codes "child"; default = false } ∷ [];
       media = record { id = codes "card" } ∷ record { id = codes "cash" } ∷ [];
       products = record { product = record { 0 = 0 }; rider = Some (record { 0 = 0 }); medium = Some (record { 0 = 0 }); amount = record { 0 = pos 2505 } }
-        ∷ record { product = record { 0 = 0 }; rider = Some (record { 0 = 1 }); medium = None; amount = record { 0 = pos 1200 } }
-        ∷ record { product = record { 0 = 1 }; rider = None; medium = None; amount = record { 0 = pos 4000 } }
-        ∷ record { product = record { 0 = 2 }; rider = None; medium = Some (record { 0 = 1 }); amount = record { 0 = negsuc 299 } } ∷ [];
+          ∷ record { product = record { 0 = 0 }; rider = Some (record { 0 = 1 }); medium = None; amount = record { 0 = pos 1200 } }
+          ∷ record { product = record { 0 = 1 }; rider = None; medium = None; amount = record { 0 = pos 4000 } }
+          ∷ record { product = record { 0 = 2 }; rider = None; medium = Some (record { 0 = 1 }); amount = record { 0 = negsuc 299 } } ∷ [];
       leg_rules = record { group = Some (record { 0 = 0 }); network = Some (record { 0 = 1 }); from_area = Some (record { 0 = 0 }); to_area = None; from_frame = Some (record { 0 = 0 }); to_frame = None; product = record { 0 = 0 }; priority = 1 }
-        ∷ record { group = None; network = None; from_area = None; to_area = None; from_frame = None; to_frame = None; product = record { 0 = 1 }; priority = 0 }
-        ∷ record { group = Some (record { 0 = 1 }); network = Some (record { 0 = 0 }); from_area = None; to_area = Some (record { 0 = 1 }); from_frame = None; to_frame = Some (record { 0 = 1 }); product = record { 0 = 1 }; priority = 7 } ∷ [];
+          ∷ record { group = None; network = None; from_area = None; to_area = None; from_frame = None; to_frame = None; product = record { 0 = 1 }; priority = 0 }
+          ∷ record { group = Some (record { 0 = 1 }); network = Some (record { 0 = 0 }); from_area = None; to_area = Some (record { 0 = 1 }); from_frame = None; to_frame = Some (record { 0 = 1 }); product = record { 0 = 1 }; priority = 7 } ∷ [];
       transfer_rules = record { from = Some (record { 0 = 0 }); to = Some (record { 0 = 0 }); count = None; limit = Some (record { seconds = 3600; kind = 1 }); kind = 0; product = None }
-        ∷ record { from = Some (record { 0 = 0 }); to = Some (record { 0 = 0 }); count = Some 3; limit = None; kind = 1; product = Some (record { 0 = 2 }) }
-        ∷ record { from = Some (record { 0 = 0 }); to = Some (record { 0 = 1 }); count = None; limit = None; kind = 2; product = Some (record { 0 = 2 }) }
-        ∷ record { from = None; to = None; count = None; limit = Some (record { seconds = 900; kind = 3 }); kind = 0; product = None } ∷ [];
+          ∷ record { from = Some (record { 0 = 0 }); to = Some (record { 0 = 0 }); count = Some 3; limit = None; kind = 1; product = Some (record { 0 = 2 }) }
+          ∷ record { from = Some (record { 0 = 0 }); to = Some (record { 0 = 1 }); count = None; limit = None; kind = 2; product = Some (record { 0 = 2 }) }
+          ∷ record { from = None; to = None; count = None; limit = Some (record { seconds = 900; kind = 3 }); kind = 0; product = None } ∷ [];
       service_names = codes "S2" ∷ codes "S1" ∷ codes "S0" ∷ codes "S3" ∷ [];
       network_names = codes "n1" ∷ codes "n2" ∷ [];
       frame_names = codes "peak" ∷ codes "all" ∷ [];
@@ -101,14 +100,14 @@ full_good = refl
 
 -- a feed without products has no currency
 without_products_read : feed_of (files_in (with_file (codes "fare_products.txt") (codes "fare_product_id,amount,currency\n")
-      (with_file (codes "fare_leg_rules.txt") (codes "fare_product_id,rule_priority\n") (without_file (codes "fare_transfer_rules.txt") base))))
+    (with_file (codes "fare_leg_rules.txt") (codes "fare_product_id,rule_priority\n") (without_file (codes "fare_transfer_rules.txt") base))))
     ≡ record base_rows { products = []; leg_rules = []; transfer_rules = []; product_names = []; group_names = []; has_priority = true; currency = None; decimals = 2 }
 unfolding feeds_on_literals
 without_products_read = refl
 
 -- it is accepted all the same
 without_products_good : fault_of (with_file (codes "fare_products.txt") (codes "fare_product_id,amount,currency\n")
-      (with_file (codes "fare_leg_rules.txt") (codes "fare_product_id,rule_priority\n") (without_file (codes "fare_transfer_rules.txt") base)))
+    (with_file (codes "fare_leg_rules.txt") (codes "fare_product_id,rule_priority\n") (without_file (codes "fare_transfer_rules.txt") base)))
     ≡ None
 unfolding feeds_on_literals
 without_products_good = refl

@@ -1,6 +1,6 @@
 -- The grammars of fields at their edges.
-use Rattle.std.proofs.Common.{◌≡◌, ℕ, Bool, true, false, List, [], ◌∷◌, Option, None, Some, refl}
-use Rattle.std.specs.Prelude.{codes, map, replicate, ◌++◌, ℤ, pos, negsuc}
+use Rattle.std.proofs.Common.{◌≡◌, ℕ, true, false, List, [], ◌∷◌, None, Some, refl}
+use Rattle.std.specs.Prelude.{codes, map, replicate, ◌++◌, pos, negsuc}
 use Rattle.transit_base.specs.Dates.{day_number}
 use Rattle.feed_faults.specs.FieldGrammars.{is_id, int_value, count_value, time_value, date_value, currency_decimals, amount_value, amount_in}
 use Rattle.feed_faults.proofs.OnLiterals.{grammars_on_literals}

@@ -57,7 +57,7 @@ abbrev pub clock_at : ℕ → List ℕ → Option ℕ
 clock_at place text =
     if (slice_index text place == 58) && (slice_index text (place + 3) == 58)
     then clock_seconds (if_below 168 (whole_number (take place text)))
-      (if_below 60 (whole_number (slice_range text (place + 1) (place + 3)))) (if_below 60 (whole_number (drop (place + 4) text)))
+    (if_below 60 (whole_number (slice_range text (place + 1) (place + 3)))) (if_below 60 (whole_number (drop (place + 4) text)))
     else None
 
 -- a time of at most so many seconds: H:MM:SS, HH:MM:SS or HHH:MM:SS (Time; three digits of hours are of the profile)
@@ -113,7 +113,7 @@ point_place text = find_below (length text) (λ i. slice_index text i == 46)
 unfoldable pub fraction_value : ℕ → List ℕ → Option ℕ
 fraction_value decimals digits =
     when (nat_le 1 (length digits) && all_ascii_digits digits && list_all (λ c. c == 48) (drop decimals digits))
-      (digits_value 10 (take decimals digits) * 10 ^ (decimals - length digits))
+    (digits_value 10 (take decimals digits) * 10 ^ (decimals - length digits))
 
 -- whole units and minor units together, in minor units
 abbrev pub minor_units : ℕ → Option ℕ → Option ℕ → Option ℕ
@@ -125,7 +125,7 @@ minor_units decimals None fraction = None
 unfoldable pub unsigned_amount : ℕ → List ℕ → Option ℕ
 unsigned_amount decimals text =
     option_map_or (λ place. minor_units decimals (whole_number (take place text)) (fraction_value decimals (drop (place + 1) text)))
-      (point_place text) (minor_units decimals (whole_number text) (Some 0))
+    (point_place text) (minor_units decimals (whole_number text) (Some 0))
 
 -- the greatest amount that is read, and the least, which is its opposite
 abbrev pub most_amount : ℤ

@@ -1,6 +1,6 @@
 -- The values of a row's fields. A field that isn't of its grammar gives the value after the greatest, which no field of the
 -- column has.
-use Rattle.std.specs.Prelude.{ℕ, ◌+◌, ◌&&◌, ◌||◌, ◌==◌, if◌then◌else◌, Bool, List, Option, None, Some, unwrap_or, ℤ, pos, negsuc, ◌+ℤ◌}
+use Rattle.std.specs.Prelude.{ℕ, ◌+◌, if◌then◌else◌, List, Option, None, Some, unwrap_or, ℤ, pos, negsuc, ◌+ℤ◌}
 use Rattle.feed_rows.specs.declared.names.ColumnName.TheVariants as column
 use Rattle.feed_faults.specs.Records.{FileTable, field, is_filled}
 use Rattle.feed_faults.specs.FieldGrammars.{int_value, time_value, date_value, amount_in, most_amount}

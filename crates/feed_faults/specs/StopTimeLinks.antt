@@ -64,7 +64,7 @@ same_place times a b = both_and times a b (λ x y. bytes_eq x.trip y.trip && (x.
 unfoldable pub comes_before : List StopTime → ℕ → ℕ → Bool
 comes_before times a b =
     both_and times a b (λ x y. bytes_eq x.trip y.trip
-      && (nat_lt x.sequence y.sequence || ((x.sequence == y.sequence) && nat_lt a b)))
+    && (nat_lt x.sequence y.sequence || ((x.sequence == y.sequence) && nat_lt a b)))
 
 -- a row is the first of its trip, and the last of it
 unfoldable pub is_first : List StopTime → ℕ → Bool
@@ -82,15 +82,15 @@ unfoldable pub is_nearest_before : List StopTime → ℕ → ℕ → Bool
 is_nearest_before times near row =
     comes_before times near row && at_and times near is_timed
     && not (any_below (length times)
-      (λ other. comes_before times near other && comes_before times other row && at_and times other is_timed))
+    (λ other. comes_before times near other && comes_before times other row && at_and times other is_timed))
 
 -- a timed row's last time is less than its first, or its first is less than the last time of the nearest timed row before
 -- it (stop_times.txt: arrival_time, departure_time)
 unfoldable pub do_times_decrease : List StopTime → ℕ → Bool
 do_times_decrease times row =
     at_and times row (λ x. is_earlier (last_time x) (first_time x)
-      || any_below (length times) (λ near. is_nearest_before times near row
-        && at_and times near (λ y. is_earlier (first_time x) (last_time y))))
+    || any_below (length times) (λ near. is_nearest_before times near row
+    && at_and times near (λ y. is_earlier (first_time x) (last_time y))))
 
 -- a stop time is at a platform; an id of several rows is that of the earliest
 unfoldable pub is_at_platform : FeedTables → ℕ → Bool
@@ -99,10 +99,12 @@ is_at_platform t row = filled_and (row_of t.stops StopId (field t.stop_times row
 -- stop_times.txt
 unfoldable pub stop_time_fault : FeedTables → ℕ → Option FeedFault
 stop_time_fault t row =
-    first_of (when (is_unknown t.trips TripId (field t.stop_times row TripId)) (field_fault file.StopTimes row TripId UnknownReference)
-      ∷ when (is_unknown t.stops StopId (field t.stop_times row StopId)) (field_fault file.StopTimes row StopId UnknownReference)
-      ∷ when (not (is_at_platform t row)) (field_fault file.StopTimes row StopId WrongStopKind)
-      ∷ when (is_repeated (same_place (stop_times_of t.stop_times)) row) (field_fault file.StopTimes row StopSequence DoubledKey)
-      ∷ when (is_end_time_missing (stop_times_of t.stop_times) row) (field_fault file.StopTimes row ArrivalTime EndTimeMissing)
-      ∷ when (do_times_decrease (stop_times_of t.stop_times) row) (field_fault file.StopTimes row ArrivalTime TimesDecrease)
-      ∷ [])
+    let fault = field_fault file.StopTimes row in
+    let at = field t.stop_times row in
+    first_of (when (is_unknown t.trips TripId (at TripId)) (fault TripId UnknownReference)
+    ∷ when (is_unknown t.stops StopId (at StopId)) (fault StopId UnknownReference)
+    ∷ when (not (is_at_platform t row)) (fault StopId WrongStopKind)
+    ∷ when (is_repeated (same_place (stop_times_of t.stop_times)) row) (fault StopSequence DoubledKey)
+    ∷ when (is_end_time_missing (stop_times_of t.stop_times) row) (fault ArrivalTime EndTimeMissing)
+    ∷ when (do_times_decrease (stop_times_of t.stop_times) row) (fault ArrivalTime TimesDecrease)
+    ∷ [])
