@@ -50,6 +50,11 @@ times : AreRead (time_value 604799)
 unfolding grammars_on_literals
 times = refl
 
+-- hours are at most 167, also where the greatest time would permit more
+many_hours : AreRead (time_value 1000000) ((codes "167:59:59", Some 604799) ∷ (codes "168:00:00", None) ∷ (codes "200:00:00", None) ∷ [])
+unfolding grammars_on_literals
+many_hours = refl
+
 -- times of at most 24:00:00
 times_of_day : AreRead (time_value 86400)
     ((codes "24:00:00", Some 86400) ∷ (codes "24:00:01", None) ∷ (codes "23:59:59", Some 86399) ∷ (codes "0:00:00", Some 0) ∷ [])
