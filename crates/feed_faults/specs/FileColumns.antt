@@ -1,6 +1,6 @@
 -- The columns of each file that are read, in the order in which they are judged, and how a field of each is judged
 -- (Field Definitions). Every other column is passed over.
-use Rattle.std.specs.Prelude.{ℕ, ℤ, pos, negsuc, int_le, Bool, true, false, ◌&&◌, not, List, [], ◌∷◌, is_some, Option, None, Some}
+use Rattle.std.specs.Prelude.{ℕ, pos, Bool, List, [], ◌∷◌, is_some}
 use Rattle.feed_rows.specs.declared.names.FileName.{FileName}
 use Rattle.feed_rows.specs.declared.names.FileName.TheVariants as file
 use Rattle.feed_rows.specs.declared.names.ColumnName.{ColumnName}
@@ -9,7 +9,6 @@ use Rattle.feed_rows.specs.declared.faults.FaultKind.{FaultKind}
 use Rattle.feed_rows.specs.declared.faults.FaultKind.TheVariants as kind
 use Rattle.feed_faults.specs.declared.columns.Grammar.{Grammar}
 use Rattle.feed_faults.specs.declared.columns.Grammar.TheVariants as grammar
-use Rattle.feed_faults.specs.declared.columns.EmptyField.{EmptyField}
 use Rattle.feed_faults.specs.declared.columns.EmptyField.TheVariants as empty
 use Rattle.feed_faults.specs.declared.columns.ColumnRule.{ColumnRule}
 use Rattle.feed_faults.specs.FieldGrammars.{is_id, int_value, count_value, time_value, date_value, currency_decimals, amount_in}

@@ -3,4 +3,4 @@
 
 mod columns;
 
-pub use columns::{columns_of, ColumnRule, EmptyField, Grammar};
+pub use columns::{ColumnRule, EmptyField, Grammar, columns_of};
