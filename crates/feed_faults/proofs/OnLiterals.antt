@@ -5,7 +5,9 @@ use Rattle.std.specs.Str.{is_utf8, chars}
 use Rattle.csv.proofs.OnLiterals.{csv_on_literals}
 use Rattle.feed_rows.specs.HeldFiles.{held}
 use Rattle.feed_faults.specs.Records.{cut, table_of_bytes, column_of, field, is_long}
-use Rattle.feed_faults.specs.FieldGrammars.{is_id, whole_number, int_value, count_value, time_value, date_value, currency_decimals, fraction_value, unsigned_amount, amount_value}
+use Rattle.feed_rows.specs.Numerals.{number_value}
+use Rattle.feed_rows.specs.TimeGrammar.{time_value}
+use Rattle.feed_faults.specs.FieldGrammars.{is_id, int_value, count_value, date_value, currency_decimals, fraction_value, unsigned_amount, amount_value}
 use Rattle.feed_faults.specs.FormFaults.{is_twice, doubled_column, missing_column, header_fault, names_flex_place, field_misfit, is_passed_over, form_fault_of_row, form_fault_of_rows, form_fault_of_table, form_fault_of_bytes, form_fault, timetable_form_fault, network_form_fault, fare_form_fault}
 use Rattle.feed_faults.specs.FeedTables.{tables_of}
 use Rattle.feed_faults.specs.FieldValues.{int_or_past, time_or_past, day_or_past, amount_or_past}
@@ -19,7 +21,7 @@ use Rattle.feed_faults.specs.AcceptedFeed.{place_of_name, with_name, service_nam
 
 -- the grammars of fields
 unfoldable pub grammars_on_literals : ⊤
-unfolding is_id whole_number int_value count_value time_value date_value currency_decimals fraction_value unsigned_amount amount_value
+unfolding is_id number_value int_value count_value time_value date_value currency_decimals fraction_value unsigned_amount amount_value
 grammars_on_literals = tt
 
 -- the first pass over a table

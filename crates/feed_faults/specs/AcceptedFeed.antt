@@ -29,7 +29,8 @@ use Rattle.feed_rows.specs.FeedRows.{FeedRows}
 use Rattle.feed_rows.specs.HeldFiles.{HeldFile}
 use Rattle.feed_rows.specs.Words.{when, find_below, list_below, picks_below}
 use Rattle.feed_faults.specs.Records.{FileTable, row_count, column_of, field, is_filled}
-use Rattle.feed_faults.specs.FieldGrammars.{count_value, time_value, currency_decimals}
+use Rattle.feed_rows.specs.TimeGrammar.{time_value}
+use Rattle.feed_faults.specs.FieldGrammars.{count_value, currency_decimals}
 use Rattle.feed_faults.specs.FileColumns.{most_int}
 use Rattle.feed_faults.specs.FormFaults.{is_passed_over}
 use Rattle.feed_faults.specs.FeedTables.{FeedTables, tables_of}

@@ -5,6 +5,7 @@ use Rattle.std.specs.Option.{option_map_or}
 use Rattle.std.specs.Str.{all_ascii_digits}
 use Rattle.std.specs.Str.Parse.{digits_value}
 use Rattle.transit_base.specs.Dates.{is_date, day_number}
+use Rattle.feed_rows.specs.Numerals.{number_value}
 use Rattle.feed_rows.specs.Words.{when, find_below, int_same}
 
 -- a tab, a line feed or a carriage return
@@ -14,10 +15,6 @@ is_break c = (c == 9) || (c == 10) || (c == 13)
 -- an id: 1 to 255 bytes without tab, line feed and carriage return (ID; the limits are of the profile)
 unfoldable pub is_id : List ℕ → Bool
 is_id text = nat_le 1 (length text) && nat_le (length text) 255 && not (list_any is_break text)
-
--- one or more digits, leading zeros permitted
-unfoldable pub whole_number : List ℕ → Option ℕ
-whole_number text = when (nat_le 1 (length text) && all_ascii_digits text) (digits_value 10 text)
 
 -- the text begins with a minus sign
 abbrev pub is_negative : List ℕ → Bool
@@ -34,36 +31,11 @@ if_between least most value = option_and_then (λ z. when (int_le least z && int
 
 -- an integer from least to most: an optional minus sign and one or more digits (Integer)
 unfoldable pub int_value : ℤ → ℤ → List ℕ → Option ℤ
-int_value least most text = if_between least most (signed_value whole_number text)
+int_value least most text = if_between least most (signed_value number_value text)
 
 -- a number of changes, or -1 for any number: an integer from -1 to 2147483647, but not 0 (transfer_count)
 unfoldable pub count_value : List ℕ → Option ℤ
 count_value text = option_and_then (λ z. when (not (int_same z (pos 0))) z) (int_value (negsuc 0) (pos 2147483647) text)
-
--- a value below a limit
-abbrev pub if_below : ℕ → Option ℕ → Option ℕ
-if_below limit value = option_and_then (λ n. when (nat_lt n limit) n) value
-
--- the seconds of hours, minutes and seconds
-abbrev pub clock_seconds : Option ℕ → Option ℕ → Option ℕ → Option ℕ
-clock_seconds (Some hours) (Some minutes) (Some seconds) = Some (3600 * hours + 60 * minutes + seconds)
-clock_seconds (Some hours) (Some minutes) None = None
-clock_seconds (Some hours) None seconds = None
-clock_seconds None minutes seconds = None
-
--- the seconds of a clock's text with its first colon at this place: hours of at most 167, then minutes and seconds of two
--- digits below 60 each
-abbrev pub clock_at : ℕ → List ℕ → Option ℕ
-clock_at place text =
-    if (slice_index text place == 58) && (slice_index text (place + 3) == 58)
-    then clock_seconds (if_below 168 (whole_number (take place text)))
-    (if_below 60 (whole_number (slice_range text (place + 1) (place + 3)))) (if_below 60 (whole_number (drop (place + 4) text)))
-    else None
-
--- a time of at most so many seconds: H:MM:SS, HH:MM:SS or HHH:MM:SS (Time; three digits of hours are of the profile)
-unfoldable pub time_value : ℕ → List ℕ → Option ℕ
-time_value most text =
-    if nat_le 7 (length text) && nat_le (length text) 9 then if_below (most + 1) (clock_at (length text - 6) text) else None
 
 -- a date: eight digits YYYYMMDD that name a day of the years 0001 to 9999; its value is the day's number (Date)
 unfoldable pub date_value : List ℕ → Option ℤ
@@ -124,8 +96,8 @@ minor_units decimals None fraction = None
 -- one or more digits, and optionally a point with one or more digits, in minor units
 unfoldable pub unsigned_amount : ℕ → List ℕ → Option ℕ
 unsigned_amount decimals text =
-    option_map_or (λ place. minor_units decimals (whole_number (take place text)) (fraction_value decimals (drop (place + 1) text)))
-    (point_place text) (minor_units decimals (whole_number text) (Some 0))
+    option_map_or (λ place. minor_units decimals (number_value (take place text)) (fraction_value decimals (drop (place + 1) text)))
+    (point_place text) (minor_units decimals (number_value text) (Some 0))
 
 -- the greatest amount that is read, and the least, which is its opposite
 abbrev pub most_amount : ℤ

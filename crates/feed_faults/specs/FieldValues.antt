@@ -3,7 +3,8 @@
 use Rattle.std.specs.Prelude.{ℕ, ◌+◌, if◌then◌else◌, List, Option, None, Some, unwrap_or, ℤ, pos, negsuc, ◌+ℤ◌}
 use Rattle.feed_rows.specs.declared.names.ColumnName.TheVariants as column
 use Rattle.feed_faults.specs.Records.{FileTable, field, is_filled}
-use Rattle.feed_faults.specs.FieldGrammars.{int_value, time_value, date_value, amount_in, most_amount}
+use Rattle.feed_rows.specs.TimeGrammar.{time_value}
+use Rattle.feed_faults.specs.FieldGrammars.{int_value, date_value, amount_in, most_amount}
 
 -- a number from 0 on, or else the number of something that isn't there
 abbrev pub nat_or : ℕ → Option ℤ → ℕ

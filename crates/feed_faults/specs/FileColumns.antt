@@ -11,7 +11,8 @@ use Rattle.feed_faults.specs.declared.columns.Grammar.{Grammar}
 use Rattle.feed_faults.specs.declared.columns.Grammar.TheVariants as grammar
 use Rattle.feed_faults.specs.declared.columns.EmptyField.TheVariants as empty
 use Rattle.feed_faults.specs.declared.columns.ColumnRule.{ColumnRule}
-use Rattle.feed_faults.specs.FieldGrammars.{is_id, int_value, count_value, time_value, date_value, currency_decimals, amount_in}
+use Rattle.feed_rows.specs.TimeGrammar.{time_value}
+use Rattle.feed_faults.specs.FieldGrammars.{is_id, int_value, count_value, date_value, currency_decimals, amount_in}
 
 -- a column that must be there, with no field empty
 abbrev pub must : ColumnName → Grammar → ColumnRule

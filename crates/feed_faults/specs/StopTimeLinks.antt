@@ -8,7 +8,7 @@ use Rattle.feed_rows.specs.declared.faults.FaultKind.TheVariants.{UnknownReferen
 use Rattle.feed_rows.specs.declared.faults.FeedFault.{FeedFault}
 use Rattle.feed_rows.specs.Words.{when, filled_and, at_and, any_below, list_below, first_of}
 use Rattle.feed_faults.specs.Records.{FileTable, row_count, field}
-use Rattle.feed_faults.specs.FieldGrammars.{time_value}
+use Rattle.feed_rows.specs.TimeGrammar.{time_value}
 use Rattle.feed_faults.specs.FileColumns.{most_int}
 use Rattle.feed_faults.specs.FaultPlaces.{field_fault}
 use Rattle.feed_faults.specs.FeedTables.{FeedTables}
