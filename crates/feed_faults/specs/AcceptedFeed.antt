@@ -30,8 +30,7 @@ use Rattle.feed_rows.specs.HeldFiles.{HeldFile}
 use Rattle.feed_rows.specs.Words.{when, find_below, list_below, picks_below}
 use Rattle.feed_faults.specs.Records.{FileTable, row_count, column_of, field, is_filled}
 use Rattle.feed_rows.specs.TimeGrammar.{time_value}
-use Rattle.feed_faults.specs.FieldGrammars.{count_value, currency_decimals}
-use Rattle.feed_faults.specs.FileColumns.{most_int}
+use Rattle.feed_faults.specs.FieldGrammars.{most_int, most_time, count_value, currency_decimals}
 use Rattle.feed_faults.specs.FormFaults.{is_passed_over}
 use Rattle.feed_faults.specs.FeedTables.{FeedTables, tables_of}
 use Rattle.feed_faults.specs.FieldValues.{int_or_past, optional_int, time_or_past, day_or_past, amount_or_past, stop_kind, frame_start, frame_end}
@@ -140,8 +139,8 @@ stop_time_row t row =
       trip = record { 0 = row_number t.trips column.TripId (at column.TripId) };
       stop = record { 0 = row_number t.stops column.StopId (at column.StopId) };
       sequence = int_or_past most_int (at column.StopSequence);
-      arrival = time_value 604799 (at column.ArrivalTime);
-      departure = time_value 604799 (at column.DepartureTime);
+      arrival = time_value most_time (at column.ArrivalTime);
+      departure = time_value most_time (at column.DepartureTime);
       pickup = permits (at column.PickupType);
       drop_off = permits (at column.DropOffType);
     }
@@ -179,8 +178,8 @@ frequency_row t row =
     let at = field t.frequencies row in
     record {
       trip = record { 0 = row_number t.trips column.TripId (at column.TripId) };
-      start = time_or_past 604799 (at column.StartTime);
-      end = time_or_past 604799 (at column.EndTime);
+      start = time_or_past most_time (at column.StartTime);
+      end = time_or_past most_time (at column.EndTime);
       headway = int_or_past most_int (at column.HeadwaySecs);
     }
 

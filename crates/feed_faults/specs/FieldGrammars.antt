@@ -29,13 +29,24 @@ signed_value grammar text =
 abbrev pub if_between : ℤ → ℤ → Option ℤ → Option ℤ
 if_between least most value = option_and_then (λ z. when (int_le least z && int_le z most) z) value
 
+-- the greatest integer of a column without a limit of its own (profile)
+abbrev pub most_int : ℕ
+most_int = 2147483647
+
 -- an integer from least to most: an optional minus sign and one or more digits (Integer)
 unfoldable pub int_value : ℤ → ℤ → List ℕ → Option ℤ
 int_value least most text = if_between least most (signed_value number_value text)
 
--- a number of changes, or -1 for any number: an integer from -1 to 2147483647, but not 0 (transfer_count)
+-- a number of changes, or -1 for any number: an integer from -1 on, but not 0 (transfer_count)
 unfoldable pub count_value : List ℕ → Option ℤ
-count_value text = option_and_then (λ z. when (not (int_same z (pos 0))) z) (int_value (negsuc 0) (pos 2147483647) text)
+count_value text = option_and_then (λ z. when (not (int_same z (pos 0))) z) (int_value (negsuc 0) (pos most_int) text)
+
+-- the greatest time, 167:59:59, and the end of a day, 24:00:00, in seconds
+abbrev pub most_time : ℕ
+most_time = 604799
+
+abbrev pub end_of_day : ℕ
+end_of_day = 86400
 
 -- a date: eight digits YYYYMMDD that name a day of the years 0001 to 9999; its value is the day's number (Date)
 unfoldable pub date_value : List ℕ → Option ℤ

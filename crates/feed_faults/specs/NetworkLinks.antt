@@ -7,6 +7,7 @@ use Rattle.feed_rows.specs.declared.faults.FaultKind.TheVariants.{UnknownReferen
 use Rattle.feed_rows.specs.declared.faults.FeedFault.{FeedFault}
 use Rattle.feed_rows.specs.Words.{when, any_below, first_of}
 use Rattle.feed_faults.specs.Records.{FileTable, row_count, field, is_filled}
+use Rattle.feed_faults.specs.FieldGrammars.{most_time}
 use Rattle.feed_faults.specs.FormFaults.{is_passed_over}
 use Rattle.feed_faults.specs.FaultPlaces.{file_fault, field_fault}
 use Rattle.feed_faults.specs.FeedTables.{FeedTables}
@@ -16,7 +17,7 @@ use Rattle.feed_faults.specs.RowKeys.{is_unknown, same_field, is_repeated, is_do
 -- two rows are of one trip and one start
 unfoldable pub same_start : FileTable → ℕ → ℕ → Bool
 same_start frequencies a b =
-    same_field frequencies TripId a b && (time_or_past 604799 (field frequencies a StartTime) == time_or_past 604799 (field frequencies b StartTime))
+    same_field frequencies TripId a b && (time_or_past most_time (field frequencies a StartTime) == time_or_past most_time (field frequencies b StartTime))
 
 -- frequencies.txt
 unfoldable pub frequency_fault : FeedTables → ℕ → Option FeedFault

@@ -9,7 +9,7 @@ use Rattle.feed_rows.specs.declared.faults.FeedFault.{FeedFault}
 use Rattle.feed_rows.specs.Words.{when, filled_and, at_and, any_below, list_below, first_of}
 use Rattle.feed_faults.specs.Records.{FileTable, row_count, field}
 use Rattle.feed_rows.specs.TimeGrammar.{time_value}
-use Rattle.feed_faults.specs.FileColumns.{most_int}
+use Rattle.feed_faults.specs.FieldGrammars.{most_int, most_time}
 use Rattle.feed_faults.specs.FaultPlaces.{field_fault}
 use Rattle.feed_faults.specs.FeedTables.{FeedTables}
 use Rattle.feed_faults.specs.FieldValues.{int_or_past, stop_kind}
@@ -28,8 +28,8 @@ stop_time_of table row =
     record {
       trip = field table row TripId;
       sequence = int_or_past most_int (field table row StopSequence);
-      arrival = time_value 604799 (field table row ArrivalTime);
-      departure = time_value 604799 (field table row DepartureTime);
+      arrival = time_value most_time (field table row ArrivalTime);
+      departure = time_value most_time (field table row DepartureTime);
     }
 
 -- the stop times of a file
