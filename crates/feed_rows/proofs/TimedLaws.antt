@@ -114,6 +114,12 @@ next_timed_hit rows p q lt le none timed = step (cases_lt q (length rows))
         let found = timed_after_none rows p (λ k from to. none k from (omega arith)) in
         rw found at_end
 
+-- the same where the search ends with no timed row
+pub next_timed_end : (rows : List StopTimeRow) (p q : ℕ) → ((k : ℕ) → p < k → k < q → is_timed_at rows k ≡ false) → length rows ≤ q → next_timed rows p ≡ length rows
+next_timed_end rows p q none le =
+    let found = timed_after_none rows p (λ k from to. none k from (omega arith)) in
+    rw found refl
+
 -- the nearest timed position after the next position is that after the present one, where the next row has no time
 pub timed_after_untimed : (rows : List StopTimeRow) (m : ℕ) → is_timed_at rows (m + 1) ≡ false → timed_after rows (m + 1) ≡ timed_after rows m
 timed_after_untimed rows m untimed = find_below_same (λ k. nat_lt (m + 1) k && is_timed_at rows k) (λ k. nat_lt m k && is_timed_at rows k) (length rows) (λ k lt. same k (cases_eq k (m + 1)))
