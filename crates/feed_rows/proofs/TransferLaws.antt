@@ -4,17 +4,7 @@ use Rattle.std.specs.Prelude.{Option, Some, None}
 use Rattle.std.proofs.lemmas.Bool.{cases_lt, and_parts, and_from}
 use Rattle.feed_rows.specs.FeedRows.{FeedRows}
 use Rattle.feed_rows.specs.Words.{filled_and}
-use Rattle.feed_rows.specs.TransferRules.{FareLeg, same_group, change_from, change_at, goes_on, is_arranged, is_arranged_at, run_start}
-
--- legs i and i + 1 have one group
-abbrev pub is_same_group_at : (ℕ → Option FareLeg) → ℕ → Bool
-is_same_group_at leg i = filled_and (leg i) (λ before. filled_and (leg (i + 1)) (λ next. same_group before.group next.group))
-
--- legs b to i have one group, and the changes between them are all arranged
-pub record IsRun (feed : FeedRows) (leg : ℕ → Option FareLeg) (b i : ℕ) : Type 0 where
-  pub begun : b ≤ i
-  pub one_group : (k : ℕ) → b ≤ k → k < i → is_same_group_at leg k ≡ true
-  pub arranged : (k : ℕ) → b ≤ k → k < i → is_arranged_at feed leg k ≡ true
+use Rattle.feed_rows.specs.TransferRules.{FareLeg, same_group, change_from, change_at, goes_on, is_arranged, is_arranged_at, is_same_group_at, run_start, IsRun}
 
 -- a run goes on exactly where the next leg has the same group and the change to it is arranged
 pub goes_on-arranged : (feed : FeedRows) (leg : ℕ → Option FareLeg) (i : ℕ) → goes_on feed leg (run_start feed leg i) i ≡ (is_same_group_at leg i && is_arranged_at feed leg i)

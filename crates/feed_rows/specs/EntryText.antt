@@ -1,6 +1,6 @@
 -- The printed text of an answer. Each line ends with one line feed, and a tab stands between two fields. What speaks of
 -- a row that the feed lacks prints no line.
-use Rattle.std.specs.Prelude.{ℕ, zero, suc, ◌+◌, Bool, ◌==◌, if◌then◌else◌, List, [], ◌∷◌, ◌++◌, length, slice_get, Option, Some, None, ℤ, pos, ◌+ℤ◌, unsigned_abs, unwrap_or, option_map, option_and_then, codes, decimal}
+use Rattle.std.specs.Prelude.{ℕ, zero, suc, ◌+◌, Bool, ◌==◌, if◌then◌else◌, List, [], ◌∷◌, ◌++◌, length, slice_get, Option, Some, None, ℤ, pos, negsuc, ◌+ℤ◌, unwrap_or, option_map, option_and_then, codes, decimal}
 use Rattle.std.specs.Option.{option_map_or, option_to_list}
 use Rattle.std.specs.List.{concat, flat_map}
 use Rattle.transit_base.specs.DateTexts.{date_text, moment_text, time_text}
@@ -21,7 +21,7 @@ use Rattle.feed_rows.specs.Calls.{calls_of, first_departure}
 use Rattle.feed_rows.specs.Shifts.{has_frequencies}
 use Rattle.feed_rows.specs.StopLinks.{link}
 use Rattle.feed_rows.specs.Journeys.{facts_at}
-use Rattle.feed_rows.specs.FareSums.{is_charged, transfer_kind}
+use Rattle.feed_rows.specs.FareSums.{amount_of, is_charged, transfer_kind}
 use Rattle.feed_rows.specs.Lines.{line}
 use Rattle.feed_rows.specs.MoneyText.{money_text}
 use Rattle.feed_rows.specs.Words.{joined_below}
@@ -61,11 +61,15 @@ walk_line feed from to =
 abbrev pub walk_lines : FeedRows → StopId → StopId → List (List ℕ)
 walk_lines feed from to = if from.0 == to.0 then [] else option_to_list (walk_line feed from to)
 
+-- a second of the service day as a time; one before the day has no text
+abbrev pub service_time_text : ℤ → List ℕ
+service_time_text (pos seconds) = time_text seconds
+service_time_text (negsuc seconds) = []
+
 -- when a ride's run departs from its first stop, as a time; `-` for a trip without frequency rows
 abbrev pub start_text : FeedRows → Ride → List ℕ
 start_text feed ride =
-    if has_frequencies feed ride.trip
-    then time_text (unsigned_abs (ride.shift +ℤ pos (first_departure feed ride.trip)))
+    if has_frequencies feed ride.trip then service_time_text (ride.shift +ℤ pos (first_departure feed ride.trip))
     else codes "-"
 
 -- the first half of a ride's line: the trip, the service day, the start, and the sequence values of its two calls
@@ -137,21 +141,17 @@ ticket_fields feed id amount =
         (product_text feed row))
       (slice_get feed.products id.0)
 
--- the amount of a product row
-abbrev pub row_amount : FeedRows → ProductRowId → ℤ
-row_amount feed id = option_map_or (λ row. row.amount.0) (slice_get feed.products id.0) (pos 0)
-
 -- the line of leg i: bought where it is charged, and otherwise included with the amount zero
 unfoldable pub leg_line : FeedRows → ℕ → Bool → LegChoice → Option (List ℕ)
 leg_line feed i charged pick =
     option_map
       (λ ticket. line (codes "leg")
         (decimal (i + 1) ∷ (if charged then codes "buy" else codes "included") ∷ decimal (pick.rule.0 + 1) ∷ ticket))
-      (ticket_fields feed pick.product (if charged then row_amount feed pick.product else pos 0))
+      (ticket_fields feed pick.product (if charged then amount_of feed pick.product else pos 0))
 
 -- the end of a change's line: its product row, or what stands for none
 abbrev pub change_fields : FeedRows → Option ProductRowId → Option (List (List ℕ))
-change_fields feed (Some row) = ticket_fields feed row (row_amount feed row)
+change_fields feed (Some row) = ticket_fields feed row (amount_of feed row)
 change_fields feed None = Some (codes "-" ∷ [] ∷ [] ∷ amount_text feed (pos 0) ∷ [])
 
 -- the line of change i, where it is arranged

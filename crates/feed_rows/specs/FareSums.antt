@@ -11,7 +11,7 @@ use Rattle.feed_rows.specs.FeedRows.{FeedRows}
 use Rattle.feed_rows.specs.FareChoices.{is_fare_choice}
 use Rattle.feed_rows.specs.Words.{filled_and, sum_below, when}
 
--- the type of the row by which change i is arranged; none where the change is not arranged
+-- the type of the row that is chosen for change i; none where none is chosen
 unfoldable pub transfer_kind : FeedRows → Choice → ℕ → Option ℕ
 transfer_kind feed choice i =
     option_and_then
@@ -23,18 +23,18 @@ unfoldable pub starts_chain : (ℕ → Option ℕ) → ℕ → Bool
 starts_chain kind zero = true
 starts_chain kind (suc before) = is_none (kind before)
 
--- leg i is entered by an arranged change of type 0 or 2
-abbrev pub is_entered_free : (ℕ → Option ℕ) → ℕ → Bool
-is_entered_free kind zero = false
-is_entered_free kind (suc before) = filled_and (kind before) (λ k. (k == 0) || (k == 2))
+-- leg i is included in the change that leads to it, which is of type 0 or 2
+abbrev pub is_included_on_entry : (ℕ → Option ℕ) → ℕ → Bool
+is_included_on_entry kind zero = false
+is_included_on_entry kind (suc before) = filled_and (kind before) (λ k. (k == 0) || (k == 2))
 
--- leg i is left by an arranged change of type 2
-abbrev pub is_left_free : (ℕ → Option ℕ) → ℕ → Bool
-is_left_free kind i = filled_and (kind i) (λ k. k == 2)
+-- leg i is included in the change that follows it, which is of type 2, where it is first of its chain
+abbrev pub is_included_on_leaving : (ℕ → Option ℕ) → ℕ → Bool
+is_included_on_leaving kind i = filled_and (kind i) (λ k. k == 2)
 
 -- leg i is charged, unless it is entered by a change of type 0 or 2, or is first of its chain and left by one of type 2
 unfoldable pub is_charged : (ℕ → Option ℕ) → ℕ → Bool
-is_charged kind i = not (is_entered_free kind i || (starts_chain kind i && is_left_free kind i))
+is_charged kind i = not (is_included_on_entry kind i || (starts_chain kind i && is_included_on_leaving kind i))
 
 -- the amount of a product row; one that the feed lacks is in no fare choice
 unfoldable pub amount_of : FeedRows → ProductRowId → ℤ
