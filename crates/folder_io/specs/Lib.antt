@@ -1,0 +1,4 @@
+pub mod FilePlaces
+pub mod KeptFiles
+pub mod FolderCalls
+pub mod SinkCalls
