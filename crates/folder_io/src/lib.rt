@@ -4,8 +4,12 @@
 
 mod files;
 mod folder;
+mod memory_folder;
 mod sink;
+mod sure_folder;
 
 pub use files::{ByteText, FileBytes, Files};
 pub use folder::{Folder, Opened, Piece};
+pub use memory_folder::MemFolder;
 pub use sink::{Sink, Wrote};
+pub use sure_folder::SureFolder;
