@@ -5,3 +5,10 @@ pub mod SinkCalls
 pub mod MemoryCalls
 pub mod SureFolder
 pub mod MemoryFolder
+pub mod ReservedRoom
+pub mod SureSink
+pub mod CutWrites
+pub mod MemorySink
+pub mod CountSink
+pub mod SystemFolder
+pub mod SystemSink
