@@ -24,17 +24,17 @@ memory_present folder = sure_present folder.folder
 
 -- whether the last call failed
 abbrev pub memory_failed : MemFolder → Bool
-memory_failed folder = folder.failed
+memory_failed folder = folder.faults.failed
 
 -- how many calls failed
 abbrev pub memory_faults : MemFolder → ℕ
-memory_faults folder = folder.faults
+memory_faults folder = folder.faults.count
 
 -- which calls fail, and how many were made
 abbrev pub memory_calls : MemFolder → FailingCalls
 memory_calls folder = record {
-    failing_opens = folder.failing_opens.items;
-    failing_reads = folder.failing_reads.items;
-    opens_made = folder.opens;
-    reads_made = folder.reads;
-  }
+  failing_opens = folder.failing_opens.items;
+  failing_reads = folder.failing_reads.items;
+  opens_made = folder.opens;
+  reads_made = folder.reads;
+}

@@ -18,8 +18,8 @@ memory_cuts sink = record { cuts = sink.cuts.items; writes_made = sink.writes }
 
 -- whether the last write failed
 abbrev pub memory_sink_failed : MemSink → Bool
-memory_sink_failed sink = sink.failed
+memory_sink_failed sink = sink.faults.failed
 
 -- how many writes failed
 abbrev pub memory_sink_faults : MemSink → ℕ
-memory_sink_faults sink = sink.faults
+memory_sink_faults sink = sink.faults.count

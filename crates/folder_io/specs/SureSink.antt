@@ -13,8 +13,8 @@ sure_room sink = room_size sink.room
 
 -- whether the last write failed
 abbrev pub sure_failed : SureSink → Bool
-sure_failed sink = sink.failed
+sure_failed sink = sink.faults.failed
 
 -- how many writes failed
 abbrev pub sure_faults : SureSink → ℕ
-sure_faults sink = sink.faults
+sure_faults sink = sink.faults.count

@@ -12,8 +12,8 @@ system_present folder = is_some folder.file
 
 -- whether the last call failed
 abbrev pub system_failed : {R File Dir : Type 0} → DirFolder R File Dir → Bool
-system_failed folder = folder.failed
+system_failed folder = folder.faults.failed
 
 -- how many calls failed
 abbrev pub system_faults : {R File Dir : Type 0} → DirFolder R File Dir → ℕ
-system_faults folder = folder.faults
+system_faults folder = folder.faults.count

@@ -2,6 +2,7 @@
 #![tactic(auto)]
 
 mod count_sink;
+mod fault_count;
 mod files;
 mod folder;
 mod memory_folder;

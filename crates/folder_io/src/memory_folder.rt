@@ -1,7 +1,8 @@
 //! A folder in memory whose calls fail where a list says so.
-ghost use Rattle.std.specs.Prelude.{◌≡◌, ◌<◌, ◌≤◌, ◌^◌, IfOk, IsTrue, false};
+ghost use Rattle.std.specs.Prelude.{◌≡◌, ◌<◌, ◌≤◌, IfOk, IsTrue, false};
 ghost use Rattle.folder_io.specs.MemoryCalls.{is_named};
 
+use crate::fault_count::FaultCount;
 use crate::{Files, Folder, Opened, Piece, SureFolder};
 use std::alloc::{AllocError, Global};
 
@@ -13,9 +14,7 @@ pub struct MemFolder {
     failing_reads: Vec<u32>,
     opens: u64,
     reads: u64,
-    failed: bool,
-    faults: u64,
-    ghost counted: { faults < 2 ^ 64 },
+    faults: FaultCount,
 }
 
 impl MemFolder {
@@ -45,8 +44,7 @@ impl MemFolder {
             failing_reads: failing_reads.to_vec(alloc)?,
             opens: 0,
             reads: 0,
-            failed: false,
-            faults: 0,
+            faults: FaultCount::new(),
         })
     }
 }
@@ -86,12 +84,12 @@ impl Folder for MemFolder {
         ensures finds { Opens (Some (memory_contents self.old)) name.now (memory_left self.new) result }
     {
         self.opens = self.opens.saturating_add(1);
-        self.failed = names(&self.failing_opens, self.opens);
-        if self.failed {
-            self.faults = self.faults.saturating_add(1);
+        if names(&self.failing_opens, self.opens) {
+            self.faults.fail();
             self.folder.close();
             return Opened::Failed;
         }
+        self.faults.pass();
         self.folder.open(name)
     }
 
@@ -110,15 +108,15 @@ impl Folder for MemFolder {
         ensures takes { Takes (memory_left self.old) (memory_left self.new) room.new result }
     {
         self.reads = self.reads.saturating_add(1);
-        self.failed = names(&self.failing_reads, self.reads);
-        if self.failed {
-            self.faults = self.faults.saturating_add(1);
+        if names(&self.failing_reads, self.reads) {
+            self.faults.fail();
             return Piece::Failed;
         }
+        self.faults.pass();
         self.folder.read(room)
     }
 
     ghost use Rattle.std.proofs.Common.{arith};
 
-    ghost bounded = { λ folder. Prim.omega (arith, folder.counted) };
+    ghost bounded = { λ folder. Prim.omega (arith, folder.faults.bounded) };
 }

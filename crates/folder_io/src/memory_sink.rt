@@ -1,7 +1,8 @@
 //! A sink in memory whose writes fail where a list says so.
-ghost use Rattle.std.specs.Prelude.{◌≡◌, ◌<◌, ◌≤◌, ◌^◌, [], IfOk, false, option_map};
+ghost use Rattle.std.specs.Prelude.{◌≡◌, [], IfOk, false, option_map};
 ghost use Rattle.folder_io.specs.CutWrites.{first_cut};
 
+use crate::fault_count::FaultCount;
 use crate::room::Room;
 use crate::{Sink, Wrote};
 use std::alloc::{AllocError, Global};
@@ -22,9 +23,7 @@ pub struct MemSink {
     room: Room,
     cuts: Vec<Cut>,
     writes: u64,
-    failed: bool,
-    faults: u64,
-    ghost counted: { faults < 2 ^ 64 },
+    faults: FaultCount,
 }
 
 impl MemSink {
@@ -45,8 +44,7 @@ impl MemSink {
             room: Room::new(alloc, room)?,
             cuts: failing_writes.to_vec(alloc)?,
             writes: 0,
-            failed: false,
-            faults: 0,
+            faults: FaultCount::new(),
         })
     }
 
@@ -91,22 +89,21 @@ impl Sink for MemSink {
         ensures written { Writes (Some (memory_written self.old)) (Some (memory_written self.new)) piece.now result }
     {
         self.writes = self.writes.saturating_add(1);
-        self.failed = true;
         if !self.room.fits(piece) {
-            self.faults = self.faults.saturating_add(1);
+            self.faults.fail();
             return Wrote::Failed;
         }
         if let Some(cut) = cut_of(&self.cuts, self.writes) {
             self.room.put(&piece[..piece.len().min(cut.kept as usize)]);
-            self.faults = self.faults.saturating_add(1);
+            self.faults.fail();
             return Wrote::Failed;
         }
-        self.failed = false;
+        self.faults.pass();
         self.room.put(piece);
         Wrote::All
     }
 
     ghost use Rattle.std.proofs.Common.{arith};
 
-    ghost bounded = { λ sink. Prim.omega (arith, sink.counted) };
+    ghost bounded = { λ sink. Prim.omega (arith, sink.faults.bounded) };
 }

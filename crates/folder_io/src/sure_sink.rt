@@ -1,6 +1,7 @@
 //! A sink in memory that fails only where a piece doesn't fit.
-ghost use Rattle.std.specs.Prelude.{◌≡◌, ◌<◌, ◌≤◌, ◌^◌, [], IfOk, false};
+ghost use Rattle.std.specs.Prelude.{◌≡◌, [], IfOk, false};
 
+use crate::fault_count::FaultCount;
 use crate::room::Room;
 use crate::{Sink, Wrote};
 use std::alloc::{AllocError, Global};
@@ -9,9 +10,7 @@ use std::alloc::{AllocError, Global};
 #[derive(Debug, Drop)]
 pub struct SureSink {
     room: Room,
-    failed: bool,
-    faults: u64,
-    ghost counted: { faults < 2 ^ 64 },
+    faults: FaultCount,
 }
 
 impl SureSink {
@@ -28,8 +27,7 @@ impl SureSink {
     {
         Ok(SureSink {
             room: Room::new(alloc, room)?,
-            failed: false,
-            faults: 0,
+            faults: FaultCount::new(),
         })
     }
 }
@@ -56,16 +54,16 @@ impl Sink for SureSink {
         ensures failed { sure_failed self.new ≡ is_failed_write result }
         ensures written { Writes (Some (sure_written self.old)) (Some (sure_written self.new)) piece.now result }
     {
-        self.failed = !self.room.fits(piece);
-        if self.failed {
-            self.faults = self.faults.saturating_add(1);
+        if !self.room.fits(piece) {
+            self.faults.fail();
             return Wrote::Failed;
         }
+        self.faults.pass();
         self.room.put(piece);
         Wrote::All
     }
 
     ghost use Rattle.std.proofs.Common.{arith};
 
-    ghost bounded = { λ sink. Prim.omega (arith, sink.counted) };
+    ghost bounded = { λ sink. Prim.omega (arith, sink.faults.bounded) };
 }

@@ -1,6 +1,7 @@
 //! A folder of the system.
-ghost use Rattle.std.specs.Prelude.{◌≡◌, ◌<◌, ◌≤◌, ◌^◌, ◌++◌, ◌∷◌, IfOk, false, string_bytes};
+ghost use Rattle.std.specs.Prelude.{◌≡◌, ◌++◌, ◌∷◌, IfOk, false, string_bytes};
 
+use crate::fault_count::FaultCount;
 use crate::{Folder, Opened, Piece};
 use std::alloc::{AllocError, Global};
 use std::fs;
@@ -13,9 +14,7 @@ pub struct DirFolder<R: FileSystem + Clone + Drop> {
     rt: R,
     path: String,
     file: Option<R::File>,
-    failed: bool,
-    faults: u64,
-    ghost counted: { faults < 2 ^ 64 },
+    faults: FaultCount,
 }
 
 impl<R: FileSystem + Clone + Drop> DirFolder<R> {
@@ -35,8 +34,7 @@ impl<R: FileSystem + Clone + Drop> DirFolder<R> {
             rt,
             path: String::from_str(alloc, path)?,
             file: None,
-            failed: false,
-            faults: 0,
+            faults: FaultCount::new(),
         })
     }
 }
@@ -69,7 +67,7 @@ impl<R: FileSystem + Clone + Drop> Folder for DirFolder<R> {
     /// The path takes memory; want of it is no failure of the folder.
     fn open(&mut self, name: &str) -> Opened {
         self.file = None;
-        self.failed = false;
+        self.faults.pass();
         let Ok(path) = path_in(&self.path, name) else {
             return Opened::NoMemory;
         };
@@ -82,15 +80,14 @@ impl<R: FileSystem + Clone + Drop> Folder for DirFolder<R> {
                 if error.kind() == ErrorKind::NotFound {
                     return Opened::Absent;
                 }
-                self.failed = true;
-                self.faults = self.faults.saturating_add(1);
+                self.faults.fail();
                 Opened::Failed
             }
         }
     }
 
     fn read(&mut self, room: &mut [u8]) -> Piece {
-        self.failed = false;
+        self.faults.pass();
         let Some(file) = &mut self.file else {
             return Piece::End;
         };
@@ -98,8 +95,7 @@ impl<R: FileSystem + Clone + Drop> Folder for DirFolder<R> {
             Ok(0) => Piece::End,
             Ok(count) => Piece::Got(count),
             Err(_) => {
-                self.failed = true;
-                self.faults = self.faults.saturating_add(1);
+                self.faults.fail();
                 Piece::Failed
             }
         }
@@ -107,5 +103,5 @@ impl<R: FileSystem + Clone + Drop> Folder for DirFolder<R> {
 
     ghost use Rattle.std.proofs.Common.{arith};
 
-    ghost bounded = { λ folder. Prim.omega (arith, folder.counted) };
+    ghost bounded = { λ folder. Prim.omega (arith, folder.faults.bounded) };
 }

@@ -1,15 +1,14 @@
 //! Standard output.
 ghost use Rattle.std.specs.Prelude.{◌≡◌, ◌<◌, ◌≤◌, ◌^◌};
 
+use crate::fault_count::FaultCount;
 use crate::{Sink, Wrote};
 
 /// Standard output. It doesn't tell what was written.
 #[derive(Drop)]
 pub struct StdSink<R: Print + Clone + Drop> {
     rt: R,
-    failed: bool,
-    faults: u64,
-    ghost counted: { faults < 2 ^ 64 },
+    faults: FaultCount,
 }
 
 impl<R: Print + Clone + Drop> StdSink<R> {
@@ -21,8 +20,7 @@ impl<R: Print + Clone + Drop> StdSink<R> {
     {
         StdSink {
             rt,
-            failed: false,
-            faults: 0,
+            faults: FaultCount::new(),
         }
     }
 }
@@ -39,14 +37,13 @@ impl<R: Print + Clone + Drop> Sink for StdSink<R> {
 
     /// Writes until the whole piece was taken. Failed at an error of the system, or where it takes nothing.
     fn write(&mut self, piece: &[u8]) -> Wrote {
-        self.failed = false;
+        self.faults.pass();
         let mut rest = piece;
         while !rest.is_empty() {
             match self.rt.write_some(rest) {
                 Ok(count) if count > 0 => rest = &rest[count..],
                 _ => {
-                    self.failed = true;
-                    self.faults = self.faults.saturating_add(1);
+                    self.faults.fail();
                     return Wrote::Failed;
                 }
             }
@@ -56,5 +53,5 @@ impl<R: Print + Clone + Drop> Sink for StdSink<R> {
 
     ghost use Rattle.std.proofs.Common.{arith};
 
-    ghost bounded = { λ sink. Prim.omega (arith, sink.counted) };
+    ghost bounded = { λ sink. Prim.omega (arith, sink.faults.bounded) };
 }
