@@ -12,3 +12,4 @@ pub mod MemorySink
 pub mod CountSink
 pub mod SystemFolder
 pub mod SystemSink
+pub mod FileReading

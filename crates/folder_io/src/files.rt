@@ -113,6 +113,15 @@ impl Files {
         self.files[name as usize] = bytes;
     }
 
+    // Replaces what is known of the file at that place.
+    pub(crate) fn put_at(&mut self, place: usize, bytes: FileBytes)
+        requires { place < 18 }
+        ensures value { self.new ≡ slice_set self.old place bytes }
+        ensures size { length self.new ≡ 18 }
+    {
+        self.files[place] = bytes;
+    }
+
     /// What is known of the file.
     pub fn get(&self, name: FileName) -> &FileBytes
         ensures { result.now ≡ file_in self.now name }

@@ -1,0 +1,82 @@
+-- Files that are read piece by piece, and one by one.
+use mathlib.Core.Path.{fun_ext}
+use Rattle.std.proofs.Common.{◌≡◌, ap, ℕ, zero, suc, ◌+◌, ◌<◌, List, [], ◌∷◌, ◌++◌, length, take, get_or, Option, Some, None, refl, sym, ◌∙◌, add-one, map, unwrap_or, slice_get}
+use Rattle.std.proofs.Math.Seq.{take-suc}
+use Rattle.std.proofs.Math.ListN.{set}
+use Rattle.std.proofs.lemmas.List.{take_more_set}
+use Rattle.feed_rows.specs.declared.names.FileName.{FileName}
+use Rattle.feed_rows.specs.declared.names.FileName.TheVariants as file
+use Rattle.feed_rows.specs.Names.{file_text}
+use Rattle.feed_rows.specs.HeldFiles.{HeldFile, held_within, held, most_bytes}
+use Rattle.folder_io.specs.declared.files.FileBytes.{FileBytes}
+use Rattle.folder_io.specs.declared.files.FileBytes.TheVariants as kept
+use Rattle.folder_io.specs.FilePlaces.{all_files, place}
+use Rattle.folder_io.specs.FolderCalls.{Contents}
+use Rattle.folder_io.specs.KeptFiles.{held_of}
+use Rattle.folder_io.specs.FileReading.{IsRead, AreRead}
+
+-- the bytes so far and what is left are the file
+abbrev pub IsWhole : Option (List ℕ) → Option (List ℕ) → List ℕ → Type 0
+IsWhole (Some all) (Some rest) bytes = all ≡ bytes ++ rest
+IsWhole (Some all) None bytes = ⊥
+IsWhole None left bytes = ⊥
+
+-- the same of the file under a name, where it is told
+abbrev pub IsSoFar : Option Contents → List ℕ → Option (List ℕ) → List ℕ → Type 0
+IsSoFar None name left bytes = Unit {0}
+IsSoFar (Some folder) name left bytes = IsWhole (folder name) left bytes
+
+-- what is held of a file of a feed
+abbrev pub held_under : Contents → FileName → HeldFile
+held_under folder name = held_within most_bytes (folder (file_text name))
+
+-- the files so far are those that are held, where that is told
+abbrev pub AreReadSoFar : Option Contents → List FileName → List FileBytes → Type 0
+AreReadSoFar None names files = Unit {0}
+AreReadSoFar (Some folder) names files = map held_of files ≡ map (held_under folder) names
+
+map_push : {X Y : Type 0} (f : X → Y) (xs : List X) (x : X) → map f (xs ++ x ∷ []) ≡ map f xs ++ f x ∷ []
+map_push f [] x = refl
+map_push f (y ∷ xs) x = ap (λ t. f y ∷ t) (map_push f xs x)
+
+-- one file more
+pub one_more : (holds : Option Contents) (names : List FileName) (files : List FileBytes) (i : ℕ) (d : FileName) (bytes : FileBytes)
+    → i < length names → i < length files → IsRead holds (file_text (get_or names i d)) most_bytes bytes
+    → AreReadSoFar holds (take i names) (take i files) → AreReadSoFar holds (take (i + 1) names) (take (i + 1) (set files i bytes))
+one_more None names files i d bytes a b h so_far = tt
+one_more (Some folder) names files i d bytes a b h so_far =
+    ap (map held_of) (take_more_set files i bytes b) ∙ rw (add-one i, take-suc names i d a, map_push (held_under folder) (take i names) (get_or names i d), map_push held_of (take i files) bytes, so_far, h) refl
+
+-- what is held of one of the files that are kept, by the list of what is held of all
+held_of_place : (files : List FileBytes) (i : ℕ) → held_of (unwrap_or (slice_get files i) kept.Absent) ≡ unwrap_or (slice_get (map held_of files) i) HeldFile.Missing
+held_of_place [] i = refl
+held_of_place (file ∷ files) zero = refl
+held_of_place (file ∷ files) (suc i) = held_of_place files i
+
+-- each file in its place
+held_of_each : (folder : Contents) (name : FileName) → unwrap_or (slice_get (map (held_under folder) all_files) (place name)) HeldFile.Missing ≡ held folder name
+unfolding held
+held_of_each folder file.Stops = refl
+held_of_each folder file.Routes = refl
+held_of_each folder file.Trips = refl
+held_of_each folder file.StopTimes = refl
+held_of_each folder file.Calendar = refl
+held_of_each folder file.CalendarDates = refl
+held_of_each folder file.Frequencies = refl
+held_of_each folder file.Transfers = refl
+held_of_each folder file.Areas = refl
+held_of_each folder file.StopAreas = refl
+held_of_each folder file.Networks = refl
+held_of_each folder file.RouteNetworks = refl
+held_of_each folder file.Timeframes = refl
+held_of_each folder file.RiderCategories = refl
+held_of_each folder file.FareMedia = refl
+held_of_each folder file.FareProducts = refl
+held_of_each folder file.FareLegRules = refl
+held_of_each folder file.FareTransferRules = refl
+
+-- all files are read
+pub all_read : (holds : Option Contents) (files : List FileBytes) → AreReadSoFar holds all_files files → AreRead holds files
+all_read None files so_far = tt
+all_read (Some folder) files so_far =
+    fun_ext (λ name. held_of_place files (place name) ∙ ap (λ all. unwrap_or (slice_get all (place name)) HeldFile.Missing) so_far ∙ held_of_each folder name)
