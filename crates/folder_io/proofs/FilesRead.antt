@@ -1,6 +1,6 @@
 -- Files that are read piece by piece, and one by one.
 use mathlib.Core.Path.{fun_ext}
-use Rattle.std.proofs.Common.{◌≡◌, ap, ℕ, zero, suc, ◌+◌, ◌<◌, List, [], ◌∷◌, ◌++◌, length, take, get_or, Option, Some, None, refl, sym, ◌∙◌, add-one, map, unwrap_or, slice_get}
+use Rattle.std.proofs.Common.{◌≡◌, ap, ℕ, zero, suc, ◌+◌, ◌<◌, List, [], ◌∷◌, ◌++◌, length, take, get_or, Option, Some, None, refl, sym, ◌∙◌, add-one, map, unwrap_or, slice_get, All, arith}
 use Rattle.std.proofs.Math.Seq.{take-suc}
 use Rattle.std.proofs.Math.ListN.{set}
 use Rattle.std.proofs.lemmas.List.{take_more_set}
@@ -12,7 +12,7 @@ use Rattle.folder_io.specs.declared.files.FileBytes.{FileBytes}
 use Rattle.folder_io.specs.declared.files.FileBytes.TheVariants as kept
 use Rattle.folder_io.specs.FilePlaces.{all_files, place}
 use Rattle.folder_io.specs.FolderCalls.{Contents}
-use Rattle.folder_io.specs.KeptFiles.{held_of}
+use Rattle.folder_io.specs.KeptFiles.{held_of, IsWithin, AreWithin}
 use Rattle.folder_io.specs.FileReading.{IsRead, AreRead}
 
 -- the bytes so far and what is left are the file
@@ -34,18 +34,6 @@ held_under folder name = held_within most_bytes (folder (file_text name))
 abbrev pub AreReadSoFar : Option Contents → List FileName → List FileBytes → Type 0
 AreReadSoFar None names files = Unit {0}
 AreReadSoFar (Some folder) names files = map held_of files ≡ map (held_under folder) names
-
-map_push : {X Y : Type 0} (f : X → Y) (xs : List X) (x : X) → map f (xs ++ x ∷ []) ≡ map f xs ++ f x ∷ []
-map_push f [] x = refl
-map_push f (y ∷ xs) x = ap (λ t. f y ∷ t) (map_push f xs x)
-
--- one file more
-pub one_more : (holds : Option Contents) (names : List FileName) (files : List FileBytes) (i : ℕ) (d : FileName) (bytes : FileBytes)
-    → i < length names → i < length files → IsRead holds (file_text (get_or names i d)) most_bytes bytes
-    → AreReadSoFar holds (take i names) (take i files) → AreReadSoFar holds (take (i + 1) names) (take (i + 1) (set files i bytes))
-one_more None names files i d bytes a b h so_far = tt
-one_more (Some folder) names files i d bytes a b h so_far =
-    ap (map held_of) (take_more_set files i bytes b) ∙ rw (add-one i, take-suc names i d a, map_push (held_under folder) (take i names) (get_or names i d), map_push held_of (take i files) bytes, so_far, h) refl
 
 -- what is held of one of the files that are kept, by the list of what is held of all
 held_of_place : (files : List FileBytes) (i : ℕ) → held_of (unwrap_or (slice_get files i) kept.Absent) ≡ unwrap_or (slice_get (map held_of files) i) HeldFile.Missing
@@ -80,3 +68,13 @@ pub all_read : (holds : Option Contents) (files : List FileBytes) → AreReadSoF
 all_read None files so_far = tt
 all_read (Some folder) files so_far =
     fun_ext (λ name. held_of_place files (place name) ∙ ap (λ all. unwrap_or (slice_get all (place name)) HeldFile.Missing) so_far ∙ held_of_each folder name)
+
+-- a file in its place is within the limit where all are
+within_at : (limit : ℕ) (files : List FileBytes) (i : ℕ) → All (IsWithin limit) files → IsWithin limit (unwrap_or (slice_get files i) kept.Absent)
+within_at limit [] i all = tt
+within_at limit (file ∷ files) zero all = all 0 file (omega arith)
+within_at limit (file ∷ files) (suc i) all = within_at limit files i (λ k d below. all (suc k) d (omega (arith, below)))
+
+-- each file is
+pub each_within : (files : List FileBytes) → All (IsWithin most_bytes) files → AreWithin files
+each_within files all name = within_at most_bytes files (place name) all

@@ -1,8 +1,8 @@
 -- The files that are kept, as a folder holds them.
-use Rattle.std.specs.Prelude.{ℕ, List, Option, None, Some, unwrap_or, option_and_then, slice_get, Bool, true, false}
+use Rattle.std.specs.Prelude.{ℕ, ◌≤◌, List, length, Option, None, Some, unwrap_or, option_and_then, slice_get, Bool, true, false}
 use Rattle.std.specs.List.{list_all}
 use Rattle.feed_rows.specs.declared.names.FileName.{FileName}
-use Rattle.feed_rows.specs.HeldFiles.{HeldFile}
+use Rattle.feed_rows.specs.HeldFiles.{HeldFile, most_bytes}
 use Rattle.folder_io.specs.declared.files.FileBytes.{FileBytes}
 use Rattle.folder_io.specs.declared.files.FileBytes.TheVariants.{Absent, TooLarge, Bytes}
 use Rattle.folder_io.specs.FilePlaces.{place, file_named}
@@ -40,3 +40,13 @@ is_whole (Bytes bytes) = true
 -- whether each file is
 abbrev pub are_whole : List FileBytes → Bool
 are_whole files = list_all is_whole files
+
+-- a file that is kept has at most so many bytes
+abbrev pub IsWithin : ℕ → FileBytes → Type 0
+IsWithin limit Absent = Unit {0}
+IsWithin limit TooLarge = Unit {0}
+IsWithin limit (Bytes bytes) = length bytes ≤ limit
+
+-- each file that is kept has at most as many bytes as are read
+abbrev pub AreWithin : List FileBytes → Type 0
+AreWithin files = (name : FileName) → IsWithin most_bytes (file_in files name)

@@ -2,6 +2,7 @@
 ghost use Rattle.std.specs.Prelude.{◌≡◌, ◌<◌, List, ℕ, length, IfOk, IfErr, OnOk, IfSome, IsTrue};
 ghost use Rattle.feed_rows.specs.FaultCounts.{Stayed};
 ghost use Rattle.feed_rows.specs.Names.{file_text};
+ghost use Rattle.folder_io.specs.KeptFiles.{IsWithin, AreWithin};
 ghost use Rattle.folder_io.specs.FileReading.{GivesUp, IsRead, StopsPast, AreRead};
 
 use crate::{ByteText, FileBytes, Files, Folder, Opened, Piece};
@@ -33,6 +34,7 @@ pub fn read_file<F: Folder>(
     name: FileName,
     limit: u32,
 ) -> Result<FileBytes, ReadError>
+    ensures within { IfOk result (IsWithin limit) }
     ensures bytes { IfOk result (IsRead (F.holds folder.old) (file_text name) limit) }
     ensures stops_past { IfOk result (StopsPast (F.holds folder.old) (file_text name) limit (F.left folder.new)) }
     ensures ok { OnOk result (Stayed (F.faults folder.old) (F.faults folder.new)) }
@@ -69,6 +71,7 @@ pub fn read_file<F: Folder>(
 /// # Errors
 /// [`ReadError::ReadFault`] where a call of the folder failed, after which no further call was made; want of memory.
 pub fn read_files<F: Folder>(alloc: Global, folder: &mut F) -> Result<Files, ReadError>
+    ensures within { IfOk result AreWithin }
     ensures files { IfOk result (AreRead (F.holds folder.old)) }
     ensures ok { OnOk result (Stayed (F.faults folder.old) (F.faults folder.new)) }
     ensures err { IfErr result (λ error. GivesUp error (F.faults folder.old) (F.faults folder.new) (F.failed folder.new)) }
