@@ -1,10 +1,11 @@
 -- The path and the counts of a folder of the system.
-use Rattle.std.specs.Prelude.{ℕ, List, Bool, is_some, string_bytes}
+use Rattle.std.specs.Prelude.{ℕ, List, Bool, is_some}
+use Rattle.std.specs.Path.{path_buf_bytes}
 use Rattle.folder_io.specs.declared.system_folder.DirFolder.{DirFolder}
 
 -- the path
 abbrev pub system_path : {R File Dir : Type 0} → DirFolder R File Dir → List ℕ
-system_path folder = string_bytes folder.path
+system_path folder = path_buf_bytes folder.path
 
 -- whether a file is open
 abbrev pub system_present : {R File Dir : Type 0} → DirFolder R File Dir → Bool

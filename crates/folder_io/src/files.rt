@@ -1,5 +1,5 @@
 //! The bytes of a feed's files.
-ghost use Rattle.std.specs.Prelude.{◌≡◌, ◌<◌, List, ℕ, length, IfOk, IsTrue, Some, slice_set, replicate};
+ghost use Rattle.std.specs.Prelude.{◌≡◌, ◌≢◌, ◌<◌, List, ℕ, length, IfOk, IsTrue, Some, slice_set, replicate};
 ghost use Rattle.folder_io.specs.FilePlaces.{place, file_named};
 
 use feed_rows::FileName;
@@ -108,7 +108,9 @@ impl Files {
 
     /// Replaces what is known of the file.
     pub fn put(&mut self, name: FileName, bytes: FileBytes)
-        ensures { self.new ≡ slice_set self.old (place name) bytes }
+        ensures list { self.new ≡ slice_set self.old (place name) bytes }
+        ensures value { file_in self.new name ≡ bytes }
+        ensures others { (other : FileName) → place other ≢ place name → file_in self.new other ≡ file_in self.old other }
     {
         self.files[name as usize] = bytes;
     }

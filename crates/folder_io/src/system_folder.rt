@@ -1,18 +1,20 @@
 //! A folder of the system.
-ghost use Rattle.std.specs.Prelude.{◌≡◌, ◌++◌, ◌∷◌, IfOk, false, string_bytes};
+ghost use Rattle.std.specs.Prelude.{◌≡◌, IfOk, false};
 
 use crate::fault_count::FaultCount;
 use crate::{Folder, Opened, Piece};
 use std::alloc::{AllocError, Global};
 use std::fs;
 use std::io::{ErrorKind, Read};
+use std::path::{Path, PathBuf};
 use std::rt::Files as FileSystem;
 
 /// A folder of the system, by its path. It tells nothing of what it holds.
 #[derive(Drop)]
 pub struct DirFolder<R: FileSystem + Clone + Drop> {
     rt: R,
-    path: String,
+    alloc: Global,
+    path: PathBuf,
     file: Option<R::File>,
     faults: FaultCount,
 }
@@ -32,21 +34,12 @@ impl<R: FileSystem + Clone + Drop> DirFolder<R> {
     {
         Ok(DirFolder {
             rt,
-            path: String::from_str(alloc, path)?,
+            alloc,
+            path: Path::new(path).to_path_buf(alloc)?,
             file: None,
             faults: FaultCount::new(),
         })
     }
-}
-
-// The path of a file in a folder.
-fn path_in(folder: &String, name: &str) -> Result<String, AllocError>
-    ensures { IfOk result (λ path. string_bytes path ≡ string_bytes folder.now ++ 47 ∷ name.now) }
-{
-    let mut path = folder.clone()?;
-    path.push_str("/")?;
-    path.push_str(name)?;
-    Ok(path)
 }
 
 impl<R: FileSystem + Clone + Drop> Folder for DirFolder<R> {
@@ -68,10 +61,10 @@ impl<R: FileSystem + Clone + Drop> Folder for DirFolder<R> {
     fn open(&mut self, name: &str) -> Opened {
         self.file = None;
         self.faults.pass();
-        let Ok(path) = path_in(&self.path, name) else {
+        let Ok(path) = self.path.join(self.alloc, name) else {
             return Opened::NoMemory;
         };
-        match fs::open(&self.rt, path.as_str()) {
+        match fs::open(&self.rt, path.as_path()) {
             Ok(file) => {
                 self.file = Some(file);
                 Opened::Present
