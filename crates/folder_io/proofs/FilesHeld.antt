@@ -1,11 +1,11 @@
 -- What a folder of kept files holds.
 use mathlib.Core.Path.{fun_ext}
-use Rattle.std.proofs.Common.{◌≡◌, ap, ℕ, zero, suc, List, [], ◌∷◌, Option, Some, None, refl, unwrap_or, option_and_then, slice_get, true, arith, nat_lt, length, ◌≤◌}
+use Rattle.std.proofs.Common.{◌≡◌, ℕ, zero, suc, List, [], ◌∷◌, Some, refl, unwrap_or, slice_get, true, arith}
 use Rattle.std.proofs.lemmas.Grind.{common_steps}
 use Rattle.feed_rows.specs.declared.names.FileName.{FileName}
 use Rattle.feed_rows.specs.declared.names.FileName.TheVariants as file
 use Rattle.feed_rows.specs.Names.{file_text}
-use Rattle.feed_rows.specs.HeldFiles.{HeldFile, held_within, held, most_bytes}
+use Rattle.feed_rows.specs.HeldFiles.{held_within, held, most_bytes}
 use Rattle.folder_io.specs.declared.files.FileBytes.{FileBytes}
 use Rattle.folder_io.specs.declared.files.FileBytes.TheVariants as kept
 use Rattle.folder_io.specs.FilePlaces.{file_named, place}

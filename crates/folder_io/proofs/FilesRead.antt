@@ -1,9 +1,6 @@
 -- Files that are read piece by piece, and one by one.
 use mathlib.Core.Path.{fun_ext}
-use Rattle.std.proofs.Common.{◌≡◌, ap, ℕ, zero, suc, ◌+◌, ◌<◌, List, [], ◌∷◌, ◌++◌, length, take, get_or, Option, Some, None, refl, sym, ◌∙◌, add-one, map, unwrap_or, slice_get, All, arith}
-use Rattle.std.proofs.Math.Seq.{take-suc}
-use Rattle.std.proofs.Math.ListN.{set}
-use Rattle.std.proofs.lemmas.List.{take_more_set}
+use Rattle.std.proofs.Common.{◌≡◌, ap, ℕ, zero, suc, List, [], ◌∷◌, ◌++◌, Option, Some, None, refl, ◌∙◌, map, unwrap_or, slice_get, All, arith}
 use Rattle.feed_rows.specs.declared.names.FileName.{FileName}
 use Rattle.feed_rows.specs.declared.names.FileName.TheVariants as file
 use Rattle.feed_rows.specs.Names.{file_text}
@@ -13,7 +10,7 @@ use Rattle.folder_io.specs.declared.files.FileBytes.TheVariants as kept
 use Rattle.folder_io.specs.FilePlaces.{all_files, place}
 use Rattle.folder_io.specs.FolderCalls.{Contents}
 use Rattle.folder_io.specs.KeptFiles.{held_of, IsWithin, AreWithin}
-use Rattle.folder_io.specs.FileReading.{IsRead, AreRead}
+use Rattle.folder_io.specs.FileReading.{AreRead}
 
 -- the bytes so far and what is left are the file
 abbrev pub IsWhole : Option (List ℕ) → Option (List ℕ) → List ℕ → Type 0

@@ -1,7 +1,7 @@
-use Rattle.std.proofs.Common.{◌≡◌, take, length, arith}
+use Rattle.std.proofs.Common.{◌≡◌, take, arith}
 use Rattle.std.proofs.lemmas.List.{take_all}
 use Rattle.folder_io.specs.FilePlaces.{all_files}
-use Rattle.folder_io.proofs.FilesRead.{AreReadSoFar, all_read, each_within}
+use Rattle.folder_io.proofs.FilesRead.{all_read, each_within}
 use Rattle.folder_io.proofs.reading.read_files.Goals as goal
 
 pub returns-clause-files : goal.returns-clause-files
