@@ -1,5 +1,5 @@
 -- The values of fields by their grammars (Field Types). A text that isn't of the grammar has no value.
-use Rattle.std.specs.Prelude.{ℕ, ◌+◌, ◌-◌, ◌*◌, ◌^◌, ◌==◌, ◌&&◌, ◌||◌, not, nat_le, nat_lt, if◌then◌else◌, Bool, List, [], ◌∷◌, length, take, drop, slice_index, slice_range, bytes_eq, codes, Option, None, Some, option_map, option_and_then, ℤ, pos, negsuc, neg_ℤ, int_le}
+use Rattle.std.specs.Prelude.{ℕ, ◌+◌, ◌-◌, ◌*◌, ◌^◌, ◌==◌, ◌&&◌, ◌||◌, not, nat_le, if◌then◌else◌, Bool, List, [], ◌∷◌, length, take, drop, slice_index, slice_range, bytes_eq, codes, Option, None, Some, option_map, option_and_then, ℤ, pos, negsuc, neg_ℤ, int_le}
 use Rattle.std.specs.List.{list_any, list_all}
 use Rattle.std.specs.Option.{option_map_or}
 use Rattle.std.specs.Str.{all_ascii_digits}
