@@ -8,14 +8,28 @@ ghost use Rattle.folder_io.specs.FileReading.{GivesUp, IsRead, StopsPast, AreRea
 use crate::{ByteText, FileBytes, Files, Folder, Opened, Piece};
 use feed_rows::FileName;
 use std::alloc::{AllocError, Global};
+use thiserror::Error;
 
 /// Why a file wasn't read.
-#[derive(Clone, Copy, Debug, PartialEq, Eq)]
+#[derive(Clone, Copy, Debug, PartialEq, Eq, Error)]
 pub enum ReadError {
     /// A call of the folder failed: its count of faults rose.
+    #[error("the folder can't be read")]
     ReadFault,
     /// Want of memory.
+    #[error("out of memory")]
     NoMemory,
+}
+
+impl From<AllocError> for ReadError {
+    ghost use Rattle.std.specs.Prelude.{◌≡◌};
+    ghost use Rattle.folder_io.specs.declared.reading.ReadError.TheVariants.{NoMemory};
+
+    ghost from_gives = { λ _ error. error ≡ NoMemory };
+
+    fn from(_error: AllocError) -> ReadError {
+        ReadError::NoMemory
+    }
 }
 
 /// The greatest number of bytes of a file of a feed that is read.
@@ -57,9 +71,7 @@ pub fn read_file<F: Folder>(
             Piece::Failed => return Err(ReadError::ReadFault),
             Piece::End => return Ok(FileBytes::Bytes(ByteText::of(bytes))),
             Piece::Got(count) => {
-                if bytes.extend_from_slice(&room[..count]).is_err() {
-                    return Err(ReadError::NoMemory);
-                }
+                bytes.extend_from_slice(&room[..count])?;
             }
         }
     }
