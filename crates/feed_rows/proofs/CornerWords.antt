@@ -1,5 +1,5 @@
 -- Words of commands at their edges: names of options that words begin with, options as values, and the sign `=`.
-use Rattle.std.specs.Prelude.{◌≡◌, refl, ℕ, List, [], ◌∷◌, map, replicate, Option, Some, None, Result, Ok, Err, pos, codes}
+use Rattle.std.specs.Prelude.{◌≡◌, refl, ℕ, List, [], ◌∷◌, map, replicate, Some, None, Result, Ok, Err, pos, codes}
 use Rattle.jiff_core.specs.Calendar.{days_from_civil, day_count, days_of_years, days_of_months}
 use Rattle.feed_rows.specs.Numerals.{number_value}
 use Rattle.feed_rows.specs.TimeGrammar.{time_value}
@@ -7,7 +7,7 @@ use Rattle.feed_rows.specs.CommandWords.{joined_value, role_at, value_at, fits_f
 use Rattle.feed_rows.specs.Requests.{Request, Plan, read_words}
 use Rattle.feed_rows.specs.declared.usage.UsageFault.{UsageFault}
 use Rattle.feed_rows.specs.declared.usage.UsageFault.TheVariants as usage
-use Rattle.feed_rows.proofs.WordChecks.{asked, spaced, onto_first, wrong}
+use Rattle.feed_rows.proofs.WordChecks.{asked, wrong}
 
 -- an option's value stands behind its name and `=`, and is not empty; nothing else that begins with the name has one
 values_behind_names : map (joined_value (codes "--rides"))
