@@ -10,7 +10,7 @@ use Rattle.feed_faults.proofs.BaseFeed.{base, base_rows}
 use Rattle.feed_faults.proofs.Expected.{fault_of}
 
 -- its files
-abbrev full : Folder
+abbrev pub full : Folder
 full =
     (codes "stops.txt", codes "stop_id,stop_name,location_type,parent_station\nP,Main,1,\nA,Ash,0,P\nB,Birch,,P\nC,Cedar,0,\nE,Door,2,P\n")
     ∷ (codes "routes.txt", codes "route_id,route_type\nR1,3\nR2,2\nR3,0\n")

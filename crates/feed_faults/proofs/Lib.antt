@@ -9,3 +9,8 @@ pub mod FormChecks
 pub mod LinkChecks
 pub mod DateChecks
 pub mod FullFeed
+pub mod CornerRecords
+pub mod CornerFields
+pub mod CornerForms
+pub mod CornerLinks
+pub mod CornerRows

@@ -13,6 +13,9 @@ pub mod CornerJourneys
 pub mod CornerLegs
 pub mod CornerFares
 pub mod CornerTexts
+pub mod CornerWords
+pub mod CornerPrinted
+pub mod CornerOutside
 pub mod FeedReadings
 pub mod BelowLaws
 pub mod StrictLaws

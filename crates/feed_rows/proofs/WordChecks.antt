@@ -11,17 +11,17 @@ use Rattle.feed_rows.specs.declared.usage.UsageFault.{UsageFault}
 use Rattle.feed_rows.specs.declared.usage.UsageFault.TheVariants as usage
 
 -- a byte put before the first word
-abbrev onto_first : ℕ → List (List ℕ) → List (List ℕ)
+abbrev pub onto_first : ℕ → List (List ℕ) → List (List ℕ)
 onto_first byte [] = (byte ∷ []) ∷ []
 onto_first byte (word ∷ words) = (byte ∷ word) ∷ words
 
 -- the words of a text that has one space between each two; two spaces make an empty word
-abbrev spaced : List ℕ → List (List ℕ)
+abbrev pub spaced : List ℕ → List (List ℕ)
 spaced [] = [] ∷ []
 spaced (byte ∷ bytes) = if byte == 32 then [] ∷ spaced bytes else onto_first byte (spaced bytes)
 
 -- what the words of a text ask for
-abbrev asked : List ℕ → Result Request UsageFault
+abbrev pub asked : List ℕ → Result Request UsageFault
 asked text = read_words (spaced text)
 
 -- a plan from A to C on 2025-06-02 at 08:00:00
@@ -29,7 +29,7 @@ abbrev plan_with : ℕ → Option (List ℕ) → ℕ → Result Request UsageFau
 plan_with rides rider window =
     Ok (Plan (record { from = codes "A"; to = codes "C"; departure = pos 1_748_851_200; rides = rides; rider = rider; window = window }))
 
-abbrev wrong : Result Request UsageFault
+abbrev pub wrong : Result Request UsageFault
 wrong = Err usage.WrongWords
 
 -- numbers of words
