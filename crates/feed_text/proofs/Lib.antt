@@ -1,1 +1,3 @@
 pub mod DigitLaws
+pub mod DateLaws
+pub mod AmountLaws

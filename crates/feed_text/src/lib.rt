@@ -1,6 +1,11 @@
 //! The text of a feed's files: tables of cut fields, and the values of fields by their grammars.
 #![tactic(auto)]
 
+mod amounts;
+mod dates;
+mod ids;
 mod numbers;
 
+pub use dates::date_of;
+pub use ids::{currency_of, id_ok};
 pub use numbers::{count_of, int_of, time_of};
