@@ -1,14 +1,17 @@
 -- Amounts by their parts.
 use Rattle.std.proofs.Common.{◌≡◌, ℕ, ◌+◌, ◌-◌, ◌*◌, ◌^◌, ◌<◌, ◌≤◌, List, [], ◌∷◌, Bool, true, false, zero, suc, length, take, drop, Option, None, Some, ◌&&◌, refl, sym, ap, ◌∙◌, arith, nat_lt}
-use Rattle.std.specs.Prelude.{nat_le, if◌then◌else◌, ◌==◌}
+use Rattle.std.specs.Prelude.{nat_le, if◌then◌else◌, ◌==◌, ℤ, pos, negsuc, neg_ℤ, int_le, option_map, option_and_then}
 use Rattle.std.specs.Char.{is_ascii_digit}
 use Rattle.std.specs.List.{list_all}
 use Rattle.std.specs.Str.{all_ascii_digits}
 use Rattle.std.specs.Str.Parse.{digits_value}
+use Rattle.std.proofs.Math.Nat.{le-mul_of_pos_right}
 use Rattle.std.proofs.lemmas.Bool.Decides.{nat_tests}
 use Rattle.std.proofs.lemmas.Str.Parse.{digits_value_short, numerals_by_value, tells_all_ascii_digits}
 use Rattle.feed_rows.specs.Words.{when}
 use Rattle.feed_rows.specs.Numerals.{number_value, at_most}
+use Rattle.feed_faults.specs.FieldGrammars.{minor_units, if_between, most_amount}
+use Rattle.feed_text.proofs.DigitLaws.{bounded_none}
 
 -- digits are what pass the test of a digit
 pub digits_pass : (bs : List ℕ) → list_all is_ascii_digit bs ≡ all_ascii_digits bs
@@ -44,3 +47,45 @@ kept_all [] zero le = (refl, refl)
 kept_all [] (suc n) le = (refl, refl)
 kept_all (b ∷ bs) zero le = absurd (omega (arith, le))
 kept_all (b ∷ bs) (suc n) le = let rest = kept_all bs n (omega (arith, le)) in (rw rest.0 refl, rest.1)
+
+tens : (d : ℕ) → d ≤ 3 → 1 ≤ 10 ^ d
+tens zero le = omega arith
+tens (suc zero) le = omega arith
+tens (suc (suc zero)) le = omega arith
+tens (suc (suc (suc zero))) le = omega arith
+tens (suc (suc (suc (suc d)))) le = absurd (omega (arith, le))
+
+-- a number of whole units past 2^64 is too great an amount
+pub too_many_units : (d f : ℕ) (n : Option ℕ) → d ≤ 3 → None ≡ at_most (2 ^ 64 - 1) n
+    → None ≡ at_most 1000000000000 (minor_units d n (Some f))
+too_many_units d f None le e = refl
+too_many_units d f (Some w) le e =
+    let great = bounded_none w (2 ^ 64 - 1) e in
+    let more : w ≤ w * 10 ^ d = le-mul_of_pos_right w (tens d le) in
+    let no : nat_le (w * 10 ^ d + f) 1000000000000 ≡ false = grind (arith, nat_tests, great, more) in
+    rw no refl
+
+-- without a fraction there is no amount
+pub no_fraction : (d : ℕ) (n : Option ℕ) → minor_units d n None ≡ None
+no_fraction d None = refl
+no_fraction d (Some w) = refl
+
+chosen : {X : Type 0} (f : ℕ → X) (n : ℕ) (b : Bool) → when b (f n) ≡ option_map f (when b n)
+chosen f n true = refl
+chosen f n false = refl
+
+one_less : (n : ℕ) (b : Bool) → nat_le (suc n) 1000000000000 ≡ b → nat_le n 999999999999 && true ≡ b
+one_less n true e = let yes : nat_le n 999999999999 ≡ true = grind (arith, nat_tests, e) in rw yes refl
+one_less n false e = let no : nat_le n 999999999999 ≡ false = grind (arith, nat_tests, e) in rw no refl
+
+-- what is at most 10^12 lies between its opposite and itself, with either sign
+pub positive_between : (o : Option ℕ) → if_between (neg_ℤ most_amount) most_amount (option_map pos o) ≡ option_map pos (at_most 1000000000000 o)
+positive_between None = refl
+positive_between (Some n) = chosen pos n (nat_le n 1000000000000)
+
+pub negative_between : (o : Option ℕ)
+    → if_between (neg_ℤ most_amount) most_amount (option_map (λ n. neg_ℤ (pos n)) o) ≡ option_map (λ n. neg_ℤ (pos n)) (at_most 1000000000000 o)
+negative_between None = refl
+negative_between (Some zero) = refl
+negative_between (Some (suc n)) =
+    rw (one_less n (nat_le (suc n) 1000000000000) refl) (chosen (λ m. neg_ℤ (pos m)) (suc n) (nat_le (suc n) 1000000000000))

@@ -1,5 +1,5 @@
 //! Amounts of money, as fields write them.
-ghost use Rattle.std.specs.Prelude.{◌≡◌, true, ◌==◌, ◌≤◌, ◌+◌, ◌*◌, ◌^◌, ◌-◌, Some, IfSome, length, take, option_map};
+ghost use Rattle.std.specs.Prelude.{◌≡◌, true, ◌==◌, ◌≤◌, ◌<◌, ◌+◌, ◌*◌, ◌^◌, ◌-◌, Some, IfSome, length, take, option_map};
 ghost use Rattle.std.specs.List.{list_all};
 ghost use Rattle.std.specs.Str.Parse.{digits_value};
 ghost use Rattle.std.specs.Char.{is_ascii_digit};
@@ -12,7 +12,8 @@ use transit_base::Money;
 // Where the first point stands.
 #[tactic(auto, using(feed_rows::proofs::FirstLaws::find_below_found, feed_rows::proofs::FirstLaws::find_below_next))]
 fn point_of(text: &[u8]) -> Option<usize>
-    ensures { result ≡ point_place text.now }
+    ensures value { result ≡ point_place text.now }
+    ensures within { IfSome result (λ i. i < length text.now) }
 {
     for i in 0..text.len() {
         if text[i] == b'.' {
@@ -97,4 +98,48 @@ fn fraction_of(digits: &[u8], decimals: u8) -> Option<u32>
         return None;
     }
     Some(counted_units_of(&digits[..places], decimals))
+}
+
+// Whole units and minor units together, where they are at most 10^12 minor units.
+#[tactic(auto, using(crate::proofs::AmountLaws::too_many_units))]
+fn units_of(whole: &[u8], fraction: u32, decimals: u8) -> Option<u64>
+    requires decimals { decimals ≤ 3 }
+    requires fraction { fraction ≤ 999_000 }
+    ensures value { result ≡ at_most 1_000_000_000_000 (minor_units decimals (number_value whole.now) (Some fraction)) }
+    ensures bound { IfSome result (λ v. v ≤ 1_000_000_000_000) }
+{
+    let number = number_of(whole)?;
+    let units = u128::from(number) * u128::from(scale_of(decimals)) + u128::from(fraction);
+    if units > 1_000_000_000_000 {
+        return None;
+    }
+    Some(units as u64)
+}
+
+// An amount without sign in minor units, where it is at most 10^12.
+#[tactic(auto, unfolding(feed_faults::specs::FieldGrammars::unsigned_amount), using(crate::proofs::AmountLaws::no_fraction))]
+fn unsigned_amount_of(text: &[u8], decimals: u8) -> Option<u64>
+    requires { decimals ≤ 3 }
+    ensures value { result ≡ at_most 1_000_000_000_000 (unsigned_amount decimals text.now) }
+    ensures bound { IfSome result (λ v. v ≤ 1_000_000_000_000) }
+{
+    let Some(place) = point_of(text) else {
+        return units_of(text, 0, decimals);
+    };
+    let fraction = fraction_of(&text[place + 1..], decimals)?;
+    units_of(&text[..place], fraction, decimals)
+}
+
+/// An amount in minor units of a currency with so many decimals, which are at most 3: an optional minus sign, one or more
+/// digits, and optionally a point with one or more digits, of which those past the decimals are zeros. None exactly where the
+/// text is no such amount of at most 10^12 minor units in either direction.
+#[tactic(auto, unfolding(feed_faults::specs::FieldGrammars::amount_value), using(crate::proofs::AmountLaws::positive_between, crate::proofs::AmountLaws::negative_between))]
+pub fn amount_of(text: &[u8], decimals: u8) -> Option<Money>
+    requires { decimals ≤ 3 }
+    ensures { option_map (λ m. m.0) result ≡ amount_value decimals text.now }
+{
+    if !text.is_empty() && text[0] == b'-' {
+        return Some(Money(-(unsigned_amount_of(&text[1..], decimals)? as i64)));
+    }
+    Some(Money(unsigned_amount_of(text, decimals)? as i64))
 }

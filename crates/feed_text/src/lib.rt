@@ -6,6 +6,7 @@ mod dates;
 mod ids;
 mod numbers;
 
+pub use amounts::amount_of;
 pub use dates::date_of;
 pub use ids::{currency_of, id_ok};
 pub use numbers::{count_of, int_of, time_of};
