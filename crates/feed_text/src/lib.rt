@@ -2,11 +2,14 @@
 #![tactic(auto)]
 
 mod amounts;
+mod blanks;
 mod dates;
 mod ids;
 mod numbers;
+mod table;
 
 pub use amounts::amount_of;
 pub use dates::date_of;
 pub use ids::{currency_of, id_ok};
 pub use numbers::{count_of, int_of, time_of};
+pub use table::Table;
