@@ -1,5 +1,5 @@
 -- Reading in lists that are kept flat.
-use Rattle.std.proofs.Common.{◌≡◌, ℕ, ◌+◌, ◌-◌, ◌<◌, ◌≤◌, List, [], ◌∷◌, zero, suc, length, take, drop, get_or, refl, sym, ap, ◌∙◌, arith, length-drop, length-take}
+use Rattle.std.proofs.Common.{◌≡◌, ℕ, ◌+◌, ◌-◌, ◌<◌, ◌≤◌, List, [], ◌∷◌, zero, suc, length, take, drop, get_or, refl, ◌∙◌, arith, length-drop, length-take}
 use Rattle.std.proofs.lemmas.List.{get_or-take, get_or-drop}
 use Rattle.feed_text.specs.Parts.{parts, Rise, start_of, field_in}
 use Rattle.feed_text.proofs.PartLaws.{rise_le, length_parts}
@@ -37,10 +37,12 @@ pub field_there : (rows fields bytes : List ℕ) (row column : ℕ) → row < le
 field_there rows fields bytes row column lt rise in_row =
     let at = rise_at 0 rows (length fields) row rise lt in
     let within : start_of 0 rows row + column < length fields = omega (arith, at.0, at.1, in_row) in
-    rw (part_at 0 rows (parts 0 fields bytes) row lt,
+    rw (
+      part_at 0 rows (parts 0 fields bytes) row lt,
       get_or-take (get_or rows row 0 - start_of 0 rows row) (drop (start_of 0 rows row) (parts 0 fields bytes)) column [] in_row,
       get_or-drop (start_of 0 rows row) (parts 0 fields bytes) column [],
-      part_at 0 fields bytes (start_of 0 rows row + column) within) refl
+      part_at 0 fields bytes (start_of 0 rows row + column) within,
+    ) refl
 
 past : (xs : List (List ℕ)) (i : ℕ) → length xs ≤ i → get_or xs i [] ≡ []
 past [] i h = refl
@@ -51,7 +53,7 @@ pub field_short : (rows fields bytes : List ℕ) (row column : ℕ) → row < le
     → get_or rows row 0 - start_of 0 rows row ≤ column → field_in (parts 0 rows (parts 0 fields bytes)) row column ≡ []
 field_short rows fields bytes row column lt out =
     rw (part_at 0 rows (parts 0 fields bytes) row lt) (past (take (get_or rows row 0 - start_of 0 rows row) (drop (start_of 0 rows row) (parts 0 fields bytes))) column
-      (rw (length-take (get_or rows row 0 - start_of 0 rows row) (drop (start_of 0 rows row) (parts 0 fields bytes))) (omega (arith, out))))
+    (rw (length-take (get_or rows row 0 - start_of 0 rows row) (drop (start_of 0 rows row) (parts 0 fields bytes))) (omega (arith, out))))
 
 -- how many fields a row has
 pub width_at : (rows fields bytes : List ℕ) (row : ℕ) → row < length rows → Rise 0 rows (length fields)

@@ -1,6 +1,6 @@
 -- Amounts by their parts.
-use Rattle.std.proofs.Common.{◌≡◌, ℕ, ◌+◌, ◌-◌, ◌*◌, ◌^◌, ◌<◌, ◌≤◌, List, [], ◌∷◌, Bool, true, false, zero, suc, length, take, drop, Option, None, Some, ◌&&◌, refl, sym, ap, ◌∙◌, arith, nat_lt}
-use Rattle.std.specs.Prelude.{nat_le, if◌then◌else◌, ◌==◌, ℤ, pos, negsuc, neg_ℤ, int_le, option_map, option_and_then}
+use Rattle.std.proofs.Common.{◌≡◌, ℕ, ◌+◌, ◌-◌, ◌*◌, ◌^◌, ◌<◌, ◌≤◌, List, [], ◌∷◌, Bool, true, false, zero, suc, length, take, drop, Option, None, Some, ◌&&◌, refl, ap, arith, nat_lt}
+use Rattle.std.specs.Prelude.{nat_le, pos, neg_ℤ, option_map}
 use Rattle.std.specs.Char.{is_ascii_digit}
 use Rattle.std.specs.List.{list_all}
 use Rattle.std.specs.Str.{all_ascii_digits}

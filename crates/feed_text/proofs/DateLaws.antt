@@ -1,11 +1,10 @@
 -- Dates by their parts.
-use Rattle.std.proofs.Common.{◌≡◌, ℕ, ◌+◌, ◌-◌, ◌<◌, ◌≤◌, List, [], ◌∷◌, ◌++◌, Bool, true, false, zero, suc, length, take, drop, Option, None, Some, ◌&&◌, refl, sym, ap, ◌∙◌, arith, ◌≢◌, nat_lt}
-use Rattle.std.specs.Prelude.{nat_le, slice_range, if◌then◌else◌, ◌==◌, ℤ, pos}
+use Rattle.std.proofs.Common.{◌≡◌, ℕ, List, [], ◌∷◌, ◌++◌, Bool, true, false, length, take, drop, None, Some, ◌&&◌, refl, arith, ◌≢◌, nat_lt}
+use Rattle.std.specs.Prelude.{nat_le, slice_range, ◌==◌, pos}
 use Rattle.std.specs.Char.{is_ascii_digit}
 use Rattle.std.specs.Str.{all_ascii_digits}
 use Rattle.std.specs.Str.Parse.{digits_value}
 use Rattle.std.proofs.lemmas.Bool.Decides.{nat_tests}
-use Rattle.std.proofs.lemmas.Grind.{common_steps}
 use Rattle.jiff_core.specs.Calendar.{days_in_month}
 use Rattle.jiff_core.proofs.CalendarLemmas.{days_in_month_bounds}
 use Rattle.transit_base.specs.Dates.{is_date, day_number}

@@ -6,3 +6,5 @@ pub mod PartLaws
 pub mod AccessLaws
 pub mod RecordLaws
 pub mod ReaderLaws
+pub mod HeaderLaws
+pub mod Utf8Laws

@@ -1,9 +1,8 @@
 -- Lists that are kept flat.
-use Rattle.std.proofs.Common.{◌≡◌, ℕ, ◌+◌, ◌-◌, ◌<◌, ◌≤◌, ◌++◌, List, [], ◌∷◌, zero, suc, length, take, drop, Option, None, Some, refl, sym, ap, ◌∙◌, append_assoc, length-append, length-take, length-drop, add-one, arith}
+use Rattle.std.proofs.Common.{◌≡◌, ℕ, ◌+◌, ◌-◌, ◌<◌, ◌≤◌, ◌++◌, List, [], ◌∷◌, zero, suc, length, take, drop, Option, None, Some, refl, ap, ◌∙◌, append_assoc, length-append, length-drop, add-one, arith}
 use Rattle.std.proofs.Math.Seq.{drop-append_seam, take-length}
 use Rattle.std.specs.Prelude.{option_map, map}
 use Rattle.std.proofs.lemmas.List.{take-append-le, drop-append-le, map-append}
-use Rattle.std.proofs.lemmas.Grind.{common_steps}
 use Rattle.csv.specs.Records.{field_at}
 use Rattle.feed_faults.specs.Records.{cut}
 use Rattle.feed_text.specs.Parts.{parts, Rise}

@@ -1,10 +1,10 @@
 -- How a reader goes on through a text.
-use Rattle.std.proofs.Common.{◌≡◌, ℕ, ◌++◌, List, [], ◌∷◌, Bool, true, false, Option, None, Some, inl, inr, refl, sym, ap, ◌∙◌, length, ◌≤◌, ◌+◌, arith}
+use Rattle.std.proofs.Common.{◌≡◌, ℕ, ◌++◌, List, [], ◌∷◌, true, false, Option, None, Some, inl, inr, refl, sym, ap, ◌∙◌, length, ◌≤◌, ◌+◌, arith}
 use Rattle.csv.specs.declared.reader.Reader.{Reader}
 use Rattle.csv.specs.declared.reader.ReaderBuilder.{ReaderBuilder}
 use Rattle.csv.specs.declared.reader.Trim.TheVariants as trim
 use Rattle.csv.specs.declared.parser.State.TheVariants as st
-use Rattle.csv.specs.Reading.{default_config, strip_bom, Ready, ReadRecord, Reached, records, source_of, reader_config, reader_trim, reader_state, reader_headers, names_headers, took_first, builder_config, builder_names_headers, builder_trim, with_names_headers, with_flexible}
+use Rattle.csv.specs.Reading.{default_config, strip_bom, ReadRecord, Reached, records, source_of, reader_config, reader_trim, reader_state, reader_headers, names_headers, took_first, builder_config, builder_names_headers, builder_trim, with_names_headers, with_flexible}
 use Rattle.std.specs.Prelude.{map, nat_le}
 use Rattle.std.proofs.lemmas.Bool.Decides.{nat_tests}
 use Rattle.feed_rows.specs.Words.{when}

@@ -4,12 +4,16 @@
 mod amounts;
 mod blanks;
 mod dates;
+mod errors;
+mod flat;
 mod ids;
 mod numbers;
+mod reading;
 mod table;
 
 pub use amounts::amount_of;
 pub use dates::date_of;
+pub use errors::TextError;
 pub use ids::{currency_of, id_ok};
 pub use numbers::{count_of, int_of, time_of};
 pub use table::Table;

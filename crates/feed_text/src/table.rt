@@ -7,7 +7,7 @@ ghost use Rattle.feed_faults.specs.Records.{FileTable, table_of_bytes, cut, head
 ghost use Rattle.feed_faults.specs.FormFaults.{is_twice};
 ghost use Rattle.feed_text.specs.Parts.{parts, Rise, start_of, field_in};
 
-use crate::blanks::cut_of;
+use crate::flat::{end_of, part_of, push_fields};
 use csv::{ByteRecord, ReaderBuilder};
 use feed_rows::ColumnName;
 use std::alloc::{AllocError, Global};
@@ -32,50 +32,6 @@ impl Model for Table {
     ghost view = { λ t. parts 0 t.rows.items (parts 0 t.fields.items t.bytes.items) };
 
     ghost invariant = { λ t. Rise 0 t.fields.items (length t.bytes.items) × Rise 0 t.rows.items (length t.fields.items) × (length t.rows.items ≤ 2 ^ 32) };
-}
-
-// A length as the end of a field or a row. One of 2^32 or more, which no file of at most 2^28 bytes has, counts as want of
-// memory.
-fn end_of(length: usize) -> Result<u32, AllocError>
-    ensures { IfOk result (λ end. end ≡ length) }
-{
-    u32::try_from(length).map_err(|_| AllocError)
-}
-
-// Puts a field behind those that are kept.
-#[tactic(auto, using(crate::proofs::PartLaws::parts_push, crate::proofs::PartLaws::rise_push))]
-fn push_field(
-    bytes: &mut Vec<u8>,
-    fields: &mut Vec<u32>,
-    field: &[u8],
-) -> Result<(), AllocError>
-    requires { Rise 0 fields.old.items (length bytes.old.items) }
-    ensures fields { OnOk result (parts 0 fields.new.items bytes.new.items ≡ parts 0 fields.old.items bytes.old.items ++ cut field.now ∷ []) }
-    ensures rise { OnOk result (Rise 0 fields.new.items (length bytes.new.items)) }
-{
-    bytes.extend_from_slice(cut_of(field))?;
-    let end = end_of(bytes.len())?;
-    fields.push(end)?;
-    Ok(())
-}
-
-// Puts the fields of a record behind those that are kept.
-fn push_fields(
-    bytes: &mut Vec<u8>,
-    fields: &mut Vec<u32>,
-    row: &ByteRecord,
-) -> Result<(), AllocError>
-    requires { Rise 0 fields.old.items (length bytes.old.items) }
-    ensures fields { OnOk result (parts 0 fields.new.items bytes.new.items ≡ parts 0 fields.old.items bytes.old.items ++ map cut (fields_of row.now)) }
-    ensures rise { OnOk result (Rise 0 fields.new.items (length bytes.new.items)) }
-{
-    for i in 0..row.len() {
-        let Some(field) = row.get(i) else {
-            unreachable!();
-        };
-        push_field(bytes, fields, field)?;
-    }
-    Ok(())
 }
 
 // The table of a file's bytes, where it has at most so many data rows.
@@ -112,4 +68,147 @@ pub(crate) fn table_within(
         }
     }
     Ok(None)
+}
+
+impl Table {
+    // How many records there are, the header among them.
+    #[tactic(auto, using(crate::proofs::PartLaws::length_parts))]
+    pub(crate) fn records(&self) -> usize
+        ensures count { result ≡ length self.now }
+        ensures few { result ≤ 2 ^ 32 }
+    {
+        self.rows.len()
+    }
+
+    // How many fields a record has; the header has the place 0.
+    fn width(&self, place: usize) -> usize
+        requires { place < length self.now }
+        ensures count { result ≡ length (get_or self.now place []) }
+        ensures few { result < 2 ^ 32 }
+    {
+        let (start, end) = part_of(&self.rows, place, self.fields.len());
+        end - start
+    }
+
+    // The field of a record, empty where the record is short; the header has the place 0.
+    fn field_at(&self, place: usize, column: usize) -> &[u8]
+        requires { place < length self.now }
+        ensures { result.now ≡ field_in self.now place column }
+    {
+        let (start, end) = part_of(&self.rows, place, self.fields.len());
+        if column >= end - start {
+            return &[];
+        }
+        let (from, to) = part_of(&self.fields, start + column, self.bytes.len());
+        &self.bytes[from..to]
+    }
+
+    /// How many data rows there are.
+    pub fn rows(&self) -> u32
+        ensures { result ≡ row_count self.now }
+    {
+        self.records().saturating_sub(1) as u32
+    }
+
+    // How many columns the header has.
+    #[tactic(auto, using(crate::proofs::HeaderLaws::no_header))]
+    pub(crate) fn columns(&self) -> u32
+        ensures { result ≡ length (header self.now) }
+    {
+        if self.records() == 0 {
+            return 0;
+        }
+        self.width(0) as u32
+    }
+
+    // Whether a column of the header has this name.
+    fn is_named(&self, column: u32, name: ColumnName) -> bool
+        requires { column < length (header self.now) }
+        ensures { result ≡ bytes_eq (get_or (header self.now) column []) (column_text name) }
+    {
+        self.field_at(0, column as usize) == name.text().as_bytes()
+    }
+
+    /// The place of the first column of this name. None exactly where the header lacks it.
+    #[tactic(auto, using(feed_rows::proofs::FirstLaws::find_below_found, feed_rows::proofs::FirstLaws::find_below_next), unfolding(feed_faults::specs::Records::column_of))]
+    pub fn column(&self, name: ColumnName) -> Option<u32>
+        ensures place { result ≡ column_of self.now name }
+        ensures within { IfSome result (λ column. column < length (header self.now)) }
+    {
+        for column in 0..self.columns() {
+            if self.is_named(column, name) {
+                return Some(column);
+            }
+        }
+        None
+    }
+
+    /// The field of a data row in a column, without the blanks at its ends; empty where the row is short.
+    #[tactic(auto, unfolding(feed_faults::specs::Records::field))]
+    pub fn field(&self, row: u32, column: u32) -> &[u8]
+        requires { row < row_count self.now }
+        ensures value { result.now ≡ get_or (data_row self.now row) column [] }
+        ensures named { (name : ColumnName) → column_of self.now name ≡ Some column → result.now ≡ field self.now row name }
+    {
+        self.field_at(row as usize + 1, column as usize)
+    }
+
+    // Whether a field is filled.
+    fn has_filled(&self, place: usize, column: usize) -> bool
+        requires { place < length self.now }
+        ensures { result ≡ is_filled (field_in self.now place column) }
+    {
+        match self.field_at(place, column) {
+            [] => false,
+            [_, ..] => true,
+        }
+    }
+
+    /// Whether a data row has a field past the header that isn't empty.
+    #[tactic(auto, using(crate::proofs::HeaderLaws::any_below_next, crate::proofs::HeaderLaws::none_before), unfolding(feed_faults::specs::Records::is_long))]
+    pub fn extra(&self, row: u32) -> bool
+        requires { row < row_count self.now }
+        ensures { result ≡ is_long self.now row }
+    {
+        let place = row as usize + 1;
+        let past = self.columns() as usize;
+        let width = self.width(place);
+        if width <= past {
+            return false;
+        }
+        for column in past..width {
+            if self.has_filled(place, column) {
+                return true;
+            }
+        }
+        false
+    }
+
+    // Whether an earlier column of the header has this name.
+    fn is_named_before(&self, column: u32, name: ColumnName) -> bool
+        requires { column < length (header self.now) }
+        ensures { result ≡ any_below column (λ earlier. bytes_eq (get_or (header self.now) earlier []) (column_text name)) }
+    {
+        let mut found = false;
+        for earlier in 0..column {
+            if self.is_named(earlier, name) {
+                found = true;
+            }
+        }
+        found
+    }
+
+    // Whether a column stands twice in the header.
+    #[tactic(auto, unfolding(feed_faults::specs::FormFaults::is_twice))]
+    pub(crate) fn is_twice(&self, name: ColumnName) -> bool
+        ensures { result ≡ is_twice self.now name }
+    {
+        let mut found = false;
+        for later in 0..self.columns() {
+            if self.is_named(later, name) && self.is_named_before(later, name) {
+                found = true;
+            }
+        }
+        found
+    }
 }

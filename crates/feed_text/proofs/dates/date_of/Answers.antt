@@ -1,4 +1,4 @@
-use Rattle.std.proofs.Common.{◌≡◌, sym, ◌∙◌}
+use Rattle.std.proofs.Common.{sym, ◌∙◌}
 use Rattle.feed_text.proofs.DateLaws.{no_date, date_by_parts}
 use Rattle.feed_text.proofs.dates.date_of.Goals as goal
 

@@ -1,10 +1,9 @@
-use Rattle.std.proofs.Common.{◌≡◌, ◌≤◌, ◌+◌, ◌++◌, ◌∷◌, [], ℕ, List, length, Some, refl, ap, sym, ◌∙◌, arith}
+use Rattle.std.proofs.Common.{◌≡◌, length, refl, arith}
 use Rattle.std.proofs.lemmas.Grind.{common_steps}
 use Rattle.csv.specs.Records.{fields_of}
-use Rattle.csv.specs.Reading.{strip_bom}
 use Rattle.feed_faults.specs.Records.{cut, table_of_bytes}
 use Rattle.std.specs.Prelude.{map}
-use Rattle.feed_text.specs.Parts.{parts, Rise}
+use Rattle.feed_text.specs.Parts.{parts}
 use Rattle.feed_text.proofs.PartLaws.{next_row, length_parts}
 use Rattle.feed_text.proofs.ReaderLaws.{begins, goes_on, ends, goes_within, kept_within, too_long}
 use Rattle.feed_text.proofs.table.table_within.Goals as goal
@@ -21,9 +20,11 @@ loop-init c = record {
 }
 
 pub invariant_of-result : goal.invariant_of-result
-invariant_of-result c =
-    (c.loop.invariant.fields, c.loop.invariant.rows,
-      omega (arith, c.loop.invariant.count, c.loop-test.true, c.from-end.ensures, c.ranges.max_rows))
+invariant_of-result c = (
+  c.loop.invariant.fields,
+  c.loop.invariant.rows,
+  omega (arith, c.loop.invariant.count, c.loop-test.true, c.from-end.ensures, c.ranges.max_rows),
+)
 
 pub returns-in-Ok-false : goal.returns-in-Ok-false
 returns-in-Ok-false c =
@@ -46,8 +47,8 @@ loop-preserved c =
       rows = rw c.in_ok-push-in-Ok-true.ensures.items next.1;
       count = grind (arith, common_steps, c.loop.invariant.count);
       stands = rw (c.in_ok-push-in-Ok-true.ensures.items, next.0)
-      (goes_on _ c.loop.reader c.read_byte_record.new.self _ _ (fields_of c.read_byte_record.new.row) stands (rw c.in-Ok-true.field-0-test at reads)
-      (c.in-Ok-true.ensures.ready stands.no_trim));
+          (goes_on _ c.loop.reader c.read_byte_record.new.self _ _ (fields_of c.read_byte_record.new.row) stands (rw c.in-Ok-true.field-0-test at reads)
+          (c.in-Ok-true.ensures.ready stands.no_trim));
     }
 
 pub returns : goal.returns

@@ -3,7 +3,7 @@ use Rattle.std.specs.Prelude.{map}
 use Rattle.csv.specs.Records.{fields_of}
 use Rattle.feed_text.specs.Parts.{parts, Rise}
 use Rattle.feed_faults.specs.Records.{cut}
-use Rattle.feed_text.proofs.table.push_fields.Given as goal
+use Rattle.feed_text.proofs.flat.push_fields.Given as goal
 
 abbrev pub invariant-loop-i : goal.invariant-loop-i
 invariant-loop-i l = record {

@@ -1,7 +1,7 @@
-use Rattle.std.proofs.Common.{ℕ, arith, sym}
+use Rattle.std.proofs.Common.{arith, sym}
 use Rattle.csv.specs.Records.{fields_of}
 use Rattle.feed_text.proofs.PartLaws.{not_there, one_more}
-use Rattle.feed_text.proofs.table.push_fields.Goals as goal
+use Rattle.feed_text.proofs.flat.push_fields.Goals as goal
 
 pub unreachable-requires : goal.unreachable-requires
 unreachable-requires c =
