@@ -10,6 +10,8 @@ mod ids;
 mod numbers;
 mod reading;
 mod table;
+#[cfg(test)]
+mod tests;
 
 pub use amounts::amount_of;
 pub use dates::date_of;
