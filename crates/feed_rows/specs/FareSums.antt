@@ -1,6 +1,6 @@
 -- Which legs are charged, and the sum of a choice. (GTFS Schedule Reference: fare_transfer_rules.txt,
 -- fare_transfer_type.)
-use Rattle.std.specs.Prelude.{ℕ, zero, suc, ◌+◌, Bool, true, false, not, ◌&&◌, ◌||◌, ◌==◌, if◌then◌else◌, List, length, slice_get, Option, Some, None, is_none, ℤ, pos, ◌+ℤ◌, option_map, option_and_then}
+use Rattle.std.specs.Prelude.{ℕ, zero, suc, Bool, true, false, not, ◌&&◌, ◌||◌, ◌==◌, if◌then◌else◌, List, length, slice_get, Option, is_none, ℤ, pos, ◌+ℤ◌, option_map, option_and_then}
 use Rattle.std.specs.Option.{option_map_or}
 use Rattle.transit_base.specs.declared.numbers.ProductRowId.{ProductRowId}
 use Rattle.transit_base.specs.declared.numbers.RiderId.{RiderId}
@@ -15,8 +15,8 @@ use Rattle.feed_rows.specs.Words.{filled_and, sum_below, when}
 unfoldable pub transfer_kind : FeedRows → Choice → ℕ → Option ℕ
 transfer_kind feed choice i =
     option_and_then
-      (λ place. option_and_then (λ pick. option_map (λ row. row.kind) (slice_get feed.transfer_rules pick.rule.0)) place)
-      (slice_get choice.changes i)
+    (λ place. option_and_then (λ pick. option_map (λ row. row.kind) (slice_get feed.transfer_rules pick.rule.0)) place)
+    (slice_get choice.changes i)
 
 -- leg i is the first of its chain, where `kind` gives each change's type: no arranged change leads to it
 unfoldable pub starts_chain : (ℕ → Option ℕ) → ℕ → Bool
