@@ -1,5 +1,5 @@
 //! Ids and codes of currencies, as fields write them.
-ghost use Rattle.std.specs.Prelude.{◌≡◌};
+ghost use Rattle.std.specs.Prelude.{◌≡◌, ◌≤◌, IfSome};
 ghost use Rattle.std.specs.List.{list_any, list_all};
 ghost use Rattle.feed_faults.specs.FieldGrammars.{is_break, is_id, is_among, whole_currencies, three_decimal_currencies, unit_codes, is_capital, currency_decimals};
 
@@ -72,7 +72,8 @@ fn is_unit(text: &[u8]) -> bool
 /// currency.
 #[tactic(auto, unfolding(feed_faults::specs::FieldGrammars::currency_decimals))]
 pub fn currency_of(text: &[u8]) -> Option<u8>
-    ensures { result ≡ currency_decimals text.now }
+    ensures value { result ≡ currency_decimals text.now }
+    ensures bound { IfSome result (λ decimals. decimals ≤ 3) }
 {
     if text.len() != 3 || !are_capitals(text) || is_unit(text) {
         return None;

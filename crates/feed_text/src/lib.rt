@@ -14,7 +14,7 @@ mod table;
 mod tests;
 
 pub use amounts::amount_of;
-pub use dates::date_of;
+pub use dates::{date_of, day_of_parts};
 pub use errors::TextError;
 pub use ids::{currency_of, id_ok};
 pub use numbers::{count_of, int_of, time_of};

@@ -45,7 +45,8 @@ pub(crate) fn small_number_of(text: &[u8], most: u32) -> Option<u32>
 /// colons between. None exactly where the text is no such time of at most so many seconds.
 #[tactic(auto, unfolding(feed_rows::specs::TimeGrammar::time_value))]
 pub fn time_of(text: &[u8], most: u32) -> Option<u32>
-    ensures { result ≡ time_value most text.now }
+    ensures value { result ≡ time_value most text.now }
+    ensures bound { IfSome result (λ v. v ≤ most) }
 {
     if text.len() < 7 || text.len() > 9 {
         return None;

@@ -6,4 +6,4 @@ pub returns-then-text-ne8 : goal.returns-then-text-ne8
 returns-then-text-ne8 c = sym (no_date c.args.text.now c.if-text-ne8.true)
 
 pub returns : goal.returns
-returns c = c.day_of_parts.ensures ∙ sym (date_by_parts c.args.text.now c.if-text-ne8.false)
+returns c = c.day_of_eight.ensures ∙ sym (date_by_parts c.args.text.now c.if-text-ne8.false)
