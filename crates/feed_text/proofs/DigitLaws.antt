@@ -1,0 +1,91 @@
+-- Digits one by one.
+use Rattle.std.proofs.Common.{◌≡◌, ℕ, ◌+◌, ◌-◌, ◌*◌, ◌<◌, ◌≤◌, List, [], ◌∷◌, Bool, true, false, zero, suc, length, take, get_or, None, Some, nat_lt, ◌&&◌, refl, ap, ◌∙◌, arith, add-one}
+use Rattle.std.specs.Prelude.{nat_le}
+use Rattle.std.specs.Char.{is_ascii_digit, digit_value}
+use Rattle.std.specs.Str.{all_ascii_digits}
+use Rattle.std.specs.Str.Parse.{digits_value}
+use Rattle.std.proofs.lemmas.Bool.Decides.{nat_tests}
+use Rattle.std.proofs.lemmas.Int.Digits.{digits_value_more}
+use Rattle.std.proofs.lemmas.Str.Parse.{digits_value-take-le}
+use Rattle.feed_rows.specs.Words.{when}
+use Rattle.feed_rows.specs.Numerals.{number_value, at_most}
+
+both : (x y : Bool) → (x && y) ≡ true → (x ≡ true) × (y ≡ true)
+both true y e = (refl, e)
+both false y e = absurd (cc)
+
+joined : (x y : Bool) → x ≡ true → y ≡ true → (x && y) ≡ true
+joined x y a b = rw (a, b) refl
+
+second_fails : (x y : Bool) → y ≡ false → (x && y) ≡ false
+second_fails true y e = e
+second_fails false y e = refl
+
+-- digits, and one more
+pub all_more : (bs : List ℕ) (i : ℕ) → i < length bs → all_ascii_digits (take i bs) ≡ true → is_ascii_digit (get_or bs i 0) ≡ true
+    → all_ascii_digits (take (i + 1) bs) ≡ true
+all_more [] i lt a d = absurd (omega arith)
+all_more (b ∷ bs) zero lt a d = joined (is_ascii_digit b) true d refl
+all_more (b ∷ bs) (suc i) lt a d =
+    let parts = both (is_ascii_digit b) (all_ascii_digits (take i bs)) a in
+    let later = rw (add-one i) at (all_more bs i (omega arith) parts.1 d) in
+    rw (add-one (suc i)) (joined (is_ascii_digit b) (all_ascii_digits (take (suc i) bs)) parts.0 later)
+
+not_all : (bs : List ℕ) (i : ℕ) → i < length bs → is_ascii_digit (get_or bs i 0) ≡ false → all_ascii_digits bs ≡ false
+not_all [] i lt d = absurd (omega arith)
+not_all (b ∷ bs) zero lt d = ap (λ (x : Bool). x && all_ascii_digits bs) d
+not_all (b ∷ bs) (suc i) lt d = second_fails (is_ascii_digit b) (all_ascii_digits bs) (not_all bs i (omega arith) d)
+
+-- a text with another byte is no number
+pub no_number : (bs : List ℕ) (n i : ℕ) → i < length bs → is_ascii_digit (get_or bs i 0) ≡ false → None ≡ at_most n (number_value bs)
+unfolding number_value
+no_number bs n i lt d = rw (not_all bs i lt d) refl
+
+-- nor is the empty text
+pub empty_number : (bs : List ℕ) (n : ℕ) → length bs ≡ 0 → None ≡ at_most n (number_value bs)
+unfolding number_value
+empty_number [] n e = refl
+empty_number (b ∷ bs) n e = absurd (omega (arith, e))
+
+dropped : (b : Bool) (n v : ℕ) → n < v → None ≡ at_most n (when b v)
+dropped true n v h = let no : nat_le v n ≡ false = grind (arith, nat_tests) in rw no refl
+dropped false n v h = refl
+
+-- a number that is too great from some digit on
+pub too_large : (bs : List ℕ) (n i : ℕ) → n < digits_value 10 (take i bs) → None ≡ at_most n (number_value bs)
+unfolding number_value
+too_large bs n i h =
+    dropped (all_ascii_digits bs && nat_lt 0 (length bs)) n (digits_value 10 bs)
+    (let le = digits_value-take-le 10 bs i (omega arith) in omega (arith, h, le))
+
+-- a number that fits
+pub whole : (bs : List ℕ) (n v : ℕ) → all_ascii_digits bs ≡ true → 0 < length bs → v ≡ digits_value 10 bs → v ≤ n
+    → Some v ≡ at_most n (number_value bs)
+unfolding number_value
+whole bs n v a lt e h =
+    let some : nat_lt 0 (length bs) ≡ true = grind (arith, nat_tests) in
+    let yes : nat_le v n ≡ true = grind (arith, nat_tests) in
+    rw (a, some, ← e, yes) refl
+
+by_test : (a n : ℕ) (b : Bool) → nat_le a n ≡ b → None ≡ when b a → n < a
+by_test a n true t e = absurd (cc)
+by_test a n false t e = grind (arith, nat_tests)
+
+-- what a bounded value says
+pub bounded_none : (a n : ℕ) → None ≡ at_most n (Some a) → n < a
+bounded_none a n e = by_test a n (nat_le a n) refl e
+
+kept : (a n w : ℕ) (b : Bool) → nat_le a n ≡ b → Some w ≡ when b a → (w ≡ a) × (a ≤ n)
+kept a n w true t e = (cc, grind (arith, nat_tests))
+kept a n w false t e = absurd (cc)
+
+pub bounded_some : (a n w : ℕ) → Some w ≡ at_most n (Some a) → (w ≡ a) × (a ≤ n)
+bounded_some a n w e = kept a n w (nat_le a n) refl e
+
+digit_is : (c : ℕ) → is_ascii_digit c ≡ true → digit_value c ≡ c - 48
+digit_is c d = grind (arith, nat_tests)
+
+-- the value of one more digit
+pub grown : (bs : List ℕ) (i v : ℕ) → v ≡ digits_value 10 (take i bs) → i < length bs → is_ascii_digit (get_or bs i 0) ≡ true
+    → digits_value 10 (take (i + 1) bs) ≡ v * 10 + (get_or bs i 0 - 48)
+grown bs i v e lt d = digits_value_more 10 bs i lt ∙ rw (← e, digit_is (get_or bs i 0) d) refl

@@ -1,0 +1,39 @@
+use Rattle.std.proofs.Common.{◌≡◌, ◌+◌, ◌-◌, ◌^◌, take, arith, refl, sym, ◌∙◌, length, true, get_or}
+use Rattle.std.specs.Char.{is_ascii_digit}
+use Rattle.std.proofs.lemmas.Grind.{common_steps}
+use Rattle.std.proofs.Math.Seq.{take-length}
+use Rattle.feed_text.proofs.DigitLaws.{all_more, no_number, empty_number, too_large, whole, grown, bounded_none, bounded_some}
+use Rattle.feed_text.proofs.numbers.number_of.Goals as goal
+
+pub returns-then-is_empty : goal.returns-then-is_empty
+returns-then-is_empty c = empty_number c.args.text.now (2 ^ 64 - 1) (grind (arith, common_steps))
+
+pub returns-then-not-is_ascii_digit : goal.returns-then-not-is_ascii_digit
+returns-then-not-is_ascii_digit c =
+    no_number c.args.text.now (2 ^ 64 - 1) c.loop-b.b-index c.loop-b-test.true (sym c.if-not-is_ascii_digit.ensures.value)
+
+pub returns-in_err-value : goal.returns-in_err-value
+returns-in_err-value c =
+    let digit : is_ascii_digit (get_or c.args.text.now c.loop-b.b-index 0) ≡ true = sym c.if-not-is_ascii_digit.ensures.value in
+    let next = grown c.args.text.now c.loop-b.b-index c.loop-b.value c.loop-b.invariant.value c.loop-b-test.true digit in
+    rw c.from_residual.ensures
+    (too_large c.args.text.now (2 ^ 64 - 1) (c.loop-b.b-index + 1) (rw next (bounded_none _ (2 ^ 64 - 1) c.in_err-value.ensures)))
+
+pub loop-b-preserved : goal.loop-b-preserved
+loop-b-preserved c =
+    let digit : is_ascii_digit (get_or c.args.text.now c.loop-b.b-index 0) ≡ true = sym c.if-not-is_ascii_digit.ensures.value in
+    let next = grown c.args.text.now c.loop-b.b-index c.loop-b.value c.loop-b.invariant.value c.loop-b-test.true digit in
+    let is = bounded_some _ (2 ^ 64 - 1) c.in_ok-value.value c.in_ok-value.ensures in
+    record {
+      some = c.loop-b.invariant.some;
+      fits = rw is.0 is.1;
+      digits = all_more c.args.text.now c.loop-b.b-index c.loop-b-test.true c.loop-b.invariant.digits digit;
+      value = is.0 ∙ sym next;
+    }
+
+pub returns : goal.returns
+returns c =
+    let end : c.loop-b.b-index ≡ length c.args.text.now = omega arith in
+    let all : take c.loop-b.b-index c.args.text.now ≡ c.args.text.now = rw (end, take-length c.args.text.now) refl in
+    whole c.args.text.now (2 ^ 64 - 1) c.loop-b.value (rw all at c.loop-b.invariant.digits) c.loop-b.invariant.some
+    (rw all at c.loop-b.invariant.value) c.loop-b.invariant.fits

@@ -1,0 +1,145 @@
+//! Amounts of money, as fields write them.
+ghost use Rattle.std.specs.Prelude.{◌≡◌, true, ◌==◌, ◌≤◌, ◌<◌, ◌+◌, ◌*◌, ◌^◌, ◌-◌, Some, IfSome, length, take, option_map};
+ghost use Rattle.std.specs.List.{list_all};
+ghost use Rattle.std.specs.Str.Parse.{digits_value};
+ghost use Rattle.std.specs.Char.{is_ascii_digit};
+ghost use Rattle.feed_rows.specs.Numerals.{number_value, at_most};
+ghost use Rattle.feed_faults.specs.FieldGrammars.{point_place, fraction_value, minor_units, unsigned_amount, amount_value};
+
+use crate::numbers::{number_of, small_number_of};
+use transit_base::Money;
+
+// Where the first point stands.
+#[tactic(auto, using(feed_rows::proofs::FirstLaws::find_below_found, feed_rows::proofs::FirstLaws::find_below_next))]
+fn point_of(text: &[u8]) -> Option<usize>
+    ensures value { result ≡ point_place text.now }
+    ensures within { IfSome result (λ i. i < length text.now) }
+{
+    for i in 0..text.len() {
+        if text[i] == b'.' {
+            return Some(i);
+        }
+    }
+    None
+}
+
+// Whether each byte is a digit.
+fn are_digits(text: &[u8]) -> bool
+    ensures { result ≡ list_all is_ascii_digit text.now }
+{
+    text.iter().all(|b| b.is_ascii_digit())
+}
+
+// Whether each byte is the digit zero.
+fn are_zeros(text: &[u8]) -> bool
+    ensures { result ≡ list_all (λ c. c == 48) text.now }
+{
+    text.iter().all(|b| *b == b'0')
+}
+
+// How many minor units make a whole one.
+fn scale_of(decimals: u8) -> u64
+    requires { decimals ≤ 3 }
+    ensures value { result ≡ 10 ^ decimals }
+    ensures bound { result ≤ 1000 }
+{
+    match decimals {
+        0 => 1,
+        1 => 10,
+        2 => 100,
+        _ => 1000,
+    }
+}
+
+// The number of one to three digits.
+#[tactic(auto, using(crate::proofs::AmountLaws::three_digits))]
+fn short_number_of(digits: &[u8]) -> u32
+    requires digits { list_all is_ascii_digit digits.now ≡ true }
+    requires some { 1 ≤ length digits.now }
+    requires few { length digits.now ≤ 3 }
+    ensures value { result ≡ digits_value 10 digits.now }
+    ensures bound { result ≤ 999 }
+{
+    let Some(number) = small_number_of(digits, 999) else {
+        unreachable!();
+    };
+    number
+}
+
+// The digits behind a point that count, as minor units.
+fn counted_units_of(digits: &[u8], decimals: u8) -> u32
+    requires digits { list_all is_ascii_digit digits.now ≡ true }
+    requires few { length digits.now ≤ decimals }
+    requires decimals { decimals ≤ 3 }
+    ensures value { result ≡ digits_value 10 digits.now * 10 ^ (decimals - length digits.now) }
+    ensures bound { result ≤ 999_000 }
+{
+    if digits.is_empty() {
+        return 0;
+    }
+    short_number_of(digits) * scale_of(decimals - digits.len() as u8) as u32
+}
+
+// The digits behind a point, as minor units: those past the decimals are zeros, and missing ones count as zeros.
+#[tactic(auto, unfolding(feed_faults::specs::FieldGrammars::fraction_value), using(crate::proofs::AmountLaws::digits_pass, crate::proofs::AmountLaws::digits_kept, crate::proofs::AmountLaws::kept_all))]
+fn fraction_of(digits: &[u8], decimals: u8) -> Option<u32>
+    requires { decimals ≤ 3 }
+    ensures value { result ≡ fraction_value decimals digits.now }
+    ensures bound { IfSome result (λ v. v ≤ 999_000) }
+{
+    if digits.is_empty() || !are_digits(digits) {
+        return None;
+    }
+    let places = usize::from(decimals);
+    if digits.len() <= places {
+        return Some(counted_units_of(digits, decimals));
+    }
+    if !are_zeros(&digits[places..]) {
+        return None;
+    }
+    Some(counted_units_of(&digits[..places], decimals))
+}
+
+// Whole units and minor units together, where they are at most 10^12 minor units.
+#[tactic(auto, using(crate::proofs::AmountLaws::too_many_units))]
+fn units_of(whole: &[u8], fraction: u32, decimals: u8) -> Option<u64>
+    requires decimals { decimals ≤ 3 }
+    requires fraction { fraction ≤ 999_000 }
+    ensures value { result ≡ at_most 1_000_000_000_000 (minor_units decimals (number_value whole.now) (Some fraction)) }
+    ensures bound { IfSome result (λ v. v ≤ 1_000_000_000_000) }
+{
+    let number = number_of(whole)?;
+    let units = u128::from(number) * u128::from(scale_of(decimals)) + u128::from(fraction);
+    if units > 1_000_000_000_000 {
+        return None;
+    }
+    Some(units as u64)
+}
+
+// An amount without sign in minor units, where it is at most 10^12.
+#[tactic(auto, unfolding(feed_faults::specs::FieldGrammars::unsigned_amount), using(crate::proofs::AmountLaws::no_fraction))]
+fn unsigned_amount_of(text: &[u8], decimals: u8) -> Option<u64>
+    requires { decimals ≤ 3 }
+    ensures value { result ≡ at_most 1_000_000_000_000 (unsigned_amount decimals text.now) }
+    ensures bound { IfSome result (λ v. v ≤ 1_000_000_000_000) }
+{
+    let Some(place) = point_of(text) else {
+        return units_of(text, 0, decimals);
+    };
+    let fraction = fraction_of(&text[place + 1..], decimals)?;
+    units_of(&text[..place], fraction, decimals)
+}
+
+/// An amount in minor units of a currency with so many decimals, which are at most 3: an optional minus sign, one or more
+/// digits, and optionally a point with one or more digits, of which those past the decimals are zeros. None exactly where the
+/// text is no such amount of at most 10^12 minor units in either direction.
+#[tactic(auto, unfolding(feed_faults::specs::FieldGrammars::amount_value), using(crate::proofs::AmountLaws::positive_between, crate::proofs::AmountLaws::negative_between))]
+pub fn amount_of(text: &[u8], decimals: u8) -> Option<Money>
+    requires { decimals ≤ 3 }
+    ensures { option_map (λ m. m.0) result ≡ amount_value decimals text.now }
+{
+    if !text.is_empty() && text[0] == b'-' {
+        return Some(Money(-(unsigned_amount_of(&text[1..], decimals)? as i64)));
+    }
+    Some(Money(unsigned_amount_of(text, decimals)? as i64))
+}

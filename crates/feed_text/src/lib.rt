@@ -1,0 +1,21 @@
+//! The text of a feed's files: tables of cut fields, and the values of fields by their grammars.
+#![tactic(auto)]
+
+mod amounts;
+mod blanks;
+mod dates;
+mod errors;
+mod flat;
+mod ids;
+mod numbers;
+mod reading;
+mod table;
+#[cfg(test)]
+mod tests;
+
+pub use amounts::amount_of;
+pub use dates::{date_of, day_of_parts};
+pub use errors::TextError;
+pub use ids::{currency_of, id_ok};
+pub use numbers::{count_of, int_of, time_of};
+pub use table::Table;

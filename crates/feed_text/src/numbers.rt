@@ -1,0 +1,102 @@
+//! Integers and times, as fields write them.
+ghost use Rattle.std.specs.Prelude.{◌≡◌, ◌+◌, ◌-◌, ◌*◌, ◌^◌, ◌≤◌, ◌<◌, IfSome, Some, None, pos, neg_ℤ};
+ghost use Rattle.feed_rows.specs.Numerals.{number_value, at_most};
+ghost use Rattle.feed_rows.specs.TimeGrammar.{time_value};
+ghost use Rattle.feed_faults.specs.FieldGrammars.{signed_value, if_between, int_value, count_value};
+
+// The number with one more digit, where it stays below 2^64.
+fn with_digit(value: u64, digit: u8) -> Option<u64>
+    requires { digit ≤ 9 }
+    ensures { result ≡ at_most (2 ^ 64 - 1) (Some (value * 10 + digit)) }
+{
+    u64::try_from(u128::from(value) * 10 + u128::from(digit)).ok()
+}
+
+// The number that one or more digits write, where it is below 2^64.
+pub(crate) fn number_of(text: &[u8]) -> Option<u64>
+    ensures { result ≡ at_most (2 ^ 64 - 1) (number_value text.now) }
+{
+    if text.is_empty() {
+        return None;
+    }
+    let mut value = 0u64;
+    for b in text {
+        if !b.is_ascii_digit() {
+            return None;
+        }
+        value = with_digit(value, *b - b'0')?;
+    }
+    Some(value)
+}
+
+// The number that one or more digits write, where it is at most this.
+pub(crate) fn small_number_of(text: &[u8], most: u32) -> Option<u32>
+    ensures value { result ≡ at_most most (number_value text.now) }
+    ensures bound { IfSome result (λ v. v ≤ most) }
+{
+    let value = number_of(text)?;
+    if value > u64::from(most) {
+        return None;
+    }
+    Some(value as u32)
+}
+
+/// The seconds of a time: one to three digits of hours up to 167, and two digits each of minutes and seconds up to 59, with
+/// colons between. None exactly where the text is no such time of at most so many seconds.
+#[tactic(auto, unfolding(feed_rows::specs::TimeGrammar::time_value))]
+pub fn time_of(text: &[u8], most: u32) -> Option<u32>
+    ensures value { result ≡ time_value most text.now }
+    ensures bound { IfSome result (λ v. v ≤ most) }
+{
+    if text.len() < 7 || text.len() > 9 {
+        return None;
+    }
+    let colon = text.len() - 6;
+    if text[colon] != b':' || text[colon + 3] != b':' {
+        return None;
+    }
+    let hours = small_number_of(&text[..colon], 167)?;
+    let minutes = small_number_of(&text[colon + 1..colon + 3], 59)?;
+    let seconds = small_number_of(&text[colon + 4..], 59)?;
+    let value = hours * 3600 + minutes * 60 + seconds;
+    if value > most {
+        return None;
+    }
+    Some(value)
+}
+
+// An optional minus sign and one or more digits, where the digits' number is below 2^64.
+fn signed_number_of(text: &[u8]) -> Option<i128>
+    ensures { result ≡ if_between (neg_ℤ (pos (2 ^ 64 - 1))) (pos (2 ^ 64 - 1)) (signed_value number_value text.now) }
+{
+    if !text.is_empty() && text[0] == b'-' {
+        return Some(-i128::from(number_of(&text[1..])?));
+    }
+    Some(i128::from(number_of(text)?))
+}
+
+/// The value of an integer: an optional minus sign and one or more digits, leading zeros among them. None exactly where the
+/// text is no integer from `least` to `most`.
+#[tactic(auto, unfolding(feed_faults::specs::FieldGrammars::int_value))]
+pub fn int_of(text: &[u8], least: i64, most: i64) -> Option<i64>
+    ensures { result ≡ int_value least most text.now }
+{
+    let value = signed_number_of(text)?;
+    if value < i128::from(least) || value > i128::from(most) {
+        return None;
+    }
+    Some(value as i64)
+}
+
+/// The value of a number of changes: an integer from 1 to 2,147,483,647, or -1 for any number. None exactly where the text is
+/// neither.
+#[tactic(auto, unfolding(feed_faults::specs::FieldGrammars::count_value))]
+pub fn count_of(text: &[u8]) -> Option<i64>
+    ensures { result ≡ count_value text.now }
+{
+    let value = int_of(text, -1, 2_147_483_647)?;
+    if value == 0 {
+        return None;
+    }
+    Some(value)
+}

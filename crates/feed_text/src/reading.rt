@@ -1,0 +1,192 @@
+//! The first faults of a file: as a whole, and of its header.
+ghost use Rattle.std.specs.Prelude.{◌≡◌, ◌≤◌, length, IfOk, IfErr, OnOk, None};
+ghost use Rattle.std.specs.Str.{is_utf8};
+ghost use Rattle.feed_rows.specs.Words.{first_in};
+ghost use Rattle.feed_rows.specs.HeldFiles.{most_bytes};
+ghost use Rattle.feed_faults.specs.Records.{table_of_bytes};
+ghost use Rattle.feed_faults.specs.FaultPlaces.{file_fault, column_fault};
+ghost use Rattle.feed_faults.specs.FormFaults.{doubled_column, missing_column, is_needed_column, header_fault, form_fault_of_table, form_fault_of_bytes, is_always_needed};
+ghost use Rattle.feed_faults.specs.FileColumns.{columns_of};
+ghost use Rattle.feed_text.specs.TextErrors.{IsErrorOf};
+
+use crate::errors::TextError;
+use crate::table::{Table, table_within};
+use feed_faults::{ColumnRule, EmptyField, columns_of};
+use feed_rows::{ColumnName, FaultKind, FeedFault, FileName};
+use std::alloc::Global;
+
+// A fault of a whole file.
+fn file_fault(file: FileName, kind: FaultKind) -> FeedFault
+    ensures { result ≡ file_fault file kind }
+{
+    FeedFault {
+        kind,
+        file,
+        row: 0,
+        column: None,
+    }
+}
+
+// A fault of a column of a header.
+fn column_fault(file: FileName, name: ColumnName, kind: FaultKind) -> FeedFault
+    ensures { result ≡ column_fault file name kind }
+{
+    FeedFault {
+        kind,
+        file,
+        row: 0,
+        column: Some(name),
+    }
+}
+
+// Whether a feed needs the file, whatever else it holds.
+fn is_always_needed(file: FileName) -> bool
+    ensures { result ≡ is_always_needed file }
+{
+    match file {
+        FileName::Stops
+        | FileName::Routes
+        | FileName::Trips
+        | FileName::StopTimes
+        | FileName::FareProducts
+        | FileName::FareLegRules => true,
+        FileName::Calendar
+        | FileName::CalendarDates
+        | FileName::Frequencies
+        | FileName::Transfers
+        | FileName::Areas
+        | FileName::StopAreas
+        | FileName::Networks
+        | FileName::RouteNetworks
+        | FileName::Timeframes
+        | FileName::RiderCategories
+        | FileName::FareMedia
+        | FileName::FareTransferRules => false,
+    }
+}
+
+// The fault of a listed column that stands twice.
+#[tactic(auto, unfolding(feed_faults::specs::FormFaults::doubled_column))]
+fn doubled_column(file: FileName, table: &Table, rule: ColumnRule) -> Option<FeedFault>
+    ensures { result ≡ doubled_column file table.now rule }
+{
+    if table.is_twice(rule.name) {
+        return Some(column_fault(file, rule.name, FaultKind::DoubledColumn));
+    }
+    None
+}
+
+// Whether a column must be there.
+fn is_needed_column(empty: EmptyField) -> bool
+    ensures { result ≡ is_needed_column empty }
+{
+    match empty {
+        EmptyField::Fine => false,
+        EmptyField::Fault | EmptyField::FaultOrFlex => true,
+    }
+}
+
+// The fault of a column that must be there and isn't.
+#[tactic(auto, unfolding(feed_faults::specs::FormFaults::missing_column))]
+fn missing_column(file: FileName, table: &Table, rule: ColumnRule) -> Option<FeedFault>
+    ensures { result ≡ missing_column file table.now rule }
+{
+    if is_needed_column(rule.empty) && table.column(rule.name).is_none() {
+        return Some(column_fault(file, rule.name, FaultKind::MissingColumn));
+    }
+    None
+}
+
+// The fault of the first listed column that stands twice.
+#[tactic(auto, using(feed_rows::proofs::FirstLaws::first_below_found, crate::proofs::HeaderLaws::first_below_next))]
+fn first_doubled(file: FileName, table: &Table) -> Option<FeedFault>
+    ensures { result ≡ first_in (columns_of file) (doubled_column file table.now) }
+{
+    let rules = columns_of(file);
+    for (i, rule) in rules.iter().enumerate() {
+        if let Some(fault) = doubled_column(file, table, *rule) {
+            return Some(fault);
+        }
+    }
+    None
+}
+
+// The fault of the first listed column that must be there and isn't.
+#[tactic(auto, using(feed_rows::proofs::FirstLaws::first_below_found, crate::proofs::HeaderLaws::first_below_next))]
+fn first_missing(file: FileName, table: &Table) -> Option<FeedFault>
+    ensures { result ≡ first_in (columns_of file) (missing_column file table.now) }
+{
+    let rules = columns_of(file);
+    for (i, rule) in rules.iter().enumerate() {
+        if let Some(fault) = missing_column(file, table, *rule) {
+            return Some(fault);
+        }
+    }
+    None
+}
+
+// The first fault of a header.
+#[tactic(auto, unfolding(feed_faults::specs::FormFaults::header_fault))]
+fn header_fault(file: FileName, table: &Table) -> Option<FeedFault>
+    ensures { result ≡ header_fault file table.now }
+{
+    if let Some(fault) = first_doubled(file, table) {
+        return Some(fault);
+    }
+    first_missing(file, table)
+}
+
+// The first fault of a table before its rows.
+#[tactic(auto, unfolding(feed_faults::specs::FormFaults::form_fault_of_table))]
+fn table_fault(file: FileName, table: &Table, max_rows: u32) -> Option<FeedFault>
+    ensures { result ≡ form_fault_of_table (is_always_needed file) max_rows file table.now }
+{
+    if table.records() == 0 {
+        if is_always_needed(file) {
+            return Some(file_fault(file, FaultKind::MissingFile));
+        }
+        return None;
+    }
+    if table.rows() > max_rows {
+        return Some(file_fault(file, FaultKind::TooManyRows));
+    }
+    header_fault(file, table)
+}
+
+// Whether the bytes are UTF-8.
+fn is_text(bytes: &[u8]) -> bool
+    ensures { result ≡ is_utf8 bytes.now }
+{
+    std::str::from_utf8(bytes).is_ok()
+}
+
+impl Table {
+    /// The table of a file's bytes: its records as csv reads them, behind one byte order mark, each field without the blanks
+    /// at its ends. A file without a record makes a table without rows and columns.
+    ///
+    /// `Fault` is the first of NotUtf8, MissingFile (for a file that every feed needs), TooManyRows (more than `max_rows`
+    /// data rows), DoubledColumn and MissingColumn. What is wrong with rows and fields isn't looked at.
+    #[tactic(auto, unfolding(feed_faults::specs::FormFaults::form_fault_of_bytes), using(crate::proofs::HeaderLaws::too_many))]
+    pub fn read(
+        alloc: Global,
+        bytes: &[u8],
+        file: FileName,
+        max_rows: u32,
+    ) -> Result<Table, TextError>
+        requires { length bytes.now ≤ most_bytes }
+        ensures fault { IfErr result (λ error. IsErrorOf (form_fault_of_bytes (is_always_needed file) max_rows file bytes.now) error) }
+        ensures sound { OnOk result (form_fault_of_bytes (is_always_needed file) max_rows file bytes.now ≡ None) }
+        ensures table { IfOk result (λ table. table ≡ table_of_bytes bytes.now) }
+    {
+        if !is_text(bytes) {
+            return Err(TextError::Fault(file_fault(file, FaultKind::NotUtf8)));
+        }
+        let Some(table) = table_within(alloc, bytes, max_rows)? else {
+            return Err(TextError::Fault(file_fault(file, FaultKind::TooManyRows)));
+        };
+        if let Some(fault) = table_fault(file, &table, max_rows) {
+            return Err(TextError::Fault(fault));
+        }
+        Ok(table)
+    }
+}

@@ -1,0 +1,214 @@
+//! A file as a table, kept flat.
+ghost use Rattle.std.specs.Prelude.{◌≡◌, ◌≤◌, ◌<◌, ◌+◌, ◌-◌, ◌^◌, ◌++◌, ◌∷◌, [], List, ℕ, length, map, get_or, slice_index, IfOk, OnOk, IfSome, Some, bytes_eq, nat_le};
+ghost use Rattle.csv.specs.Records.{fields_of};
+ghost use Rattle.feed_rows.specs.Words.{when, any_below};
+ghost use Rattle.feed_rows.specs.Names.{column_text};
+ghost use Rattle.feed_faults.specs.Records.{FileTable, table_of_bytes, cut, header, row_count, data_row, column_of, field, is_filled, is_long};
+ghost use Rattle.feed_faults.specs.FormFaults.{is_twice};
+ghost use Rattle.feed_text.specs.Parts.{parts, Rise, start_of, field_in};
+
+use crate::flat::{end_of, part_of, push_fields};
+use csv::{ByteRecord, ReaderBuilder};
+use feed_rows::ColumnName;
+use std::alloc::{AllocError, Global};
+use std::marker::Model;
+
+/// A file as a table: its header and its data rows, which are numbered from 0, each field without the blanks at its ends.
+#[derive(Drop)]
+pub struct Table {
+    // The bytes of all fields, where each field ends among them, and where each row ends among the fields.
+    bytes: Vec<u8>,
+    fields: Vec<u32>,
+    rows: Vec<u32>,
+}
+
+impl Model for Table {
+    ghost use Rattle.std.specs.Prelude.{◌≤◌, ◌^◌, length};
+    ghost use Rattle.feed_faults.specs.Records.{FileTable};
+    ghost use Rattle.feed_text.specs.Parts.{parts, Rise};
+
+    ghost Value = { FileTable };
+
+    ghost view = { λ t. parts 0 t.rows.items (parts 0 t.fields.items t.bytes.items) };
+
+    ghost invariant = { λ t. Rise 0 t.fields.items (length t.bytes.items) × Rise 0 t.rows.items (length t.fields.items) × (length t.rows.items ≤ 2 ^ 32) };
+}
+
+// The table of a file's bytes, where it has at most so many data rows.
+pub(crate) fn table_within(
+    alloc: Global,
+    text: &[u8],
+    max_rows: u32,
+) -> Result<Option<Table>, AllocError>
+    ensures { IfOk result (λ table. table ≡ when (nat_le (row_count (table_of_bytes text.now)) max_rows) (table_of_bytes text.now)) }
+{
+    let mut reader = ReaderBuilder::new()
+        .has_headers(false)
+        .flexible(true)
+        .from_reader(alloc, text);
+    let mut row = ByteRecord::new(alloc);
+    let mut bytes = Vec::new(alloc);
+    let mut fields = Vec::new(alloc);
+    let mut rows = Vec::new(alloc);
+    // The header, the rows, and one record more, which is one too many.
+    for _ in 0..u64::from(max_rows) + 2 {
+        match reader.read_byte_record(&mut row) {
+            Ok(true) => {
+                push_fields(&mut bytes, &mut fields, &row)?;
+                let end = end_of(fields.len())?;
+                rows.push(end)?;
+            }
+            Ok(false) => return Ok(Some(Table {
+                bytes,
+                fields,
+                rows,
+            })),
+            // A read over bytes in memory fails for want of memory alone.
+            Err(_) => return Err(AllocError),
+        }
+    }
+    Ok(None)
+}
+
+impl Table {
+    // How many records there are, the header among them.
+    #[tactic(auto, using(crate::proofs::PartLaws::length_parts))]
+    pub(crate) fn records(&self) -> usize
+        ensures count { result ≡ length self.now }
+        ensures few { result ≤ 2 ^ 32 }
+    {
+        self.rows.len()
+    }
+
+    // How many fields a record has; the header has the place 0.
+    fn width(&self, place: usize) -> usize
+        requires { place < length self.now }
+        ensures count { result ≡ length (get_or self.now place []) }
+        ensures few { result < 2 ^ 32 }
+    {
+        let (start, end) = part_of(&self.rows, place, self.fields.len());
+        end - start
+    }
+
+    // The field of a record, empty where the record is short; the header has the place 0.
+    fn field_at(&self, place: usize, column: usize) -> &[u8]
+        requires { place < length self.now }
+        ensures { result.now ≡ field_in self.now place column }
+    {
+        let (start, end) = part_of(&self.rows, place, self.fields.len());
+        if column >= end - start {
+            return &[];
+        }
+        let (from, to) = part_of(&self.fields, start + column, self.bytes.len());
+        &self.bytes[from..to]
+    }
+
+    /// How many data rows there are.
+    pub fn rows(&self) -> u32
+        ensures { result ≡ row_count self.now }
+    {
+        self.records().saturating_sub(1) as u32
+    }
+
+    // How many columns the header has.
+    #[tactic(auto, using(crate::proofs::HeaderLaws::no_header))]
+    pub(crate) fn columns(&self) -> u32
+        ensures { result ≡ length (header self.now) }
+    {
+        if self.records() == 0 {
+            return 0;
+        }
+        self.width(0) as u32
+    }
+
+    // Whether a column of the header has this name.
+    fn is_named(&self, column: u32, name: ColumnName) -> bool
+        requires { column < length (header self.now) }
+        ensures { result ≡ bytes_eq (get_or (header self.now) column []) (column_text name) }
+    {
+        self.field_at(0, column as usize) == name.text().as_bytes()
+    }
+
+    /// The place of the first column of this name. None exactly where the header lacks it.
+    #[tactic(auto, using(feed_rows::proofs::FirstLaws::find_below_found, feed_rows::proofs::FirstLaws::find_below_next), unfolding(feed_faults::specs::Records::column_of))]
+    pub fn column(&self, name: ColumnName) -> Option<u32>
+        ensures place { result ≡ column_of self.now name }
+        ensures within { IfSome result (λ column. column < length (header self.now)) }
+    {
+        for column in 0..self.columns() {
+            if self.is_named(column, name) {
+                return Some(column);
+            }
+        }
+        None
+    }
+
+    /// The field of a data row in a column, without the blanks at its ends; empty where the row is short.
+    #[tactic(auto, unfolding(feed_faults::specs::Records::field))]
+    pub fn field(&self, row: u32, column: u32) -> &[u8]
+        requires { row < row_count self.now }
+        ensures value { result.now ≡ get_or (data_row self.now row) column [] }
+        ensures named { (name : ColumnName) → column_of self.now name ≡ Some column → result.now ≡ field self.now row name }
+    {
+        self.field_at(row as usize + 1, column as usize)
+    }
+
+    // Whether a field is filled.
+    fn has_filled(&self, place: usize, column: usize) -> bool
+        requires { place < length self.now }
+        ensures { result ≡ is_filled (field_in self.now place column) }
+    {
+        match self.field_at(place, column) {
+            [] => false,
+            [_, ..] => true,
+        }
+    }
+
+    /// Whether a data row has a field past the header that isn't empty.
+    #[tactic(auto, using(crate::proofs::HeaderLaws::any_below_next, crate::proofs::HeaderLaws::none_before), unfolding(feed_faults::specs::Records::is_long))]
+    pub fn extra(&self, row: u32) -> bool
+        requires { row < row_count self.now }
+        ensures { result ≡ is_long self.now row }
+    {
+        let place = row as usize + 1;
+        let past = self.columns() as usize;
+        let width = self.width(place);
+        if width <= past {
+            return false;
+        }
+        for column in past..width {
+            if self.has_filled(place, column) {
+                return true;
+            }
+        }
+        false
+    }
+
+    // Whether an earlier column of the header has this name.
+    fn is_named_before(&self, column: u32, name: ColumnName) -> bool
+        requires { column < length (header self.now) }
+        ensures { result ≡ any_below column (λ earlier. bytes_eq (get_or (header self.now) earlier []) (column_text name)) }
+    {
+        let mut found = false;
+        for earlier in 0..column {
+            if self.is_named(earlier, name) {
+                found = true;
+            }
+        }
+        found
+    }
+
+    // Whether a column stands twice in the header.
+    #[tactic(auto, unfolding(feed_faults::specs::FormFaults::is_twice))]
+    pub(crate) fn is_twice(&self, name: ColumnName) -> bool
+        ensures { result ≡ is_twice self.now name }
+    {
+        let mut found = false;
+        for later in 0..self.columns() {
+            if self.is_named(later, name) && self.is_named_before(later, name) {
+                found = true;
+            }
+        }
+        found
+    }
+}
