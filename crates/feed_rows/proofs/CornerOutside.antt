@@ -15,11 +15,11 @@ bytes_at_most folder name = refl
 last_count : 2 ^ 64 - 1 ≡ 18446744073709551615
 last_count = refl
 
--- from 3 to 4 something failed
+-- from 3 to 4 a count rose
 one_more_rose : Rose 3 4
 one_more_rose = inl (omega arith)
 
--- from 3 to 3 nothing did, and less is no rise
+-- from 3 to 3 it did not, and less is no rise
 as_many_not_risen : Rose 3 3 → ⊥
 as_many_not_risen (inl less) = omega (arith, less)
 as_many_not_risen (inr last) = omega (arith, last)
@@ -28,7 +28,7 @@ fewer_not_risen : Rose 4 3 → ⊥
 fewer_not_risen (inl less) = omega (arith, less)
 fewer_not_risen (inr last) = omega (arith, last)
 
--- at the last value something may have failed that the count can't tell
+-- at the last value, past which it can't rise, it counts as risen
 last_rose : Rose 18446744073709551615 18446744073709551615
 last_rose = inr refl
 
