@@ -25,3 +25,4 @@ pub mod JourneyLaws
 pub mod FareLaws
 pub mod SumLaws
 pub mod ChoiceLaws
+pub mod GroupLaws

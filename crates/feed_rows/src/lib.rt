@@ -4,6 +4,7 @@
 mod fares;
 mod faults;
 mod feed;
+mod groups;
 mod ids;
 mod journeys;
 mod lists;
@@ -23,6 +24,7 @@ pub use feed::{
     ProductRows, RiderRows, RouteRows, ServiceRows, StopAreaRows, StopRows, StopTimeRows,
     TimeframeRows, TransferRuleRows, TripRows,
 };
+pub use groups::{Grouped, Groups};
 pub use ids::Id;
 pub use journeys::{
     AreaList, Call, FrameList, Journey, LegFacts, LegList, Query, Ride, RideFacts, RideList, Shifts,
