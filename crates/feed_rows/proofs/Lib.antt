@@ -26,3 +26,4 @@ pub mod FareLaws
 pub mod SumLaws
 pub mod ChoiceLaws
 pub mod GroupLaws
+pub mod StopSetLaws

@@ -43,3 +43,4 @@ pub mod HeldFiles
 pub mod FaultCounts
 pub mod Pieces
 pub mod Groups
+pub mod StopSets

@@ -10,6 +10,7 @@ mod journeys;
 mod lists;
 mod names;
 mod rows;
+mod sets;
 #[cfg(test)]
 mod tests;
 mod usage;
@@ -31,6 +32,7 @@ pub use journeys::{
 };
 pub use lists::{AscendingList, ItemList};
 pub use names::{ColumnName, FileName};
+pub use sets::stop_sets;
 pub use usage::{StopWord, UsageFault, WordRole};
 pub use rows::{
     AreaRow, ExceptionRow, FrequencyRow, LegRuleRow, Limit, LinkRow, MediumRow, ProductRow,
