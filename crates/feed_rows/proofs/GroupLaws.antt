@@ -147,10 +147,14 @@ pub groups_below-regrouped : {X : Type 0} (n : ℕ) (old new : List (Grouped X))
 unfolding groups_below
 groups_below-regrouped n old new put = list_below-same n (group_of new) (group_of old) (λ i lt. put.same i)
 
+-- there are as many pieces as starts but one
+pub length-pieces : {X : Type 0} (starts : List ℕ) (items : List X) → length (pieces starts items) ≡ length starts - 1
+length-pieces starts items = length-list_below (length starts - 1) (λ k. slice_range items (slice_index starts k) (slice_index starts (k + 1)))
+
 -- a piece has a start and an end
 pub piece_within : {X : Type 0} (starts : List ℕ) (items : List X) (i : ℕ) → i < length (pieces starts items) → i + 1 < length starts
 piece_within starts items i lt =
-    let long = length-list_below (length starts - 1) (λ k. slice_range items (slice_index starts k) (slice_index starts (k + 1))) in
+    let long = length-pieces starts items in
     omega arith
 
 -- and is what stands between them

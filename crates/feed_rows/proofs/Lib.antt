@@ -25,5 +25,6 @@ pub mod JourneyLaws
 pub mod FareLaws
 pub mod SumLaws
 pub mod ChoiceLaws
+pub mod TextMaps
 pub mod GroupLaws
 pub mod StopSetLaws

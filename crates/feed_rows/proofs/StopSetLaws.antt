@@ -1,12 +1,12 @@
 -- Laws of the platforms that stops stand for.
 use Rattle.std.proofs.Common.{◌≡◌, refl, sym, ◌∙◌, ap, subst, ℕ, zero, suc, ◌+◌, ◌<◌, ◌≤◌, ◌⊎◌, inl, inr, ⊎_elim, Bool, true, false, List, [], ◌∷◌, ◌++◌, length, get_or, arith}
-use Rattle.std.specs.Prelude.{◌==◌, ◌&&◌, if◌then◌else◌, Option, Some, None, slice_get, map, filter}
+use Rattle.std.specs.Prelude.{◌==◌, ◌&&◌, if◌then◌else◌, Option, Some, None, slice_get, unwrap_or, map, filter}
 use Rattle.std.specs.Option.{option_map_or}
 use Rattle.std.proofs.lemmas.Bool.{cases_lt, cases_Bool}
 use Rattle.std.proofs.lemmas.Bool.Decides.{nat_tests}
 use Rattle.std.proofs.lemmas.Grind.{common_steps}
 use Rattle.std.proofs.lemmas.List.{append-nil}
-use Rattle.std.proofs.lemmas.Option.{same_Some, slice_get_within, none-some, slice_get_read, slice_get-get_or}
+use Rattle.std.proofs.lemmas.Option.{same_Some, slice_get_within, none-some, slice_get_read, slice_get-get_or, slice_get_past}
 use Rattle.std.proofs.lemmas.List.Elements.{filter-append}
 use Rattle.transit_base.specs.declared.numbers.StopId.{StopId}
 use Rattle.feed_rows.specs.declared.rows.StopRow.{StopRow}
@@ -18,7 +18,7 @@ use Rattle.feed_rows.specs.Groups.{group_of, groups_below}
 use Rattle.feed_rows.specs.StopLinks.{is_platform, is_station, is_member, stop_set}
 use Rattle.feed_rows.specs.StopSets.{stop_sets, row_sets, row_sets_at, own_set, station_set}
 use Rattle.feed_rows.proofs.FeedReadings.{parent_kind}
-use Rattle.feed_rows.proofs.GroupLaws.{list_below-same}
+use Rattle.feed_rows.proofs.GroupLaws.{list_below-same, length-list_below, slice_get-list_below}
 
 module _ {X : Type 0} where
   -- lists that are alike number by number join alike
@@ -161,3 +161,20 @@ stop_sets-from_members feed stops members n sound same long are =
   where
   gathered : (i : ℕ) → group_of members i ≡ joined_below (length feed.stops) (λ r. row_sets_at feed.stops r i)
   gathered i = let e = are i in rw same at e
+
+-- a number that is no stop's stands for no platform
+pub stop_set-past : (feed : FeedRows) (stop : StopId) → length feed.stops ≤ stop.0 → stop_set feed stop ≡ []
+unfolding stop_set
+stop_set-past feed stop past = rw (slice_get_past feed.stops stop.0 past) refl
+
+-- the set of a stop; none is there for a number that is no stop's
+pub stop_sets-at : (feed : FeedRows) (stop : StopId) → unwrap_or (slice_get (stop_sets feed) stop.0) [] ≡ stop_set feed stop
+unfolding stop_sets
+stop_sets-at feed stop = ⊎_elim inside outside (cases_lt stop.0 (length feed.stops))
+  where
+  inside : stop.0 < length feed.stops → unwrap_or (slice_get (list_below (length feed.stops) (λ i. stop_set feed (record { 0 = i }))) stop.0) [] ≡ stop_set feed stop
+  inside lt = rw (slice_get-list_below (length feed.stops) (λ i. stop_set feed (record { 0 = i })) stop.0 lt) refl
+  outside : length feed.stops ≤ stop.0 → unwrap_or (slice_get (list_below (length feed.stops) (λ i. stop_set feed (record { 0 = i }))) stop.0) [] ≡ stop_set feed stop
+  outside past =
+      let long = length-list_below (length feed.stops) (λ i. stop_set feed (record { 0 = i })) in
+      rw (slice_get_past (list_below (length feed.stops) (λ i. stop_set feed (record { 0 = i }))) stop.0 (omega arith)) (sym (stop_set-past feed stop past))

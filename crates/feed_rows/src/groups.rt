@@ -1,5 +1,5 @@
 //! Items in numbered groups, one group after another in one vector.
-ghost use Rattle.std.specs.Prelude.{◌≡◌, ℕ, ◌+◌, ◌<◌, ◌≤◌, length, IfOk, OnOk, Some, slice_get, map};
+ghost use Rattle.std.specs.Prelude.{◌≡◌, ℕ, ◌+◌, ◌<◌, ◌≤◌, length, IfOk, OnOk, Some, slice_get, unwrap_or, [], map};
 ghost use Rattle.std.specs.List.Sorted.{IsNonDecreasingBy};
 ghost use Rattle.feed_rows.specs.Groups.{group_of, groups_below, AreStarts, IsStart, IsRegrouped};
 
@@ -72,6 +72,24 @@ impl<T: Copy + Drop> Groups<T> {
         let start = self.starts[number];
         let end = self.starts[number + 1];
         &self.items[start..end]
+    }
+
+    /// The items of a group, in order; none where there is no group with this number.
+    pub fn get(&self, number: usize) -> &[T]
+        ensures { result.now ≡ unwrap_or (slice_get self.now number) [] }
+    {
+        if number < self.len() {
+            self.group(number)
+        } else {
+            &[]
+        }
+    }
+
+    /// How many groups there are.
+    pub fn len(&self) -> usize
+        ensures { result ≡ length self.now }
+    {
+        self.starts.len() - 1
     }
 }
 
