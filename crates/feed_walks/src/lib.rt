@@ -1,0 +1,4 @@
+//! The walks between the platforms of a feed.
+#![tactic(auto)]
+
+mod rules;
