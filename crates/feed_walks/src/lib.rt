@@ -1,4 +1,5 @@
 //! The walks between the platforms of a feed.
 #![tactic(auto)]
 
+mod pairs;
 mod rules;

@@ -59,7 +59,7 @@ pub fn place_of(rows: &[LinkRow], to: StopId) -> usize
 }
 
 /// The first of the rows that leads to the stop.
-fn row_to(rows: &[LinkRow], to: StopId) -> Option<LinkRow>
+pub fn row_to(rows: &[LinkRow], to: StopId) -> Option<LinkRow>
     ensures { IsNonDecreasingBy (λ (row : LinkRow). row.to.0) rows.now → result ≡ find (λ row. row.to.0 == to.0) rows.now }
 {
     row_if_to(row_at(rows, place_of(rows, to)), to)
