@@ -2,7 +2,8 @@
 ghost use Rattle.std.specs.Prelude.{◌≡◌, ℕ, ◌+◌, ◌<◌, ◌++◌, length, map, IfOk, OnOk};
 ghost use Rattle.std.specs.List.Sorted.{IsNonDecreasingBy};
 ghost use Rattle.feed_walks.specs.Rules.{AreRules};
-ghost use Rattle.feed_walks.specs.Pairs.{pair, product, leads_anew, pairs_by, pairs_at, own_pairs, pairs_from, pairs_below};
+ghost use Rattle.feed_walks.specs.Places.{is_anew};
+ghost use Rattle.feed_walks.specs.Pairs.{pair, product, AreNear, AreByItem, pairs_by, pairs_at, own_pairs, pairs_from, pairs_below};
 ghost use Rattle.feed_rows.specs.Words.{joined_below};
 
 use crate::rules::row_to;
@@ -27,6 +28,27 @@ pub fn pairs_of(
         push_pairs_from(&mut pairs, sets, StopId(stop), rules.get(stop as usize))?;
     }
     Ok(pairs)
+}
+
+/// The stops that each stop is paired with, ascending. One may stand there more than once.
+pub fn near_of(
+    alloc: Global,
+    pairs: Vec<Grouped<StopId>>,
+    count: u32,
+) -> Result<Groups<StopId>, AllocError>
+    ensures { IfOk result (λ near. AreNear pairs.items near count) }
+{
+    let mut sorted = pairs;
+    sort_by_item(&mut sorted);
+    let near = Groups::of(alloc, sorted, count)?;
+    Ok(near)
+}
+
+/// Puts pairs in the order of their second stops.
+fn sort_by_item(pairs: &mut Vec<Grouped<StopId>>)
+    ensures { AreByItem pairs.old.items pairs.new.items }
+{
+    pairs.sort_unstable_by_key(|pair| pair.item.0);
 }
 
 /// Adds the pairs from the set of the stop, by the rows from it.
@@ -80,7 +102,7 @@ fn push_pairs_at(
 /// Whether the row at this place leads to another stop than the one before it.
 fn leads_anew(rows: &[LinkRow], at: usize) -> bool
     requires { at < length rows.now }
-    ensures { result ≡ leads_anew rows.now at }
+    ensures { result ≡ is_anew (λ (row : LinkRow). row.to.0) rows.now at }
 {
     if at == 0 {
         return true;
