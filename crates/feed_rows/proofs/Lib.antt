@@ -28,3 +28,4 @@ pub mod ChoiceLaws
 pub mod TextMaps
 pub mod GroupLaws
 pub mod StopSetLaws
+pub mod JoinLaws

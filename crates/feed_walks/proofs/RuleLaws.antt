@@ -13,7 +13,8 @@ use Rattle.feed_rows.specs.declared.rows.LinkRow.{LinkRow}
 use Rattle.feed_rows.specs.declared.groups.Grouped.{Grouped}
 use Rattle.feed_rows.specs.Words.{list_below}
 use Rattle.feed_rows.specs.Groups.{group_of, groups_below}
-use Rattle.feed_rows.proofs.GroupLaws.{same_ties, length-list_below, slice_get-list_below}
+use Rattle.feed_rows.proofs.GroupLaws.{same_ties}
+use Rattle.feed_rows.proofs.JoinLaws.{group_rises, groups_below-at, groups_below-past}
 use Rattle.feed_walks.specs.Rules.{grouped_row, AreByTarget, rows_from, AreRules}
 use Rattle.feed_walks.proofs.PlaceLaws.{find_none, find-filter, filter-filter, filter-map}
 
@@ -24,23 +25,6 @@ by_target old new rises moved stable =
   where
   target : ℕ → Grouped LinkRow
   target i = record { group = 0; item = record { from = record { 0 = 0 }; to = record { 0 = i }; forbidden = false; seconds = 0 } }
-
--- a row of a group, with some number for its group
-get_or-items : (ms : List (Grouped LinkRow)) (i : ℕ) (d : LinkRow) → get_or (map (λ m. m.item) ms) i d ≡ (get_or ms i (record { group = 0; item = d })).item
-get_or-items [] i d = refl
-get_or-items (m ∷ ms) zero d = refl
-get_or-items (m ∷ ms) (suc i) d = get_or-items ms i d
-
-length-items : (ms : List (Grouped LinkRow)) → length (map (λ m. m.item) ms) ≡ length ms
-length-items [] = refl
-length-items (m ∷ ms) = ap suc (length-items ms)
-
--- the rows of a group stand as they did among all
-group_rises : (members : List (Grouped LinkRow)) (i : ℕ) → IsNonDecreasingBy (λ (m : Grouped LinkRow). m.item.to.0) members → IsNonDecreasingBy (λ (row : LinkRow). row.to.0) (group_of members i)
-group_rises members i rises a b d le lt =
-    let kept = IsNonDecreasingBy-filter (λ (m : Grouped LinkRow). m.item.to.0) (λ m. m.group == i) members rises in
-    let long = length-items (filter (λ m. m.group == i) members) in
-    rw (get_or-items (filter (λ m. m.group == i) members) a d, get_or-items (filter (λ m. m.group == i) members) b d) (kept a b (record { group = 0; item = d }) le (omega arith))
 
 -- rows that are grouped and taken out are as before
 items-grouped : (rows : List LinkRow) → map (λ m. m.item) (map grouped_row rows) ≡ rows
@@ -62,11 +46,10 @@ group_to links members i j by =
 
 -- the rows in groups, each by the stops that they lead to
 pub rules_from_groups : (links : List LinkRow) (old members : List (Grouped LinkRow)) (rules : List (List LinkRow)) (n : ℕ) → All (λ row. row.from.0 < n) links → old ≡ map grouped_row links → AreByTarget old members → rules ≡ groups_below n members → AreRules links rules
-unfolding groups_below
 rules_from_groups links old members rules n within is by are =
     record {
       rises = λ i. ⊎_elim
-        (λ (lt : i < n). rw (group i lt) (group_rises members i by.rises))
+        (λ (lt : i < n). rw (group i lt) (group_rises (λ (row : LinkRow). row.to.0) members i by.rises))
         (λ (past : n ≤ i). rw (none i past) (λ a b d le lt. absurd (omega arith)))
         (cases_lt i n);
       first = λ i j. ⊎_elim
@@ -76,8 +59,6 @@ rules_from_groups links old members rules n within is by are =
     }
   where
   group : (i : ℕ) → i < n → rows_from rules i ≡ group_of members i
-  group i lt = rw (are, slice_get-list_below n (group_of members) i lt) refl
+  group i lt = rw are (groups_below-at n members i lt)
   none : (i : ℕ) → n ≤ i → rows_from rules i ≡ []
-  none i past =
-      let long = length-list_below n (group_of members) in
-      rw (are, slice_get_past (list_below n (group_of members)) i (omega arith)) refl
+  none i past = rw are (groups_below-past n members i past)

@@ -52,7 +52,7 @@ impl Walks {
     pub fn link(&self, from: StopId, to: StopId) -> Option<Secs>
         ensures { (feed : FeedRows) → AreWalksOf feed self.now → option_map (λ (seconds : Secs). seconds.0) result ≡ link feed from to }
     {
-        step_to(self.out_of(from), to).map(|step| step.seconds)
+        seconds_of(step_to(self.out_of(from), to))
     }
 
     /// The walks out of the platform, to itself among them where there is one, in file order of the platforms that they
@@ -61,5 +61,15 @@ impl Walks {
         ensures { (feed : FeedRows) → AreWalksOf feed self.now → result.now ≡ out_of feed from }
     {
         self.steps.get(from.0 as usize)
+    }
+}
+
+/// The seconds of the step, if there is one.
+fn seconds_of(step: Option<Step>) -> Option<Secs>
+    ensures { option_map (λ (seconds : Secs). seconds.0) result ≡ option_map (λ (step : Step). step.seconds.0) step }
+{
+    match step {
+        Some(step) => Some(step.seconds),
+        None => None,
     }
 }
