@@ -45,8 +45,8 @@ module _ {X : Type 0} where
       let mid : filter p (slice_range xs a b) ≡ slice_range xs a b = filter_all p (slice_range xs a b) part in
       ap (filter p) parts ∙ filter-append p (take a xs) (drop a xs) ∙ ap (λ ys. ys ++ filter p (drop a xs)) none ∙ ap (filter p) rest ∙ filter-append p (slice_range xs a b) (drop b xs) ∙ ap (λ ys. filter p (slice_range xs a b) ++ ys) last ∙ append-nil (filter p (slice_range xs a b)) ∙ mid
     where
-    part : All (λ x. p x ≡ true) (slice_range xs a b)
-    part k d lt = let lt' : k < b - a = omega (arith, simp (length-take, length-drop) at lt) in rw (get_or-take (b - a) (drop a xs) k d lt', get_or-drop a xs k d) (inside (a + k) d (omega arith) (omega arith))
+      part : All (λ x. p x ≡ true) (slice_range xs a b)
+      part k d lt = let lt' : k < b - a = omega (arith, simp (length-take, length-drop) at lt) in rw (get_or-take (b - a) (drop a xs) k d lt', get_or-drop a xs k d) (inside (a + k) d (omega arith) (omega arith))
 
   -- an item of a list that is made number by number
   pub length-list_below : (n : ℕ) (f : ℕ → X) → length (list_below n f) ≡ n
@@ -57,9 +57,9 @@ module _ {X : Type 0} where
   slice_get-list_below zero f i lt = absurd (omega arith)
   slice_get-list_below (suc n) f i lt = step (length-list_below n f) (slice_get-list_below n f i) (cases_lt i n)
     where
-    step : length (list_below n f) ≡ n → (i < n → slice_get (list_below n f) i ≡ Some (f i)) → (i < n) ⊎ (n ≤ i) → slice_get (list_below n f ++ f n ∷ []) i ≡ Some (f i)
-    step long before (inl below) = slice_get-push_before (list_below n f) (f n) i (omega (arith, long)) ∙ before below
-    step long before (inr past) = let same : n ≡ i = omega arith in slice_get-push_last (list_below n f) (f n) i (omega (arith, long)) ∙ ap (λ k. Some (f k)) same
+      step : length (list_below n f) ≡ n → (i < n → slice_get (list_below n f) i ≡ Some (f i)) → (i < n) ⊎ (n ≤ i) → slice_get (list_below n f ++ f n ∷ []) i ≡ Some (f i)
+      step long before (inl below) = slice_get-push_before (list_below n f) (f n) i (omega (arith, long)) ∙ before below
+      step long before (inr past) = let same : n ≡ i = omega arith in slice_get-push_last (list_below n f) (f n) i (omega (arith, long)) ∙ ap (λ k. Some (f k)) same
 
   -- lists that are made alike are equal
   pub list_below-same : (n : ℕ) (f g : ℕ → X) → ((i : ℕ) → i < n → f i ≡ g i) → list_below n f ≡ list_below n g
@@ -71,8 +71,8 @@ module _ {X : Type 0} where
   same_ties number xs ys i x is stable =
       sym (filter_agree (ties (λ a b. is_lt (nat_cmp (number a) (number b))) x) (λ y. number y == i) agree ys) ∙ stable x ∙ filter_agree (ties (λ a b. is_lt (nat_cmp (number a) (number b))) x) (λ y. number y == i) agree xs
     where
-    agree : (y : X) → ties (λ a b. is_lt (nat_cmp (number a) (number b))) x y ≡ (number y == i)
-    agree y = grind (arith, common_steps, nat_tests, is)
+      agree : (y : X) → ties (λ a b. is_lt (nat_cmp (number a) (number b))) x y ≡ (number y == i)
+      agree y = grind (arith, common_steps, nat_tests, is)
 
 -- no group begins after the next
 hits : {X : Type 0} (members : List (Grouped X)) (i a b : ℕ) → IsStart members i a → IsStart members (i + 1) b → b < a → ⊥
@@ -93,22 +93,25 @@ group_of-starts {X} members i a b start next =
     let bound = next.within in
     rw (drop-map (λ (m : Grouped X). m.item) a members, take-map (λ (m : Grouped X). m.item) (b - a) (drop a members)) (ap (map (λ (m : Grouped X). m.item)) (sym (filter_part (λ m. m.group == i) members a b order bound before inside after)))
   where
-  order : a ≤ b
-  order = start_order members i a b start next
-  before : AllWithin (λ m. (m.group == i) ≡ false) members 0 a
-  before k d low lt = let less = start.below k d low lt in grind (arith, nat_tests, less)
-  inside : AllWithin (λ m. (m.group == i) ≡ true) members a b
-  inside k d low lt = let bound = next.within in let less = next.below k d (omega arith) lt in let more = start.past k d low (omega arith) in grind (arith, nat_tests, less, more)
-  after : AllWithin (λ m. (m.group == i) ≡ false) members b (length members)
-  after k d low lt = let more = next.past k d low lt in grind (arith, nat_tests, more)
+    order : a ≤ b
+    order = start_order members i a b start next
+
+    before : AllWithin (λ m. (m.group == i) ≡ false) members 0 a
+    before k d low lt = let less = start.below k d low lt in grind (arith, nat_tests, less)
+
+    inside : AllWithin (λ m. (m.group == i) ≡ true) members a b
+    inside k d low lt = let bound = next.within in let less = next.below k d (omega arith) lt in let more = start.past k d low (omega arith) in grind (arith, nat_tests, less, more)
+
+    after : AllWithin (λ m. (m.group == i) ≡ false) members b (length members)
+    after k d low lt = let more = next.past k d low lt in grind (arith, nat_tests, more)
 
 -- what a stable sort by the groups' numbers gives
 pub regrouped : {X : Type 0} (old new : List (Grouped X)) → IsNonDecreasingBy (λ (m : Grouped X). m.group) new → IsPermutation old new → IsStableByKey (λ (m : Grouped X). m.group) nat_cmp old new → IsRegrouped old new
 regrouped {X} [] new rises moved stable = record { rises = rises; same = λ i. ap (λ ms. group_of ms i) (none new (length_permutation [] new moved)) }
   where
-  none : (xs : List (Grouped X)) → length xs ≡ 0 → xs ≡ []
-  none [] e = refl
-  none (x ∷ xs) e = absurd (omega arith)
+    none : (xs : List (Grouped X)) → length xs ≡ 0 → xs ≡ []
+    none [] e = refl
+    none (x ∷ xs) e = absurd (omega arith)
 regrouped (m ∷ old) new rises moved stable =
     record { rises = rises; same = λ i. ap (map (λ x. x.item)) (same_ties (λ x. x.group) (m ∷ old) new i (record { group = i; item = m.item }) refl stable) }
 
@@ -119,9 +122,9 @@ starts_more members starts n start before here =
     record {
       count = let pushed = length_push starts start in omega arith;
       each = λ i lt. ⊎_elim
-        (λ (below : i < n). subst (IsStart members i) (sym (get_or_append_left starts (start ∷ []) 0 i (omega arith))) (before.each i below))
-        (λ (past : n ≤ i). let same : n ≡ i = omega arith in subst (IsStart members i) (sym (get_or_push starts start 0 i (omega arith))) (subst (λ k. IsStart members k start) same here))
-        (cases_lt i n);
+          (λ (below : i < n). subst (IsStart members i) (sym (get_or_append_left starts (start ∷ []) 0 i (omega arith))) (before.each i below))
+          (λ (past : n ≤ i). let same : n ≡ i = omega arith in subst (IsStart members i) (sym (get_or_push starts start 0 i (omega arith))) (subst (λ k. IsStart members k start) same here))
+          (cases_lt i n);
     }
 
 -- starts of groups don't fall

@@ -71,49 +71,49 @@ module _ {X : Type 0} where
   find-tells p [] x e = absurd (none-some x e)
   find-tells p (y ∷ ys) x e = step (p y) refl (find-tells p ys x)
     where
-    step : (b : Bool) → p y ≡ b → (find p ys ≡ Some x → IsFound p ys x) → IsFound p (y ∷ ys) x
-    step true hit later =
-        let here : Some y ≡ Some x = rw hit at e in
-        let same = same_Some y x here in
-        record { at = 0; got = here; passes = subst (λ z. p z ≡ true) same hit; earlier = λ k z lt got. absurd (omega arith) }
-    step false miss later =
-        let found = later (rw miss at e) in
-        record { at = suc found.at; got = found.got; passes = found.passes; earlier = before found }
-      where
-      before : (found : IsFound p ys x) (k : ℕ) (z : X) → k < suc found.at → slice_get (y ∷ ys) k ≡ Some z → p z ≡ false
-      before found zero z lt got = subst (λ w. p w ≡ false) (same_Some y z got) miss
-      before found (suc k) z lt got = found.earlier k z (omega arith) got
+      step : (b : Bool) → p y ≡ b → (find p ys ≡ Some x → IsFound p ys x) → IsFound p (y ∷ ys) x
+      step true hit later =
+          let here : Some y ≡ Some x = rw hit at e in
+          let same = same_Some y x here in
+          record { at = 0; got = here; passes = subst (λ z. p z ≡ true) same hit; earlier = λ k z lt got. absurd (omega arith) }
+      step false miss later =
+          let found = later (rw miss at e) in
+          record { at = suc found.at; got = found.got; passes = found.passes; earlier = before found }
+        where
+          before : (found : IsFound p ys x) (k : ℕ) (z : X) → k < suc found.at → slice_get (y ∷ ys) k ≡ Some z → p z ≡ false
+          before found zero z lt got = subst (λ w. p w ≡ false) (same_Some y z got) miss
+          before found (suc k) z lt got = found.earlier k z (omega arith) got
 
 -- the members of a group
 pub Contains-group_of : {X : Type 0} (ms : List (Grouped X)) (i : ℕ) (x : X) → Contains ms (record { group = i; item = x }) → Contains (group_of ms i) x
 Contains-group_of [] i x at = let lt = at.1 in absurd (omega arith)
 Contains-group_of {X} (m ∷ ms) i x at = step (Contains-cases m ms (record { group = i; item = x }) at) (Contains-group_of ms i x) (cases_Bool (m.group == i))
   where
-  step : (m ≡ record { group = i; item = x }) ⊎ Contains ms (record { group = i; item = x }) → (Contains ms (record { group = i; item = x }) → Contains (group_of ms i) x) → ((m.group == i) ≡ true) ⊎ ((m.group == i) ≡ false) → Contains (group_of (m ∷ ms) i) x
-  step (inl same) later (inl hit) = rw hit (subst (λ y. Contains (y ∷ group_of ms i) x) (sym (ap (λ (k : Grouped X). k.item) same)) (Contains-first x (group_of ms i)))
-  step (inl same) later (inr miss) = absurd (let own : m.group ≡ i = ap (λ (k : Grouped X). k.group) same in let hit : (m.group == i) ≡ true = grind (arith, nat_tests, own) in let no : true ≡ false = sym hit ∙ miss in cc)
-  step (inr at) later (inl hit) = rw hit (Contains-later m.item (group_of ms i) x (later at))
-  step (inr at) later (inr miss) = rw miss (later at)
+    step : (m ≡ record { group = i; item = x }) ⊎ Contains ms (record { group = i; item = x }) → (Contains ms (record { group = i; item = x }) → Contains (group_of ms i) x) → ((m.group == i) ≡ true) ⊎ ((m.group == i) ≡ false) → Contains (group_of (m ∷ ms) i) x
+    step (inl same) later (inl hit) = rw hit (subst (λ y. Contains (y ∷ group_of ms i) x) (sym (ap (λ (k : Grouped X). k.item) same)) (Contains-first x (group_of ms i)))
+    step (inl same) later (inr miss) = absurd (let own : m.group ≡ i = ap (λ (k : Grouped X). k.group) same in let hit : (m.group == i) ≡ true = grind (arith, nat_tests, own) in let no : true ≡ false = sym hit ∙ miss in cc)
+    step (inr at) later (inl hit) = rw hit (Contains-later m.item (group_of ms i) x (later at))
+    step (inr at) later (inr miss) = rw miss (later at)
 
 pub group_of-tells : {X : Type 0} (ms : List (Grouped X)) (i : ℕ) (x : X) → Contains (group_of ms i) x → Contains ms (record { group = i; item = x })
 group_of-tells [] i x at = let lt = at.1 in absurd (omega arith)
 group_of-tells {X} (m ∷ ms) i x at = step (cases_Bool (m.group == i)) (group_of-tells ms i x)
   where
-  step : ((m.group == i) ≡ true) ⊎ ((m.group == i) ≡ false) → (Contains (group_of ms i) x → Contains ms (record { group = i; item = x })) → Contains (m ∷ ms) (record { group = i; item = x })
-  step (inr miss) later = Contains-later m ms (record { group = i; item = x }) (later (rw miss at at))
-  step (inl hit) later = ⊎_elim
-      (λ (same : m.item ≡ x). let own : m.group ≡ i = grind (arith, nat_tests, hit) in subst (λ k. Contains (m ∷ ms) (record { group = k; item = x })) own (subst (λ y. Contains (m ∷ ms) (record { group = m.group; item = y })) same (Contains-first m ms)))
-      (λ (there : Contains (group_of ms i) x). Contains-later m ms (record { group = i; item = x }) (later there))
-      (Contains-cases m.item (group_of ms i) x (rw hit at at))
+    step : ((m.group == i) ≡ true) ⊎ ((m.group == i) ≡ false) → (Contains (group_of ms i) x → Contains ms (record { group = i; item = x })) → Contains (m ∷ ms) (record { group = i; item = x })
+    step (inr miss) later = Contains-later m ms (record { group = i; item = x }) (later (rw miss at at))
+    step (inl hit) later = ⊎_elim
+        (λ (same : m.item ≡ x). let own : m.group ≡ i = grind (arith, nat_tests, hit) in subst (λ k. Contains (m ∷ ms) (record { group = k; item = x })) own (subst (λ y. Contains (m ∷ ms) (record { group = m.group; item = y })) same (Contains-first m ms)))
+        (λ (there : Contains (group_of ms i) x). Contains-later m ms (record { group = i; item = x }) (later there))
+        (Contains-cases m.item (group_of ms i) x (rw hit at at))
 
 -- a group of two lists
 pub group_of-append : {X : Type 0} (ms ns : List (Grouped X)) (i : ℕ) → group_of (ms ++ ns) i ≡ group_of ms i ++ group_of ns i
 group_of-append [] ns i = refl
 group_of-append {X} (m ∷ ms) ns i = step (cases_Bool (m.group == i)) (group_of-append ms ns i)
   where
-  step : ((m.group == i) ≡ true) ⊎ ((m.group == i) ≡ false) → group_of (ms ++ ns) i ≡ group_of ms i ++ group_of ns i → group_of ((m ∷ ms) ++ ns) i ≡ group_of (m ∷ ms) i ++ group_of ns i
-  step (inl hit) rest = rw hit (ap (λ xs. m.item ∷ xs) rest)
-  step (inr miss) rest = rw miss rest
+    step : ((m.group == i) ≡ true) ⊎ ((m.group == i) ≡ false) → group_of (ms ++ ns) i ≡ group_of ms i ++ group_of ns i → group_of ((m ∷ ms) ++ ns) i ≡ group_of (m ∷ ms) i ++ group_of ns i
+    step (inl hit) rest = rw hit (ap (λ xs. m.item ∷ xs) rest)
+    step (inr miss) rest = rw miss rest
 
 -- a group of what is joined
 pub group_of-joined_below : {X : Type 0} (n : ℕ) (f : ℕ → List (Grouped X)) (i : ℕ) → group_of (joined_below n f) i ≡ joined_below n (λ k. group_of (f k) i)

@@ -36,11 +36,7 @@ fn memberships(alloc: Global, stops: &[StopRow]) -> Result<Vec<Grouped<StopId>>,
 }
 
 /// Adds the stop of this row to its sets.
-fn push_row(
-    members: &mut Vec<Grouped<StopId>>,
-    stop: &StopRow,
-    row: u32,
-) -> Result<(), AllocError>
+fn push_row(members: &mut Vec<Grouped<StopId>>, stop: &StopRow, row: u32) -> Result<(), AllocError>
     ensures { OnOk result ((i : ℕ) → group_of members.new.items i ≡ group_of members.old.items i ++ row_sets stop.now row i) }
 {
     if stop.kind == 0 {

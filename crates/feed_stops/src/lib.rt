@@ -3,7 +3,6 @@
 
 ghost use Rattle.std.specs.Prelude.{◌≡◌, ◌≢◌, ℕ, ◌<◌, ◌^◌, List, length, AllPairs, IfOk, OnOk, bytes_eq, option_map, Some, if◌then◌else◌};
 ghost use Rattle.feed_rows.specs.FeedRows.{FeedRows};
-
 ghost use Rattle.feed_rows.specs.Queries.{find_stop};
 ghost use Rattle.feed_rows.specs.StopLinks.{stop_set};
 ghost use Rattle.feed_stops.specs.StopNumbers.{number_at, row_with};
@@ -62,7 +61,12 @@ fn numbers_of(alloc: Global, stops: &[StopRow]) -> Result<BTreeMap<Vec<u8>, Stop
 {
     let mut numbers = BTreeMap::new(alloc);
     for row in 0..stops.len() {
-        put(alloc, &mut numbers, stops[row].id.bytes(), StopId(row as u32))?;
+        put(
+            alloc,
+            &mut numbers,
+            stops[row].id.bytes(),
+            StopId(row as u32),
+        )?;
     }
     Ok(numbers)
 }

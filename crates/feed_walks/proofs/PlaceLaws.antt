@@ -1,5 +1,5 @@
 -- Laws of what is found in a list.
-use Rattle.std.proofs.Common.{◌≡◌, refl, sym, ◌∙◌, ap, ℕ, zero, suc, ◌+◌, ◌<◌, ◌≤◌, ◌⊎◌, inl, inr, ⊎_elim, Bool, true, false, List, [], ◌∷◌, length, get_or, Option, Some, None, arith}
+use Rattle.std.proofs.Common.{◌≡◌, refl, ap, ℕ, zero, suc, ◌<◌, ◌⊎◌, inl, inr, ⊎_elim, Bool, true, false, List, [], ◌∷◌, get_or, None, arith}
 use Rattle.std.specs.Prelude.{◌==◌, ◌&&◌, slice_get, find, filter, map, All, option_and_then}
 use Rattle.std.specs.List.Sorted.{IsNonDecreasingBy}
 use Rattle.std.proofs.lemmas.Bool.{cases_Bool}
@@ -24,23 +24,23 @@ module _ {X : Type 0} where
   filter-filter p q [] = refl
   filter-filter p q (x ∷ xs) = step (p x) refl (q x) refl (filter-filter p q xs)
     where
-    step : (a : Bool) → p x ≡ a → (b : Bool) → q x ≡ b → filter p (filter q xs) ≡ filter (λ y. p y && q y) xs → filter p (filter q (x ∷ xs)) ≡ filter (λ y. p y && q y) (x ∷ xs)
-    step true hit true also rest = rw (also, hit) (ap (λ ys. x ∷ ys) rest)
-    step true hit false miss rest = rw (miss, hit) rest
-    step false miss true also rest = rw (also, miss) rest
-    step false miss false too rest = rw (too, miss) rest
+      step : (a : Bool) → p x ≡ a → (b : Bool) → q x ≡ b → filter p (filter q xs) ≡ filter (λ y. p y && q y) xs → filter p (filter q (x ∷ xs)) ≡ filter (λ y. p y && q y) (x ∷ xs)
+      step true hit true also rest = rw (also, hit) (ap (λ ys. x ∷ ys) rest)
+      step true hit false miss rest = rw (miss, hit) rest
+      step false miss true also rest = rw (also, miss) rest
+      step false miss false too rest = rw (too, miss) rest
 
   -- what is found in a list by numbers stands at the number's place
   pub find-place : (number : X → ℕ) (xs : List X) (n place : ℕ) → IsNonDecreasingBy number xs → IsPlace number xs n place → find (λ x. number x == n) xs ≡ option_and_then (λ x. when (number x == n) x) (slice_get xs place)
   find-place number [] n place rises is = refl
   find-place number (x ∷ xs) n zero rises is = step (cases_Bool (number x == n))
     where
-    step : ((number x == n) ≡ true) ⊎ ((number x == n) ≡ false) → find (λ y. number y == n) (x ∷ xs) ≡ when (number x == n) x
-    step (inl hit) = rw hit refl
-    step (inr miss) =
-        let past = is.after 0 x (omega arith) (omega arith) in
-        let more : n < number x = grind (arith, nat_tests, miss, past) in
-        rw miss (find_none (λ y. number y == n) xs (λ k d lt. let later = rises 0 (suc k) d (omega arith) (omega arith) in let above : n < number (get_or xs k d) = omega arith in grind (arith, nat_tests, above)))
+      step : ((number x == n) ≡ true) ⊎ ((number x == n) ≡ false) → find (λ y. number y == n) (x ∷ xs) ≡ when (number x == n) x
+      step (inl hit) = rw hit refl
+      step (inr miss) =
+          let past = is.after 0 x (omega arith) (omega arith) in
+          let more : n < number x = grind (arith, nat_tests, miss, past) in
+          rw miss (find_none (λ y. number y == n) xs (λ k d lt. let later = rises 0 (suc k) d (omega arith) (omega arith) in let above : n < number (get_or xs k d) = omega arith in grind (arith, nat_tests, above)))
   find-place number (x ∷ xs) n (suc place) rises is =
       let first = is.before 0 x (omega arith) (omega arith) in
       let miss : (number x == n) ≡ false = grind (arith, nat_tests, first) in

@@ -11,12 +11,11 @@ mod pairs;
 mod rules;
 mod steps;
 
-pub use steps::Step;
-
 use feed_rows::{Feed, Groups, stop_sets};
 use pairs::{near_of, pairs_of};
 use rules::rules_of;
 use std::alloc::{AllocError, Global};
+pub use steps::Step;
 use steps::{step_to, steps_of};
 use transit_base::{Secs, StopId};
 

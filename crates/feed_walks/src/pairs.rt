@@ -120,7 +120,11 @@ fn push_pairs_by(
     ensures { OnOk result (pairs.new.items ≡ pairs.old.items ++ pairs_by sets.now stop.0 row.now) }
 {
     if !row.forbidden {
-        push_product(pairs, sets.get(stop.0 as usize), sets.get(row.to.0 as usize))?;
+        push_product(
+            pairs,
+            sets.get(stop.0 as usize),
+            sets.get(row.to.0 as usize),
+        )?;
     }
     Ok(())
 }

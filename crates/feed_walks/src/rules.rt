@@ -12,11 +12,7 @@ use std::alloc::{AllocError, Global};
 use transit_base::{Secs, StopId};
 
 /// The rows from each stop, by the stop that they lead to, and among those to one stop in file order.
-pub fn rules_of(
-    alloc: Global,
-    links: &[LinkRow],
-    count: u32,
-) -> Result<Groups<LinkRow>, AllocError>
+pub fn rules_of(alloc: Global, links: &[LinkRow], count: u32) -> Result<Groups<LinkRow>, AllocError>
     requires { All (λ (row : LinkRow). row.from.0 < count) links.now }
     ensures { IfOk result (λ rules. AreRules links.now rules) }
 {
@@ -77,13 +73,7 @@ fn row_if_to(row: Option<LinkRow>, to: StopId) -> Option<LinkRow>
     ensures { result ≡ option_and_then (λ (row : LinkRow). when (row.to.0 == to.0) row) row }
 {
     match row {
-        Some(row) => {
-            if row.to.0 == to.0 {
-                Some(row)
-            } else {
-                None
-            }
-        }
+        Some(row) => { if row.to.0 == to.0 { Some(row) } else { None } }
         None => None,
     }
 }
@@ -121,12 +111,7 @@ fn station_of(feed: &Feed, stop: StopId) -> Option<StopId>
 }
 
 /// The row that governs the change from the one platform to the other.
-fn governing_row(
-    feed: &Feed,
-    rules: &Groups<LinkRow>,
-    from: StopId,
-    to: StopId,
-) -> Option<LinkRow>
+fn governing_row(feed: &Feed, rules: &Groups<LinkRow>, from: StopId, to: StopId) -> Option<LinkRow>
     requires { AreRules feed.now.links rules.now }
     ensures { result ≡ linked.governing_row feed.now from to }
 {
@@ -172,12 +157,7 @@ fn are_of_one_station(one: Option<StopId>, other: Option<StopId>) -> bool
 }
 
 /// The walk between two platforms.
-pub fn link_between(
-    feed: &Feed,
-    rules: &Groups<LinkRow>,
-    from: StopId,
-    to: StopId,
-) -> Option<Secs>
+pub fn link_between(feed: &Feed, rules: &Groups<LinkRow>, from: StopId, to: StopId) -> Option<Secs>
     requires { AreRules feed.now.links rules.now }
     ensures { option_map (λ (s : Secs). s.0) result ≡ linked.link_by feed.now from to (linked.governing_row feed.now from to) }
 {

@@ -52,7 +52,13 @@ fn grouped_steps_of(
 {
     let mut steps = Vec::new(alloc);
     for from in 0..count {
-        push_steps(&mut steps, feed, rules, StopId(from), near.get(from as usize))?;
+        push_steps(
+            &mut steps,
+            feed,
+            rules,
+            StopId(from),
+            near.get(from as usize),
+        )?;
     }
     Ok(steps)
 }
@@ -152,13 +158,7 @@ fn step_if_to(step: Option<Step>, to: StopId) -> Option<Step>
     ensures { result ≡ option_and_then (λ (step : Step). when (step.to.0 == to.0) step) step }
 {
     match step {
-        Some(step) => {
-            if step.to.0 == to.0 {
-                Some(step)
-            } else {
-                None
-            }
-        }
+        Some(step) => { if step.to.0 == to.0 { Some(step) } else { None } }
         None => None,
     }
 }

@@ -1,5 +1,3 @@
-use Rattle.std.proofs.Common.{◌∙◌, sym, ap, slice_get}
-use Rattle.std.specs.Prelude.{unwrap_or}
 use Rattle.feed_rows.proofs.StopSetLaws.{stop_sets-at}
 use Rattle.feed_stops.proofs.Stops.members.Goals as goal
 

@@ -1,4 +1,3 @@
-use Rattle.std.proofs.Common.{refl}
 use Rattle.feed_walks.proofs.StepLaws.{walk_steps-from_parts}
 use Rattle.feed_walks.proofs.Walks.build.Goals as goal
 

@@ -1,4 +1,4 @@
-use Rattle.std.proofs.Common.{◌∙◌, subst}
+use Rattle.std.proofs.Common.{◌∙◌}
 use Rattle.feed_walks.proofs.rules.row_between.Goals as goal
 
 pub returns : goal.returns

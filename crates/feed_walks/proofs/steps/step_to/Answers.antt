@@ -1,5 +1,4 @@
-use Rattle.std.proofs.Common.{◌∙◌, sym, ap, ◌==◌, option_and_then}
-use Rattle.feed_rows.specs.Words.{when}
+use Rattle.std.proofs.Common.{sym}
 use Rattle.feed_walks.proofs.PlaceLaws.{find-place}
 use Rattle.feed_walks.proofs.steps.step_to.Goals as goal
 
