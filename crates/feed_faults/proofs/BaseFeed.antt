@@ -1,5 +1,5 @@
 -- A small feed: two routes, three trips and three stops, with a fare for each route and one for the change.
-use Rattle.std.proofs.Common.{◌≡◌, ℕ, Bool, true, false, List, [], ◌∷◌, Option, None, Some, refl}
+use Rattle.std.proofs.Common.{◌≡◌, true, false, [], ◌∷◌, None, Some, refl}
 use Rattle.std.specs.Prelude.{codes, pos}
 use Rattle.transit_base.specs.Dates.{day_number}
 use Rattle.feed_rows.specs.FeedRows.{FeedRows}
@@ -28,14 +28,14 @@ base_rows =
       stops = record { id = codes "A"; kind = 0; parent = None } ∷ record { id = codes "B"; kind = 0; parent = None } ∷ record { id = codes "C"; kind = 0; parent = None } ∷ [];
       routes = record { id = codes "R1"; network = Some (record { 0 = 0 }) } ∷ record { id = codes "R2"; network = Some (record { 0 = 1 }) } ∷ [];
       trips = record { id = codes "T1"; route = record { 0 = 0 }; service = record { 0 = 0 } }
-        ∷ record { id = codes "T2"; route = record { 0 = 1 }; service = record { 0 = 0 } }
-        ∷ record { id = codes "T3"; route = record { 0 = 0 }; service = record { 0 = 0 } } ∷ [];
+          ∷ record { id = codes "T2"; route = record { 0 = 1 }; service = record { 0 = 0 } }
+          ∷ record { id = codes "T3"; route = record { 0 = 0 }; service = record { 0 = 0 } } ∷ [];
       stop_times = record { trip = record { 0 = 0 }; stop = record { 0 = 0 }; sequence = 1; arrival = Some 28800; departure = Some 28800; pickup = true; drop_off = true }
-        ∷ record { trip = record { 0 = 0 }; stop = record { 0 = 1 }; sequence = 2; arrival = Some 29400; departure = Some 29400; pickup = true; drop_off = true }
-        ∷ record { trip = record { 0 = 1 }; stop = record { 0 = 1 }; sequence = 1; arrival = Some 29700; departure = Some 29700; pickup = true; drop_off = true }
-        ∷ record { trip = record { 0 = 1 }; stop = record { 0 = 2 }; sequence = 2; arrival = Some 30600; departure = Some 30600; pickup = true; drop_off = true }
-        ∷ record { trip = record { 0 = 2 }; stop = record { 0 = 0 }; sequence = 1; arrival = Some 29100; departure = Some 29100; pickup = true; drop_off = true }
-        ∷ record { trip = record { 0 = 2 }; stop = record { 0 = 2 }; sequence = 2; arrival = Some 32400; departure = Some 32400; pickup = true; drop_off = true } ∷ [];
+          ∷ record { trip = record { 0 = 0 }; stop = record { 0 = 1 }; sequence = 2; arrival = Some 29400; departure = Some 29400; pickup = true; drop_off = true }
+          ∷ record { trip = record { 0 = 1 }; stop = record { 0 = 1 }; sequence = 1; arrival = Some 29700; departure = Some 29700; pickup = true; drop_off = true }
+          ∷ record { trip = record { 0 = 1 }; stop = record { 0 = 2 }; sequence = 2; arrival = Some 30600; departure = Some 30600; pickup = true; drop_off = true }
+          ∷ record { trip = record { 0 = 2 }; stop = record { 0 = 0 }; sequence = 1; arrival = Some 29100; departure = Some 29100; pickup = true; drop_off = true }
+          ∷ record { trip = record { 0 = 2 }; stop = record { 0 = 2 }; sequence = 2; arrival = Some 32400; departure = Some 32400; pickup = true; drop_off = true } ∷ [];
       services = [];
       exceptions = record { service = record { 0 = 0 }; day = record { 0 = day_number 2025 6 2 }; added = true } ∷ [];
       frequencies = [];
@@ -46,10 +46,10 @@ base_rows =
       riders = [];
       media = [];
       products = record { product = record { 0 = 0 }; rider = None; medium = None; amount = record { 0 = pos 250 } }
-        ∷ record { product = record { 0 = 1 }; rider = None; medium = None; amount = record { 0 = pos 400 } }
-        ∷ record { product = record { 0 = 2 }; rider = None; medium = None; amount = record { 0 = pos 50 } } ∷ [];
+          ∷ record { product = record { 0 = 1 }; rider = None; medium = None; amount = record { 0 = pos 400 } }
+          ∷ record { product = record { 0 = 2 }; rider = None; medium = None; amount = record { 0 = pos 50 } } ∷ [];
       leg_rules = record { group = Some (record { 0 = 0 }); network = Some (record { 0 = 0 }); from_area = None; to_area = None; from_frame = None; to_frame = None; product = record { 0 = 0 }; priority = 0 }
-        ∷ record { group = Some (record { 0 = 1 }); network = Some (record { 0 = 1 }); from_area = None; to_area = None; from_frame = None; to_frame = None; product = record { 0 = 1 }; priority = 0 } ∷ [];
+          ∷ record { group = Some (record { 0 = 1 }); network = Some (record { 0 = 1 }); from_area = None; to_area = None; from_frame = None; to_frame = None; product = record { 0 = 1 }; priority = 0 } ∷ [];
       transfer_rules = record { from = Some (record { 0 = 0 }); to = Some (record { 0 = 1 }); count = None; limit = None; kind = 0; product = Some (record { 0 = 2 }) } ∷ [];
       service_names = codes "W" ∷ [];
       network_names = codes "bus" ∷ codes "rail" ∷ [];

@@ -1,5 +1,5 @@
 -- Days of dates as numbers, and the checks of the second pass that compare days.
-use Rattle.std.proofs.Common.{◌≡◌, ℕ, Bool, true, false, List, [], ◌∷◌, Option, None, Some, refl, arith}
+use Rattle.std.proofs.Common.{◌≡◌, ℕ, List, [], ◌∷◌, None, refl, arith}
 use Rattle.std.specs.Prelude.{codes, pos}
 use Rattle.jiff_core.specs.Calendar.{days_from_civil}
 use Rattle.jiff_core.proofs.CalendarLemmas.{day_count-epoch}
@@ -35,8 +35,23 @@ december_31 = rw (day_count-late (pos 2025) 12025 12 31 refl (omega arith) (omeg
 calendars : FileTable → FileTable → FeedTables
 calendars calendar dates =
     record {
-      stops = []; routes = []; trips = []; stop_times = []; calendar = calendar; calendar_dates = dates; frequencies = []; transfers = []; areas = [];
-      stop_areas = []; networks = []; route_networks = []; timeframes = []; rider_categories = []; fare_media = []; fare_products = []; fare_leg_rules = [];
+      stops = [];
+      routes = [];
+      trips = [];
+      stop_times = [];
+      calendar = calendar;
+      calendar_dates = dates;
+      frequencies = [];
+      transfers = [];
+      areas = [];
+      stop_areas = [];
+      networks = [];
+      route_networks = [];
+      timeframes = [];
+      rider_categories = [];
+      fare_media = [];
+      fare_products = [];
+      fare_leg_rules = [];
       fare_transfer_rules = [];
     }
 

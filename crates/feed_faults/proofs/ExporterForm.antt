@@ -1,5 +1,5 @@
 -- The base feed as exporters write it.
-use Rattle.std.proofs.Common.{◌≡◌, ℕ, List, [], ◌∷◌, Option, None, Some, refl}
+use Rattle.std.proofs.Common.{◌≡◌, ℕ, List, [], ◌∷◌, None, refl}
 use Rattle.std.specs.Prelude.{codes}
 use Rattle.feed_faults.specs.AcceptedFeed.{feed_of}
 use Rattle.feed_faults.proofs.OnLiterals.{feeds_on_literals}

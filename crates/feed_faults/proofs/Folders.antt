@@ -1,5 +1,5 @@
 -- Folders of a few files.
-use Rattle.std.specs.Prelude.{ℕ, List, [], ◌∷◌, Option, bytes_eq, not, find, filter, option_map}
+use Rattle.std.specs.Prelude.{ℕ, List, ◌∷◌, Option, bytes_eq, not, find, filter, option_map}
 use Rattle.feed_rows.specs.declared.names.FileName.{FileName}
 use Rattle.feed_rows.specs.HeldFiles.{HeldFile, held}
 

@@ -1,21 +1,20 @@
 -- The first pass at its edges: bytes, headers, rows and fields.
-use Rattle.std.proofs.Common.{◌≡◌, ℕ, Bool, true, false, List, [], ◌∷◌, ◌++◌, Option, None, Some, refl}
-use Rattle.std.specs.Prelude.{codes, map, replicate, pos}
+use Rattle.std.proofs.Common.{◌≡◌, true, false, [], ◌∷◌, ◌++◌, Option, None, Some, refl}
+use Rattle.std.specs.Prelude.{codes, map, replicate}
 use Rattle.feed_rows.specs.declared.names.FileName.{FileName}
 use Rattle.feed_rows.specs.declared.names.FileName.TheVariants as file
 use Rattle.feed_rows.specs.declared.names.ColumnName.TheVariants as column
 use Rattle.feed_rows.specs.declared.faults.FaultKind.TheVariants as kind
 use Rattle.feed_rows.specs.declared.faults.FeedFault.{FeedFault}
-use Rattle.feed_rows.specs.FeedRows.{FeedRows}
 use Rattle.feed_rows.specs.HeldFiles.{HeldFile, held_within}
 use Rattle.feed_faults.specs.FormFaults.{form_fault_of_bytes}
 use Rattle.feed_faults.specs.FirstFault.{first_fault}
 use Rattle.feed_faults.specs.AcceptedFeed.{feed_of}
 use Rattle.feed_faults.proofs.OnLiterals.{feeds_on_literals}
-use Rattle.feed_faults.proofs.Folders.{Folder, files_in, with_file, without_file}
+use Rattle.feed_faults.proofs.Folders.{files_in, with_file, without_file}
 use Rattle.feed_faults.proofs.BaseFeed.{base, base_rows}
 use Rattle.feed_faults.proofs.ExporterForm.{marked}
-use Rattle.feed_faults.proofs.Expected.{Answers, fault, plain_fault, fault_of}
+use Rattle.feed_faults.proofs.Expected.{Answers, fault, plain_fault}
 
 -- byte order marks, blank lines, and files without a record
 marks_and_lines : Answers base (codes "stops.txt")
@@ -114,7 +113,7 @@ passed_over = refl
 passed_over_read : feed_of (files_in (with_file (codes "transfers.txt") (codes "transfer_type,from_stop_id,to_stop_id,from_trip_id,min_transfer_time\n4,,,,x\n3,A,B,,90\n2,Nowhere,,T1,x\n,A,C,,\n") base))
     ≡ record base_rows {
       links = record { from = record { 0 = 0 }; to = record { 0 = 1 }; forbidden = true; seconds = 90 }
-        ∷ record { from = record { 0 = 0 }; to = record { 0 = 2 }; forbidden = false; seconds = 0 } ∷ [];
+          ∷ record { from = record { 0 = 0 }; to = record { 0 = 2 }; forbidden = false; seconds = 0 } ∷ [];
     }
 unfolding feeds_on_literals
 passed_over_read = refl
@@ -141,14 +140,14 @@ frame_fields = refl
 with_held : FileName → HeldFile → Option FeedFault
 with_held file.CalendarDates now = first_fault (exceptions now)
   where
-  exceptions : HeldFile → FileName → HeldFile
-  exceptions held file.CalendarDates = held
-  exceptions held name = files_in base name
+    exceptions : HeldFile → FileName → HeldFile
+    exceptions held file.CalendarDates = held
+    exceptions held name = files_in base name
 with_held file.Stops now = first_fault (stops now)
   where
-  stops : HeldFile → FileName → HeldFile
-  stops held file.Stops = held
-  stops held name = files_in base name
+    stops : HeldFile → FileName → HeldFile
+    stops held file.Stops = held
+    stops held name = files_in base name
 with_held other now = None
 
 too_large_files : with_held file.CalendarDates HeldFile.TooLarge ∷ with_held file.CalendarDates HeldFile.Missing ∷ with_held file.Stops HeldFile.TooLarge ∷ []

@@ -1,8 +1,9 @@
 -- The grammars of fields at their edges.
-use Rattle.std.proofs.Common.{◌≡◌, ℕ, Bool, true, false, List, [], ◌∷◌, Option, None, Some, refl}
-use Rattle.std.specs.Prelude.{codes, map, replicate, ◌++◌, ℤ, pos, negsuc}
+use Rattle.std.proofs.Common.{◌≡◌, ℕ, true, false, List, [], ◌∷◌, None, Some, refl}
+use Rattle.std.specs.Prelude.{codes, map, replicate, ◌++◌, pos, negsuc}
 use Rattle.transit_base.specs.Dates.{day_number}
-use Rattle.feed_faults.specs.FieldGrammars.{is_id, int_value, count_value, time_value, date_value, currency_decimals, amount_value, amount_in}
+use Rattle.feed_rows.specs.TimeGrammar.{time_value}
+use Rattle.feed_faults.specs.FieldGrammars.{is_id, int_value, count_value, date_value, currency_decimals, amount_value, amount_in}
 use Rattle.feed_faults.proofs.OnLiterals.{grammars_on_literals}
 
 -- each text is read as the value beside it
@@ -49,6 +50,11 @@ times : AreRead (time_value 604799)
     ∷ (codes "0a:00:00", None) ∷ (codes "", None) ∷ [])
 unfolding grammars_on_literals
 times = refl
+
+-- hours are at most 167, also where the greatest time would permit more
+many_hours : AreRead (time_value 1000000) ((codes "167:59:59", Some 604799) ∷ (codes "168:00:00", None) ∷ (codes "200:00:00", None) ∷ [])
+unfolding grammars_on_literals
+many_hours = refl
 
 -- times of at most 24:00:00
 times_of_day : AreRead (time_value 86400)

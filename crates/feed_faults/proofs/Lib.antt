@@ -8,3 +8,4 @@ pub mod ExporterForm
 pub mod FormChecks
 pub mod LinkChecks
 pub mod DateChecks
+pub mod FullFeed

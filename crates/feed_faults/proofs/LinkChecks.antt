@@ -1,10 +1,9 @@
 -- The second pass at its edges.
-use Rattle.std.proofs.Common.{◌≡◌, ℕ, Bool, true, false, List, [], ◌∷◌, ◌++◌, Option, None, Some, refl}
-use Rattle.std.specs.Prelude.{codes, map, pos}
+use Rattle.std.proofs.Common.{◌≡◌, [], ◌∷◌, None, refl}
+use Rattle.std.specs.Prelude.{codes, map}
 use Rattle.feed_rows.specs.declared.names.FileName.TheVariants as file
 use Rattle.feed_rows.specs.declared.names.ColumnName.TheVariants as column
 use Rattle.feed_rows.specs.declared.faults.FaultKind.TheVariants as kind
-use Rattle.feed_rows.specs.FeedRows.{FeedRows}
 use Rattle.feed_faults.specs.AcceptedFeed.{feed_of}
 use Rattle.feed_faults.proofs.OnLiterals.{feeds_on_literals}
 use Rattle.feed_faults.proofs.Folders.{Folder, files_in, with_file, without_file}
@@ -80,7 +79,7 @@ times = refl
 
 -- a stop time at a station, at an entrance, and at an id of several rows, which a later row makes a fault of its own
 kinds_of_stops : map (λ text. fault_of (with_file (codes "stops.txt") text base))
-      (codes "stop_id,location_type\nA,1\nB\nC\n" ∷ codes "stop_id,location_type\nA\nB\nC,2\n" ∷ codes "stop_id,location_type\nA\nB\nC\nA,1\n" ∷ [])
+    (codes "stop_id,location_type\nA,1\nB\nC\n" ∷ codes "stop_id,location_type\nA\nB\nC,2\n" ∷ codes "stop_id,location_type\nA\nB\nC\nA,1\n" ∷ [])
     ≡ fault kind.WrongStopKind file.StopTimes 1 column.StopId ∷ fault kind.WrongStopKind file.StopTimes 4 column.StopId ∷ fault kind.DoubledKey file.Stops 4 column.StopId ∷ []
 unfolding feeds_on_literals
 kinds_of_stops = refl
@@ -125,9 +124,9 @@ unfolding feeds_on_literals
 networks_beside = refl
 
 route_networks_beside : map fault_of
-      (with_file (codes "route_networks.txt") (codes "network_id,route_id\nbus,R1\nbus,R1\n") base
-      ∷ with_file (codes "route_networks.txt") (codes "network_id,route_id\nbus,R1\n") (with_file (codes "networks.txt") (codes "network_id\nbus\nbus\n") base)
-      ∷ with_file (codes "route_networks.txt") (codes "network_id,route_id\n") base ∷ [])
+    (with_file (codes "route_networks.txt") (codes "network_id,route_id\nbus,R1\nbus,R1\n") base
+    ∷ with_file (codes "route_networks.txt") (codes "network_id,route_id\nbus,R1\n") (with_file (codes "networks.txt") (codes "network_id\nbus\nbus\n") base)
+    ∷ with_file (codes "route_networks.txt") (codes "network_id,route_id\n") base ∷ [])
     ≡ plain_fault kind.ForbiddenTogether file.RouteNetworks 0 ∷ plain_fault kind.ForbiddenTogether file.Networks 0 ∷ None ∷ []
 unfolding feeds_on_literals
 route_networks_beside = refl
@@ -136,7 +135,7 @@ route_networks_beside = refl
 abbrev apart : Folder
 apart =
     with_file (codes "routes.txt") (codes "route_id,network_id\nR1,\nR2\n")
-      (with_file (codes "networks.txt") (codes "network_id\nbus\nrail\n") base)
+    (with_file (codes "networks.txt") (codes "network_id\nbus\nrail\n") base)
 
 networks_apart : Answers apart (codes "route_networks.txt")
     ((codes "network_id,route_id\nrail,R2\nbus,R1\n", None)
@@ -179,8 +178,8 @@ two_services = refl
 
 -- rider categories and media
 riders_and_media : map fault_of
-      (with_file (codes "rider_categories.txt") (codes "rider_category_id\nadult\nchild\nadult\n") base
-      ∷ with_file (codes "fare_media.txt") (codes "fare_media_id\ncard\ncard\n") base ∷ [])
+    (with_file (codes "rider_categories.txt") (codes "rider_category_id\nadult\nchild\nadult\n") base
+    ∷ with_file (codes "fare_media.txt") (codes "fare_media_id\ncard\ncard\n") base ∷ [])
     ≡ fault kind.DoubledKey file.RiderCategories 3 column.RiderCategoryId ∷ fault kind.DoubledKey file.FareMedia 2 column.FareMediaId ∷ []
 unfolding feeds_on_literals
 riders_and_media = refl

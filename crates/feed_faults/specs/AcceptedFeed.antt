@@ -1,12 +1,10 @@
--- The rows of a feed, as its files give them: defined for every feed, and meant for those without fault. Rows are in file
--- order. A reference is the number of the earliest row with the id; services, networks, timeframe groups, products and leg
+-- The rows of a feed, as its files give them. Of files with a fault these rows say nothing: a bad field may read as an
+-- empty one. A contract that names them says too that the files have no fault. Rows are in file order. A reference is the number of the earliest row with the id; services, networks, timeframe groups, products and leg
 -- groups are numbered by the first appearance of their names. What no row has gives the number after the last, which is
 -- no row.
-use Rattle.std.specs.Prelude.{ℕ, zero, suc, ◌+◌, ◌&&◌, ◌==◌, not, nat_lt, if◌then◌else◌, Bool, List, [], ◌∷◌, ◌++◌, length, get_or, bytes_eq, is_some, is_none, unwrap_or, Option, None, Some, option_map, option_and_then, ℤ, pos, negsuc}
+use Rattle.std.specs.Prelude.{ℕ, zero, suc, ◌&&◌, ◌==◌, not, nat_lt, if◌then◌else◌, Bool, List, [], ◌∷◌, ◌++◌, length, get_or, bytes_eq, is_some, is_none, unwrap_or, Option, None, Some, ℤ, pos, negsuc}
 use Rattle.std.specs.Option.{option_map_or}
-use Rattle.transit_base.specs.declared.calendar.Day.{Day}
 use Rattle.transit_base.specs.declared.numbers.StopId.{StopId}
-use Rattle.transit_base.specs.declared.numbers.NetworkId.{NetworkId}
 use Rattle.feed_rows.specs.declared.names.FileName.{FileName}
 use Rattle.feed_rows.specs.declared.names.ColumnName.{ColumnName}
 use Rattle.feed_rows.specs.declared.names.ColumnName.TheVariants as column
@@ -31,11 +29,11 @@ use Rattle.feed_rows.specs.FeedRows.{FeedRows}
 use Rattle.feed_rows.specs.HeldFiles.{HeldFile}
 use Rattle.feed_rows.specs.Words.{when, find_below, list_below, picks_below}
 use Rattle.feed_faults.specs.Records.{FileTable, row_count, column_of, field, is_filled}
-use Rattle.feed_faults.specs.FieldGrammars.{count_value, time_value, currency_decimals}
-use Rattle.feed_faults.specs.FileColumns.{most_int}
+use Rattle.feed_rows.specs.TimeGrammar.{time_value}
+use Rattle.feed_faults.specs.FieldGrammars.{most_int, most_time, count_value, currency_decimals}
 use Rattle.feed_faults.specs.FormFaults.{is_passed_over}
 use Rattle.feed_faults.specs.FeedTables.{FeedTables, tables_of}
-use Rattle.feed_faults.specs.FieldValues.{whole, whole_or_zero, time, day, amount, stop_kind, frame_start, frame_end}
+use Rattle.feed_faults.specs.FieldValues.{int_or_past, optional_int, time_or_past, day_or_past, amount_or_past, stop_kind, frame_start, frame_end}
 use Rattle.feed_faults.specs.RowKeys.{row_of}
 
 -- what a filled field gives
@@ -72,7 +70,7 @@ with_column names table column = with_names names table column (row_count table)
 unfoldable pub service_names : FeedTables → List (List ℕ)
 service_names t =
     with_column (with_column (with_column (with_column [] t.trips column.ServiceId)
-      t.calendar column.ServiceId) t.calendar_dates column.ServiceId) t.timeframes column.ServiceId
+    t.calendar column.ServiceId) t.calendar_dates column.ServiceId) t.timeframes column.ServiceId
 
 unfoldable pub network_names : FeedTables → List (List ℕ)
 network_names t = with_column (with_column [] t.routes column.NetworkId) t.networks column.NetworkId
@@ -108,7 +106,7 @@ network_of_route t row =
     let own = field t.routes row column.NetworkId in
     if is_filled own then own
     else option_map_or (λ r. field t.route_networks r column.NetworkId)
-      (row_of t.route_networks column.RouteId (field t.routes row column.RouteId)) []
+    (row_of t.route_networks column.RouteId (field t.routes row column.RouteId)) []
 
 -- routes.txt
 unfoldable pub route_row : FeedTables → ℕ → RouteRow
@@ -122,72 +120,78 @@ route_row t row =
 -- trips.txt
 unfoldable pub trip_row : FeedTables → ℕ → TripRow
 trip_row t row =
+    let at = field t.trips row in
     record {
-      id = field t.trips row column.TripId;
-      route = record { 0 = row_number t.routes column.RouteId (field t.trips row column.RouteId) };
-      service = record { 0 = name_number (service_names t) (field t.trips row column.ServiceId) };
+      id = at column.TripId;
+      route = record { 0 = row_number t.routes column.RouteId (at column.RouteId) };
+      service = record { 0 = name_number (service_names t) (at column.ServiceId) };
     }
 
 -- a pickup or drop-off type permits: 1 forbids, and 0, 2, 3 and empty permit
 abbrev pub permits : List ℕ → Bool
-permits text = not (whole_or_zero 3 text == 1)
+permits text = not (optional_int 3 text == 1)
 
 -- stop_times.txt
 unfoldable pub stop_time_row : FeedTables → ℕ → StopTimeRow
 stop_time_row t row =
+    let at = field t.stop_times row in
     record {
-      trip = record { 0 = row_number t.trips column.TripId (field t.stop_times row column.TripId) };
-      stop = record { 0 = row_number t.stops column.StopId (field t.stop_times row column.StopId) };
-      sequence = whole most_int (field t.stop_times row column.StopSequence);
-      arrival = time_value 604799 (field t.stop_times row column.ArrivalTime);
-      departure = time_value 604799 (field t.stop_times row column.DepartureTime);
-      pickup = permits (field t.stop_times row column.PickupType);
-      drop_off = permits (field t.stop_times row column.DropOffType);
+      trip = record { 0 = row_number t.trips column.TripId (at column.TripId) };
+      stop = record { 0 = row_number t.stops column.StopId (at column.StopId) };
+      sequence = int_or_past most_int (at column.StopSequence);
+      arrival = time_value most_time (at column.ArrivalTime);
+      departure = time_value most_time (at column.DepartureTime);
+      pickup = permits (at column.PickupType);
+      drop_off = permits (at column.DropOffType);
     }
 
 -- a service runs on a weekday
 abbrev pub runs_on : FileTable → ℕ → ColumnName → Bool
-runs_on calendar row weekday = whole 1 (field calendar row weekday) == 1
+runs_on calendar row weekday = int_or_past 1 (field calendar row weekday) == 1
 
 -- calendar.txt
 unfoldable pub service_row : FeedTables → ℕ → ServiceRow
 service_row t row =
+    let at = field t.calendar row in
     record {
-      service = record { 0 = name_number (service_names t) (field t.calendar row column.ServiceId) };
+      service = record { 0 = name_number (service_names t) (at column.ServiceId) };
       days = runs_on t.calendar row column.Monday ∷ runs_on t.calendar row column.Tuesday ∷ runs_on t.calendar row column.Wednesday
-        ∷ runs_on t.calendar row column.Thursday ∷ runs_on t.calendar row column.Friday ∷ runs_on t.calendar row column.Saturday
-        ∷ runs_on t.calendar row column.Sunday ∷ [];
-      first = record { 0 = day (field t.calendar row column.StartDate) };
-      last = record { 0 = day (field t.calendar row column.EndDate) };
+          ∷ runs_on t.calendar row column.Thursday ∷ runs_on t.calendar row column.Friday ∷ runs_on t.calendar row column.Saturday
+          ∷ runs_on t.calendar row column.Sunday ∷ [];
+      first = record { 0 = day_or_past (at column.StartDate) };
+      last = record { 0 = day_or_past (at column.EndDate) };
     }
 
 -- calendar_dates.txt
 unfoldable pub exception_row : FeedTables → ℕ → ExceptionRow
 exception_row t row =
+    let at = field t.calendar_dates row in
     record {
-      service = record { 0 = name_number (service_names t) (field t.calendar_dates row column.ServiceId) };
-      day = record { 0 = day (field t.calendar_dates row column.Date) };
-      added = whole 2 (field t.calendar_dates row column.ExceptionType) == 1;
+      service = record { 0 = name_number (service_names t) (at column.ServiceId) };
+      day = record { 0 = day_or_past (at column.Date) };
+      added = int_or_past 2 (at column.ExceptionType) == 1;
     }
 
 -- frequencies.txt
 unfoldable pub frequency_row : FeedTables → ℕ → FrequencyRow
 frequency_row t row =
+    let at = field t.frequencies row in
     record {
-      trip = record { 0 = row_number t.trips column.TripId (field t.frequencies row column.TripId) };
-      start = time 604799 (field t.frequencies row column.StartTime);
-      end = time 604799 (field t.frequencies row column.EndTime);
-      headway = whole most_int (field t.frequencies row column.HeadwaySecs);
+      trip = record { 0 = row_number t.trips column.TripId (at column.TripId) };
+      start = time_or_past most_time (at column.StartTime);
+      end = time_or_past most_time (at column.EndTime);
+      headway = int_or_past most_int (at column.HeadwaySecs);
     }
 
 -- transfers.txt; a row that forbids has its seconds like any other
 unfoldable pub link_row : FeedTables → ℕ → LinkRow
 link_row t row =
+    let at = field t.transfers row in
     record {
-      from = record { 0 = row_number t.stops column.StopId (field t.transfers row column.FromStopId) };
-      to = record { 0 = row_number t.stops column.StopId (field t.transfers row column.ToStopId) };
-      forbidden = whole_or_zero 5 (field t.transfers row column.TransferType) == 3;
-      seconds = whole_or_zero most_int (field t.transfers row column.MinTransferTime);
+      from = record { 0 = row_number t.stops column.StopId (at column.FromStopId) };
+      to = record { 0 = row_number t.stops column.StopId (at column.ToStopId) };
+      forbidden = optional_int 5 (at column.TransferType) == 3;
+      seconds = optional_int most_int (at column.MinTransferTime);
     }
 
 -- areas.txt
@@ -197,19 +201,21 @@ area_row t row = record { id = field t.areas row column.AreaId }
 -- stop_areas.txt
 unfoldable pub stop_area_row : FeedTables → ℕ → StopAreaRow
 stop_area_row t row =
+    let at = field t.stop_areas row in
     record {
-      area = record { 0 = row_number t.areas column.AreaId (field t.stop_areas row column.AreaId) };
-      stop = record { 0 = row_number t.stops column.StopId (field t.stop_areas row column.StopId) };
+      area = record { 0 = row_number t.areas column.AreaId (at column.AreaId) };
+      stop = record { 0 = row_number t.stops column.StopId (at column.StopId) };
     }
 
 -- timeframes.txt
 unfoldable pub timeframe_row : FeedTables → ℕ → TimeframeRow
 timeframe_row t row =
+    let at = field t.timeframes row in
     record {
-      frame = record { 0 = name_number (frame_names t) (field t.timeframes row column.TimeframeGroupId) };
+      frame = record { 0 = name_number (frame_names t) (at column.TimeframeGroupId) };
       start = frame_start t.timeframes row;
       end = frame_end t.timeframes row;
-      service = record { 0 = name_number (service_names t) (field t.timeframes row column.ServiceId) };
+      service = record { 0 = name_number (service_names t) (at column.ServiceId) };
     }
 
 -- rider_categories.txt
@@ -217,7 +223,7 @@ unfoldable pub rider_row : FeedTables → ℕ → RiderRow
 rider_row t row =
     record {
       id = field t.rider_categories row column.RiderCategoryId;
-      default = whole_or_zero 1 (field t.rider_categories row column.IsDefaultFareCategory) == 1;
+      default = optional_int 1 (field t.rider_categories row column.IsDefaultFareCategory) == 1;
     }
 
 -- fare_media.txt
@@ -227,24 +233,26 @@ medium_row t row = record { id = field t.fare_media row column.FareMediaId }
 -- fare_products.txt
 unfoldable pub product_row : FeedTables → ℕ → ProductRow
 product_row t row =
-    let rider = field t.fare_products row column.RiderCategoryId in
-    let medium = field t.fare_products row column.FareMediaId in
+    let at = field t.fare_products row in
+    let rider = at column.RiderCategoryId in
+    let medium = at column.FareMediaId in
     record {
-      product = record { 0 = name_number (product_names t) (field t.fare_products row column.FareProductId) };
+      product = record { 0 = name_number (product_names t) (at column.FareProductId) };
       rider = if_filled rider (record { 0 = row_number t.rider_categories column.RiderCategoryId rider });
       medium = if_filled medium (record { 0 = row_number t.fare_media column.FareMediaId medium });
-      amount = record { 0 = amount (field t.fare_products row column.Currency) (field t.fare_products row column.Amount) };
+      amount = record { 0 = amount_or_past (at column.Currency) (at column.Amount) };
     }
 
 -- fare_leg_rules.txt
 unfoldable pub leg_rule_row : FeedTables → ℕ → LegRuleRow
 leg_rule_row t row =
-    let group = field t.fare_leg_rules row column.LegGroupId in
-    let network = field t.fare_leg_rules row column.NetworkId in
-    let from_area = field t.fare_leg_rules row column.FromAreaId in
-    let to_area = field t.fare_leg_rules row column.ToAreaId in
-    let from_frame = field t.fare_leg_rules row column.FromTimeframeGroupId in
-    let to_frame = field t.fare_leg_rules row column.ToTimeframeGroupId in
+    let at = field t.fare_leg_rules row in
+    let group = at column.LegGroupId in
+    let network = at column.NetworkId in
+    let from_area = at column.FromAreaId in
+    let to_area = at column.ToAreaId in
+    let from_frame = at column.FromTimeframeGroupId in
+    let to_frame = at column.ToTimeframeGroupId in
     record {
       group = if_filled group (record { 0 = name_number (group_names t) group });
       network = if_filled network (record { 0 = name_number (network_names t) network });
@@ -252,8 +260,8 @@ leg_rule_row t row =
       to_area = if_filled to_area (record { 0 = row_number t.areas column.AreaId to_area });
       from_frame = if_filled from_frame (record { 0 = name_number (frame_names t) from_frame });
       to_frame = if_filled to_frame (record { 0 = name_number (frame_names t) to_frame });
-      product = record { 0 = name_number (product_names t) (field t.fare_leg_rules row column.FareProductId) };
-      priority = whole_or_zero most_int (field t.fare_leg_rules row column.RulePriority);
+      product = record { 0 = name_number (product_names t) (at column.FareProductId) };
+      priority = optional_int most_int (at column.RulePriority);
     }
 
 -- a number from 1 on, if the field is one; -1 and empty stand for no number
@@ -266,20 +274,21 @@ finite_count (Some (negsuc n)) = None
 unfoldable pub limit_of : FileTable → ℕ → Option Limit
 limit_of rules row =
     let seconds = field rules row column.DurationLimit in
-    if_filled seconds (record { seconds = whole most_int seconds; kind = whole 3 (field rules row column.DurationLimitType) })
+    if_filled seconds (record { seconds = int_or_past most_int seconds; kind = int_or_past 3 (field rules row column.DurationLimitType) })
 
 -- fare_transfer_rules.txt
 unfoldable pub transfer_rule_row : FeedTables → ℕ → TransferRuleRow
 transfer_rule_row t row =
-    let from = field t.fare_transfer_rules row column.FromLegGroupId in
-    let to = field t.fare_transfer_rules row column.ToLegGroupId in
-    let product = field t.fare_transfer_rules row column.FareProductId in
+    let at = field t.fare_transfer_rules row in
+    let from = at column.FromLegGroupId in
+    let to = at column.ToLegGroupId in
+    let product = at column.FareProductId in
     record {
       from = if_filled from (record { 0 = name_number (group_names t) from });
       to = if_filled to (record { 0 = name_number (group_names t) to });
-      count = finite_count (count_value (field t.fare_transfer_rules row column.TransferCount));
+      count = finite_count (count_value (at column.TransferCount));
       limit = limit_of t.fare_transfer_rules row;
-      kind = whole 2 (field t.fare_transfer_rules row column.FareTransferType);
+      kind = int_or_past 2 (at column.FareTransferType);
       product = if_filled product (record { 0 = name_number (product_names t) product });
     }
 

@@ -16,7 +16,7 @@ use Rattle.feed_faults.specs.TimetableLinks.{is_service_unknown}
 abbrev pub is_one_filled : List ℕ → List ℕ → Bool
 is_one_filled a b = (is_filled a && not (is_filled b)) || (is_filled b && not (is_filled a))
 
--- two rows are of one group and one service, and their times overlap; a timeframe ends before its end
+-- two rows are of one group and one service, and their times overlap; the end is no part of a timeframe
 unfoldable pub do_frames_overlap : FileTable → ℕ → ℕ → Bool
 do_frames_overlap frames a b =
     same_field frames TimeframeGroupId a b && same_field frames ServiceId a b
@@ -33,9 +33,11 @@ is_bad_frame frames row =
 -- timeframes.txt
 unfoldable pub timeframe_fault : FeedTables → ℕ → Option FeedFault
 timeframe_fault t row =
-    first_of (when (is_service_unknown t (field t.timeframes row ServiceId)) (field_fault file.Timeframes row ServiceId UnknownReference)
-      ∷ when (is_bad_frame t.timeframes row) (field_fault file.Timeframes row StartTime TimeframeFault)
-      ∷ [])
+    let fault = field_fault file.Timeframes row in
+    let at = field t.timeframes row in
+    first_of (when (is_service_unknown t (at ServiceId)) (fault ServiceId UnknownReference)
+    ∷ when (is_bad_frame t.timeframes row) (fault StartTime TimeframeFault)
+    ∷ [])
 
 -- rider_categories.txt
 unfoldable pub rider_fault : FeedTables → ℕ → Option FeedFault
@@ -57,11 +59,13 @@ is_currency_mixed products row = not (same_field products Currency 0 row)
 -- fare_products.txt
 unfoldable pub product_fault : FeedTables → ℕ → Option FeedFault
 product_fault t row =
-    first_of (when (is_unknown t.rider_categories RiderCategoryId (field t.fare_products row RiderCategoryId)) (field_fault file.FareProducts row RiderCategoryId UnknownReference)
-      ∷ when (is_unknown t.fare_media FareMediaId (field t.fare_products row FareMediaId)) (field_fault file.FareProducts row FareMediaId UnknownReference)
-      ∷ when (is_repeated (same_product t.fare_products) row) (field_fault file.FareProducts row FareProductId DoubledKey)
-      ∷ when (is_currency_mixed t.fare_products row) (field_fault file.FareProducts row Currency MixedCurrency)
-      ∷ [])
+    let fault = field_fault file.FareProducts row in
+    let at = field t.fare_products row in
+    first_of (when (is_unknown t.rider_categories RiderCategoryId (at RiderCategoryId)) (fault RiderCategoryId UnknownReference)
+    ∷ when (is_unknown t.fare_media FareMediaId (at FareMediaId)) (fault FareMediaId UnknownReference)
+    ∷ when (is_repeated (same_product t.fare_products) row) (fault FareProductId DoubledKey)
+    ∷ when (is_currency_mixed t.fare_products row) (fault Currency MixedCurrency)
+    ∷ [])
 
 -- a rule's network is known where a route has it or networks.txt does (fare_leg_rules.txt: network_id)
 unfoldable pub is_network_unknown : FeedTables → List ℕ → Bool
@@ -70,13 +74,15 @@ is_network_unknown t network = is_unknown t.routes NetworkId network && is_unkno
 -- fare_leg_rules.txt
 unfoldable pub leg_rule_fault : FeedTables → ℕ → Option FeedFault
 leg_rule_fault t row =
-    first_of (when (is_network_unknown t (field t.fare_leg_rules row NetworkId)) (field_fault file.FareLegRules row NetworkId UnknownReference)
-      ∷ when (is_unknown t.areas AreaId (field t.fare_leg_rules row FromAreaId)) (field_fault file.FareLegRules row FromAreaId UnknownReference)
-      ∷ when (is_unknown t.areas AreaId (field t.fare_leg_rules row ToAreaId)) (field_fault file.FareLegRules row ToAreaId UnknownReference)
-      ∷ when (is_unknown t.timeframes TimeframeGroupId (field t.fare_leg_rules row FromTimeframeGroupId)) (field_fault file.FareLegRules row FromTimeframeGroupId UnknownReference)
-      ∷ when (is_unknown t.timeframes TimeframeGroupId (field t.fare_leg_rules row ToTimeframeGroupId)) (field_fault file.FareLegRules row ToTimeframeGroupId UnknownReference)
-      ∷ when (is_unknown t.fare_products FareProductId (field t.fare_leg_rules row FareProductId)) (field_fault file.FareLegRules row FareProductId UnknownReference)
-      ∷ [])
+    let fault = field_fault file.FareLegRules row in
+    let at = field t.fare_leg_rules row in
+    first_of (when (is_network_unknown t (at NetworkId)) (fault NetworkId UnknownReference)
+    ∷ when (is_unknown t.areas AreaId (at FromAreaId)) (fault FromAreaId UnknownReference)
+    ∷ when (is_unknown t.areas AreaId (at ToAreaId)) (fault ToAreaId UnknownReference)
+    ∷ when (is_unknown t.timeframes TimeframeGroupId (at FromTimeframeGroupId)) (fault FromTimeframeGroupId UnknownReference)
+    ∷ when (is_unknown t.timeframes TimeframeGroupId (at ToTimeframeGroupId)) (fault ToTimeframeGroupId UnknownReference)
+    ∷ when (is_unknown t.fare_products FareProductId (at FareProductId)) (fault FareProductId UnknownReference)
+    ∷ [])
 
 -- a count against the groups: where a group is filled, the count is required if the two are equal, and forbidden if not;
 -- where both are empty it may stand or not (fare_transfer_rules.txt: transfer_count; the last is of the profile)
@@ -84,7 +90,7 @@ unfoldable pub is_count_misplaced : FileTable → ℕ → Bool
 is_count_misplaced rules row =
     (is_filled (field rules row FromLegGroupId) || is_filled (field rules row ToLegGroupId))
     && (if bytes_eq (field rules row FromLegGroupId) (field rules row ToLegGroupId)
-        then not (is_filled (field rules row TransferCount)) else is_filled (field rules row TransferCount))
+    then not (is_filled (field rules row TransferCount)) else is_filled (field rules row TransferCount))
 
 -- a limit without its type, or a type without a limit (fare_transfer_rules.txt: duration_limit_type)
 unfoldable pub is_limit_half : FileTable → ℕ → Bool
@@ -93,9 +99,11 @@ is_limit_half rules row = is_one_filled (field rules row DurationLimit) (field r
 -- fare_transfer_rules.txt
 unfoldable pub transfer_rule_fault : FeedTables → ℕ → Option FeedFault
 transfer_rule_fault t row =
-    first_of (when (is_count_misplaced t.fare_transfer_rules row) (field_fault file.FareTransferRules row TransferCount TransferFields)
-      ∷ when (is_limit_half t.fare_transfer_rules row) (field_fault file.FareTransferRules row DurationLimitType TransferFields)
-      ∷ when (is_unknown t.fare_leg_rules LegGroupId (field t.fare_transfer_rules row FromLegGroupId)) (field_fault file.FareTransferRules row FromLegGroupId UnknownReference)
-      ∷ when (is_unknown t.fare_leg_rules LegGroupId (field t.fare_transfer_rules row ToLegGroupId)) (field_fault file.FareTransferRules row ToLegGroupId UnknownReference)
-      ∷ when (is_unknown t.fare_products FareProductId (field t.fare_transfer_rules row FareProductId)) (field_fault file.FareTransferRules row FareProductId UnknownReference)
-      ∷ [])
+    let fault = field_fault file.FareTransferRules row in
+    let at = field t.fare_transfer_rules row in
+    first_of (when (is_count_misplaced t.fare_transfer_rules row) (fault TransferCount TransferFields)
+    ∷ when (is_limit_half t.fare_transfer_rules row) (fault DurationLimitType TransferFields)
+    ∷ when (is_unknown t.fare_leg_rules LegGroupId (at FromLegGroupId)) (fault FromLegGroupId UnknownReference)
+    ∷ when (is_unknown t.fare_leg_rules LegGroupId (at ToLegGroupId)) (fault ToLegGroupId UnknownReference)
+    ∷ when (is_unknown t.fare_products FareProductId (at FareProductId)) (fault FareProductId UnknownReference)
+    ∷ [])

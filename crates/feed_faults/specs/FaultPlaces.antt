@@ -1,6 +1,6 @@
 -- Faults with their places: of a whole file, of a column of its header, of a data row. Data rows are counted from 1 in a
 -- fault, and 0 stands for the file.
-use Rattle.std.specs.Prelude.{ℕ, ◌+◌, Option, None, Some}
+use Rattle.std.specs.Prelude.{ℕ, ◌+◌, None, Some}
 use Rattle.feed_rows.specs.declared.names.FileName.{FileName}
 use Rattle.feed_rows.specs.declared.names.ColumnName.{ColumnName}
 use Rattle.feed_rows.specs.declared.faults.FaultKind.{FaultKind}

@@ -1,10 +1,11 @@
 -- The values of fields by their grammars (Field Types). A text that isn't of the grammar has no value.
-use Rattle.std.specs.Prelude.{ℕ, ◌+◌, ◌-◌, ◌*◌, ◌^◌, ◌==◌, ◌&&◌, ◌||◌, not, nat_le, nat_lt, if◌then◌else◌, Bool, List, [], ◌∷◌, length, take, drop, slice_index, slice_range, bytes_eq, codes, Option, None, Some, option_map, option_and_then, ℤ, pos, negsuc, neg_ℤ, int_le}
+use Rattle.std.specs.Prelude.{ℕ, ◌+◌, ◌-◌, ◌*◌, ◌^◌, ◌==◌, ◌&&◌, ◌||◌, not, nat_le, if◌then◌else◌, Bool, List, [], ◌∷◌, length, take, drop, slice_index, slice_range, bytes_eq, codes, Option, None, Some, option_map, option_and_then, ℤ, pos, negsuc, neg_ℤ, int_le}
 use Rattle.std.specs.List.{list_any, list_all}
 use Rattle.std.specs.Option.{option_map_or}
 use Rattle.std.specs.Str.{all_ascii_digits}
 use Rattle.std.specs.Str.Parse.{digits_value}
 use Rattle.transit_base.specs.Dates.{is_date, day_number}
+use Rattle.feed_rows.specs.Numerals.{number_value}
 use Rattle.feed_rows.specs.Words.{when, find_below, int_same}
 
 -- a tab, a line feed or a carriage return
@@ -15,55 +16,37 @@ is_break c = (c == 9) || (c == 10) || (c == 13)
 unfoldable pub is_id : List ℕ → Bool
 is_id text = nat_le 1 (length text) && nat_le (length text) 255 && not (list_any is_break text)
 
--- one or more digits, leading zeros permitted
-unfoldable pub whole_number : List ℕ → Option ℕ
-whole_number text = when (nat_le 1 (length text) && all_ascii_digits text) (digits_value 10 text)
-
 -- the text begins with a minus sign
 abbrev pub is_negative : List ℕ → Bool
 is_negative text = slice_index text 0 == 45
 
 -- an optional minus sign, and then what the grammar takes
-abbrev pub signed : (List ℕ → Option ℕ) → List ℕ → Option ℤ
-signed grammar text =
+abbrev pub signed_value : (List ℕ → Option ℕ) → List ℕ → Option ℤ
+signed_value grammar text =
     if is_negative text then option_map (λ n. neg_ℤ (pos n)) (grammar (drop 1 text)) else option_map pos (grammar text)
 
 -- a value from least to most
-abbrev pub between : ℤ → ℤ → Option ℤ → Option ℤ
-between least most value = option_and_then (λ z. when (int_le least z && int_le z most) z) value
+abbrev pub if_between : ℤ → ℤ → Option ℤ → Option ℤ
+if_between least most value = option_and_then (λ z. when (int_le least z && int_le z most) z) value
+
+-- the greatest integer of a column without a limit of its own (profile)
+abbrev pub most_int : ℕ
+most_int = 2147483647
 
 -- an integer from least to most: an optional minus sign and one or more digits (Integer)
 unfoldable pub int_value : ℤ → ℤ → List ℕ → Option ℤ
-int_value least most text = between least most (signed whole_number text)
+int_value least most text = if_between least most (signed_value number_value text)
 
 -- a number of changes, or -1 for any number: an integer from -1 to 2147483647, but not 0 (transfer_count)
 unfoldable pub count_value : List ℕ → Option ℤ
-count_value text = option_and_then (λ z. when (not (int_same z (pos 0))) z) (int_value (negsuc 0) (pos 2147483647) text)
+count_value text = option_and_then (λ z. when (not (int_same z (pos 0))) z) (int_value (negsuc 0) (pos most_int) text)
 
--- a value below a limit
-abbrev pub below : ℕ → Option ℕ → Option ℕ
-below limit value = option_and_then (λ n. when (nat_lt n limit) n) value
+-- the greatest time, 167:59:59, and the end of a day, 24:00:00, in seconds
+abbrev pub most_time : ℕ
+most_time = 604799
 
--- the seconds of hours, minutes and seconds
-abbrev pub clock_seconds : Option ℕ → Option ℕ → Option ℕ → Option ℕ
-clock_seconds (Some hours) (Some minutes) (Some seconds) = Some (3600 * hours + 60 * minutes + seconds)
-clock_seconds (Some hours) (Some minutes) None = None
-clock_seconds (Some hours) None seconds = None
-clock_seconds None minutes seconds = None
-
--- the seconds of a clock's text with its first colon at this place: hours of at most 167, then minutes and seconds of two
--- digits below 60 each
-abbrev pub clock_at : ℕ → List ℕ → Option ℕ
-clock_at place text =
-    if (slice_index text place == 58) && (slice_index text (place + 3) == 58)
-    then clock_seconds (below 168 (whole_number (take place text)))
-      (below 60 (whole_number (slice_range text (place + 1) (place + 3)))) (below 60 (whole_number (drop (place + 4) text)))
-    else None
-
--- a time of at most so many seconds: H:MM:SS, HH:MM:SS or HHH:MM:SS (Time; three digits of hours are of the profile)
-unfoldable pub time_value : ℕ → List ℕ → Option ℕ
-time_value most text =
-    if nat_le 7 (length text) && nat_le (length text) 9 then below (most + 1) (clock_at (length text - 6) text) else None
+abbrev pub end_of_day : ℕ
+end_of_day = 86400
 
 -- a date: eight digits YYYYMMDD that name a day of the years 0001 to 9999; its value is the day's number (Date)
 unfoldable pub date_value : List ℕ → Option ℤ
@@ -113,7 +96,7 @@ point_place text = find_below (length text) (λ i. slice_index text i == 46)
 unfoldable pub fraction_value : ℕ → List ℕ → Option ℕ
 fraction_value decimals digits =
     when (nat_le 1 (length digits) && all_ascii_digits digits && list_all (λ c. c == 48) (drop decimals digits))
-      (digits_value 10 (take decimals digits) * 10 ^ (decimals - length digits))
+    (digits_value 10 (take decimals digits) * 10 ^ (decimals - length digits))
 
 -- whole units and minor units together, in minor units
 abbrev pub minor_units : ℕ → Option ℕ → Option ℕ → Option ℕ
@@ -124,8 +107,8 @@ minor_units decimals None fraction = None
 -- one or more digits, and optionally a point with one or more digits, in minor units
 unfoldable pub unsigned_amount : ℕ → List ℕ → Option ℕ
 unsigned_amount decimals text =
-    option_map_or (λ place. minor_units decimals (whole_number (take place text)) (fraction_value decimals (drop (place + 1) text)))
-      (point_place text) (minor_units decimals (whole_number text) (Some 0))
+    option_map_or (λ place. minor_units decimals (number_value (take place text)) (fraction_value decimals (drop (place + 1) text)))
+    (point_place text) (minor_units decimals (number_value text) (Some 0))
 
 -- the greatest amount that is read, and the least, which is its opposite
 abbrev pub most_amount : ℤ
@@ -133,7 +116,7 @@ most_amount = pos 1000000000000
 
 -- an amount in minor units of a currency with so many decimals (Currency amount; the limit is of the profile)
 unfoldable pub amount_value : ℕ → List ℕ → Option ℤ
-amount_value decimals text = between (neg_ℤ most_amount) most_amount (signed (unsigned_amount decimals) text)
+amount_value decimals text = if_between (neg_ℤ most_amount) most_amount (signed_value (unsigned_amount decimals) text)
 
 -- an amount in the currency of this code
 abbrev pub amount_in : List ℕ → List ℕ → Option ℤ

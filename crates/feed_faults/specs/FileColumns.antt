@@ -1,6 +1,6 @@
 -- The columns of each file that are read, in the order in which they are judged, and how a field of each is judged
 -- (Field Definitions). Every other column is passed over.
-use Rattle.std.specs.Prelude.{ℕ, ℤ, pos, negsuc, int_le, Bool, true, false, ◌&&◌, not, List, [], ◌∷◌, is_some, Option, None, Some}
+use Rattle.std.specs.Prelude.{ℕ, pos, Bool, List, [], ◌∷◌, is_some}
 use Rattle.feed_rows.specs.declared.names.FileName.{FileName}
 use Rattle.feed_rows.specs.declared.names.FileName.TheVariants as file
 use Rattle.feed_rows.specs.declared.names.ColumnName.{ColumnName}
@@ -9,10 +9,10 @@ use Rattle.feed_rows.specs.declared.faults.FaultKind.{FaultKind}
 use Rattle.feed_rows.specs.declared.faults.FaultKind.TheVariants as kind
 use Rattle.feed_faults.specs.declared.columns.Grammar.{Grammar}
 use Rattle.feed_faults.specs.declared.columns.Grammar.TheVariants as grammar
-use Rattle.feed_faults.specs.declared.columns.EmptyField.{EmptyField}
 use Rattle.feed_faults.specs.declared.columns.EmptyField.TheVariants as empty
 use Rattle.feed_faults.specs.declared.columns.ColumnRule.{ColumnRule}
-use Rattle.feed_faults.specs.FieldGrammars.{is_id, int_value, count_value, time_value, date_value, currency_decimals, amount_in}
+use Rattle.feed_rows.specs.TimeGrammar.{time_value}
+use Rattle.feed_faults.specs.FieldGrammars.{most_int, most_time, end_of_day, is_id, int_value, count_value, date_value, currency_decimals, amount_in}
 
 -- a column that must be there, with no field empty
 abbrev pub must : ColumnName → Grammar → ColumnRule
@@ -47,14 +47,10 @@ amount = grammar.Amount
 
 -- times of at most 167:59:59, and of at most 24:00:00
 abbrev pub any_time : Grammar
-any_time = grammar.Time 604799
+any_time = grammar.Time most_time
 
 abbrev pub time_of_day : Grammar
-time_of_day = grammar.Time 86400
-
--- the greatest integer of a column without a limit of its own (profile)
-abbrev pub most_int : ℕ
-most_int = 2147483647
+time_of_day = grammar.Time end_of_day
 
 -- the columns of a file, in the order in which they are judged
 abbrev pub columns_of : FileName → List ColumnRule

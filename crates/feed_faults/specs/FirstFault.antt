@@ -1,5 +1,5 @@
 -- The first fault of a feed: of the files each by itself, and then of the files among each other.
-use Rattle.std.specs.Prelude.{◌≡◌, ℕ, List, [], ◌∷◌, Option, None}
+use Rattle.std.specs.Prelude.{◌≡◌, ℕ, [], ◌∷◌, Option, None}
 use Rattle.feed_rows.specs.declared.names.FileName.{FileName}
 use Rattle.feed_rows.specs.declared.names.FileName.TheVariants as file
 use Rattle.feed_rows.specs.declared.faults.FeedFault.{FeedFault}
@@ -21,23 +21,23 @@ first_in_rows table fault = first_below (row_count table) fault
 unfoldable pub timetable_link_fault : FeedTables → Option FeedFault
 timetable_link_fault t =
     first_of (first_in_rows t.stops (stop_fault t) ∷ first_in_rows t.routes (route_fault t) ∷ first_in_rows t.trips (trip_fault t)
-      ∷ first_in_rows t.stop_times (stop_time_fault t) ∷ first_in_rows t.calendar (service_fault t)
-      ∷ first_in_rows t.calendar_dates (exception_fault t) ∷ [])
+    ∷ first_in_rows t.stop_times (stop_time_fault t) ∷ first_in_rows t.calendar (service_fault t)
+    ∷ first_in_rows t.calendar_dates (exception_fault t) ∷ [])
 
 -- the same of frequencies, transfers, areas and networks; that networks are forbidden comes before the rows of their file
 unfoldable pub network_link_fault : FeedTables → Option FeedFault
 network_link_fault t =
     first_of (first_in_rows t.frequencies (frequency_fault t) ∷ first_in_rows t.transfers (transfer_fault t)
-      ∷ first_in_rows t.areas (area_fault t) ∷ first_in_rows t.stop_areas (stop_area_fault t)
-      ∷ forbidden_fault t file.Networks t.networks ∷ first_in_rows t.networks (network_fault t)
-      ∷ forbidden_fault t file.RouteNetworks t.route_networks ∷ first_in_rows t.route_networks (route_network_fault t) ∷ [])
+    ∷ first_in_rows t.areas (area_fault t) ∷ first_in_rows t.stop_areas (stop_area_fault t)
+    ∷ forbidden_fault t file.Networks t.networks ∷ first_in_rows t.networks (network_fault t)
+    ∷ forbidden_fault t file.RouteNetworks t.route_networks ∷ first_in_rows t.route_networks (route_network_fault t) ∷ [])
 
 -- the same of the other files of fares
 unfoldable pub fare_link_fault : FeedTables → Option FeedFault
 fare_link_fault t =
     first_of (first_in_rows t.timeframes (timeframe_fault t) ∷ first_in_rows t.rider_categories (rider_fault t)
-      ∷ first_in_rows t.fare_media (medium_fault t) ∷ first_in_rows t.fare_products (product_fault t)
-      ∷ first_in_rows t.fare_leg_rules (leg_rule_fault t) ∷ first_in_rows t.fare_transfer_rules (transfer_rule_fault t) ∷ [])
+    ∷ first_in_rows t.fare_media (medium_fault t) ∷ first_in_rows t.fare_products (product_fault t)
+    ∷ first_in_rows t.fare_leg_rules (leg_rule_fault t) ∷ first_in_rows t.fare_transfer_rules (transfer_rule_fault t) ∷ [])
 
 -- the first fault of the second pass, over all files in their order
 abbrev pub first_link_fault : FeedTables → Option FeedFault

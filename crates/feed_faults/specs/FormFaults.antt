@@ -1,6 +1,6 @@
 -- The first pass: what is wrong with a file by itself. A file is judged as a whole, then by its header, then row by row,
 -- and in a row column by column; the first fault counts.
-use Rattle.std.specs.Prelude.{ℕ, ◌+◌, ◌&&◌, ◌||◌, not, nat_lt, nat_le, if◌then◌else◌, Bool, true, false, List, [], ◌∷◌, length, get_or, take, bytes_eq, is_some, is_none, Option, None, Some, option_map, pos}
+use Rattle.std.specs.Prelude.{ℕ, ◌&&◌, ◌||◌, not, nat_lt, if◌then◌else◌, Bool, true, false, List, [], ◌∷◌, length, get_or, take, bytes_eq, is_some, is_none, Option, None, Some, option_map, pos}
 use Rattle.std.specs.Option.{option_or}
 use Rattle.std.specs.Str.{is_utf8}
 use Rattle.feed_rows.specs.declared.names.FileName.{FileName}
@@ -16,7 +16,7 @@ use Rattle.feed_rows.specs.HeldFiles.{HeldFile}
 use Rattle.feed_faults.specs.declared.columns.EmptyField.{EmptyField}
 use Rattle.feed_faults.specs.declared.columns.EmptyField.TheVariants as empty
 use Rattle.feed_faults.specs.declared.columns.ColumnRule.{ColumnRule}
-use Rattle.feed_faults.specs.Records.{FileTable, file_records, table_of_bytes, header, row_count, column_of, field, is_filled, is_long}
+use Rattle.feed_faults.specs.Records.{FileTable, table_of_bytes, header, row_count, column_of, field, is_filled, is_long}
 use Rattle.feed_faults.specs.FieldGrammars.{int_value}
 use Rattle.feed_faults.specs.FileColumns.{columns_of, fits, misfit}
 use Rattle.feed_faults.specs.FaultPlaces.{file_fault, column_fault, row_fault, field_fault}
@@ -29,7 +29,7 @@ most_rows = 4000000
 unfoldable pub is_twice : FileTable → ColumnName → Bool
 is_twice table name =
     any_below (length (header table)) (λ later. bytes_eq (get_or (header table) later []) (column_text name)
-      && any_below later (λ earlier. bytes_eq (get_or (header table) earlier []) (column_text name)))
+    && any_below later (λ earlier. bytes_eq (get_or (header table) earlier []) (column_text name)))
 
 -- a listed column stands twice (profile)
 unfoldable pub doubled_column : FileName → FileTable → ColumnRule → Option FeedFault
@@ -86,8 +86,8 @@ judged_columns file table row = columns_of file
 unfoldable pub form_fault_of_row : FileName → FileTable → ℕ → Option FeedFault
 form_fault_of_row file table row =
     option_or (when (is_long table row) (row_fault file row kind.LongRow))
-      (first_in (judged_columns file table row)
-        (λ rule. option_map (field_fault file row rule.name) (field_misfit table row rule)))
+    (first_in (judged_columns file table row)
+    (λ rule. option_map (field_fault file row rule.name) (field_misfit table row rule)))
 
 -- the first fault of a table's rows
 unfoldable pub form_fault_of_rows : FileName → FileTable → Option FeedFault
@@ -105,7 +105,7 @@ form_fault_of_table needed most file table =
 unfoldable pub form_fault_of_bytes : Bool → ℕ → FileName → List ℕ → Option FeedFault
 form_fault_of_bytes needed most file bytes =
     option_or (when (not (is_utf8 bytes)) (file_fault file kind.NotUtf8))
-      (form_fault_of_table needed most file (table_of_bytes bytes))
+    (form_fault_of_table needed most file (table_of_bytes bytes))
 
 -- the first fault of a file as it is held
 abbrev pub form_fault_of_held : Bool → FileName → HeldFile → Option FeedFault
@@ -118,7 +118,7 @@ form_fault_of_held needed file (HeldFile.Bytes bytes) =
 abbrev pub has_record : HeldFile → Bool
 has_record HeldFile.Missing = false
 has_record HeldFile.TooLarge = true
-has_record (HeldFile.Bytes bytes) = nat_lt 0 (length (file_records bytes))
+has_record (HeldFile.Bytes bytes) = nat_lt 0 (length (table_of_bytes bytes))
 
 -- a feed needs the file, whatever else it holds (Dataset Files; the fare files are of the profile)
 abbrev pub is_always_needed : FileName → Bool
@@ -143,19 +143,19 @@ form_fault files file = form_fault_of_held (is_needed files file) file (files fi
 unfoldable pub timetable_form_fault : (FileName → HeldFile) → Option FeedFault
 timetable_form_fault files =
     first_of (form_fault files file.Stops ∷ form_fault files file.Routes ∷ form_fault files file.Trips
-      ∷ form_fault files file.StopTimes ∷ form_fault files file.Calendar ∷ form_fault files file.CalendarDates ∷ [])
+    ∷ form_fault files file.StopTimes ∷ form_fault files file.Calendar ∷ form_fault files file.CalendarDates ∷ [])
 
 -- the same of frequencies, transfers, areas and networks
 unfoldable pub network_form_fault : (FileName → HeldFile) → Option FeedFault
 network_form_fault files =
     first_of (form_fault files file.Frequencies ∷ form_fault files file.Transfers ∷ form_fault files file.Areas
-      ∷ form_fault files file.StopAreas ∷ form_fault files file.Networks ∷ form_fault files file.RouteNetworks ∷ [])
+    ∷ form_fault files file.StopAreas ∷ form_fault files file.Networks ∷ form_fault files file.RouteNetworks ∷ [])
 
 -- the same of the other files of fares
 unfoldable pub fare_form_fault : (FileName → HeldFile) → Option FeedFault
 fare_form_fault files =
     first_of (form_fault files file.Timeframes ∷ form_fault files file.RiderCategories ∷ form_fault files file.FareMedia
-      ∷ form_fault files file.FareProducts ∷ form_fault files file.FareLegRules ∷ form_fault files file.FareTransferRules ∷ [])
+    ∷ form_fault files file.FareProducts ∷ form_fault files file.FareLegRules ∷ form_fault files file.FareTransferRules ∷ [])
 
 -- the first fault of the first pass, over all files in their order
 abbrev pub first_form_fault : (FileName → HeldFile) → Option FeedFault

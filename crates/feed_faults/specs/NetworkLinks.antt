@@ -7,23 +7,26 @@ use Rattle.feed_rows.specs.declared.faults.FaultKind.TheVariants.{UnknownReferen
 use Rattle.feed_rows.specs.declared.faults.FeedFault.{FeedFault}
 use Rattle.feed_rows.specs.Words.{when, any_below, first_of}
 use Rattle.feed_faults.specs.Records.{FileTable, row_count, field, is_filled}
+use Rattle.feed_faults.specs.FieldGrammars.{most_time}
 use Rattle.feed_faults.specs.FormFaults.{is_passed_over}
 use Rattle.feed_faults.specs.FaultPlaces.{file_fault, field_fault}
 use Rattle.feed_faults.specs.FeedTables.{FeedTables}
-use Rattle.feed_faults.specs.FieldValues.{time}
+use Rattle.feed_faults.specs.FieldValues.{time_or_past}
 use Rattle.feed_faults.specs.RowKeys.{is_unknown, same_field, is_repeated, is_doubled}
 
 -- two rows are of one trip and one start
 unfoldable pub same_start : FileTable → ℕ → ℕ → Bool
 same_start frequencies a b =
-    same_field frequencies TripId a b && (time 604799 (field frequencies a StartTime) == time 604799 (field frequencies b StartTime))
+    same_field frequencies TripId a b && (time_or_past most_time (field frequencies a StartTime) == time_or_past most_time (field frequencies b StartTime))
 
 -- frequencies.txt
 unfoldable pub frequency_fault : FeedTables → ℕ → Option FeedFault
 frequency_fault t row =
-    first_of (when (is_unknown t.trips TripId (field t.frequencies row TripId)) (field_fault file.Frequencies row TripId UnknownReference)
-      ∷ when (is_repeated (same_start t.frequencies) row) (field_fault file.Frequencies row StartTime DoubledKey)
-      ∷ [])
+    let fault = field_fault file.Frequencies row in
+    let at = field t.frequencies row in
+    first_of (when (is_unknown t.trips TripId (at TripId)) (fault TripId UnknownReference)
+    ∷ when (is_repeated (same_start t.frequencies) row) (fault StartTime DoubledKey)
+    ∷ [])
 
 -- a row of transfers.txt that isn't passed over names a stop that isn't there
 unfoldable pub is_transfer_stop_unknown : FeedTables → ℕ → List ℕ → Bool
@@ -32,9 +35,11 @@ is_transfer_stop_unknown t row stop = not (is_passed_over t.transfers row) && is
 -- transfers.txt
 unfoldable pub transfer_fault : FeedTables → ℕ → Option FeedFault
 transfer_fault t row =
-    first_of (when (is_transfer_stop_unknown t row (field t.transfers row FromStopId)) (field_fault file.Transfers row FromStopId UnknownReference)
-      ∷ when (is_transfer_stop_unknown t row (field t.transfers row ToStopId)) (field_fault file.Transfers row ToStopId UnknownReference)
-      ∷ [])
+    let fault = field_fault file.Transfers row in
+    let at = field t.transfers row in
+    first_of (when (is_transfer_stop_unknown t row (at FromStopId)) (fault FromStopId UnknownReference)
+    ∷ when (is_transfer_stop_unknown t row (at ToStopId)) (fault ToStopId UnknownReference)
+    ∷ [])
 
 -- areas.txt
 unfoldable pub area_fault : FeedTables → ℕ → Option FeedFault
@@ -43,9 +48,11 @@ area_fault t row = when (is_doubled t.areas AreaId row) (field_fault file.Areas 
 -- stop_areas.txt
 unfoldable pub stop_area_fault : FeedTables → ℕ → Option FeedFault
 stop_area_fault t row =
-    first_of (when (is_unknown t.areas AreaId (field t.stop_areas row AreaId)) (field_fault file.StopAreas row AreaId UnknownReference)
-      ∷ when (is_unknown t.stops StopId (field t.stop_areas row StopId)) (field_fault file.StopAreas row StopId UnknownReference)
-      ∷ [])
+    let fault = field_fault file.StopAreas row in
+    let at = field t.stop_areas row in
+    first_of (when (is_unknown t.areas AreaId (at AreaId)) (fault AreaId UnknownReference)
+    ∷ when (is_unknown t.stops StopId (at StopId)) (fault StopId UnknownReference)
+    ∷ [])
 
 -- some route has a network of its own
 unfoldable pub has_own_networks : FileTable → Bool
@@ -64,7 +71,9 @@ network_fault t row = when (is_doubled t.networks NetworkId row) (field_fault fi
 -- route_networks.txt
 unfoldable pub route_network_fault : FeedTables → ℕ → Option FeedFault
 route_network_fault t row =
-    first_of (when (is_doubled t.route_networks RouteId row) (field_fault file.RouteNetworks row RouteId DoubledKey)
-      ∷ when (is_unknown t.networks NetworkId (field t.route_networks row NetworkId)) (field_fault file.RouteNetworks row NetworkId UnknownReference)
-      ∷ when (is_unknown t.routes RouteId (field t.route_networks row RouteId)) (field_fault file.RouteNetworks row RouteId UnknownReference)
-      ∷ [])
+    let fault = field_fault file.RouteNetworks row in
+    let at = field t.route_networks row in
+    first_of (when (is_doubled t.route_networks RouteId row) (fault RouteId DoubledKey)
+    ∷ when (is_unknown t.networks NetworkId (at NetworkId)) (fault NetworkId UnknownReference)
+    ∷ when (is_unknown t.routes RouteId (at RouteId)) (fault RouteId UnknownReference)
+    ∷ [])

@@ -8,44 +8,44 @@ use Rattle.feed_rows.specs.declared.faults.FaultKind.TheVariants.{UnknownReferen
 use Rattle.feed_rows.specs.declared.faults.FeedFault.{FeedFault}
 use Rattle.feed_rows.specs.Words.{when, filled_and, at_and, any_below, list_below, first_of}
 use Rattle.feed_faults.specs.Records.{FileTable, row_count, field}
-use Rattle.feed_faults.specs.FieldGrammars.{time_value}
-use Rattle.feed_faults.specs.FileColumns.{most_int}
+use Rattle.feed_rows.specs.TimeGrammar.{time_value}
+use Rattle.feed_faults.specs.FieldGrammars.{most_int, most_time}
 use Rattle.feed_faults.specs.FaultPlaces.{field_fault}
 use Rattle.feed_faults.specs.FeedTables.{FeedTables}
-use Rattle.feed_faults.specs.FieldValues.{whole, stop_kind}
+use Rattle.feed_faults.specs.FieldValues.{int_or_past, stop_kind}
 use Rattle.feed_faults.specs.RowKeys.{row_of, is_unknown, is_repeated}
 
 -- a stop time's trip, its place in the trip, and its times in seconds of the service day
-pub record TimedRow : Type 0 where
+pub record StopTime : Type 0 where
   pub trip : List ℕ
   pub sequence : ℕ
   pub arrival : Option ℕ
   pub departure : Option ℕ
 
 -- the stop time of a row
-unfoldable pub timed_row : FileTable → ℕ → TimedRow
-timed_row table row =
+unfoldable pub stop_time_of : FileTable → ℕ → StopTime
+stop_time_of table row =
     record {
       trip = field table row TripId;
-      sequence = whole most_int (field table row StopSequence);
-      arrival = time_value 604799 (field table row ArrivalTime);
-      departure = time_value 604799 (field table row DepartureTime);
+      sequence = int_or_past most_int (field table row StopSequence);
+      arrival = time_value most_time (field table row ArrivalTime);
+      departure = time_value most_time (field table row DepartureTime);
     }
 
 -- the stop times of a file
-unfoldable pub timed_rows : FileTable → List TimedRow
-timed_rows table = list_below (row_count table) (timed_row table)
+unfoldable pub stop_times_of : FileTable → List StopTime
+stop_times_of table = list_below (row_count table) (stop_time_of table)
 
 -- a stop time has at least one time
-abbrev pub is_timed : TimedRow → Bool
+abbrev pub is_timed : StopTime → Bool
 is_timed x = is_some x.arrival || is_some x.departure
 
 -- its first time: the arrival, or else the departure
-abbrev pub first_time : TimedRow → Option ℕ
+abbrev pub first_time : StopTime → Option ℕ
 first_time x = option_or x.arrival x.departure
 
 -- its last time: the departure, or else the arrival
-abbrev pub last_time : TimedRow → Option ℕ
+abbrev pub last_time : StopTime → Option ℕ
 last_time x = option_or x.departure x.arrival
 
 -- both times are there, and the first is less than the second
@@ -53,44 +53,44 @@ abbrev pub is_earlier : Option ℕ → Option ℕ → Bool
 is_earlier a b = filled_and a (λ x. filled_and b (λ y. nat_lt x y))
 
 -- a test of the stop times at two places
-abbrev pub both_and : List TimedRow → ℕ → ℕ → (TimedRow → TimedRow → Bool) → Bool
+abbrev pub both_and : List StopTime → ℕ → ℕ → (StopTime → StopTime → Bool) → Bool
 both_and times a b test = at_and times a (λ x. at_and times b (λ y. test x y))
 
 -- two stop times have one place in one trip
-unfoldable pub same_place : List TimedRow → ℕ → ℕ → Bool
+unfoldable pub same_place : List StopTime → ℕ → ℕ → Bool
 same_place times a b = both_and times a b (λ x y. bytes_eq x.trip y.trip && (x.sequence == y.sequence))
 
 -- the stop time of one row comes before that of another in their trip
-unfoldable pub comes_before : List TimedRow → ℕ → ℕ → Bool
+unfoldable pub comes_before : List StopTime → ℕ → ℕ → Bool
 comes_before times a b =
     both_and times a b (λ x y. bytes_eq x.trip y.trip
-      && (nat_lt x.sequence y.sequence || ((x.sequence == y.sequence) && nat_lt a b)))
+    && (nat_lt x.sequence y.sequence || ((x.sequence == y.sequence) && nat_lt a b)))
 
 -- a row is the first of its trip, and the last of it
-unfoldable pub is_first : List TimedRow → ℕ → Bool
+unfoldable pub is_first : List StopTime → ℕ → Bool
 is_first times row = not (any_below (length times) (λ other. comes_before times other row))
 
-unfoldable pub is_last : List TimedRow → ℕ → Bool
+unfoldable pub is_last : List StopTime → ℕ → Bool
 is_last times row = not (any_below (length times) (λ other. comes_before times row other))
 
 -- a trip's first or last stop time has neither time (stop_times.txt: arrival_time, departure_time)
-unfoldable pub is_end_time_missing : List TimedRow → ℕ → Bool
+unfoldable pub is_end_time_missing : List StopTime → ℕ → Bool
 is_end_time_missing times row = at_and times row (λ x. not (is_timed x)) && (is_first times row || is_last times row)
 
 -- a row is the nearest timed one before another
-unfoldable pub is_nearest_before : List TimedRow → ℕ → ℕ → Bool
+unfoldable pub is_nearest_before : List StopTime → ℕ → ℕ → Bool
 is_nearest_before times near row =
     comes_before times near row && at_and times near is_timed
     && not (any_below (length times)
-      (λ other. comes_before times near other && comes_before times other row && at_and times other is_timed))
+    (λ other. comes_before times near other && comes_before times other row && at_and times other is_timed))
 
 -- a timed row's last time is less than its first, or its first is less than the last time of the nearest timed row before
 -- it (stop_times.txt: arrival_time, departure_time)
-unfoldable pub do_times_decrease : List TimedRow → ℕ → Bool
+unfoldable pub do_times_decrease : List StopTime → ℕ → Bool
 do_times_decrease times row =
     at_and times row (λ x. is_earlier (last_time x) (first_time x)
-      || any_below (length times) (λ near. is_nearest_before times near row
-        && at_and times near (λ y. is_earlier (first_time x) (last_time y))))
+    || any_below (length times) (λ near. is_nearest_before times near row
+    && at_and times near (λ y. is_earlier (first_time x) (last_time y))))
 
 -- a stop time is at a platform; an id of several rows is that of the earliest
 unfoldable pub is_at_platform : FeedTables → ℕ → Bool
@@ -99,10 +99,12 @@ is_at_platform t row = filled_and (row_of t.stops StopId (field t.stop_times row
 -- stop_times.txt
 unfoldable pub stop_time_fault : FeedTables → ℕ → Option FeedFault
 stop_time_fault t row =
-    first_of (when (is_unknown t.trips TripId (field t.stop_times row TripId)) (field_fault file.StopTimes row TripId UnknownReference)
-      ∷ when (is_unknown t.stops StopId (field t.stop_times row StopId)) (field_fault file.StopTimes row StopId UnknownReference)
-      ∷ when (not (is_at_platform t row)) (field_fault file.StopTimes row StopId WrongStopKind)
-      ∷ when (is_repeated (same_place (timed_rows t.stop_times)) row) (field_fault file.StopTimes row StopSequence DoubledKey)
-      ∷ when (is_end_time_missing (timed_rows t.stop_times) row) (field_fault file.StopTimes row ArrivalTime EndTimeMissing)
-      ∷ when (do_times_decrease (timed_rows t.stop_times) row) (field_fault file.StopTimes row ArrivalTime TimesDecrease)
-      ∷ [])
+    let fault = field_fault file.StopTimes row in
+    let at = field t.stop_times row in
+    first_of (when (is_unknown t.trips TripId (at TripId)) (fault TripId UnknownReference)
+    ∷ when (is_unknown t.stops StopId (at StopId)) (fault StopId UnknownReference)
+    ∷ when (not (is_at_platform t row)) (fault StopId WrongStopKind)
+    ∷ when (is_repeated (same_place (stop_times_of t.stop_times)) row) (fault StopSequence DoubledKey)
+    ∷ when (is_end_time_missing (stop_times_of t.stop_times) row) (fault ArrivalTime EndTimeMissing)
+    ∷ when (do_times_decrease (stop_times_of t.stop_times) row) (fault ArrivalTime TimesDecrease)
+    ∷ [])

@@ -1,6 +1,6 @@
 -- The second pass over the files of the timetable but stop_times.txt: what is wrong with their rows among each other. The
 -- checks of a row stand in order, and the first that finds a fault counts.
-use Rattle.std.specs.Prelude.{ℕ, ◌&&◌, ◌||◌, ◌==◌, not, nat_lt, Bool, List, [], ◌∷◌, is_none, Option, int_lt}
+use Rattle.std.specs.Prelude.{ℕ, ◌&&◌, ◌==◌, not, nat_lt, Bool, List, [], ◌∷◌, Option, int_lt}
 use Rattle.feed_rows.specs.declared.names.FileName.TheVariants as file
 use Rattle.feed_rows.specs.declared.names.ColumnName.TheVariants.{StopId, ParentStation, RouteId, TripId, ServiceId, StartDate, EndDate, Date}
 use Rattle.feed_rows.specs.declared.faults.FaultKind.TheVariants.{DoubledKey, UnknownReference, BadParent, DatesReversed}
@@ -9,7 +9,7 @@ use Rattle.feed_rows.specs.Words.{when, filled_and, first_of, int_same}
 use Rattle.feed_faults.specs.Records.{FileTable, field, is_filled}
 use Rattle.feed_faults.specs.FaultPlaces.{field_fault}
 use Rattle.feed_faults.specs.FeedTables.{FeedTables}
-use Rattle.feed_faults.specs.FieldValues.{day, stop_kind}
+use Rattle.feed_faults.specs.FieldValues.{day_or_past, stop_kind}
 use Rattle.feed_faults.specs.RowKeys.{row_of, is_unknown, same_field, is_repeated, is_doubled}
 
 -- a platform or a station names a parent; of other kinds the parent isn't looked at (profile)
@@ -27,10 +27,12 @@ is_parent_good stops row = (stop_kind stops row == 0) && is_at_station stops row
 -- stops.txt
 unfoldable pub stop_fault : FeedTables → ℕ → Option FeedFault
 stop_fault t row =
-    first_of (when (is_doubled t.stops StopId row) (field_fault file.Stops row StopId DoubledKey)
-      ∷ when (has_parent t.stops row && is_unknown t.stops StopId (field t.stops row ParentStation)) (field_fault file.Stops row ParentStation UnknownReference)
-      ∷ when (has_parent t.stops row && not (is_parent_good t.stops row)) (field_fault file.Stops row ParentStation BadParent)
-      ∷ [])
+    let fault = field_fault file.Stops row in
+    let at = field t.stops row in
+    first_of (when (is_doubled t.stops StopId row) (fault StopId DoubledKey)
+    ∷ when (has_parent t.stops row && is_unknown t.stops StopId (at ParentStation)) (fault ParentStation UnknownReference)
+    ∷ when (has_parent t.stops row && not (is_parent_good t.stops row)) (fault ParentStation BadParent)
+    ∷ [])
 
 -- routes.txt
 unfoldable pub route_fault : FeedTables → ℕ → Option FeedFault
@@ -43,25 +45,28 @@ is_service_unknown t service = is_unknown t.calendar ServiceId service && is_unk
 -- trips.txt
 unfoldable pub trip_fault : FeedTables → ℕ → Option FeedFault
 trip_fault t row =
-    first_of (when (is_doubled t.trips TripId row) (field_fault file.Trips row TripId DoubledKey)
-      ∷ when (is_unknown t.routes RouteId (field t.trips row RouteId)) (field_fault file.Trips row RouteId UnknownReference)
-      ∷ when (is_service_unknown t (field t.trips row ServiceId)) (field_fault file.Trips row ServiceId UnknownReference)
-      ∷ [])
+    let fault = field_fault file.Trips row in
+    let at = field t.trips row in
+    first_of (when (is_doubled t.trips TripId row) (fault TripId DoubledKey)
+    ∷ when (is_unknown t.routes RouteId (at RouteId)) (fault RouteId UnknownReference)
+    ∷ when (is_service_unknown t (at ServiceId)) (fault ServiceId UnknownReference)
+    ∷ [])
 
 -- the last day of a row lies before its first
 unfoldable pub are_dates_reversed : FileTable → ℕ → Bool
-are_dates_reversed calendar row = int_lt (day (field calendar row EndDate)) (day (field calendar row StartDate))
+are_dates_reversed calendar row = int_lt (day_or_past (field calendar row EndDate)) (day_or_past (field calendar row StartDate))
 
 -- calendar.txt
 unfoldable pub service_fault : FeedTables → ℕ → Option FeedFault
 service_fault t row =
-    first_of (when (is_doubled t.calendar ServiceId row) (field_fault file.Calendar row ServiceId DoubledKey)
-      ∷ when (are_dates_reversed t.calendar row) (field_fault file.Calendar row EndDate DatesReversed)
-      ∷ [])
+    let fault = field_fault file.Calendar row in
+    first_of (when (is_doubled t.calendar ServiceId row) (fault ServiceId DoubledKey)
+    ∷ when (are_dates_reversed t.calendar row) (fault EndDate DatesReversed)
+    ∷ [])
 
 -- two exceptions are of one service and one day
 unfoldable pub same_exception : FileTable → ℕ → ℕ → Bool
-same_exception dates a b = same_field dates ServiceId a b && int_same (day (field dates a Date)) (day (field dates b Date))
+same_exception dates a b = same_field dates ServiceId a b && int_same (day_or_past (field dates a Date)) (day_or_past (field dates b Date))
 
 -- calendar_dates.txt
 unfoldable pub exception_fault : FeedTables → ℕ → Option FeedFault

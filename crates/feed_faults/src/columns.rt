@@ -105,7 +105,10 @@ static STOP_TIMES: [ColumnRule; 7] = [
     ColumnRule {
         name: ColumnName::StopSequence,
         empty: EmptyField::Fault,
-        grammar: Grammar::Int { least: 0, most: 2_147_483_647 },
+        grammar: Grammar::Int {
+            least: 0,
+            most: 2_147_483_647,
+        },
     },
     ColumnRule {
         name: ColumnName::ArrivalTime,
@@ -219,7 +222,10 @@ static FREQUENCIES: [ColumnRule; 5] = [
     ColumnRule {
         name: ColumnName::HeadwaySecs,
         empty: EmptyField::Fault,
-        grammar: Grammar::Int { least: 1, most: 2_147_483_647 },
+        grammar: Grammar::Int {
+            least: 1,
+            most: 2_147_483_647,
+        },
     },
     ColumnRule {
         name: ColumnName::ExactTimes,
@@ -247,17 +253,18 @@ static TRANSFERS: [ColumnRule; 4] = [
     ColumnRule {
         name: ColumnName::MinTransferTime,
         empty: EmptyField::Fine,
-        grammar: Grammar::Int { least: 0, most: 2_147_483_647 },
+        grammar: Grammar::Int {
+            least: 0,
+            most: 2_147_483_647,
+        },
     },
 ];
 
-static AREAS: [ColumnRule; 1] = [
-    ColumnRule {
-        name: ColumnName::AreaId,
-        empty: EmptyField::Fault,
-        grammar: Grammar::Id,
-    },
-];
+static AREAS: [ColumnRule; 1] = [ColumnRule {
+    name: ColumnName::AreaId,
+    empty: EmptyField::Fault,
+    grammar: Grammar::Id,
+}];
 
 static STOP_AREAS: [ColumnRule; 2] = [
     ColumnRule {
@@ -272,13 +279,11 @@ static STOP_AREAS: [ColumnRule; 2] = [
     },
 ];
 
-static NETWORKS: [ColumnRule; 1] = [
-    ColumnRule {
-        name: ColumnName::NetworkId,
-        empty: EmptyField::Fault,
-        grammar: Grammar::Id,
-    },
-];
+static NETWORKS: [ColumnRule; 1] = [ColumnRule {
+    name: ColumnName::NetworkId,
+    empty: EmptyField::Fault,
+    grammar: Grammar::Id,
+}];
 
 static ROUTE_NETWORKS: [ColumnRule; 2] = [
     ColumnRule {
@@ -409,7 +414,10 @@ static FARE_LEG_RULES: [ColumnRule; 8] = [
     ColumnRule {
         name: ColumnName::RulePriority,
         empty: EmptyField::Fine,
-        grammar: Grammar::Int { least: 0, most: 2_147_483_647 },
+        grammar: Grammar::Int {
+            least: 0,
+            most: 2_147_483_647,
+        },
     },
 ];
 
@@ -432,7 +440,10 @@ static FARE_TRANSFER_RULES: [ColumnRule; 7] = [
     ColumnRule {
         name: ColumnName::DurationLimit,
         empty: EmptyField::Fine,
-        grammar: Grammar::Int { least: 1, most: 2_147_483_647 },
+        grammar: Grammar::Int {
+            least: 1,
+            most: 2_147_483_647,
+        },
     },
     ColumnRule {
         name: ColumnName::DurationLimitType,

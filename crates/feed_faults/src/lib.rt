@@ -2,5 +2,7 @@
 #![tactic(auto)]
 
 mod columns;
+#[cfg(test)]
+mod tests;
 
-pub use columns::{columns_of, ColumnRule, EmptyField, Grammar};
+pub use columns::{ColumnRule, EmptyField, Grammar, columns_of};

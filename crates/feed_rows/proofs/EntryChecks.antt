@@ -1,6 +1,6 @@
 -- An entry is right where tests of its parts say so: for entries that are written out.
-use Rattle.std.proofs.Common.{◌≡◌, refl, ap, ℕ, zero, suc, ◌+◌, ◌-◌, ◌<◌, ◌≤◌, Bool, true, false, length, arith, ◌⊎◌, inl, inr, subst}
-use Rattle.std.specs.Prelude.{Option, Some, None, IsTrue, ℤ, pos, ◌+ℤ◌, ◌≤ℤ◌, int_le, nat_le, ◌&&◌, ◌==◌}
+use Rattle.std.proofs.Common.{◌≡◌, ap, ℕ, zero, suc, ◌-◌, ◌<◌, ◌≤◌, Bool, true, false, length, arith, ◌⊎◌, inl, inr, subst}
+use Rattle.std.specs.Prelude.{Option, Some, None, ℤ, pos, ◌+ℤ◌, int_le, nat_le, ◌&&◌, ◌==◌}
 use Rattle.std.specs.List.{list_all}
 use Rattle.std.proofs.lemmas.Bool.{and_parts, cases_lt}
 use Rattle.std.proofs.lemmas.List.Sums.{AllPass-from_list_all}
@@ -19,9 +19,9 @@ pub all_below-at : (n : ℕ) (test : ℕ → Bool) → all_below n test ≡ true
 all_below-at zero test e i lt = absurd (omega arith)
 all_below-at (suc n) test e i lt = step (all_below-at n test (and_parts _ _ e).0 i) (and_parts _ _ e).1 (cases_lt i n)
   where
-  step : (i < n → test i ≡ true) → test n ≡ true → (i < n) ⊎ (n ≤ i) → test i ≡ true
-  step before last (inl below) = before below
-  step before last (inr ge) = let same : n ≡ i = omega arith in subst (λ k. test k ≡ true) same last
+    step : (i < n → test i ≡ true) → test n ≡ true → (i < n) ⊎ (n ≤ i) → test i ≡ true
+    step before last (inl below) = before below
+    step before last (inr ge) = let same : n ≡ i = omega arith in subst (λ k. test k ≡ true) same last
 
 -- every part of the entry passes its test
 unfoldable pub entry_test : FeedRows → Query → Entry → Bool

@@ -20,9 +20,10 @@ use Rattle.feed_rows.specs.declared.rows.MediumRow.{MediumRow}
 use Rattle.feed_rows.specs.declared.rows.ProductRow.{ProductRow}
 use Rattle.feed_rows.specs.declared.rows.TransferRuleRow.{TransferRuleRow}
 use Rattle.feed_rows.specs.FeedRows.{FeedRows}
+use Rattle.feed_rows.specs.Calls.{first_time, last_time}
 use Rattle.feed_rows.specs.Items.{ForItem}
 use Rattle.feed_rows.specs.SoundNames.{IsNameList}
-use Rattle.feed_rows.specs.SoundTimetable.{AreSoundStops, AreSoundRoutes, AreSoundTrips, AreSoundStopTimes, AreOrderedCalls, AreSoundServices, AreSoundExceptions, AreSoundFrequencies, IsFirstCall, IsLastCall, first_time, last_time}
+use Rattle.feed_rows.specs.SoundTimetable.{AreSoundStops, AreSoundRoutes, AreSoundTrips, AreSoundStopTimes, AreOrderedCalls, AreSoundServices, AreSoundExceptions, AreSoundFrequencies, IsFirstCall, IsLastCall}
 use Rattle.feed_rows.specs.SoundFares.{AreSoundAreas, AreSoundTimeframes, AreSoundRiders, AreSoundMedia, AreSoundProducts, AreSoundTransferRules, IsSoundCurrency}
 
 -- what holds of each item holds of one that is got by its place

@@ -1,6 +1,6 @@
 -- Lists that ascend strictly: by their members alone they are told apart.
-use Rattle.std.proofs.Common.{◌≡◌, refl, sym, ◌∙◌, ap, subst, ℕ, zero, suc, ◌+◌, ◌-◌, ◌<◌, ◌≤◌, ◌⊎◌, inl, inr, ⊎_elim, List, [], ◌∷◌, length, get_or, All, AllPairs, Contains, arith}
-use Rattle.std.proofs.lemmas.List.{get_or_default}
+use Rattle.std.proofs.Common.{◌≡◌, refl, sym, ◌∙◌, subst, ℕ, zero, suc, ◌<◌, ◌⊎◌, inl, inr, List, [], ◌∷◌, length, get_or, All, AllPairs, Contains, arith}
+use Rattle.std.proofs.lemmas.List.Elements.{All-contains}
 
 -- a relation that ascends strictly
 pub record IsStrictOrder {X : Type 0} (R : X → X → Type 0) : Type 0 where
@@ -23,22 +23,18 @@ module _ {X : Type 0} where
   AllPairs-head R x xs all k d lt = all 0 (suc k) d (omega arith) (omega arith)
 
   -- a member is the first item or one of the rest
-  pub Contains-cases : (x : X) (xs : List X) (y : X) → Contains (x ∷ xs) y → (x ≡ y) ⊎ Contains xs y
-  Contains-cases x xs y at = step at.0 at.1 at.2
+  pub Contains-cons_cases : (x : X) (xs : List X) (y : X) → Contains (x ∷ xs) y → (x ≡ y) ⊎ Contains xs y
+  Contains-cons_cases x xs y at = step at.0 at.1 at.2
     where
-    step : (k : ℕ) → k < length (x ∷ xs) → get_or (x ∷ xs) k y ≡ y → (x ≡ y) ⊎ Contains xs y
-    step zero lt is = inl is
-    step (suc k) lt is = inr (k, omega arith, is)
+      step : (k : ℕ) → k < length (x ∷ xs) → get_or (x ∷ xs) k y ≡ y → (x ≡ y) ⊎ Contains xs y
+      step zero lt is = inl is
+      step (suc k) lt is = inr (k, omega arith, is)
 
-  pub Contains-first : (x : X) (xs : List X) → Contains (x ∷ xs) x
-  Contains-first x xs = (0, omega arith, refl)
+  pub Contains-cons_first : (x : X) (xs : List X) → Contains (x ∷ xs) x
+  Contains-cons_first x xs = (0, omega arith, refl)
 
-  pub Contains-later : (x : X) (xs : List X) (y : X) → Contains xs y → Contains (x ∷ xs) y
-  Contains-later x xs y at = let lt = at.1 in (suc at.0, omega arith, at.2)
-
-  -- what holds of each item holds of a member
-  pub All-at : (P : X → Type 0) (xs : List X) (x : X) → All P xs → Contains xs x → P x
-  All-at P xs x all at = subst P at.2 (all at.0 x at.1)
+  pub Contains-cons_later : (x : X) (xs : List X) (y : X) → Contains xs y → Contains (x ∷ xs) y
+  Contains-cons_later x xs y at = let lt = at.1 in (suc at.0, omega arith, at.2)
 
   -- two lists have the same members
   pub record HaveSameMembers (xs ys : List X) : Type 0 where
@@ -48,21 +44,22 @@ module _ {X : Type 0} where
   -- two lists that ascend strictly by one order and have the same members are equal
   pub same_from_members : (R : X → X → Type 0) → IsStrictOrder R → (xs ys : List X) → AllPairs R xs → AllPairs R ys → HaveSameMembers xs ys → xs ≡ ys
   same_from_members R order [] [] ups downs same = refl
-  same_from_members R order [] (y ∷ ys) ups downs same = let at = same.back y (Contains-first y ys) in let lt = at.1 in absurd (omega arith)
-  same_from_members R order (x ∷ xs) [] ups downs same = let at = same.there x (Contains-first x xs) in let lt = at.1 in absurd (omega arith)
+  same_from_members R order [] (y ∷ ys) ups downs same = let at = same.back y (Contains-cons_first y ys) in let lt = at.1 in absurd (omega arith)
+  same_from_members R order (x ∷ xs) [] ups downs same = let at = same.there x (Contains-cons_first x xs) in let lt = at.1 in absurd (omega arith)
   same_from_members R order (x ∷ xs) (y ∷ ys) ups downs same =
-      let first = firsts (Contains-cases y ys x (same.there x (Contains-first x xs))) (Contains-cases x xs y (same.back y (Contains-first y ys))) in
+      let first = firsts (Contains-cons_cases y ys x (same.there x (Contains-cons_first x xs))) (Contains-cons_cases x xs y (same.back y (Contains-cons_first y ys))) in
       let rest = same_from_members R order xs ys (AllPairs-tail R x xs ups) (AllPairs-tail R y ys downs) (record {
-            there = λ z at. later y ys z (λ e. order.irreflexive x (subst (R x) (sym e ∙ sym first) (All-at (R x) xs z (AllPairs-head R x xs ups) at))) (Contains-cases y ys z (same.there z (Contains-later x xs z at)));
-            back = λ z at. later x xs z (λ e. order.irreflexive y (subst (R y) (sym e ∙ first) (All-at (R y) ys z (AllPairs-head R y ys downs) at))) (Contains-cases x xs z (same.back z (Contains-later y ys z at)));
-          }) in
+        there = λ z at. later y ys z (λ e. order.irreflexive x (subst (R x) (sym e ∙ sym first) (All-contains (R x) xs z (AllPairs-head R x xs ups) at))) (Contains-cons_cases y ys z (same.there z (Contains-cons_later x xs z at)));
+        back = λ z at. later x xs z (λ e. order.irreflexive y (subst (R y) (sym e ∙ first) (All-contains (R y) ys z (AllPairs-head R y ys downs) at))) (Contains-cons_cases x xs z (same.back z (Contains-cons_later y ys z at)));
+      }) in
       cc
     where
-    firsts : (y ≡ x) ⊎ Contains ys x → (x ≡ y) ⊎ Contains xs y → x ≡ y
-    firsts (inl e) _ = sym e
-    firsts (inr at) (inl e) = e
-    firsts (inr at) (inr there) =
-        absurd (order.irreflexive x (order.transitive x y x (All-at (R x) xs y (AllPairs-head R x xs ups) there) (All-at (R y) ys x (AllPairs-head R y ys downs) at)))
-    later : (u : X) (us : List X) (z : X) → (u ≡ z → ⊥) → (u ≡ z) ⊎ Contains us z → Contains us z
-    later u us z apart (inl e) = absurd (apart e)
-    later u us z apart (inr at) = at
+      firsts : (y ≡ x) ⊎ Contains ys x → (x ≡ y) ⊎ Contains xs y → x ≡ y
+      firsts (inl e) _ = sym e
+      firsts (inr at) (inl e) = e
+      firsts (inr at) (inr there) =
+          absurd (order.irreflexive x (order.transitive x y x (All-contains (R x) xs y (AllPairs-head R x xs ups) there) (All-contains (R y) ys x (AllPairs-head R y ys downs) at)))
+
+      later : (u : X) (us : List X) (z : X) → (u ≡ z → ⊥) → (u ≡ z) ⊎ Contains us z → Contains us z
+      later u us z apart (inl e) = absurd (apart e)
+      later u us z apart (inr at) = at

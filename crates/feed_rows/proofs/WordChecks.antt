@@ -3,6 +3,7 @@ use Rattle.std.specs.Prelude.{◌≡◌, refl, ℕ, ◌==◌, if◌then◌else�
 use Rattle.jiff_core.specs.Calendar.{days_from_civil, day_count, days_of_years, days_of_months}
 use Rattle.transit_base.specs.Dates.{day_number}
 use Rattle.feed_rows.specs.Numerals.{number_value}
+use Rattle.feed_rows.specs.TimeGrammar.{time_value}
 use Rattle.feed_rows.specs.WordValues.{word_number, word_date, word_time}
 use Rattle.feed_rows.specs.CommandWords.{CommandForm, role_at, value_at, fits_form, positional_words, has_flag}
 use Rattle.feed_rows.specs.Requests.{Request, Plan, Check, read_words}
@@ -37,7 +38,7 @@ pub numbers :
     (codes "0" ∷ codes "8" ∷ codes "08" ∷ codes "0000000008" ∷ codes "9999999999" ∷ codes "00000000008" ∷ codes "10000000000"
     ∷ codes "" ∷ codes "-1" ∷ codes "+1" ∷ codes "1.0" ∷ codes "x" ∷ codes "1x" ∷ codes " 1" ∷ [])
     ≡ Some 0 ∷ Some 8 ∷ Some 8 ∷ Some 8 ∷ Some 9_999_999_999 ∷ None ∷ None ∷ None ∷ None ∷ None ∷ None ∷ None ∷ None ∷ None ∷ []
-unfolding number_value
+unfolding time_value number_value
 numbers = refl
 
 -- the first and the last day of a query
@@ -58,7 +59,7 @@ pub dates :
     ∷ codes "2025-06-02 " ∷ codes "" ∷ [])
     ≡ Some (pos 0) ∷ Some (pos 20_241) ∷ Some (pos 19_782) ∷ Some (negsuc 25_566) ∷ Some (pos 376_199)
     ∷ None ∷ None ∷ None ∷ None ∷ None ∷ None ∷ None ∷ None ∷ None ∷ None ∷ None ∷ None ∷ None ∷ None ∷ []
-unfolding number_value days_from_civil day_count days_of_years days_of_months
+unfolding time_value number_value days_from_civil day_count days_of_years days_of_months
 dates = refl
 
 -- times of words
@@ -69,7 +70,7 @@ pub times :
     ∷ codes "168:00:00" ∷ codes "8" ∷ codes "" ∷ [])
     ≡ Some 0 ∷ Some 28_800 ∷ Some 28_800 ∷ Some 28_800 ∷ Some 86_399 ∷ None
     ∷ None ∷ None ∷ None ∷ None ∷ None ∷ None ∷ None ∷ None ∷ None ∷ None ∷ []
-unfolding number_value
+unfolding time_value number_value
 times = refl
 
 -- good plans; options and positional words may be mixed
@@ -83,7 +84,7 @@ pub plans :
     ∷ plan_with 0 (Some (codes "child")) 259_200 ∷ plan_with 8 None 1
     ∷ plan_with 4 (Some (codes "-x")) 86_400 ∷ plan_with 4 (Some (codes "=")) 86_400
     ∷ plan_with 1 None 86_400 ∷ Ok Check ∷ []
-unfolding read_words role_at value_at fits_form number_value days_from_civil day_count days_of_years days_of_months
+unfolding read_words role_at value_at fits_form time_value number_value days_from_civil day_count days_of_years days_of_months
 plans = refl
 
 -- no words at all
@@ -129,7 +130,7 @@ pub faults_in_order :
     ≡ Err usage.BadDate ∷ Err usage.BadTime ∷ Err usage.BadRides ∷ Err usage.BadRides ∷ Err usage.BadRides
     ∷ Err usage.BadRides ∷ Err usage.BadRides ∷ Err usage.BadWindow ∷ Err usage.BadWindow ∷ Err usage.BadWindow
     ∷ wrong ∷ Err usage.BadDate ∷ Err usage.BadTime ∷ Err usage.BadRides ∷ Err usage.BadTime ∷ []
-unfolding read_words role_at value_at fits_form number_value days_from_civil day_count days_of_years days_of_months
+unfolding read_words role_at value_at fits_form time_value number_value days_from_civil day_count days_of_years days_of_months
 faults_in_order = refl
 
 -- a command with a flag and one to three positional words

@@ -1,6 +1,6 @@
 -- The printed text of an answer. Each line ends with one line feed, and a tab stands between two fields. What speaks of
 -- a row that the feed lacks prints no line.
-use Rattle.std.specs.Prelude.{ℕ, zero, suc, ◌+◌, Bool, ◌==◌, if◌then◌else◌, List, [], ◌∷◌, ◌++◌, length, slice_get, Option, Some, None, ℤ, pos, ◌+ℤ◌, unsigned_abs, unwrap_or, option_map, option_and_then, codes, decimal}
+use Rattle.std.specs.Prelude.{ℕ, zero, suc, ◌+◌, Bool, ◌==◌, if◌then◌else◌, List, [], ◌∷◌, ◌++◌, length, slice_get, Option, Some, None, ℤ, pos, negsuc, ◌+ℤ◌, unwrap_or, option_map, option_and_then, codes, decimal}
 use Rattle.std.specs.Option.{option_map_or, option_to_list}
 use Rattle.std.specs.List.{concat, flat_map}
 use Rattle.transit_base.specs.DateTexts.{date_text, moment_text, time_text}
@@ -21,7 +21,7 @@ use Rattle.feed_rows.specs.Calls.{calls_of, first_departure}
 use Rattle.feed_rows.specs.Shifts.{has_frequencies}
 use Rattle.feed_rows.specs.StopLinks.{link}
 use Rattle.feed_rows.specs.Journeys.{facts_at}
-use Rattle.feed_rows.specs.FareSums.{is_charged, transfer_kind}
+use Rattle.feed_rows.specs.FareSums.{amount_of, is_charged, transfer_kind}
 use Rattle.feed_rows.specs.Lines.{line}
 use Rattle.feed_rows.specs.MoneyText.{money_text}
 use Rattle.feed_rows.specs.Words.{joined_below}
@@ -42,7 +42,7 @@ currency_text feed = unwrap_or feed.currency []
 unfoldable pub journey_line : FeedRows → Triple → List ℕ
 journey_line feed triple =
     line (codes "journey")
-      (moment_text triple.arrival.0 ∷ decimal triple.rides ∷ amount_text feed triple.price.0 ∷ currency_text feed ∷ [])
+    (moment_text triple.arrival.0 ∷ decimal triple.rides ∷ amount_text feed triple.price.0 ∷ currency_text feed ∷ [])
 
 -- the line of a journey without rides that ends where it starts
 abbrev pub stay_line : FeedRows → StopId → Option (List ℕ)
@@ -52,20 +52,24 @@ stay_line feed stop = option_map (λ id. line (codes "stay") (id ∷ [])) (stop_
 unfoldable pub walk_line : FeedRows → StopId → StopId → Option (List ℕ)
 walk_line feed from to =
     option_and_then
-      (λ start. option_and_then
-        (λ end. option_map (λ seconds. line (codes "walk") (start ∷ end ∷ decimal seconds ∷ [])) (link feed from to))
-        (stop_text feed to))
-      (stop_text feed from)
+    (λ start. option_and_then
+    (λ end. option_map (λ seconds. line (codes "walk") (start ∷ end ∷ decimal seconds ∷ [])) (link feed from to))
+    (stop_text feed to))
+    (stop_text feed from)
 
 -- the lines between two stops on the way: a walk, where they differ
 abbrev pub walk_lines : FeedRows → StopId → StopId → List (List ℕ)
 walk_lines feed from to = if from.0 == to.0 then [] else option_to_list (walk_line feed from to)
 
+-- a second of the service day as a time; one before the day has no text
+abbrev pub service_time_text : ℤ → List ℕ
+service_time_text (pos seconds) = time_text seconds
+service_time_text (negsuc seconds) = []
+
 -- when a ride's run departs from its first stop, as a time; `-` for a trip without frequency rows
 abbrev pub start_text : FeedRows → Ride → List ℕ
 start_text feed ride =
-    if has_frequencies feed ride.trip
-    then time_text (unsigned_abs (ride.shift +ℤ pos (first_departure feed ride.trip)))
+    if has_frequencies feed ride.trip then service_time_text (ride.shift +ℤ pos (first_departure feed ride.trip))
     else codes "-"
 
 -- the first half of a ride's line: the trip, the service day, the start, and the sequence values of its two calls
@@ -81,16 +85,16 @@ way_fields ride from to = from ∷ moment_text ride.departure.0 ∷ to ∷ momen
 unfoldable pub ride_line : FeedRows → Ride → RideFacts → Option (List ℕ)
 ride_line feed ride facts =
     option_and_then
-      (λ trip. option_and_then
-        (λ boarding. option_and_then
-          (λ alighting. option_and_then
-            (λ from. option_map
-              (λ to. line (codes "ride") (run_fields feed ride trip.id boarding alighting ++ way_fields facts from to))
-              (stop_text feed facts.to))
-            (stop_text feed facts.from))
-          (slice_get (calls_of feed ride.trip) ride.to))
-        (slice_get (calls_of feed ride.trip) ride.from))
-      (slice_get feed.trips ride.trip.0)
+    (λ trip. option_and_then
+    (λ boarding. option_and_then
+    (λ alighting. option_and_then
+    (λ from. option_map
+    (λ to. line (codes "ride") (run_fields feed ride trip.id boarding alighting ++ way_fields facts from to))
+    (stop_text feed facts.to))
+    (stop_text feed facts.from))
+    (slice_get (calls_of feed ride.trip) ride.to))
+    (slice_get (calls_of feed ride.trip) ride.from))
+    (slice_get feed.trips ride.trip.0)
 
 -- where the traveller stands before ride i
 abbrev pub stop_before : FeedRows → Journey → ℕ → Option StopId
@@ -101,11 +105,11 @@ stop_before feed journey (suc before) = option_map (λ ride. ride.to) (facts_at 
 unfoldable pub ride_lines : FeedRows → Journey → ℕ → List (List ℕ)
 ride_lines feed journey i =
     option_map_or
-      (λ facts.
-        option_map_or (λ stop. walk_lines feed stop facts.from) (stop_before feed journey i) []
-        ++ option_map_or (λ ride. option_to_list (ride_line feed ride facts)) (slice_get journey.rides i) [])
-      (facts_at feed journey.rides i)
-      []
+    (λ facts.
+    option_map_or (λ stop. walk_lines feed stop facts.from) (stop_before feed journey i) []
+    ++ option_map_or (λ ride. option_to_list (ride_line feed ride facts)) (slice_get journey.rides i) [])
+    (facts_at feed journey.rides i)
+    []
 
 -- the last lines of a journey with so many rides: the walk to its last stop, if there is one, or that it stays
 abbrev pub last_lines : FeedRows → Journey → ℕ → List (List ℕ)
@@ -124,56 +128,54 @@ travel_lines feed journey =
 abbrev pub product_text : FeedRows → ProductRow → Option (List ℕ)
 product_text feed row = slice_get feed.product_names row.product.0
 
--- the id of a product row's medium; empty where it has none
-abbrev pub medium_text : FeedRows → ProductRow → List ℕ
-medium_text feed row = option_map_or (λ m. option_map_or (λ r. r.id) (slice_get feed.media m.0) []) row.medium []
+-- the id of a product row's medium; empty where it names none
+abbrev pub medium_text : FeedRows → ProductRow → Option (List ℕ)
+medium_text feed row = option_map_or (λ m. option_map (λ r. r.id) (slice_get feed.media m.0)) row.medium (Some [])
 
 -- a product row with its product, its medium and an amount, as they end a line
 abbrev pub ticket_fields : FeedRows → ProductRowId → ℤ → Option (List (List ℕ))
 ticket_fields feed id amount =
     option_and_then
-      (λ row. option_map
-        (λ product. decimal (id.0 + 1) ∷ product ∷ medium_text feed row ∷ amount_text feed amount ∷ [])
-        (product_text feed row))
-      (slice_get feed.products id.0)
-
--- the amount of a product row
-abbrev pub row_amount : FeedRows → ProductRowId → ℤ
-row_amount feed id = option_map_or (λ row. row.amount.0) (slice_get feed.products id.0) (pos 0)
+    (λ row. option_and_then
+    (λ product. option_map
+    (λ medium. decimal (id.0 + 1) ∷ product ∷ medium ∷ amount_text feed amount ∷ [])
+    (medium_text feed row))
+    (product_text feed row))
+    (slice_get feed.products id.0)
 
 -- the line of leg i: bought where it is charged, and otherwise included with the amount zero
 unfoldable pub leg_line : FeedRows → ℕ → Bool → LegChoice → Option (List ℕ)
 leg_line feed i charged pick =
     option_map
-      (λ ticket. line (codes "leg")
-        (decimal (i + 1) ∷ (if charged then codes "buy" else codes "included") ∷ decimal (pick.rule.0 + 1) ∷ ticket))
-      (ticket_fields feed pick.product (if charged then row_amount feed pick.product else pos 0))
+    (λ ticket. line (codes "leg")
+    (decimal (i + 1) ∷ (if charged then codes "buy" else codes "included") ∷ decimal (pick.rule.0 + 1) ∷ ticket))
+    (ticket_fields feed pick.product (if charged then amount_of feed pick.product else pos 0))
 
 -- the end of a change's line: its product row, or what stands for none
 abbrev pub change_fields : FeedRows → Option ProductRowId → Option (List (List ℕ))
-change_fields feed (Some row) = ticket_fields feed row (row_amount feed row)
+change_fields feed (Some row) = ticket_fields feed row (amount_of feed row)
 change_fields feed None = Some (codes "-" ∷ [] ∷ [] ∷ amount_text feed (pos 0) ∷ [])
 
 -- the line of change i, where it is arranged
 unfoldable pub change_line : FeedRows → ℕ → ChangeChoice → Option (List ℕ)
 change_line feed i pick =
     option_and_then
-      (λ row. option_map
-        (λ ticket. line (codes "change") (decimal (i + 1) ∷ decimal row.kind ∷ decimal (pick.rule.0 + 1) ∷ ticket))
-        (change_fields feed pick.product))
-      (slice_get feed.transfer_rules pick.rule.0)
+    (λ row. option_map
+    (λ ticket. line (codes "change") (decimal (i + 1) ∷ decimal row.kind ∷ decimal (pick.rule.0 + 1) ∷ ticket))
+    (change_fields feed pick.product))
+    (slice_get feed.transfer_rules pick.rule.0)
 
 -- the line of leg i, and that of change i after it where it is arranged
 unfoldable pub leg_lines : FeedRows → Choice → ℕ → List (List ℕ)
 leg_lines feed choice i =
     option_map_or
-      (λ pick. option_to_list (leg_line feed i (is_charged (transfer_kind feed choice) i) pick))
-      (slice_get choice.legs i)
-      []
+    (λ pick. option_to_list (leg_line feed i (is_charged (transfer_kind feed choice) i) pick))
+    (slice_get choice.legs i)
+    []
     ++ option_map_or
-      (λ place. option_map_or (λ pick. option_to_list (change_line feed i pick)) place [])
-      (slice_get choice.changes i)
-      []
+    (λ place. option_map_or (λ pick. option_to_list (change_line feed i pick)) place [])
+    (slice_get choice.changes i)
+    []
 
 -- the fare lines of a choice: leg 1, change 1 where it is arranged, leg 2, and so on
 unfoldable pub fare_lines : FeedRows → Choice → List (List ℕ)

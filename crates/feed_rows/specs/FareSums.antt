@@ -1,6 +1,6 @@
 -- Which legs are charged, and the sum of a choice. (GTFS Schedule Reference: fare_transfer_rules.txt,
 -- fare_transfer_type.)
-use Rattle.std.specs.Prelude.{ℕ, zero, suc, ◌+◌, Bool, true, false, not, ◌&&◌, ◌||◌, ◌==◌, if◌then◌else◌, List, length, slice_get, Option, Some, None, is_none, ℤ, pos, ◌+ℤ◌, option_map, option_and_then}
+use Rattle.std.specs.Prelude.{ℕ, zero, suc, Bool, true, false, not, ◌&&◌, ◌||◌, ◌==◌, if◌then◌else◌, List, length, slice_get, Option, is_none, ℤ, pos, ◌+ℤ◌, option_map, option_and_then}
 use Rattle.std.specs.Option.{option_map_or}
 use Rattle.transit_base.specs.declared.numbers.ProductRowId.{ProductRowId}
 use Rattle.transit_base.specs.declared.numbers.RiderId.{RiderId}
@@ -11,30 +11,30 @@ use Rattle.feed_rows.specs.FeedRows.{FeedRows}
 use Rattle.feed_rows.specs.FareChoices.{is_fare_choice}
 use Rattle.feed_rows.specs.Words.{filled_and, sum_below, when}
 
--- the type of the row by which change i is arranged; none where the change is not arranged
+-- the type of the row that is chosen for change i; none where none is chosen
 unfoldable pub transfer_kind : FeedRows → Choice → ℕ → Option ℕ
 transfer_kind feed choice i =
     option_and_then
-      (λ place. option_and_then (λ pick. option_map (λ row. row.kind) (slice_get feed.transfer_rules pick.rule.0)) place)
-      (slice_get choice.changes i)
+    (λ place. option_and_then (λ pick. option_map (λ row. row.kind) (slice_get feed.transfer_rules pick.rule.0)) place)
+    (slice_get choice.changes i)
 
 -- leg i is the first of its chain, where `kind` gives each change's type: no arranged change leads to it
 unfoldable pub starts_chain : (ℕ → Option ℕ) → ℕ → Bool
 starts_chain kind zero = true
 starts_chain kind (suc before) = is_none (kind before)
 
--- leg i is entered by an arranged change of type 0 or 2
-abbrev pub is_entered_free : (ℕ → Option ℕ) → ℕ → Bool
-is_entered_free kind zero = false
-is_entered_free kind (suc before) = filled_and (kind before) (λ k. (k == 0) || (k == 2))
+-- leg i is included in the change that leads to it, which is of type 0 or 2
+abbrev pub is_included_on_entry : (ℕ → Option ℕ) → ℕ → Bool
+is_included_on_entry kind zero = false
+is_included_on_entry kind (suc before) = filled_and (kind before) (λ k. (k == 0) || (k == 2))
 
--- leg i is left by an arranged change of type 2
-abbrev pub is_left_free : (ℕ → Option ℕ) → ℕ → Bool
-is_left_free kind i = filled_and (kind i) (λ k. k == 2)
+-- leg i is included in the change that follows it, which is of type 2, where it is first of its chain
+abbrev pub is_included_on_leaving : (ℕ → Option ℕ) → ℕ → Bool
+is_included_on_leaving kind i = filled_and (kind i) (λ k. k == 2)
 
 -- leg i is charged, unless it is entered by a change of type 0 or 2, or is first of its chain and left by one of type 2
 unfoldable pub is_charged : (ℕ → Option ℕ) → ℕ → Bool
-is_charged kind i = not (is_entered_free kind i || (starts_chain kind i && is_left_free kind i))
+is_charged kind i = not (is_included_on_entry kind i || (starts_chain kind i && is_included_on_leaving kind i))
 
 -- the amount of a product row; one that the feed lacks is in no fare choice
 unfoldable pub amount_of : FeedRows → ProductRowId → ℤ

@@ -1,5 +1,5 @@
 -- What a query is offered, which triples are minimal, and which answer is exact.
-use Rattle.std.specs.Prelude.{◌≡◌, ℕ, List, map, length, All, AllPairs, Contains, Option, Some, IsTrue, ℤ, option_and_then}
+use Rattle.std.specs.Prelude.{◌≡◌, List, map, length, All, AllPairs, Any, Contains, Option, Some, IsTrue, ℤ, option_and_then}
 use Rattle.feed_rows.specs.declared.journeys.Query.{Query}
 use Rattle.feed_rows.specs.declared.journeys.Ride.{Ride}
 use Rattle.feed_rows.specs.declared.fares.Choice.{Choice}
@@ -38,3 +38,8 @@ pub record IsExactAnswer (feed : FeedRows) (query : Query) (entries : List Entry
   pub minimal : All (λ entry. IsMinimal feed query entry.triple) entries
   pub complete : (triple : Triple) → IsMinimal feed query triple → Contains (map (λ entry. entry.triple) entries) triple
   pub in_order : AllPairs (λ a b. IsTrue (is_before a.triple b.triple)) entries
+
+-- whatever is offered, some entry is at most it: so an answer without entries says that nothing is offered
+abbrev pub CoversOffers : FeedRows → Query → List Entry → Type 0
+CoversOffers feed query entries =
+    (triple : Triple) → IsOffered feed query triple → Any (λ entry. IsTrue (at_most entry.triple triple)) entries

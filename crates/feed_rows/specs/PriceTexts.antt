@@ -1,13 +1,20 @@
 -- The least price of given rides, and its printed text.
-use Rattle.std.specs.Prelude.{◌≡◌, ℕ, ◌⊎◌, List, [], ◌∷◌, ◌++◌, length, Option, Some, None, ℤ, ◌≤ℤ◌, codes, decimal}
+use Rattle.std.specs.Prelude.{◌≡◌, ℕ, ◌+◌, ◌<◌, ◌⊎◌, All, IsTrue, List, [], ◌∷◌, ◌++◌, length, Option, Some, None, ℤ, ◌≤ℤ◌, codes, decimal}
 use Rattle.std.specs.List.{concat}
 use Rattle.transit_base.specs.declared.numbers.RiderId.{RiderId}
 use Rattle.feed_rows.specs.declared.journeys.Ride.{Ride}
 use Rattle.feed_rows.specs.declared.fares.Choice.{Choice}
 use Rattle.feed_rows.specs.FeedRows.{FeedRows}
+use Rattle.feed_rows.specs.Rides.{is_ride}
+use Rattle.feed_rows.specs.Journeys.{catches_next}
 use Rattle.feed_rows.specs.JourneyEntries.{rides_price}
 use Rattle.feed_rows.specs.EntryText.{amount_text, currency_text, fare_lines}
 use Rattle.feed_rows.specs.Lines.{line}
+
+-- the rides are rides of the feed, and each next one is caught from the one before
+pub record AreJoinedRides (feed : FeedRows) (rides : List Ride) : Type 0 where
+  pub are_rides : All (λ ride. IsTrue (is_ride feed ride)) rides
+  pub goes_on : (i : ℕ) → i + 1 < length rides → IsTrue (catches_next feed rides i)
 
 -- the choice pays the rides for the rider at this price, and no other choice pays them at less
 pub record IsLeastPrice (feed : FeedRows) (rides : List Ride) (rider : Option RiderId) (choice : Choice) (price : ℤ) : Type 0 where
@@ -27,9 +34,13 @@ price_text feed rides choice price =
 abbrev pub uncovered_text : List ℕ
 uncovered_text = line (codes "uncovered") []
 
--- the text is that of the least price of the rides
-abbrev pub IsPriceText : FeedRows → List Ride → Option RiderId → List ℕ → Type 0
-IsPriceText feed rides rider text =
+-- the text is that of a choice of the least price, or tells that no choice pays the rides
+abbrev pub IsTextOfLeastPrice : FeedRows → List Ride → Option RiderId → List ℕ → Type 0
+IsTextOfLeastPrice feed rides rider text =
     ((choice : Choice) × (price : ℤ) × IsLeastPrice feed rides rider choice price
-      × (text ≡ price_text feed (length rides) choice price))
+    × (text ≡ price_text feed (length rides) choice price))
     ⊎ (IsUncovered feed rides rider × (text ≡ uncovered_text))
+
+-- the rides follow one another, and the text is that of their least price
+abbrev pub IsPriceText : FeedRows → List Ride → Option RiderId → List ℕ → Type 0
+IsPriceText feed rides rider text = AreJoinedRides feed rides × IsTextOfLeastPrice feed rides rider text

@@ -1,5 +1,5 @@
 -- Rides: trips on a service day, from one call to a later one.
-use Rattle.std.specs.Prelude.{ℕ, Bool, ◌&&◌, nat_lt, if◌then◌else◌, List, slice_get, Option, Some, None, ℤ, pos, ◌+ℤ◌, option_map, option_and_then}
+use Rattle.std.specs.Prelude.{ℕ, Bool, ◌&&◌, nat_lt, if◌then◌else◌, slice_get, Option, None, ℤ, pos, ◌+ℤ◌, option_map, option_and_then}
 use Rattle.std.specs.List.{list_any}
 use Rattle.transit_base.specs.declared.moments.Moment.{Moment}
 use Rattle.transit_base.specs.declared.numbers.TripId.{TripId}
@@ -53,6 +53,6 @@ unfoldable pub ride_facts : FeedRows → Ride → Option RideFacts
 ride_facts feed ride =
     if is_ride feed ride
     then option_and_then
-      (λ boarding. option_map (facts_between feed ride boarding) (slice_get (calls_of feed ride.trip) ride.to))
-      (slice_get (calls_of feed ride.trip) ride.from)
+    (λ boarding. option_map (facts_between feed ride boarding) (slice_get (calls_of feed ride.trip) ride.to))
+    (slice_get (calls_of feed ride.trip) ride.from)
     else None

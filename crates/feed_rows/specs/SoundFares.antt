@@ -1,4 +1,5 @@
--- What holds of the areas, timeframes, rider categories, media, products and fare rules of a feed.
+-- What holds of the areas, timeframes, rider categories, media, products and fare rules of a feed. Row numbers are in
+-- range, whole numbers of the files at most 2^31 - 1, times of day at most 24:00:00 and amounts at most 10^12.
 use Rattle.std.specs.Prelude.{◌≡◌, ◌≢◌, ◌^◌, ◌<◌, ◌≤◌, ◌⊎◌, ◌↔◌, nat_abs, length, All, AllPairs, IsSome, IsNone, false}
 use Rattle.std.specs.Option.{ForSome}
 use Rattle.feed_rows.specs.FeedRows.{FeedRows}
@@ -82,5 +83,6 @@ pub record IsSoundCurrency (feed : FeedRows) : Type 0 where
   -- three capital letters
   pub code : ForSome feed.currency (λ c. length c ≡ 3)
   pub letters : ForSome feed.currency (λ c. All (λ b. (65 ≤ b) × (b ≤ 90)) c)
+  -- amounts have no, two or three decimals, and two where there is no currency
   pub decimals : (feed.decimals ≡ 0) ⊎ (feed.decimals ≡ 2) ⊎ (feed.decimals ≡ 3)
   pub no_currency : IsNone feed.currency → feed.decimals ≡ 2

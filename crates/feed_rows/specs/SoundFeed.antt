@@ -4,7 +4,7 @@ use Rattle.feed_rows.specs.SoundNames.{IsNameList}
 use Rattle.feed_rows.specs.SoundTimetable.{AreSoundStops, AreSoundRoutes, AreSoundTrips, AreSoundStopTimes, AreOrderedCalls, AreSoundServices, AreSoundExceptions, AreSoundFrequencies, AreSoundLinks}
 use Rattle.feed_rows.specs.SoundFares.{AreSoundAreas, AreSoundStopAreas, AreSoundTimeframes, AreSoundRiders, AreSoundMedia, AreSoundProducts, AreSoundLegRules, AreSoundTransferRules, IsSoundCurrency}
 
--- the rows have no fault
+-- what rows show of having no fault: numbers name rows, keys stand once, values are within their limits, times don't fall
 pub record IsSoundFeed (feed : FeedRows) : Type 0 where
   pub stops : AreSoundStops feed
   pub routes : AreSoundRoutes feed

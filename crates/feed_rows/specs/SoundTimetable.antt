@@ -1,9 +1,11 @@
--- What holds of the stops, routes, trips, stop times, services, frequencies and links of a feed.
-use Rattle.std.specs.Prelude.{◌≡◌, ◌≢◌, ℕ, ◌<◌, ◌≤◌, pos, negsuc, ◌≤ℤ◌, Option, length, All, AllPairs, IsSome}
-use Rattle.std.specs.Option.{ForSome, option_or}
+-- What holds of the stops, routes, trips, stop times, services, frequencies and links of a feed. Row numbers are in
+-- range, whole numbers of the files are at most 2^31 - 1, and times of a service day at most 167:59:59.
+use Rattle.std.specs.Prelude.{◌≡◌, ◌≢◌, ◌<◌, ◌≤◌, pos, negsuc, ◌≤ℤ◌, length, All, AllPairs, IsSome}
+use Rattle.std.specs.Option.{ForSome}
 use Rattle.transit_base.specs.declared.calendar.Day.{Day}
 use Rattle.feed_rows.specs.declared.rows.StopTimeRow.{StopTimeRow}
 use Rattle.feed_rows.specs.FeedRows.{FeedRows}
+use Rattle.feed_rows.specs.Calls.{first_time, last_time}
 use Rattle.feed_rows.specs.Items.{ForItem}
 use Rattle.feed_rows.specs.SoundNames.{IsIdText}
 
@@ -37,14 +39,6 @@ pub record AreSoundTrips (feed : FeedRows) : Type 0 where
   pub no_doubles : AllPairs (λ t u. t.id ≢ u.id) feed.trips
   pub routes : All (λ t. t.route.0 < length feed.routes) feed.trips
   pub services : All (λ t. t.service.0 < length feed.service_names) feed.trips
-
--- the first time of a stop time: its arrival, or its departure where that is empty
-abbrev pub first_time : StopTimeRow → Option ℕ
-first_time row = option_or row.arrival row.departure
-
--- the last time of a stop time: its departure, or its arrival where that is empty
-abbrev pub last_time : StopTimeRow → Option ℕ
-last_time row = option_or row.departure row.arrival
 
 -- where both rows have times, the last of this row is at most the first of the other
 abbrev pub EndsBy : StopTimeRow → StopTimeRow → Type 0

@@ -20,6 +20,6 @@ time_at colon most text =
     then at_most most (clock_seconds hours minutes seconds) else None
 
 -- the seconds of a time of at most so many seconds; its first colon stands six places before its end
-abbrev pub time_value : ℕ → List ℕ → Option ℕ
+unfoldable pub time_value : ℕ → List ℕ → Option ℕ
 time_value most text =
     if nat_le 7 (length text) && nat_le (length text) 9 then time_at (length text - 6) most text else None

@@ -1,5 +1,5 @@
 -- What is asked of the times of a trip: its first and its last row have times, times don't fall, and none is too great.
-use Rattle.std.specs.Prelude.{◌≡◌, ℕ, ◌-◌, ◌<◌, ◌≤◌, Bool, true, List, length, slice_get, Option, Some, option_and_then, All}
+use Rattle.std.specs.Prelude.{◌≡◌, ℕ, ◌-◌, ◌<◌, ◌≤◌, Bool, true, List, length, slice_get, Option, Some, option_and_then, IfSome, All}
 use Rattle.transit_base.specs.declared.numbers.TripId.{TripId}
 use Rattle.feed_rows.specs.declared.rows.StopTimeRow.{StopTimeRow}
 use Rattle.feed_rows.specs.declared.rows.FrequencyRow.{FrequencyRow}
@@ -32,6 +32,10 @@ pub record DoTimesRise (rows : List StopTimeRow) : Type 0 where
 pub record AreTimesAtMost (rows : List StopTimeRow) (most : ℕ) : Type 0 where
   pub first : (m t : ℕ) → first_at rows m ≡ Some t → t ≤ most
   pub last : (m t : ℕ) → last_at rows m ≡ Some t → t ≤ most
+
+-- no time of a feed's stop times is greater than this
+abbrev pub DoTimesEndBy : FeedRows → ℕ → Type 0
+DoTimesEndBy feed most = All (λ (r : StopTimeRow). IfSome r.arrival (λ t. t ≤ most) × IfSome r.departure (λ t. t ≤ most)) feed.stop_times
 
 -- the frequency rows end no later than this
 abbrev pub DoRunsEndBy : FeedRows → ℕ → Type 0

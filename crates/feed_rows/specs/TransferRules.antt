@@ -3,7 +3,7 @@
 -- (GTFS Schedule Reference: fare_transfer_rules.txt; the profile's are how the changes of a run are counted, that an
 -- empty count is greater than every number, that limits are judged before counts and count from the run's first leg, and
 -- that a leg without group is never in an arranged change.)
-use Rattle.std.specs.Prelude.{ℕ, zero, suc, ◌+◌, ◌-◌, Bool, true, false, not, ◌&&◌, ◌||◌, ◌==◌, nat_le, if◌then◌else◌, List, [], Option, Some, None, ℤ, pos, ◌-ℤ◌, int_le, option_and_then}
+use Rattle.std.specs.Prelude.{◌≡◌, ◌<◌, ◌≤◌, ℕ, zero, suc, ◌+◌, ◌-◌, Bool, true, false, not, ◌&&◌, ◌||◌, ◌==◌, nat_le, if◌then◌else◌, List, [], Option, Some, None, ℤ, pos, ◌-ℤ◌, int_le, option_and_then}
 use Rattle.std.specs.List.{list_any, list_all}
 use Rattle.std.specs.Option.{option_map_or}
 use Rattle.transit_base.specs.declared.numbers.LegGroupId.{LegGroupId}
@@ -87,8 +87,8 @@ is_arranged feed change = list_any (is_selected_transfer feed change) feed.trans
 abbrev pub same_group : Option LegGroupId → Option LegGroupId → Bool
 same_group a b = filled_and a (λ g. filled_and b (λ h. g.0 == h.0))
 
--- the change to the leg `next` from a leg of the one group to one of the other, where the run began with the leg
--- `first` and had so many changes before; none where a leg has no group
+-- a change as rules see it: the groups of its two legs, its count in a run with so many changes before it, and the moments
+-- of the run's first leg and of the next leg; none where one of the two legs has no group
 abbrev pub change_between : FareLeg → ℕ → FareLeg → Option LegGroupId → Option LegGroupId → Option TransferFacts
 change_between first changes next (Some g) (Some h) =
     Some (record {
@@ -107,7 +107,7 @@ change_between first changes next None to = None
 abbrev pub change_from : (ℕ → Option FareLeg) → ℕ → ℕ → Option TransferFacts
 change_from leg b i =
     option_and_then (λ first. option_and_then (λ before. option_and_then (λ next.
-      change_between first (i - b) next before.group next.group) (leg (i + 1))) (leg i)) (leg b)
+    change_between first (i - b) next before.group next.group) (leg (i + 1))) (leg i)) (leg b)
 
 -- leg i + 1 goes on with the run of leg i that began with leg b: both are of one group, and change i is arranged
 unfoldable pub goes_on : FeedRows → (ℕ → Option FareLeg) → ℕ → ℕ → Bool
@@ -132,3 +132,14 @@ is_arranged_at feed leg i = filled_and (change_at feed leg i) (is_arranged feed)
 -- the rows that are selected for change i; none where one of its legs has no group
 abbrev pub transfers_at : FeedRows → (ℕ → Option FareLeg) → ℕ → List XferId
 transfers_at feed leg i = option_map_or (selected_transfers feed) (change_at feed leg i) []
+
+-- legs i and i + 1 have one group
+abbrev pub is_same_group_at : (ℕ → Option FareLeg) → ℕ → Bool
+is_same_group_at leg i = filled_and (leg i) (λ before. filled_and (leg (i + 1)) (λ next. same_group before.group next.group))
+
+-- legs b to i have one group, and all changes between them are arranged: the run of leg i starts with the least such leg,
+-- which is leg i itself where it has no group
+pub record IsRun (feed : FeedRows) (leg : ℕ → Option FareLeg) (b i : ℕ) : Type 0 where
+  pub begun : b ≤ i
+  pub one_group : (k : ℕ) → b ≤ k → k < i → is_same_group_at leg k ≡ true
+  pub arranged : (k : ℕ) → b ≤ k → k < i → is_arranged_at feed leg k ≡ true
