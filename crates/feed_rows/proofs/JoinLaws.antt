@@ -1,16 +1,16 @@
 -- Laws of lists that are joined number by number: their members, and how they ascend.
-use Rattle.std.proofs.Common.{◌≡◌, refl, sym, ◌∙◌, ap, subst, ℕ, zero, suc, ◌+◌, ◌-◌, ◌<◌, ◌≤◌, ◌⊎◌, inl, inr, ⊎_elim, Bool, true, false, List, [], ◌∷◌, ◌++◌, length, get_or, All, AllPairs, Contains, Option, Some, None, arith}
+use Rattle.std.proofs.Common.{◌≡◌, refl, sym, ◌∙◌, ap, subst, ℕ, zero, suc, ◌<◌, ◌≤◌, ◌⊎◌, inl, inr, ⊎_elim, Bool, true, false, List, [], ◌∷◌, ◌++◌, length, get_or, All, AllPairs, Contains, Some, arith}
 use Rattle.std.specs.Prelude.{◌==◌, slice_get, unwrap_or, map, filter, find}
 use Rattle.std.proofs.lemmas.Bool.{cases_lt, cases_Bool}
 use Rattle.std.proofs.lemmas.Bool.Decides.{nat_tests}
-use Rattle.std.proofs.lemmas.List.Elements.{Contains-append_left, Contains-append_right, Contains-append_cases, filter-append, All-append}
+use Rattle.std.proofs.lemmas.List.Elements.{Contains-append_left, Contains-append_right, Contains-append_cases, All-append}
 use Rattle.std.proofs.lemmas.Option.{same_Some, none-some, slice_get-get_or, slice_get_within, slice_get_past, get_or_from_slice_get}
 use Rattle.std.specs.List.Sorted.{IsNonDecreasingBy}
 use Rattle.std.proofs.lemmas.List.Kept.{IsNonDecreasingBy-filter}
 use Rattle.feed_rows.specs.Words.{joined_below, list_below}
 use Rattle.feed_rows.specs.declared.groups.Grouped.{Grouped}
 use Rattle.feed_rows.specs.Groups.{group_of, groups_below}
-use Rattle.feed_rows.proofs.StrictLaws.{AllPairs-cons, AllPairs-head, AllPairs-tail, Contains-cases, Contains-first, Contains-later, All-at}
+use Rattle.feed_rows.proofs.StrictLaws.{AllPairs-cons, AllPairs-head, AllPairs-tail, Contains-cons_cases, Contains-cons_first, Contains-cons_later}
 use Rattle.feed_rows.proofs.GroupLaws.{length-list_below, slice_get-list_below}
 
 module _ {X : Type 0} where
@@ -44,7 +44,7 @@ module _ {X : Type 0} where
   pub AllPairs-append : (R : X → X → Type 0) (xs ys : List X) → AllPairs R xs → AllPairs R ys → ((x y : X) → Contains xs x → Contains ys y → R x y) → AllPairs R (xs ++ ys)
   AllPairs-append R [] ys one other between = other
   AllPairs-append R (x ∷ xs) ys one other between =
-      AllPairs-cons R x (xs ++ ys) (All-append (R x) xs ys (AllPairs-head R x xs one) (All-from (R x) ys (λ y at. between x y (Contains-first x xs) at))) (AllPairs-append R xs ys (AllPairs-tail R x xs one) other (λ a b at also. between a b (Contains-later x xs a at) also))
+      AllPairs-cons R x (xs ++ ys) (All-append (R x) xs ys (AllPairs-head R x xs one) (All-from (R x) ys (λ y at. between x y (Contains-cons_first x xs) at))) (AllPairs-append R xs ys (AllPairs-tail R x xs one) other (λ a b at also. between a b (Contains-cons_later x xs a at) also))
 
   -- what is joined ascends where each part does, and each part before the later ones
   pub AllPairs-joined_below : (R : X → X → Type 0) (n : ℕ) (f : ℕ → List X) → ((i : ℕ) → i < n → AllPairs R (f i)) → ((i j : ℕ) (x y : X) → i < j → j < n → Contains (f i) x → Contains (f j) y → R x y) → AllPairs R (joined_below n f)
@@ -87,12 +87,12 @@ module _ {X : Type 0} where
 -- the members of a group
 pub Contains-group_of : {X : Type 0} (ms : List (Grouped X)) (i : ℕ) (x : X) → Contains ms (record { group = i; item = x }) → Contains (group_of ms i) x
 Contains-group_of [] i x at = let lt = at.1 in absurd (omega arith)
-Contains-group_of {X} (m ∷ ms) i x at = step (Contains-cases m ms (record { group = i; item = x }) at) (Contains-group_of ms i x) (cases_Bool (m.group == i))
+Contains-group_of {X} (m ∷ ms) i x at = step (Contains-cons_cases m ms (record { group = i; item = x }) at) (Contains-group_of ms i x) (cases_Bool (m.group == i))
   where
     step : (m ≡ record { group = i; item = x }) ⊎ Contains ms (record { group = i; item = x }) → (Contains ms (record { group = i; item = x }) → Contains (group_of ms i) x) → ((m.group == i) ≡ true) ⊎ ((m.group == i) ≡ false) → Contains (group_of (m ∷ ms) i) x
-    step (inl same) later (inl hit) = rw hit (subst (λ y. Contains (y ∷ group_of ms i) x) (sym (ap (λ (k : Grouped X). k.item) same)) (Contains-first x (group_of ms i)))
+    step (inl same) later (inl hit) = rw hit (subst (λ y. Contains (y ∷ group_of ms i) x) (sym (ap (λ (k : Grouped X). k.item) same)) (Contains-cons_first x (group_of ms i)))
     step (inl same) later (inr miss) = absurd (let own : m.group ≡ i = ap (λ (k : Grouped X). k.group) same in let hit : (m.group == i) ≡ true = grind (arith, nat_tests, own) in let no : true ≡ false = sym hit ∙ miss in cc)
-    step (inr at) later (inl hit) = rw hit (Contains-later m.item (group_of ms i) x (later at))
+    step (inr at) later (inl hit) = rw hit (Contains-cons_later m.item (group_of ms i) x (later at))
     step (inr at) later (inr miss) = rw miss (later at)
 
 pub group_of-tells : {X : Type 0} (ms : List (Grouped X)) (i : ℕ) (x : X) → Contains (group_of ms i) x → Contains ms (record { group = i; item = x })
@@ -100,11 +100,11 @@ group_of-tells [] i x at = let lt = at.1 in absurd (omega arith)
 group_of-tells {X} (m ∷ ms) i x at = step (cases_Bool (m.group == i)) (group_of-tells ms i x)
   where
     step : ((m.group == i) ≡ true) ⊎ ((m.group == i) ≡ false) → (Contains (group_of ms i) x → Contains ms (record { group = i; item = x })) → Contains (m ∷ ms) (record { group = i; item = x })
-    step (inr miss) later = Contains-later m ms (record { group = i; item = x }) (later (rw miss at at))
+    step (inr miss) later = Contains-cons_later m ms (record { group = i; item = x }) (later (rw miss at at))
     step (inl hit) later = ⊎_elim
-        (λ (same : m.item ≡ x). let own : m.group ≡ i = grind (arith, nat_tests, hit) in subst (λ k. Contains (m ∷ ms) (record { group = k; item = x })) own (subst (λ y. Contains (m ∷ ms) (record { group = m.group; item = y })) same (Contains-first m ms)))
-        (λ (there : Contains (group_of ms i) x). Contains-later m ms (record { group = i; item = x }) (later there))
-        (Contains-cases m.item (group_of ms i) x (rw hit at at))
+        (λ (same : m.item ≡ x). let own : m.group ≡ i = grind (arith, nat_tests, hit) in subst (λ k. Contains (m ∷ ms) (record { group = k; item = x })) own (subst (λ y. Contains (m ∷ ms) (record { group = m.group; item = y })) same (Contains-cons_first m ms)))
+        (λ (there : Contains (group_of ms i) x). Contains-cons_later m ms (record { group = i; item = x }) (later there))
+        (Contains-cons_cases m.item (group_of ms i) x (rw hit at at))
 
 -- a group of two lists
 pub group_of-append : {X : Type 0} (ms ns : List (Grouped X)) (i : ℕ) → group_of (ms ++ ns) i ≡ group_of ms i ++ group_of ns i

@@ -1,13 +1,11 @@
 -- Laws of the platforms that stops stand for.
-use Rattle.std.proofs.Common.{◌≡◌, refl, sym, ◌∙◌, ap, subst, ℕ, zero, suc, ◌+◌, ◌<◌, ◌≤◌, ◌⊎◌, inl, inr, ⊎_elim, Bool, true, false, List, [], ◌∷◌, ◌++◌, length, get_or, arith}
-use Rattle.std.specs.Prelude.{◌==◌, ◌&&◌, if◌then◌else◌, Option, Some, None, slice_get, unwrap_or, map, filter}
+use Rattle.std.proofs.Common.{◌≡◌, refl, sym, ◌∙◌, ap, ℕ, zero, suc, ◌+◌, ◌<◌, ◌≤◌, ◌⊎◌, inl, inr, ⊎_elim, Bool, true, false, List, [], ◌∷◌, ◌++◌, length, get_or, arith}
+use Rattle.std.specs.Prelude.{◌==◌, ◌&&◌, if◌then◌else◌, Option, Some, None, slice_get, unwrap_or}
 use Rattle.std.specs.Option.{option_map_or}
 use Rattle.std.proofs.lemmas.Bool.{cases_lt, cases_Bool}
 use Rattle.std.proofs.lemmas.Bool.Decides.{nat_tests}
-use Rattle.std.proofs.lemmas.Grind.{common_steps}
 use Rattle.std.proofs.lemmas.List.{append-nil}
 use Rattle.std.proofs.lemmas.Option.{same_Some, slice_get_within, none-some, slice_get_read, slice_get-get_or, slice_get_past}
-use Rattle.std.proofs.lemmas.List.Elements.{filter-append}
 use Rattle.transit_base.specs.declared.numbers.StopId.{StopId}
 use Rattle.feed_rows.specs.declared.rows.StopRow.{StopRow}
 use Rattle.feed_rows.specs.declared.groups.Grouped.{Grouped}
@@ -15,7 +13,7 @@ use Rattle.feed_rows.specs.FeedRows.{FeedRows}
 use Rattle.feed_rows.specs.SoundTimetable.{AreSoundStops}
 use Rattle.feed_rows.specs.Words.{joined_below, picks_below, list_below, at_and, filled_and, ids_where}
 use Rattle.feed_rows.specs.Groups.{group_of, groups_below}
-use Rattle.feed_rows.specs.StopLinks.{is_platform, is_station, is_member, stop_set}
+use Rattle.feed_rows.specs.StopLinks.{is_member, stop_set}
 use Rattle.feed_rows.specs.StopSets.{stop_sets, row_sets, row_sets_at, own_set, station_set}
 use Rattle.feed_rows.proofs.FeedReadings.{parent_kind}
 use Rattle.feed_rows.proofs.GroupLaws.{list_below-same, length-list_below, slice_get-list_below}

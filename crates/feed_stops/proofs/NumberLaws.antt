@@ -10,13 +10,13 @@ use Rattle.feed_rows.specs.declared.rows.StopRow.{StopRow}
 use Rattle.feed_rows.specs.FeedRows.{FeedRows}
 use Rattle.feed_rows.specs.Words.{at_and, find_below}
 use Rattle.feed_rows.specs.Queries.{find_stop, has_stop_id}
-use Rattle.feed_rows.proofs.BelowLaws.{find-none, find-same}
+use Rattle.feed_rows.proofs.BelowLaws.{find_below_none, find_below_same}
 use Rattle.feed_stops.specs.StopNumbers.{row_with}
 
 -- the first row of a feed with an id
 pub row_with-stops : (feed : FeedRows) (stops : List StopRow) (id : List ℕ) → stops ≡ feed.stops → row_with stops (length stops) id ≡ find_stop feed id
 unfolding has_stop_id
-row_with-stops feed stops id same = rw same (ap (option_map (λ i. record { 0 = i })) (find-same (λ i. at_and feed.stops i (λ row. bytes_eq row.id id)) (has_stop_id feed id) (length feed.stops) (λ k lt. refl)))
+row_with-stops feed stops id same = rw same (ap (option_map (λ i. record { 0 = i })) (find_below_same (λ i. at_and feed.stops i (λ row. bytes_eq row.id id)) (has_stop_id feed id) (length feed.stops) (λ k lt. refl)))
 
 abbrev number_of : ℕ → StopId
 number_of i = record { 0 = i }
@@ -32,7 +32,7 @@ row_with-next stops n row id before now apart lt is was e = let next : n + 1 ≡
     earlier hit k below = rw (slice_get-get_or stops k row (omega arith)) (⊎_elim (λ (same : bytes_eq (get_or stops k row).id id ≡ true). absurd (apart k n row below lt ((bytes_decides _ _).0 same ∙ sym ((bytes_decides _ _).0 hit) ∙ ap (λ (r : StopRow). r.id) is))) (λ (miss : bytes_eq (get_or stops k row).id id ≡ false). miss) (cases_Bool (bytes_eq (get_or stops k row).id id)))
 
     step : (bytes_eq row.id id ≡ true) ⊎ (bytes_eq row.id id ≡ false) → now ≡ row_with stops (suc n) id
-    step (inl hit) = let none = find-none (λ i. at_and stops i (λ r. bytes_eq r.id id)) n (earlier hit) in let here = rw hit at e in rw (none, got, hit) here
+    step (inl hit) = let none = find_below_none (λ i. at_and stops i (λ r. bytes_eq r.id id)) n (earlier hit) in let here = rw hit at e in rw (none, got, hit) here
     step (inr miss) = let here = rw miss at e in rw (got, miss) (here ∙ was ∙ keeps (find_below n (λ i. at_and stops i (λ r. bytes_eq r.id id))))
       where
         keeps : (o : Option ℕ) → option_map number_of o ≡ option_map number_of (option_or o None)

@@ -17,7 +17,7 @@ use Rattle.feed_rows.specs.Groups.{group_of, groups_below}
 use Rattle.feed_rows.specs.StopLinks.{is_platform, is_station, is_member, parent_of, stop_set}
 use Rattle.feed_rows.specs.StopSets.{stop_sets}
 use Rattle.feed_rows.proofs.FeedReadings.{All-slice_get, parent_kind}
-use Rattle.feed_rows.proofs.StrictLaws.{Contains-first, Contains-later, Contains-cases}
+use Rattle.feed_rows.proofs.StrictLaws.{Contains-cons_first, Contains-cons_later, Contains-cons_cases}
 use Rattle.feed_rows.proofs.StopSetLaws.{one_where, joined_below-picks, stop_sets-at}
 use Rattle.feed_rows.proofs.JoinLaws.{Contains-joined_below, joined_below-tells, group_rises, Contains-group_of, group_of-tells, groups_below-at, groups_below-past}
 use Rattle.feed_walks.specs.Pairs.{pair, product, set_at, AreNear, AreByItem}
@@ -27,16 +27,16 @@ module _ {X Y : Type 0} where
   pub Contains-map : (f : X → Y) (xs : List X) (x : X) → Contains xs x → Contains (map f xs) (f x)
   Contains-map f [] x at = let lt = at.1 in absurd (omega arith)
   Contains-map f (y ∷ ys) x at = ⊎_elim
-      (λ (same : y ≡ x). subst (λ z. Contains (map f (y ∷ ys)) (f z)) same (Contains-first (f y) (map f ys)))
-      (λ (there : Contains ys x). Contains-later (f y) (map f ys) (f x) (Contains-map f ys x there))
-      (Contains-cases y ys x at)
+      (λ (same : y ≡ x). subst (λ z. Contains (map f (y ∷ ys)) (f z)) same (Contains-cons_first (f y) (map f ys)))
+      (λ (there : Contains ys x). Contains-cons_later (f y) (map f ys) (f x) (Contains-map f ys x there))
+      (Contains-cons_cases y ys x at)
 
   pub map-tells : (f : X → Y) (xs : List X) (y : Y) → Contains (map f xs) y → (x : X) × Contains xs x × (f x ≡ y)
   map-tells f [] y at = let lt = at.1 in absurd (omega arith)
   map-tells f (x ∷ xs) y at = ⊎_elim
-      (λ (same : f x ≡ y). (x, Contains-first x xs, same))
-      (λ (there : Contains (map f xs) y). let found = map-tells f xs y there in (found.0, Contains-later x xs found.0 found.1, found.2))
-      (Contains-cases (f x) (map f xs) y at)
+      (λ (same : f x ≡ y). (x, Contains-cons_first x xs, same))
+      (λ (there : Contains (map f xs) y). let found = map-tells f xs y there in (found.0, Contains-cons_later x xs found.0 found.1, found.2))
+      (Contains-cons_cases (f x) (map f xs) y at)
 
 -- each of these with each of those
 pub Contains-product : (xs ys : List StopId) (a b : StopId) → Contains xs a → Contains ys b → Contains (product xs ys) (pair a b)
@@ -45,7 +45,7 @@ Contains-product [] ys a b at also = let lt = at.1 in absurd (omega arith)
 Contains-product (x ∷ xs) ys a b at also = ⊎_elim
     (λ (same : x ≡ a). Contains-append_left (map (pair x) ys) (flat_map (λ from. map (pair from) ys) xs) (pair a b) (subst (λ z. Contains (map (pair z) ys) (pair a b)) (sym same) (Contains-map (pair a) ys b also)))
     (λ (there : Contains xs a). Contains-append_right (map (pair x) ys) (flat_map (λ from. map (pair from) ys) xs) (pair a b) (Contains-product xs ys a b there also))
-    (Contains-cases x xs a at)
+    (Contains-cons_cases x xs a at)
 
 -- and no others
 pub record IsOfProduct (xs ys : List StopId) (p : Grouped StopId) : Type 0 where
@@ -58,14 +58,14 @@ pub product-tells : (xs ys : List StopId) (p : Grouped StopId) → Contains (pro
 unfolding product
 product-tells [] ys p at = let lt = at.1 in absurd (omega arith)
 product-tells (x ∷ xs) ys p at = ⊎_elim
-    (λ (here : Contains (map (pair x) ys) p). let found = map-tells (pair x) ys p here in record { from = x; from_at = Contains-first x xs; to_at = subst (Contains ys) (ap (λ (q : Grouped StopId). q.item) found.2) found.1; group = ap (λ (q : Grouped StopId). q.group) found.2 })
-    (λ (there : Contains (product xs ys) p). let found = product-tells xs ys p there in record { from = found.from; from_at = Contains-later x xs found.from found.from_at; to_at = found.to_at; group = found.group })
+    (λ (here : Contains (map (pair x) ys) p). let found = map-tells (pair x) ys p here in record { from = x; from_at = Contains-cons_first x xs; to_at = subst (Contains ys) (ap (λ (q : Grouped StopId). q.item) found.2) found.1; group = ap (λ (q : Grouped StopId). q.group) found.2 })
+    (λ (there : Contains (product xs ys) p). let found = product-tells xs ys p there in record { from = found.from; from_at = Contains-cons_later x xs found.from found.from_at; to_at = found.to_at; group = found.group })
     (Contains-append_cases (map (pair x) ys) (flat_map (λ from. map (pair from) ys) xs) p at)
 
 -- a platform stands for itself
 own : (feed : FeedRows) (a : StopId) → is_platform feed a ≡ true → Contains (stop_set feed a) a
 unfolding stop_set
-own feed a platform = rw platform (Contains-first a [])
+own feed a platform = rw platform (Contains-cons_first a [])
 
 pub in_own_set : (feed : FeedRows) (a : StopId) → is_platform feed a ≡ true → Contains (set_at (stop_sets feed) a.0) a
 in_own_set feed a platform = rw (stop_sets-at feed a) (own feed a platform)
@@ -95,7 +95,7 @@ belongs feed a station row parent got flat named there one =
     let second : (parent.kind == 1) ≡ true = grind (arith, nat_tests, one) in
     let zeroth : (row.kind == 0) ≡ true = grind (arith, nat_tests, flat) in
     let own : (station.0 == station.0) ≡ true = grind (arith, nat_tests) in
-    rw (there, first, second) (subst (λ xs. Contains xs a) (joined_below-picks (length feed.stops) (λ r. at_and feed.stops r (is_member station)) (λ r. record { 0 = r })) (Contains-joined_below (length feed.stops) (λ r. one_where (at_and feed.stops r (is_member station)) (record { 0 = r })) a.0 a (slice_get_within feed.stops a.0 row got) (rw (got, zeroth, named, own) (Contains-first a []))))
+    rw (there, first, second) (subst (λ xs. Contains xs a) (joined_below-picks (length feed.stops) (λ r. at_and feed.stops r (is_member station)) (λ r. record { 0 = r })) (Contains-joined_below (length feed.stops) (λ r. one_where (at_and feed.stops r (is_member station)) (record { 0 = r })) a.0 a (slice_get_within feed.stops a.0 row got) (rw (got, zeroth, named, own) (Contains-cons_first a []))))
 
 pub in_station_set : (feed : FeedRows) (a station : StopId) → AreSoundStops feed → is_platform feed a ≡ true → parent_of feed a ≡ Some station → IsInStation feed a station
 in_station_set feed a station sound platform parent = record { within = within; member = rw (stop_sets-at feed station) (belongs feed a station kinds.row lined.row kinds.got kinds.is named lined.got lined.is) }
@@ -134,13 +134,13 @@ set_platform feed x b at = by_platform (is_platform feed x) refl (is_station fee
             kind true flat true at = ⊎_elim
                 (λ (same : record { 0 = r } ≡ b). subst (λ c. is_platform feed c ≡ true) same (rw got flat))
                 (λ (none : Contains [] b). let lt = none.1 in absurd (omega arith))
-                (Contains-cases (record { 0 = r }) [] b at)
+                (Contains-cons_cases (record { 0 = r }) [] b at)
 
     by_platform : (platform : Bool) → is_platform feed x ≡ platform → (station : Bool) → Contains (if platform then x ∷ [] else if station then ids_where (λ k. record { 0 = k }) (is_member x) feed.stops else []) b → is_platform feed b ≡ true
     by_platform true is station at = ⊎_elim
         (λ (same : x ≡ b). subst (λ c. is_platform feed c ≡ true) same is)
         (λ (none : Contains [] b). let lt = none.1 in absurd (omega arith))
-        (Contains-cases x [] b at)
+        (Contains-cons_cases x [] b at)
     by_platform false is true at = member at
     by_platform false is false at = let lt = at.1 in absurd (omega arith)
 

@@ -16,7 +16,7 @@ use Rattle.feed_rows.specs.Words.{joined_below, list_below}
 use Rattle.feed_rows.specs.Groups.{group_of, groups_below}
 use Rattle.feed_rows.specs.StopLinks.{is_platform, link_by, governing_row, link}
 use Rattle.feed_rows.specs.StopSets.{stop_sets}
-use Rattle.feed_rows.proofs.StrictLaws.{IsStrictOrder, same_from_members, Contains-first, Contains-cases}
+use Rattle.feed_rows.proofs.StrictLaws.{IsStrictOrder, same_from_members, Contains-cons_first, Contains-cons_cases}
 use Rattle.feed_rows.proofs.GroupLaws.{list_below-same, length-list_below, slice_get-list_below}
 use Rattle.feed_rows.proofs.StopSetLaws.{joined_below-same, joined_below-none, joined_below-one}
 use Rattle.feed_rows.proofs.JoinLaws.{Contains-joined_below, joined_below-tells, AllPairs-joined_below, Contains-slice_get, slice_get-Contains, find-tells, group_of-joined_below, group_of-own, group_of-other}
@@ -86,10 +86,10 @@ step_list-tells to None t at = let lt = at.1 in absurd (omega arith)
 step_list-tells to (Some s) t at = ⊎_elim
     (λ (same : record { to = to; seconds = record { 0 = s } } ≡ t). (ap (λ (u : Step). Some u.seconds.0) same, sym (ap (λ (u : Step). u.to) same)))
     (λ (none : Contains [] t). let lt = none.1 in absurd (omega arith))
-    (Contains-cases (record { to = to; seconds = record { 0 = s } }) [] t at)
+    (Contains-cons_cases (record { to = to; seconds = record { 0 = s } }) [] t at)
 
 pub Contains-step_list : (to : StopId) (o : Option ℕ) (t : Step) → o ≡ Some t.seconds.0 → t.to ≡ to → Contains (step_list to o) t
-Contains-step_list to o t is leads = rw is (subst (λ s. Contains (step_list s (Some t.seconds.0)) t) leads (Contains-first t []))
+Contains-step_list to o t is leads = rw is (subst (λ s. Contains (step_list s (Some t.seconds.0)) t) leads (Contains-cons_first t []))
 
 -- a walk has both ends at platforms
 pub record IsWalk (feed : FeedRows) (a b : StopId) (seconds : ℕ) : Type 0 where
@@ -227,7 +227,7 @@ walk_steps-from_groups feed rules near n long sound are is =
 -- where an item passes, one is found
 find-some : {X : Type 0} (p : X → Bool) (xs : List X) (x : X) → Contains xs x → p x ≡ true → find p xs ≡ None → ⊥
 find-some p [] x at hit none = let lt = at.1 in omega arith
-find-some p (y ∷ ys) x at hit none = step (p y) refl (λ there. find-some p ys x there hit) (Contains-cases y ys x at) none
+find-some p (y ∷ ys) x at hit none = step (p y) refl (λ there. find-some p ys x there hit) (Contains-cons_cases y ys x at) none
   where
     step : (b : Bool) → p y ≡ b → (Contains ys x → find p ys ≡ None → ⊥) → (y ≡ x) ⊎ Contains ys x → find p (y ∷ ys) ≡ None → ⊥
     step true here later in_list e = none-some y (sym (rw here at e))
@@ -264,7 +264,7 @@ walk_steps-at feed a = ⊎_elim
     none : length feed.stops ≤ a.0 → (xs : List Step) → out_of feed a ≡ xs → xs ≡ []
     none past [] is = refl
     none past (t ∷ ts) is =
-        let at : Contains (out_of feed a) t = rw is (Contains-first t ts) in
+        let at : Contains (out_of feed a) t = rw is (Contains-cons_first t ts) in
         let walk = link-tells feed a t.to t.seconds.0 (out_of-tells feed a t at) in
         let kind = kind_of_platform feed a walk.from in
         let lt = slice_get_within feed.stops a.0 kind.row kind.got in

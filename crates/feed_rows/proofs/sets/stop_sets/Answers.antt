@@ -1,4 +1,4 @@
-use Rattle.std.proofs.Common.{◌≡◌, refl, ◌∙◌, arith}
+use Rattle.std.proofs.Common.{refl, ◌∙◌}
 use Rattle.std.proofs.lemmas.Result.{IfOk-weaker}
 use Rattle.feed_rows.proofs.StopSetLaws.{stop_sets-from_members}
 use Rattle.feed_rows.proofs.sets.stop_sets.Goals as goal

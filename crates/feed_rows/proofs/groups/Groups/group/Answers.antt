@@ -1,4 +1,4 @@
-use Rattle.std.proofs.Common.{◌≡◌, sym, ◌∙◌, ap, ℕ, ◌+◌, ◌-◌, ◌<◌, length, take, drop, Some, arith}
+use Rattle.std.proofs.Common.{arith}
 use Rattle.feed_rows.proofs.GroupLaws.{piece_within, piece_ends, slice_get-pieces}
 use Rattle.feed_rows.proofs.groups.Groups.group.Goals as goal
 

@@ -1,4 +1,4 @@
-use Rattle.std.proofs.Common.{◌≡◌, ap, length, arith}
+use Rattle.std.proofs.Common.{ap, length, arith}
 use Rattle.feed_rows.proofs.GroupLaws.{length-pieces}
 use Rattle.feed_rows.proofs.groups.Groups.len.Goals as goal
 

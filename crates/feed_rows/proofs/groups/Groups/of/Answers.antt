@@ -1,4 +1,3 @@
-use Rattle.std.proofs.Common.{◌≡◌, sym, ◌∙◌, ap, subst, length, arith}
 use Rattle.feed_rows.proofs.GroupLaws.{cuts_from_groups, pieces_from_groups}
 use Rattle.feed_rows.proofs.groups.Groups.of.Goals as goal
 
