@@ -37,3 +37,7 @@ pub mod JourneyLaws
 pub mod FareLaws
 pub mod SumLaws
 pub mod ChoiceLaws
+pub mod TextMaps
+pub mod GroupLaws
+pub mod StopSetLaws
+pub mod JoinLaws

@@ -41,3 +41,6 @@ pub mod SoundFeed
 pub mod Feed
 pub mod HeldFiles
 pub mod FaultCounts
+pub mod Pieces
+pub mod Groups
+pub mod StopSets

@@ -4,11 +4,13 @@
 mod fares;
 mod faults;
 mod feed;
+mod groups;
 mod ids;
 mod journeys;
 mod lists;
 mod names;
 mod rows;
+mod sets;
 #[cfg(test)]
 mod tests;
 mod usage;
@@ -23,6 +25,7 @@ pub use feed::{
     ProductRows, RiderRows, RouteRows, ServiceRows, StopAreaRows, StopRows, StopTimeRows,
     TimeframeRows, TransferRuleRows, TripRows,
 };
+pub use groups::{Grouped, Groups};
 pub use ids::Id;
 pub use journeys::{
     AreaList, Call, FrameList, Journey, LegFacts, LegList, Query, Ride, RideFacts, RideList, Shifts,
@@ -34,4 +37,5 @@ pub use rows::{
     RiderRow, RouteRow, ServiceRow, StopAreaRow, StopRow, StopTimeRow, TimeframeRow,
     TransferRuleRow, TripRow,
 };
+pub use sets::stop_sets;
 pub use usage::{StopWord, UsageFault, WordRole};

@@ -1,0 +1,2 @@
+pub mod StopNumbers
+pub mod BuiltStops

@@ -1,0 +1,5 @@
+pub mod PlaceLaws
+pub mod RuleLaws
+pub mod PairLaws
+pub mod LinkLaws
+pub mod StepLaws

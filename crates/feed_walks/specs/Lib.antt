@@ -1,0 +1,5 @@
+pub mod Places
+pub mod Rules
+pub mod Pairs
+pub mod OutOf
+pub mod BuiltWalks

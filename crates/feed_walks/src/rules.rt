@@ -1,0 +1,174 @@
+//! The rows of `transfers.txt`, to be looked up by their two stops, and the walks that they rule.
+ghost use Rattle.std.specs.Prelude.{◌≡◌, ℕ, ◌<◌, ◌≤◌, ◌==◌, length, All, IfOk, OnOk, Some, find, map, option_map, option_and_then, slice_get};
+ghost use Rattle.std.specs.List.Sorted.{IsNonDecreasingBy};
+ghost use Rattle.feed_rows.specs.FeedRows.{FeedRows};
+ghost use Rattle.feed_rows.specs.StopLinks as linked;
+ghost use Rattle.feed_rows.specs.Words.{filled_and, when};
+ghost use Rattle.feed_walks.specs.Places.{IsPlace};
+ghost use Rattle.feed_walks.specs.Rules.{grouped_row, AreByTarget, AreRules};
+
+use feed_rows::{Feed, Grouped, Groups, LinkRow};
+use std::alloc::{AllocError, Global};
+use transit_base::{Secs, StopId};
+
+/// The rows from each stop, by the stop that they lead to, and among those to one stop in file order.
+pub fn rules_of(alloc: Global, links: &[LinkRow], count: u32) -> Result<Groups<LinkRow>, AllocError>
+    requires { All (λ (row : LinkRow). row.from.0 < count) links.now }
+    ensures { IfOk result (λ rules. AreRules links.now rules) }
+{
+    let mut rows = grouped_rows(alloc, links)?;
+    sort_by_target(&mut rows)?;
+    let rules = Groups::of(alloc, rows, count)?;
+    Ok(rules)
+}
+
+/// The rows, each with the stop that it leads from.
+fn grouped_rows(alloc: Global, links: &[LinkRow]) -> Result<Vec<Grouped<LinkRow>>, AllocError>
+    ensures { IfOk result (λ rows. rows.items ≡ map grouped_row links.now) }
+{
+    links.iter().map(|row| grouped(row)).collect(alloc)
+}
+
+/// The row with the stop that it leads from.
+fn grouped(row: &LinkRow) -> Grouped<LinkRow>
+    ensures { result ≡ grouped_row row.now }
+{
+    Grouped {
+        group: row.from.0,
+        item: *row,
+    }
+}
+
+/// Puts rows in the order of the stops that they lead to. Rows to one stop keep their order.
+fn sort_by_target(rows: &mut Vec<Grouped<LinkRow>>) -> Result<(), AllocError>
+    ensures { OnOk result (AreByTarget rows.old.items rows.new.items) }
+{
+    rows.sort_by_key(|row| row.item.to.0)?;
+    Ok(())
+}
+
+/// How many of the rows lead to an earlier stop.
+pub fn place_of(rows: &[LinkRow], to: StopId) -> usize
+    ensures { IsNonDecreasingBy (λ (row : LinkRow). row.to.0) rows.now → IsPlace (λ (row : LinkRow). row.to.0) rows.now to.0 result }
+{
+    rows.partition_point(|row| row.to.0 < to.0)
+}
+
+/// The first of the rows that leads to the stop.
+pub fn row_to(rows: &[LinkRow], to: StopId) -> Option<LinkRow>
+    ensures { IsNonDecreasingBy (λ (row : LinkRow). row.to.0) rows.now → result ≡ find (λ row. row.to.0 == to.0) rows.now }
+{
+    row_if_to(row_at(rows, place_of(rows, to)), to)
+}
+
+/// The row at this place, if there is one.
+fn row_at(rows: &[LinkRow], place: usize) -> Option<LinkRow>
+    ensures { result ≡ slice_get rows.now place }
+{
+    rows.get(place).copied()
+}
+
+/// The row, where it leads to the stop.
+fn row_if_to(row: Option<LinkRow>, to: StopId) -> Option<LinkRow>
+    ensures { result ≡ option_and_then (λ (row : LinkRow). when (row.to.0 == to.0) row) row }
+{
+    match row {
+        Some(row) => { if row.to.0 == to.0 { Some(row) } else { None } }
+        None => None,
+    }
+}
+
+/// The earliest row from the one stop to the other.
+pub fn row_between(rules: &Groups<LinkRow>, from: StopId, to: StopId) -> Option<LinkRow>
+    ensures { (feed : FeedRows) → AreRules feed.links rules.now → result ≡ linked.row_between feed (Some from) (Some to) }
+{
+    row_to(rules.get(from.0 as usize), to)
+}
+
+/// The earliest row from the one stop to the other, where both are there.
+fn row_between_both(
+    rules: &Groups<LinkRow>,
+    from: Option<StopId>,
+    to: Option<StopId>,
+) -> Option<LinkRow>
+    ensures { (feed : FeedRows) → AreRules feed.links rules.now → result ≡ linked.row_between feed from to }
+{
+    match from {
+        Some(from) => match to {
+            Some(to) => row_between(rules, from, to),
+            None => None,
+        },
+        None => None,
+    }
+}
+
+/// The station of a platform, if it has one.
+fn station_of(feed: &Feed, stop: StopId) -> Option<StopId>
+    ensures { result ≡ linked.parent_of feed.now stop }
+{
+    let row = feed.stops.items().get(stop.0 as usize)?;
+    row.parent
+}
+
+/// The row that governs the change from the one platform to the other.
+fn governing_row(feed: &Feed, rules: &Groups<LinkRow>, from: StopId, to: StopId) -> Option<LinkRow>
+    requires { AreRules feed.now.links rules.now }
+    ensures { result ≡ linked.governing_row feed.now from to }
+{
+    let from_station = station_of(feed, from);
+    let to_station = station_of(feed, to);
+    if let Some(row) = row_between(rules, from, to) {
+        return Some(row);
+    }
+    if let Some(row) = row_between_both(rules, Some(from), to_station) {
+        return Some(row);
+    }
+    if let Some(row) = row_between_both(rules, from_station, Some(to)) {
+        return Some(row);
+    }
+    row_between_both(rules, from_station, to_station)
+}
+
+/// The walk between two platforms that no row governs.
+fn unruled_link(feed: &Feed, from: StopId, to: StopId) -> Option<Secs>
+    ensures { option_map (λ (s : Secs). s.0) result ≡ linked.unruled_link feed.now from to }
+{
+    if from.0 == to.0 {
+        return Some(Secs(0));
+    }
+    if are_of_one_station(station_of(feed, from), station_of(feed, to)) {
+        Some(Secs(180))
+    } else {
+        None
+    }
+}
+
+/// Whether both stations are there and are one.
+fn are_of_one_station(one: Option<StopId>, other: Option<StopId>) -> bool
+    ensures { result ≡ filled_and one (λ p. filled_and other (λ q. p.0 == q.0)) }
+{
+    match one {
+        Some(one) => match other {
+            Some(other) => one.0 == other.0,
+            None => false,
+        },
+        None => false,
+    }
+}
+
+/// The walk between two platforms.
+pub fn link_between(feed: &Feed, rules: &Groups<LinkRow>, from: StopId, to: StopId) -> Option<Secs>
+    requires { AreRules feed.now.links rules.now }
+    ensures { option_map (λ (s : Secs). s.0) result ≡ linked.link_by feed.now from to (linked.governing_row feed.now from to) }
+{
+    match governing_row(feed, rules, from, to) {
+        Some(row) => {
+            if row.forbidden {
+                None
+            } else {
+                Some(Secs(row.seconds))
+            }
+        }
+        None => unruled_link(feed, from, to),
+    }
+}
