@@ -18,6 +18,8 @@ pub mod CallTimes
 pub mod FullFeed
 pub mod ShiftLaws
 pub mod RideLaws
+pub mod SoundTrips
+pub mod TripLaws
 pub mod WordLaws
 pub mod ParetoLaws
 pub mod ExactLaws

@@ -1,10 +1,9 @@
 -- The run of a leg: it starts with the least leg from which on all legs have one group and all changes are arranged.
-use Rattle.std.proofs.Common.{◌≡◌, refl, sym, ◌∙◌, ap, subst, ℕ, zero, suc, ◌+◌, ◌-◌, ◌<◌, ◌≤◌, ◌⊎◌, inl, inr, Bool, true, false, ◌&&◌, cond, arith, ⊎_elim}
-use Rattle.std.specs.Prelude.{Option, Some, None}
+use Rattle.std.proofs.Common.{◌≡◌, refl, sym, ◌∙◌, subst, ℕ, zero, suc, ◌+◌, ◌<◌, ◌≤◌, ◌⊎◌, inl, inr, Bool, true, false, ◌&&◌, arith}
+use Rattle.std.specs.Prelude.{Option}
 use Rattle.std.proofs.lemmas.Bool.{cases_lt, and_parts, and_from}
 use Rattle.feed_rows.specs.FeedRows.{FeedRows}
-use Rattle.feed_rows.specs.Words.{filled_and}
-use Rattle.feed_rows.specs.TransferRules.{FareLeg, same_group, change_from, change_at, goes_on, is_arranged, is_arranged_at, is_same_group_at, run_start, IsRun}
+use Rattle.feed_rows.specs.TransferRules.{FareLeg, change_at, goes_on, is_arranged_at, is_same_group_at, run_start, IsRun}
 
 -- a run goes on exactly where the next leg has the same group and the change to it is arranged
 pub goes_on-arranged : (feed : FeedRows) (leg : ℕ → Option FareLeg) (i : ℕ) → goes_on feed leg (run_start feed leg i) i ≡ (is_same_group_at leg i && is_arranged_at feed leg i)

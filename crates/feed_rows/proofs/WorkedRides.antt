@@ -1,8 +1,7 @@
 -- Worked examples of rides, walks and shifts over the base feed and its variants.
-use Rattle.std.proofs.Common.{◌≡◌, refl, ℕ, true, false, List, [], ◌∷◌}
-use Rattle.std.specs.Prelude.{Option, Some, None, pos, negsuc, codes, length}
+use Rattle.std.proofs.Common.{◌≡◌, refl, ℕ, true, false, [], ◌∷◌}
+use Rattle.std.specs.Prelude.{Option, Some, None, pos, negsuc, codes}
 use Rattle.feed_rows.specs.FeedRows.{FeedRows}
-use Rattle.feed_rows.specs.declared.rows.StopRow.{StopRow}
 use Rattle.feed_rows.specs.declared.rows.LinkRow.{LinkRow}
 use Rattle.feed_rows.specs.declared.journeys.Ride.{Ride}
 use Rattle.feed_rows.specs.ServiceDays.{is_active, weekday}

@@ -1,12 +1,9 @@
 -- Worked examples of printed texts over the base feed and its variants.
-use Rattle.std.proofs.Common.{◌≡◌, refl, ℕ, List, [], ◌∷◌, ◌++◌}
-use Rattle.std.specs.Prelude.{Option, Some, None, pos, negsuc, codes}
-use Rattle.std.specs.List.{concat}
+use Rattle.std.proofs.Common.{◌≡◌, refl, [], ◌∷◌, ◌++◌}
+use Rattle.std.specs.Prelude.{Some, None, pos, codes}
 use Rattle.std.specs.Fmt.{digits}
 use Rattle.transit_base.specs.Dates.{date_of, date_from_year, date_in_year}
 use Rattle.transit_base.specs.DateTexts.{date_text, time_text}
-use Rattle.feed_rows.specs.FeedRows.{FeedRows}
-use Rattle.feed_rows.specs.declared.fares.Choice.{Choice}
 use Rattle.feed_rows.specs.ServiceDays.{is_active}
 use Rattle.feed_rows.specs.Calls.{call_at, calls_of}
 use Rattle.feed_rows.specs.Shifts.{shifts_of}
@@ -16,9 +13,9 @@ use Rattle.feed_rows.specs.FareSums.{amount_of, transfer_kind, starts_chain, is_
 use Rattle.feed_rows.specs.MoneyText.{money_text}
 use Rattle.feed_rows.specs.EntryText.{journey_line, walk_line, ride_line, ride_lines, travel_lines, leg_line, change_line, leg_lines, fare_lines, entry_lines, lines_of_entries, text_of_entries}
 use Rattle.feed_rows.specs.PriceTexts.{price_text, uncovered_text}
-use Rattle.feed_rows.proofs.BaseFeed.{base, platform, call}
+use Rattle.feed_rows.proofs.BaseFeed.{base}
 use Rattle.feed_rows.proofs.WorkedRides.{frequent}
-use Rattle.feed_rows.proofs.WorkedEntries.{ride, leg, change, entry, by_two_rides, by_one_ride, from_b2, with_walk, after_midnight, night_ride}
+use Rattle.feed_rows.proofs.WorkedEntries.{ride, change, entry, by_two_rides, by_one_ride, from_b2, with_walk, after_midnight, night_ride}
 
 -- 2025-06-02 and the day before, as text
 day_is : date_text (pos 20241) ≡ codes "2025-06-02"

@@ -1,7 +1,7 @@
 -- How a journey may be paid: a rule and a product row for each leg, and for each change that is arranged a row of
 -- fare_transfer_rules.txt with its product row. (GTFS Schedule Reference: fare_products.txt, rider_categories.txt; that
 -- a rider picks one of several selected rules is the profile's.)
-use Rattle.std.specs.Prelude.{ℕ, ◌+◌, ◌-◌, Bool, true, false, not, ◌&&◌, ◌==◌, List, length, slice_get, Option, Some, None, option_map, option_and_then}
+use Rattle.std.specs.Prelude.{ℕ, ◌-◌, Bool, true, false, not, ◌&&◌, ◌==◌, List, length, slice_get, Option, Some, None, option_map, option_and_then}
 use Rattle.transit_base.specs.declared.numbers.ProductId.{ProductId}
 use Rattle.transit_base.specs.declared.numbers.ProductRowId.{ProductRowId}
 use Rattle.transit_base.specs.declared.numbers.RiderId.{RiderId}

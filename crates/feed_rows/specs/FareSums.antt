@@ -1,6 +1,6 @@
 -- Which legs are charged, and the sum of a choice. (GTFS Schedule Reference: fare_transfer_rules.txt,
 -- fare_transfer_type.)
-use Rattle.std.specs.Prelude.{ℕ, zero, suc, ◌+◌, Bool, true, false, not, ◌&&◌, ◌||◌, ◌==◌, if◌then◌else◌, List, length, slice_get, Option, Some, None, is_none, ℤ, pos, ◌+ℤ◌, option_map, option_and_then}
+use Rattle.std.specs.Prelude.{ℕ, zero, suc, Bool, true, false, not, ◌&&◌, ◌||◌, ◌==◌, if◌then◌else◌, List, length, slice_get, Option, is_none, ℤ, pos, ◌+ℤ◌, option_map, option_and_then}
 use Rattle.std.specs.Option.{option_map_or}
 use Rattle.transit_base.specs.declared.numbers.ProductRowId.{ProductRowId}
 use Rattle.transit_base.specs.declared.numbers.RiderId.{RiderId}

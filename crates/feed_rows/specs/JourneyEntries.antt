@@ -1,5 +1,5 @@
 -- What a query is offered, which triples are minimal, and which answer is exact.
-use Rattle.std.specs.Prelude.{◌≡◌, ℕ, List, map, length, All, AllPairs, Any, Contains, Option, Some, IsTrue, ℤ, option_and_then}
+use Rattle.std.specs.Prelude.{◌≡◌, List, map, length, All, AllPairs, Any, Contains, Option, Some, IsTrue, ℤ, option_and_then}
 use Rattle.feed_rows.specs.declared.journeys.Query.{Query}
 use Rattle.feed_rows.specs.declared.journeys.Ride.{Ride}
 use Rattle.feed_rows.specs.declared.fares.Choice.{Choice}

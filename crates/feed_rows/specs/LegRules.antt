@@ -1,5 +1,5 @@
 -- Which leg rules a leg selects. (GTFS Schedule Reference: fare_leg_rules.txt.)
-use Rattle.std.specs.Prelude.{ℕ, Bool, true, not, ◌&&◌, ◌||◌, ◌==◌, nat_le, if◌then◌else◌, List, length, Option, Some, None}
+use Rattle.std.specs.Prelude.{ℕ, Bool, not, ◌&&◌, ◌||◌, ◌==◌, nat_le, List, Option, Some, None}
 use Rattle.std.specs.List.{list_any, list_all}
 use Rattle.transit_base.specs.declared.numbers.AreaId.{AreaId}
 use Rattle.transit_base.specs.declared.numbers.FrameId.{FrameId}
@@ -8,7 +8,7 @@ use Rattle.transit_base.specs.declared.numbers.RuleId.{RuleId}
 use Rattle.feed_rows.specs.declared.journeys.LegFacts.{LegFacts}
 use Rattle.feed_rows.specs.declared.rows.LegRuleRow.{LegRuleRow}
 use Rattle.feed_rows.specs.FeedRows.{FeedRows}
-use Rattle.feed_rows.specs.Words.{at_and, empty_or, filled_and, ids_where}
+use Rattle.feed_rows.specs.Words.{empty_or, filled_and, ids_where}
 
 -- some rule names the network
 abbrev pub is_listed_network : FeedRows → NetworkId → Bool

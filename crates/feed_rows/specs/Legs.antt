@@ -1,6 +1,6 @@
 -- What fare rules look at in a journey: for each leg the network, the areas of its stops and the timeframe groups that
 -- hold. Each ride is one leg, which is the profile's. (GTFS Schedule Reference: stop_areas.txt, timeframes.txt.)
-use Rattle.std.specs.Prelude.{ℕ, Bool, ◌&&◌, ◌==◌, nat_le, nat_lt, if◌then◌else◌, List, [], length, slice_get, Option, ℤ, option_map}
+use Rattle.std.specs.Prelude.{ℕ, Bool, ◌&&◌, ◌==◌, nat_le, nat_lt, if◌then◌else◌, List, [], length, Option, ℤ, option_map}
 use Rattle.std.specs.Option.{option_map_or}
 use Rattle.std.specs.List.{list_any}
 use Rattle.transit_base.specs.declared.moments.Moment.{Moment}

@@ -1,5 +1,5 @@
 -- Rides: trips on a service day, from one call to a later one.
-use Rattle.std.specs.Prelude.{ℕ, Bool, ◌&&◌, nat_lt, if◌then◌else◌, List, slice_get, Option, Some, None, ℤ, pos, ◌+ℤ◌, option_map, option_and_then}
+use Rattle.std.specs.Prelude.{ℕ, Bool, ◌&&◌, nat_lt, if◌then◌else◌, slice_get, Option, None, ℤ, pos, ◌+ℤ◌, option_map, option_and_then}
 use Rattle.std.specs.List.{list_any}
 use Rattle.transit_base.specs.declared.moments.Moment.{Moment}
 use Rattle.transit_base.specs.declared.numbers.TripId.{TripId}
