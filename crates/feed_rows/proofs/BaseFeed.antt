@@ -67,10 +67,10 @@ base =
     record {
       stops = platform (codes "A") ∷ platform (codes "B") ∷ platform (codes "C") ∷ [];
       routes =
-        record { id = codes "R1"; network = Some (record { 0 = 0 }) } ∷ record { id = codes "R2"; network = Some (record { 0 = 1 }) } ∷ [];
+          record { id = codes "R1"; network = Some (record { 0 = 0 }) } ∷ record { id = codes "R2"; network = Some (record { 0 = 1 }) } ∷ [];
       trips = trip (codes "T1") 0 ∷ trip (codes "T2") 1 ∷ trip (codes "T3") 0 ∷ [];
       stop_times =
-        call 0 0 1 28800 ∷ call 0 1 2 29400 ∷ call 1 1 1 29700 ∷ call 1 2 2 30600 ∷ call 2 0 1 29100 ∷ call 2 2 2 32400 ∷ [];
+          call 0 0 1 28800 ∷ call 0 1 2 29400 ∷ call 1 1 1 29700 ∷ call 1 2 2 30600 ∷ call 2 0 1 29100 ∷ call 2 2 2 32400 ∷ [];
       services = [];
       exceptions = record { service = record { 0 = 0 }; day = record { 0 = pos 20241 }; added = true } ∷ [];
       frequencies = [];

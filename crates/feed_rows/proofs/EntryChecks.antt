@@ -19,9 +19,9 @@ pub all_below-at : (n : ℕ) (test : ℕ → Bool) → all_below n test ≡ true
 all_below-at zero test e i lt = absurd (omega arith)
 all_below-at (suc n) test e i lt = step (all_below-at n test (and_parts _ _ e).0 i) (and_parts _ _ e).1 (cases_lt i n)
   where
-  step : (i < n → test i ≡ true) → test n ≡ true → (i < n) ⊎ (n ≤ i) → test i ≡ true
-  step before last (inl below) = before below
-  step before last (inr ge) = let same : n ≡ i = omega arith in subst (λ k. test k ≡ true) same last
+    step : (i < n → test i ≡ true) → test n ≡ true → (i < n) ⊎ (n ≤ i) → test i ≡ true
+    step before last (inl below) = before below
+    step before last (inr ge) = let same : n ≡ i = omega arith in subst (λ k. test k ≡ true) same last
 
 -- every part of the entry passes its test
 unfoldable pub entry_test : FeedRows → Query → Entry → Bool

@@ -47,11 +47,11 @@ trip_rows_own feed trip =
     let test = λ (r : StopTimeRow). r.trip.0 == trip.0 in
     let rows = filter test feed.stop_times in
     All-permutation
-      (λ (r : StopTimeRow). r.trip.0 ≡ trip.0)
-      rows
-      (trip_stop_times feed trip)
-      (IsPermutation-in_sequence rows)
-      (All-weaker (λ (r : StopTimeRow). test r ≡ true) (λ (r : StopTimeRow). r.trip.0 ≡ trip.0) (λ r e. told r.trip.0 trip.0 e) rows (filter_passes test feed.stop_times))
+    (λ (r : StopTimeRow). r.trip.0 ≡ trip.0)
+    rows
+    (trip_stop_times feed trip)
+    (IsPermutation-in_sequence rows)
+    (All-weaker (λ (r : StopTimeRow). test r ≡ true) (λ (r : StopTimeRow). r.trip.0 ≡ trip.0) (λ r e. told r.trip.0 trip.0 e) rows (filter_passes test feed.stop_times))
 
 -- they are rows of the feed
 pub trip_rows_within : (feed : FeedRows) (trip : TripId) → All (Contains feed.stop_times) (trip_stop_times feed trip)
@@ -167,17 +167,17 @@ sound_rise feed trip sound =
         let two = row_at feed trip j next there in
         let before : row.sequence < next.sequence = less (trip_stop_times_strict feed trip (calls_apart feed sound) i j row lt two.within) in
         All-contains
-          (λ (e : StopTimeRow). row.trip.0 ≡ e.trip.0 → row.sequence < e.sequence → EndsBy row e)
-          feed.stop_times
-          next
-          (All-contains (λ (c : StopTimeRow). All (λ (e : StopTimeRow). c.trip.0 ≡ e.trip.0 → c.sequence < e.sequence → EndsBy c e) feed.stop_times) feed.stop_times row sound.between_rows one.member)
-          two.member
-          (one.own ∙ sym two.own)
-          before
-          d
-          last
-          a
-          first
+        (λ (e : StopTimeRow). row.trip.0 ≡ e.trip.0 → row.sequence < e.sequence → EndsBy row e)
+        feed.stop_times
+        next
+        (All-contains (λ (c : StopTimeRow). All (λ (e : StopTimeRow). c.trip.0 ≡ e.trip.0 → c.sequence < e.sequence → EndsBy c e) feed.stop_times) feed.stop_times row sound.between_rows one.member)
+        two.member
+        (one.own ∙ sym two.own)
+        before
+        d
+        last
+        a
+        first
       where
         less : IsBefore (get_or rows i row) (get_or rows j row) → row.sequence < next.sequence
         less lt =

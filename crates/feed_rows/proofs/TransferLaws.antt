@@ -32,9 +32,9 @@ run-on feed leg b i run same arranged =
       arranged = λ k from to. step (λ n. is_arranged_at feed leg n ≡ true) k (run.arranged k from) arranged (cases_lt k i) to;
     }
   where
-  step : (P : ℕ → Type 0) (k : ℕ) → (k < i → P k) → P i → (k < i) ⊎ (i ≤ k) → k < suc i → P k
-  step P k below here (inl lt) to = below lt
-  step P k below here (inr ge) to = let e : i ≡ k = omega arith in subst P e here
+    step : (P : ℕ → Type 0) (k : ℕ) → (k < i → P k) → P i → (k < i) ⊎ (i ≤ k) → k < suc i → P k
+    step P k below here (inl lt) to = below lt
+    step P k below here (inr ge) to = let e : i ≡ k = omega arith in subst P e here
 
 run-fresh : (feed : FeedRows) (leg : ℕ → Option FareLeg) (i : ℕ) → IsRun feed leg i i
 run-fresh feed leg i =
@@ -49,11 +49,11 @@ pub run_start-run : (feed : FeedRows) (leg : ℕ → Option FareLeg) (i : ℕ) �
 run_start-run feed leg zero = let e = run_start-zero feed leg in rw e (run-fresh feed leg 0)
 run_start-run feed leg (suc i) = step (run_start-run feed leg i) (goes_on feed leg (run_start feed leg i) i) refl
   where
-  step : IsRun feed leg (run_start feed leg i) i → (b : Bool) → goes_on feed leg (run_start feed leg i) i ≡ b → IsRun feed leg (run_start feed leg (suc i)) (suc i)
-  step before true on =
-      let both : (is_same_group_at leg i && is_arranged_at feed leg i) ≡ true = sym (goes_on-arranged feed leg i) ∙ on in
-      rw (run_start-on feed leg i on) (run-on feed leg _ i before (and_parts _ _ both).0 (and_parts _ _ both).1)
-  step before false off = let e : i + 1 ≡ suc i = omega arith in rw (run_start-off feed leg i off, e) (run-fresh feed leg (suc i))
+    step : IsRun feed leg (run_start feed leg i) i → (b : Bool) → goes_on feed leg (run_start feed leg i) i ≡ b → IsRun feed leg (run_start feed leg (suc i)) (suc i)
+    step before true on =
+        let both : (is_same_group_at leg i && is_arranged_at feed leg i) ≡ true = sym (goes_on-arranged feed leg i) ∙ on in
+        rw (run_start-on feed leg i on) (run-on feed leg _ i before (and_parts _ _ both).0 (and_parts _ _ both).1)
+    step before false off = let e : i + 1 ≡ suc i = omega arith in rw (run_start-off feed leg i off, e) (run-fresh feed leg (suc i))
 
 run-off : (feed : FeedRows) (leg : ℕ → Option FareLeg) (b i : ℕ) → IsRun feed leg b (suc i) → b ≤ i → IsRun feed leg b i
 run-off feed leg b i run le =
@@ -69,17 +69,17 @@ run_start-least feed leg zero b run = let e = run_start-zero feed leg in omega a
 run_start-least feed leg (suc i) b run =
     step (λ le. run_start-least feed leg i b (run-off feed leg b i run le)) (goes_on feed leg (run_start feed leg i) i) refl (cases_lt i b)
   where
-  step : (b ≤ i → run_start feed leg i ≤ b) → (g : Bool) → goes_on feed leg (run_start feed leg i) i ≡ g → (i < b) ⊎ (b ≤ i) → run_start feed leg (suc i) ≤ b
-  step before true on (inl gt) =
-      let e = run_start-on feed leg i on in
-      let begun = (run_start-run feed leg i).begun in
-      omega arith
-  step before true on (inr le) =
-      let e = run_start-on feed leg i on in
-      let least = before le in
-      omega arith
-  step before false off (inl gt) = let e = run_start-off feed leg i off in omega arith
-  step before false off (inr le) =
-      let both = and_from _ _ (run.one_group i le (omega arith)) (run.arranged i le (omega arith)) in
-      let on : true ≡ false = sym both ∙ sym (goes_on-arranged feed leg i) ∙ off in
-      cc
+    step : (b ≤ i → run_start feed leg i ≤ b) → (g : Bool) → goes_on feed leg (run_start feed leg i) i ≡ g → (i < b) ⊎ (b ≤ i) → run_start feed leg (suc i) ≤ b
+    step before true on (inl gt) =
+        let e = run_start-on feed leg i on in
+        let begun = (run_start-run feed leg i).begun in
+        omega arith
+    step before true on (inr le) =
+        let e = run_start-on feed leg i on in
+        let least = before le in
+        omega arith
+    step before false off (inl gt) = let e = run_start-off feed leg i off in omega arith
+    step before false off (inr le) =
+        let both = and_from _ _ (run.one_group i le (omega arith)) (run.arranged i le (omega arith)) in
+        let on : true ≡ false = sym both ∙ sym (goes_on-arranged feed leg i) ∙ off in
+        cc

@@ -111,7 +111,7 @@ three_buses rows =
       stops = platform (codes "A") ∷ platform (codes "B") ∷ platform (codes "C") ∷ platform (codes "D") ∷ [];
       trips = trip (codes "U1") 0 ∷ trip (codes "U2") 0 ∷ trip (codes "U3") 0 ∷ [];
       stop_times =
-        call 0 0 1 28800 ∷ call 0 1 2 29400 ∷ call 1 1 1 29700 ∷ call 1 2 2 30300 ∷ call 2 2 1 30600 ∷ call 2 3 2 31200 ∷ [];
+          call 0 0 1 28800 ∷ call 0 1 2 29400 ∷ call 1 1 1 29700 ∷ call 1 2 2 30300 ∷ call 2 2 1 30600 ∷ call 2 3 2 31200 ∷ [];
       products = ticket 0 250 ∷ ticket 1 30 ∷ ticket 2 70 ∷ [];
       product_names = codes "single" ∷ codes "p1" ∷ codes "p3" ∷ [];
       leg_rules = network_rule 0 0 0 ∷ [];
@@ -148,7 +148,7 @@ any_network priorities priority =
       products = ticket 0 250 ∷ ticket 1 400 ∷ ticket 2 50 ∷ ticket 3 100 ∷ [];
       product_names = codes "single" ∷ codes "rail" ∷ codes "change" ∷ codes "any" ∷ [];
       leg_rules =
-        record (network_rule 0 0 0) { priority = priority } ∷ record (network_rule 1 0 3) { network = None } ∷ [];
+          record (network_rule 0 0 0) { priority = priority } ∷ record (network_rule 1 0 3) { network = None } ∷ [];
       group_names = codes "gb" ∷ codes "gx" ∷ [];
       transfer_rules = [];
       has_priority = priorities;
@@ -176,8 +176,8 @@ in_areas =
       areas = record { id = codes "z1" } ∷ record { id = codes "z2" } ∷ [];
       stop_areas = record { area = record { 0 = 1 }; stop = record { 0 = 0 } } ∷ record { area = record { 0 = 0 }; stop = record { 0 = 0 } } ∷ [];
       leg_rules =
-        record (network_rule 0 0 0) { from_area = Some (record { 0 = 0 }) }
-        ∷ record (network_rule 0 0 1) { from_area = Some (record { 0 = 1 }) } ∷ [];
+          record (network_rule 0 0 0) { from_area = Some (record { 0 = 0 }) }
+          ∷ record (network_rule 0 0 1) { from_area = Some (record { 0 = 1 }) } ∷ [];
       group_names = codes "gb" ∷ [];
       transfer_rules = [];
     }
@@ -187,8 +187,8 @@ abbrev in_area_of_station : FeedRows
 in_area_of_station =
     record in_areas {
       stops =
-        record { id = codes "A"; kind = 0; parent = Some (record { 0 = 3 }) } ∷ platform (codes "B") ∷ platform (codes "C")
-        ∷ record { id = codes "P"; kind = 1; parent = None } ∷ [];
+          record { id = codes "A"; kind = 0; parent = Some (record { 0 = 3 }) } ∷ platform (codes "B") ∷ platform (codes "C")
+          ∷ record { id = codes "P"; kind = 1; parent = None } ∷ [];
       stop_areas = record { area = record { 0 = 0 }; stop = record { 0 = 3 } } ∷ record { area = record { 0 = 1 }; stop = record { 0 = 0 } } ∷ [];
       leg_rules = record (network_rule 0 0 0) { from_area = Some (record { 0 = 0 }) } ∷ [];
     }
@@ -210,14 +210,14 @@ in_frames =
       trips = trip (codes "V1") 0 ∷ trip (codes "V2") 0 ∷ [];
       stop_times = call 0 0 1 32399 ∷ call 0 2 2 34200 ∷ call 1 0 1 32400 ∷ call 1 2 2 34800 ∷ [];
       timeframes =
-        record { frame = record { 0 = 0 }; start = 0; end = 32400; service = record { 0 = 0 } }
-        ∷ record { frame = record { 0 = 1 }; start = 32400; end = 86400; service = record { 0 = 0 } } ∷ [];
+          record { frame = record { 0 = 0 }; start = 0; end = 32400; service = record { 0 = 0 } }
+          ∷ record { frame = record { 0 = 1 }; start = 32400; end = 86400; service = record { 0 = 0 } } ∷ [];
       frame_names = codes "peak" ∷ codes "off" ∷ [];
       products = ticket 0 250 ∷ ticket 1 100 ∷ [];
       product_names = codes "single" ∷ codes "any" ∷ [];
       leg_rules =
-        record (network_rule 0 0 0) { from_frame = Some (record { 0 = 0 }) }
-        ∷ record (network_rule 0 0 1) { from_frame = Some (record { 0 = 1 }) } ∷ [];
+          record (network_rule 0 0 0) { from_frame = Some (record { 0 = 0 }) }
+          ∷ record (network_rule 0 0 1) { from_frame = Some (record { 0 = 1 }) } ∷ [];
       transfer_rules = [];
     }
 
@@ -238,11 +238,11 @@ after_midnight =
       trips = trip (codes "N") 0 ∷ [];
       stop_times = call 0 0 1 90600 ∷ call 0 2 2 92400 ∷ [];
       exceptions =
-        record { service = record { 0 = 0 }; day = record { 0 = pos 20240 }; added = true }
-        ∷ record { service = record { 0 = 1 }; day = record { 0 = pos 20241 }; added = true } ∷ [];
+          record { service = record { 0 = 0 }; day = record { 0 = pos 20240 }; added = true }
+          ∷ record { service = record { 0 = 1 }; day = record { 0 = pos 20241 }; added = true } ∷ [];
       timeframes =
-        record { frame = record { 0 = 0 }; start = 0; end = 86400; service = record { 0 = 0 } }
-        ∷ record { frame = record { 0 = 1 }; start = 0; end = 86400; service = record { 0 = 1 } } ∷ [];
+          record { frame = record { 0 = 0 }; start = 0; end = 86400; service = record { 0 = 0 } }
+          ∷ record { frame = record { 0 = 1 }; start = 0; end = 86400; service = record { 0 = 1 } } ∷ [];
       frame_names = codes "sun" ∷ codes "mon" ∷ [];
       service_names = codes "S" ∷ codes "M" ∷ [];
     }
@@ -271,10 +271,10 @@ abbrev pub from_b2 : ℕ → FeedRows
 from_b2 time =
     record base {
       stops =
-        platform (codes "A") ∷ record { id = codes "B"; kind = 0; parent = Some (record { 0 = 4 }) } ∷ platform (codes "C")
-        ∷ record { id = codes "B2"; kind = 0; parent = Some (record { 0 = 4 }) } ∷ record { id = codes "P"; kind = 1; parent = None } ∷ [];
+          platform (codes "A") ∷ record { id = codes "B"; kind = 0; parent = Some (record { 0 = 4 }) } ∷ platform (codes "C")
+          ∷ record { id = codes "B2"; kind = 0; parent = Some (record { 0 = 4 }) } ∷ record { id = codes "P"; kind = 1; parent = None } ∷ [];
       stop_times =
-        call 0 0 1 28800 ∷ call 0 1 2 29400 ∷ call 1 3 1 time ∷ call 1 2 2 30600 ∷ call 2 0 1 29100 ∷ call 2 2 2 32400 ∷ [];
+          call 0 0 1 28800 ∷ call 0 1 2 29400 ∷ call 1 3 1 time ∷ call 1 2 2 30600 ∷ call 2 0 1 29100 ∷ call 2 2 2 32400 ∷ [];
     }
 
 -- changing is forbidden within P
@@ -309,15 +309,15 @@ with_tram to_rail to_tram =
     record base {
       stops = platform (codes "A") ∷ platform (codes "B") ∷ platform (codes "C") ∷ platform (codes "D") ∷ [];
       routes =
-        record { id = codes "R1"; network = Some (record { 0 = 0 }) } ∷ record { id = codes "R2"; network = Some (record { 0 = 1 }) }
-        ∷ record { id = codes "R3"; network = Some (record { 0 = 2 }) } ∷ [];
+          record { id = codes "R1"; network = Some (record { 0 = 0 }) } ∷ record { id = codes "R2"; network = Some (record { 0 = 1 }) }
+          ∷ record { id = codes "R3"; network = Some (record { 0 = 2 }) } ∷ [];
       trips = trip (codes "T1") 0 ∷ trip (codes "T5") 1 ∷ trip (codes "T4") 2 ∷ [];
       stop_times =
-        call 0 0 1 28800 ∷ call 0 1 2 29400 ∷ call 1 1 1 29760 ∷ call 1 3 2 30660 ∷ call 2 3 1 30900 ∷ call 2 2 2 31800 ∷ [];
+          call 0 0 1 28800 ∷ call 0 1 2 29400 ∷ call 1 1 1 29760 ∷ call 1 3 2 30660 ∷ call 2 3 1 30900 ∷ call 2 2 2 31800 ∷ [];
       network_names = codes "bus" ∷ codes "rail" ∷ codes "tram" ∷ [];
       products =
-        ticket 0 250 ∷ ticket 1 400 ∷ ticket 2 50 ∷ ticket 3 100
-        ∷ record (ticket 4 0) { amount = record { 0 = negsuc 199 } } ∷ [];
+          ticket 0 250 ∷ ticket 1 400 ∷ ticket 2 50 ∷ ticket 3 100
+          ∷ record (ticket 4 0) { amount = record { 0 = negsuc 199 } } ∷ [];
       product_names = codes "single" ∷ codes "rail" ∷ codes "change" ∷ codes "tram" ∷ codes "bonus" ∷ [];
       leg_rules = network_rule 0 0 0 ∷ network_rule 1 1 1 ∷ network_rule 2 2 3 ∷ [];
       group_names = codes "gb" ∷ codes "gr" ∷ codes "gt" ∷ [];
@@ -338,7 +338,7 @@ two_prefixes =
     record (with_tram 0 0) {
       trips = trip (codes "T6") 2 ∷ trip (codes "T2") 1 ∷ trip (codes "T1") 0 ∷ [];
       stop_times =
-        call 0 0 1 28800 ∷ call 0 1 2 29400 ∷ call 1 1 1 29700 ∷ call 1 2 2 30600 ∷ call 2 0 1 28800 ∷ call 2 1 2 29400 ∷ [];
+          call 0 0 1 28800 ∷ call 0 1 2 29400 ∷ call 1 1 1 29700 ∷ call 1 2 2 30600 ∷ call 2 0 1 28800 ∷ call 2 1 2 29400 ∷ [];
       transfer_rules = transfer_rule 0 1 0 None ∷ [];
     }
 
@@ -353,7 +353,7 @@ surcharge =
     record base {
       trips = trip (codes "T1") 0 ∷ trip (codes "T2") 1 ∷ trip (codes "T0") 0 ∷ [];
       stop_times =
-        call 0 0 1 28800 ∷ call 0 1 2 29400 ∷ call 1 1 1 29700 ∷ call 1 2 2 30600 ∷ call 2 0 1 28200 ∷ call 2 1 2 29099 ∷ [];
+          call 0 0 1 28800 ∷ call 0 1 2 29400 ∷ call 1 1 1 29700 ∷ call 1 2 2 30600 ∷ call 2 0 1 28200 ∷ call 2 1 2 29099 ∷ [];
       transfer_rules = record (transfer_rule 0 1 1 (Some (record { 0 = 2 }))) { limit = Some (record { seconds = 600; kind = 2 }) } ∷ [];
     }
 

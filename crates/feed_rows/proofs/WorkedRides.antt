@@ -25,12 +25,12 @@ abbrev weekly : FeedRows
 weekly =
     record base {
       services =
-        record {
-          service = record { 0 = 0 };
-          days = true ∷ false ∷ false ∷ false ∷ false ∷ false ∷ true ∷ [];
-          first = record { 0 = pos 20241 };
-          last = record { 0 = pos 20247 };
-        } ∷ [];
+          record {
+            service = record { 0 = 0 };
+            days = true ∷ false ∷ false ∷ false ∷ false ∷ false ∷ true ∷ [];
+            first = record { 0 = pos 20241 };
+            last = record { 0 = pos 20247 };
+          } ∷ [];
       exceptions = record { service = record { 0 = 0 }; day = record { 0 = pos 20247 }; added = false } ∷ [];
     }
 
@@ -43,17 +43,17 @@ abbrev filled : FeedRows
 filled =
     record base {
       stop_times =
-        call 2 2 9 32400
-        ∷ record {
-          trip = record { 0 = 2 };
-          stop = record { 0 = 1 };
-          sequence = 5;
-          arrival = None;
-          departure = None;
-          pickup = true;
-          drop_off = true;
-        } ∷ call 2 0 1 29100
-        ∷ [];
+          call 2 2 9 32400
+          ∷ record {
+            trip = record { 0 = 2 };
+            stop = record { 0 = 1 };
+            sequence = 5;
+            arrival = None;
+            departure = None;
+            pickup = true;
+            drop_off = true;
+          } ∷ call 2 0 1 29100
+          ∷ [];
     }
 
 filled_times : calls_of filled (record { 0 = 2 }) ≡
@@ -85,11 +85,13 @@ frequency_shifts = refl
 
 -- rows that overlap give each shift once, in ascending order; a run before the trip's own departure has a negative shift,
 -- and a row that ends where it starts has no run
-overlapping_shifts : shifts_of (record base { frequencies =
-    record { trip = record { 0 = 2 }; start = 30000; end = 33600; headway = 1800 }
-    ∷ record { trip = record { 0 = 2 }; start = 28200; end = 31800; headway = 1800 }
-    ∷ record { trip = record { 0 = 2 }; start = 36000; end = 36000; headway = 60 }
-    ∷ record { trip = record { 0 = 0 }; start = 100; end = 200; headway = 60 } ∷ [] }) (record { 0 = 2 }) ≡ negsuc 899 ∷ pos 900 ∷ pos 2700 ∷ []
+overlapping_shifts : shifts_of (record base {
+  frequencies =
+      record { trip = record { 0 = 2 }; start = 30000; end = 33600; headway = 1800 }
+      ∷ record { trip = record { 0 = 2 }; start = 28200; end = 31800; headway = 1800 }
+      ∷ record { trip = record { 0 = 2 }; start = 36000; end = 36000; headway = 60 }
+      ∷ record { trip = record { 0 = 0 }; start = 100; end = 200; headway = 60 } ∷ [];
+}) (record { 0 = 2 }) ≡ negsuc 899 ∷ pos 900 ∷ pos 2700 ∷ []
 unfolding shifts_of calls_of call_at
 overlapping_shifts = refl
 
@@ -122,10 +124,10 @@ abbrev forbidding : FeedRows
 forbidding =
     record base {
       stop_times =
-        record { trip = record { 0 = 0 }; stop = record { 0 = 0 }; sequence = 1; arrival = Some 28800; departure = Some 28800; pickup = false; drop_off = true }
-        ∷ call 0 1 2 29400
-        ∷ record { trip = record { 0 = 0 }; stop = record { 0 = 2 }; sequence = 3; arrival = Some 30000; departure = Some 30000; pickup = true; drop_off = false }
-        ∷ [];
+          record { trip = record { 0 = 0 }; stop = record { 0 = 0 }; sequence = 1; arrival = Some 28800; departure = Some 28800; pickup = false; drop_off = true }
+          ∷ call 0 1 2 29400
+          ∷ record { trip = record { 0 = 0 }; stop = record { 0 = 2 }; sequence = 3; arrival = Some 30000; departure = Some 30000; pickup = true; drop_off = false }
+          ∷ [];
     }
 
 forbidden_calls : (is_ride forbidding first_bus ≡ false) × (is_ride forbidding (record first_bus { from = 1; to = 2 }) ≡ false)
@@ -142,11 +144,11 @@ abbrev station : FeedRows
 station =
     record base {
       stops =
-        platform (codes "A")
-        ∷ record { id = codes "B"; kind = 0; parent = Some (record { 0 = 4 }) } ∷ platform (codes "C")
-        ∷ record { id = codes "B2"; kind = 0; parent = Some (record { 0 = 4 }) }
-        ∷ record { id = codes "P"; kind = 1; parent = None } ∷ record { id = codes "E"; kind = 2; parent = None }
-        ∷ [];
+          platform (codes "A")
+          ∷ record { id = codes "B"; kind = 0; parent = Some (record { 0 = 4 }) } ∷ platform (codes "C")
+          ∷ record { id = codes "B2"; kind = 0; parent = Some (record { 0 = 4 }) }
+          ∷ record { id = codes "P"; kind = 1; parent = None } ∷ record { id = codes "E"; kind = 2; parent = None }
+          ∷ [];
     }
 
 -- station with one row of transfers.txt

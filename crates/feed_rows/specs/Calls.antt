@@ -51,30 +51,30 @@ time_between p m q left reached = left + ((m - p) * (reached - left)) / (q - p)
 abbrev pub filled_time : List StopTimeRow → ℕ → Option ℕ
 filled_time rows m =
     option_and_then
-      (λ p. option_and_then
-        (λ q. option_and_then
-          (λ left. option_map (time_between p m q left) (option_and_then first_time (slice_get rows q)))
-          (option_and_then last_time (slice_get rows p)))
-        (timed_after rows m))
-      (timed_before rows m)
+    (λ p. option_and_then
+    (λ q. option_and_then
+    (λ left. option_map (time_between p m q left) (option_and_then first_time (slice_get rows q)))
+    (option_and_then last_time (slice_get rows p)))
+    (timed_after rows m))
+    (timed_before rows m)
 
 -- the call at position m of a trip's rows
 unfoldable pub call_at : List StopTimeRow → ℕ → Option Call
 call_at rows m =
     option_and_then
-      (λ row. option_and_then
-        (λ arrival. option_map
-          (λ departure. record {
-            stop = row.stop;
-            sequence = row.sequence;
-            arrival = arrival;
-            departure = departure;
-            pickup = row.pickup;
-            drop_off = row.drop_off;
-          })
-          (option_or (last_time row) (filled_time rows m)))
-        (option_or (first_time row) (filled_time rows m)))
-      (slice_get rows m)
+    (λ row. option_and_then
+    (λ arrival. option_map
+    (λ departure. record {
+      stop = row.stop;
+      sequence = row.sequence;
+      arrival = arrival;
+      departure = departure;
+      pickup = row.pickup;
+      drop_off = row.drop_off;
+    })
+    (option_or (last_time row) (filled_time rows m)))
+    (option_or (first_time row) (filled_time rows m)))
+    (slice_get rows m)
 
 -- the calls of a trip; none where a time can't be filled, as no sound feed has it
 unfoldable pub calls_of : FeedRows → TripId → List Call

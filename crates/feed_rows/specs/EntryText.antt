@@ -42,7 +42,7 @@ currency_text feed = unwrap_or feed.currency []
 unfoldable pub journey_line : FeedRows → Triple → List ℕ
 journey_line feed triple =
     line (codes "journey")
-      (moment_text triple.arrival.0 ∷ decimal triple.rides ∷ amount_text feed triple.price.0 ∷ currency_text feed ∷ [])
+    (moment_text triple.arrival.0 ∷ decimal triple.rides ∷ amount_text feed triple.price.0 ∷ currency_text feed ∷ [])
 
 -- the line of a journey without rides that ends where it starts
 abbrev pub stay_line : FeedRows → StopId → Option (List ℕ)
@@ -52,10 +52,10 @@ stay_line feed stop = option_map (λ id. line (codes "stay") (id ∷ [])) (stop_
 unfoldable pub walk_line : FeedRows → StopId → StopId → Option (List ℕ)
 walk_line feed from to =
     option_and_then
-      (λ start. option_and_then
-        (λ end. option_map (λ seconds. line (codes "walk") (start ∷ end ∷ decimal seconds ∷ [])) (link feed from to))
-        (stop_text feed to))
-      (stop_text feed from)
+    (λ start. option_and_then
+    (λ end. option_map (λ seconds. line (codes "walk") (start ∷ end ∷ decimal seconds ∷ [])) (link feed from to))
+    (stop_text feed to))
+    (stop_text feed from)
 
 -- the lines between two stops on the way: a walk, where they differ
 abbrev pub walk_lines : FeedRows → StopId → StopId → List (List ℕ)
@@ -85,16 +85,16 @@ way_fields ride from to = from ∷ moment_text ride.departure.0 ∷ to ∷ momen
 unfoldable pub ride_line : FeedRows → Ride → RideFacts → Option (List ℕ)
 ride_line feed ride facts =
     option_and_then
-      (λ trip. option_and_then
-        (λ boarding. option_and_then
-          (λ alighting. option_and_then
-            (λ from. option_map
-              (λ to. line (codes "ride") (run_fields feed ride trip.id boarding alighting ++ way_fields facts from to))
-              (stop_text feed facts.to))
-            (stop_text feed facts.from))
-          (slice_get (calls_of feed ride.trip) ride.to))
-        (slice_get (calls_of feed ride.trip) ride.from))
-      (slice_get feed.trips ride.trip.0)
+    (λ trip. option_and_then
+    (λ boarding. option_and_then
+    (λ alighting. option_and_then
+    (λ from. option_map
+    (λ to. line (codes "ride") (run_fields feed ride trip.id boarding alighting ++ way_fields facts from to))
+    (stop_text feed facts.to))
+    (stop_text feed facts.from))
+    (slice_get (calls_of feed ride.trip) ride.to))
+    (slice_get (calls_of feed ride.trip) ride.from))
+    (slice_get feed.trips ride.trip.0)
 
 -- where the traveller stands before ride i
 abbrev pub stop_before : FeedRows → Journey → ℕ → Option StopId
@@ -105,11 +105,11 @@ stop_before feed journey (suc before) = option_map (λ ride. ride.to) (facts_at 
 unfoldable pub ride_lines : FeedRows → Journey → ℕ → List (List ℕ)
 ride_lines feed journey i =
     option_map_or
-      (λ facts.
-        option_map_or (λ stop. walk_lines feed stop facts.from) (stop_before feed journey i) []
-        ++ option_map_or (λ ride. option_to_list (ride_line feed ride facts)) (slice_get journey.rides i) [])
-      (facts_at feed journey.rides i)
-      []
+    (λ facts.
+    option_map_or (λ stop. walk_lines feed stop facts.from) (stop_before feed journey i) []
+    ++ option_map_or (λ ride. option_to_list (ride_line feed ride facts)) (slice_get journey.rides i) [])
+    (facts_at feed journey.rides i)
+    []
 
 -- the last lines of a journey with so many rides: the walk to its last stop, if there is one, or that it stays
 abbrev pub last_lines : FeedRows → Journey → ℕ → List (List ℕ)
@@ -136,18 +136,18 @@ medium_text feed row = option_map_or (λ m. option_map_or (λ r. r.id) (slice_ge
 abbrev pub ticket_fields : FeedRows → ProductRowId → ℤ → Option (List (List ℕ))
 ticket_fields feed id amount =
     option_and_then
-      (λ row. option_map
-        (λ product. decimal (id.0 + 1) ∷ product ∷ medium_text feed row ∷ amount_text feed amount ∷ [])
-        (product_text feed row))
-      (slice_get feed.products id.0)
+    (λ row. option_map
+    (λ product. decimal (id.0 + 1) ∷ product ∷ medium_text feed row ∷ amount_text feed amount ∷ [])
+    (product_text feed row))
+    (slice_get feed.products id.0)
 
 -- the line of leg i: bought where it is charged, and otherwise included with the amount zero
 unfoldable pub leg_line : FeedRows → ℕ → Bool → LegChoice → Option (List ℕ)
 leg_line feed i charged pick =
     option_map
-      (λ ticket. line (codes "leg")
-        (decimal (i + 1) ∷ (if charged then codes "buy" else codes "included") ∷ decimal (pick.rule.0 + 1) ∷ ticket))
-      (ticket_fields feed pick.product (if charged then amount_of feed pick.product else pos 0))
+    (λ ticket. line (codes "leg")
+    (decimal (i + 1) ∷ (if charged then codes "buy" else codes "included") ∷ decimal (pick.rule.0 + 1) ∷ ticket))
+    (ticket_fields feed pick.product (if charged then amount_of feed pick.product else pos 0))
 
 -- the end of a change's line: its product row, or what stands for none
 abbrev pub change_fields : FeedRows → Option ProductRowId → Option (List (List ℕ))
@@ -158,22 +158,22 @@ change_fields feed None = Some (codes "-" ∷ [] ∷ [] ∷ amount_text feed (po
 unfoldable pub change_line : FeedRows → ℕ → ChangeChoice → Option (List ℕ)
 change_line feed i pick =
     option_and_then
-      (λ row. option_map
-        (λ ticket. line (codes "change") (decimal (i + 1) ∷ decimal row.kind ∷ decimal (pick.rule.0 + 1) ∷ ticket))
-        (change_fields feed pick.product))
-      (slice_get feed.transfer_rules pick.rule.0)
+    (λ row. option_map
+    (λ ticket. line (codes "change") (decimal (i + 1) ∷ decimal row.kind ∷ decimal (pick.rule.0 + 1) ∷ ticket))
+    (change_fields feed pick.product))
+    (slice_get feed.transfer_rules pick.rule.0)
 
 -- the line of leg i, and that of change i after it where it is arranged
 unfoldable pub leg_lines : FeedRows → Choice → ℕ → List (List ℕ)
 leg_lines feed choice i =
     option_map_or
-      (λ pick. option_to_list (leg_line feed i (is_charged (transfer_kind feed choice) i) pick))
-      (slice_get choice.legs i)
-      []
+    (λ pick. option_to_list (leg_line feed i (is_charged (transfer_kind feed choice) i) pick))
+    (slice_get choice.legs i)
+    []
     ++ option_map_or
-      (λ place. option_map_or (λ pick. option_to_list (change_line feed i pick)) place [])
-      (slice_get choice.changes i)
-      []
+    (λ place. option_map_or (λ pick. option_to_list (change_line feed i pick)) place [])
+    (slice_get choice.changes i)
+    []
 
 -- the fare lines of a choice: leg 1, change 1 where it is arranged, leg 2, and so on
 unfoldable pub fare_lines : FeedRows → Choice → List (List ℕ)

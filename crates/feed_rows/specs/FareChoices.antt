@@ -29,18 +29,18 @@ open_rows feed product rider = ids_where (λ i. record { 0 = i }) (is_open produ
 abbrev pub fare_leg : FeedRows → List LegFacts → List LegChoice → ℕ → Option FareLeg
 fare_leg feed legs picks i =
     option_and_then
-      (λ leg. option_and_then
-        (λ pick. option_map
-          (λ rule. record { group = rule.group; departure = leg.departure; arrival = leg.arrival })
-          (slice_get feed.leg_rules pick.rule.0))
-        (slice_get picks i))
-      (slice_get legs i)
+    (λ leg. option_and_then
+    (λ pick. option_map
+    (λ rule. record { group = rule.group; departure = leg.departure; arrival = leg.arrival })
+    (slice_get feed.leg_rules pick.rule.0))
+    (slice_get picks i))
+    (slice_get legs i)
 
 -- the chosen rule is selected by the leg, and the product row is an open row of its product
 unfoldable pub is_leg_choice : FeedRows → Option RiderId → LegFacts → LegChoice → Bool
 is_leg_choice feed rider leg pick =
     at_and feed.leg_rules pick.rule.0 (λ rule.
-      is_selected_rule feed leg rule && at_and feed.products pick.product.0 (is_open rule.product rider))
+    is_selected_rule feed leg rule && at_and feed.products pick.product.0 (is_open rule.product rider))
 
 -- the product row is an open row of the product, or none exactly where there is no product
 abbrev pub is_change_product : FeedRows → Option RiderId → Option ProductId → Option ProductRowId → Bool
@@ -53,7 +53,7 @@ is_change_product feed rider (Some product) (Some row) = at_and feed.products ro
 unfoldable pub is_transfer_choice : FeedRows → Option RiderId → TransferFacts → ChangeChoice → Bool
 is_transfer_choice feed rider change pick =
     at_and feed.transfer_rules pick.rule.0 (λ rule.
-      is_selected_transfer feed change rule && is_change_product feed rider rule.product pick.product)
+    is_selected_transfer feed change rule && is_change_product feed rider rule.product pick.product)
 
 -- the place of a change is filled exactly where the change is arranged, and then by a choice for it
 abbrev pub is_change_choice : FeedRows → Option RiderId → Option TransferFacts → Option ChangeChoice → Bool
@@ -69,7 +69,7 @@ is_leg_paid feed legs choice rider i =
 unfoldable pub is_change_paid : FeedRows → List LegFacts → Choice → Option RiderId → ℕ → Bool
 is_change_paid feed legs choice rider i =
     at_and choice.changes i (λ place.
-      is_change_choice feed rider (change_at feed (fare_leg feed legs choice.legs) i) place)
+    is_change_choice feed rider (change_at feed (fare_leg feed legs choice.legs) i) place)
 
 -- the choice pays the legs for the rider: it has one place for each leg and one for each change, and each is right
 unfoldable pub is_fare_choice : FeedRows → List LegFacts → Choice → Option RiderId → Bool

@@ -15,8 +15,8 @@ use Rattle.feed_rows.specs.Words.{filled_and, sum_below, when}
 unfoldable pub transfer_kind : FeedRows → Choice → ℕ → Option ℕ
 transfer_kind feed choice i =
     option_and_then
-      (λ place. option_and_then (λ pick. option_map (λ row. row.kind) (slice_get feed.transfer_rules pick.rule.0)) place)
-      (slice_get choice.changes i)
+    (λ place. option_and_then (λ pick. option_map (λ row. row.kind) (slice_get feed.transfer_rules pick.rule.0)) place)
+    (slice_get choice.changes i)
 
 -- leg i is the first of its chain, where `kind` gives each change's type: no arranged change leads to it
 unfoldable pub starts_chain : (ℕ → Option ℕ) → ℕ → Bool

@@ -44,14 +44,14 @@ abbrev pub catches_first : FeedRows → Query → Journey → Bool
 catches_first feed query journey =
     if length journey.rides == 0 then true
     else filled_and (facts_at feed journey.rides 0) (λ ride.
-      is_caught query.departure.0 (access feed query journey.first ride.from) ride)
+    is_caught query.departure.0 (access feed query journey.first ride.from) ride)
 
 -- ride i + 1 is caught from ride i
 abbrev pub catches_next : FeedRows → List Ride → ℕ → Bool
 catches_next feed rides i =
     filled_and (facts_at feed rides i) (λ before.
-      filled_and (facts_at feed rides (i + 1)) (λ after.
-        is_caught before.arrival.0 (link feed before.to after.from) after))
+    filled_and (facts_at feed rides (i + 1)) (λ after.
+    is_caught before.arrival.0 (link feed before.to after.from) after))
 
 -- the arrival at the last stop, after so many rides
 abbrev pub arrival_after : FeedRows → Query → Journey → ℕ → Option ℤ
@@ -59,8 +59,8 @@ arrival_after feed query journey zero =
     option_map (λ s. query.departure.0 +ℤ pos s) (direct feed journey.first journey.last)
 arrival_after feed query journey (suc before) =
     option_and_then
-      (λ ride. option_map (λ s. ride.arrival.0 +ℤ pos s) (egress feed query ride.to journey.last))
-      (facts_at feed journey.rides before)
+    (λ ride. option_map (λ s. ride.arrival.0 +ℤ pos s) (egress feed query ride.to journey.last))
+    (facts_at feed journey.rides before)
 
 -- the final arrival of a journey; none where its end is not reached
 abbrev pub final_arrival : FeedRows → Query → Journey → Option ℤ

@@ -12,4 +12,4 @@ abbrev pub is_before : Triple → Triple → Bool
 is_before a b =
     int_lt a.arrival.0 b.arrival.0
     || (int_same a.arrival.0 b.arrival.0
-      && (nat_lt a.rides b.rides || ((a.rides == b.rides) && int_lt a.price.0 b.price.0)))
+    && (nat_lt a.rides b.rides || ((a.rides == b.rides) && int_lt a.price.0 b.price.0)))

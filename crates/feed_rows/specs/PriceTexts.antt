@@ -38,7 +38,7 @@ uncovered_text = line (codes "uncovered") []
 abbrev pub IsTextOfLeastPrice : FeedRows → List Ride → Option RiderId → List ℕ → Type 0
 IsTextOfLeastPrice feed rides rider text =
     ((choice : Choice) × (price : ℤ) × IsLeastPrice feed rides rider choice price
-      × (text ≡ price_text feed (length rides) choice price))
+    × (text ≡ price_text feed (length rides) choice price))
     ⊎ (IsUncovered feed rides rider × (text ≡ uncovered_text))
 
 -- the rides follow one another, and the text is that of their least price

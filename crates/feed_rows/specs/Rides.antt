@@ -53,6 +53,6 @@ unfoldable pub ride_facts : FeedRows → Ride → Option RideFacts
 ride_facts feed ride =
     if is_ride feed ride
     then option_and_then
-      (λ boarding. option_map (facts_between feed ride boarding) (slice_get (calls_of feed ride.trip) ride.to))
-      (slice_get (calls_of feed ride.trip) ride.from)
+    (λ boarding. option_map (facts_between feed ride boarding) (slice_get (calls_of feed ride.trip) ride.to))
+    (slice_get (calls_of feed ride.trip) ride.from)
     else None

@@ -42,8 +42,8 @@ row_between feed None to = None
 abbrev pub governing_row : FeedRows → StopId → StopId → Option LinkRow
 governing_row feed from to =
     option_or (row_between feed (Some from) (Some to))
-      (option_or (row_between feed (Some from) (parent_of feed to))
-        (option_or (row_between feed (parent_of feed from) (Some to)) (row_between feed (parent_of feed from) (parent_of feed to))))
+    (option_or (row_between feed (Some from) (parent_of feed to))
+    (option_or (row_between feed (parent_of feed from) (Some to)) (row_between feed (parent_of feed from) (parent_of feed to))))
 
 -- both platforms are of one station
 abbrev pub same_station : FeedRows → StopId → StopId → Bool

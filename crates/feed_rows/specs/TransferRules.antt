@@ -107,7 +107,7 @@ change_between first changes next None to = None
 abbrev pub change_from : (ℕ → Option FareLeg) → ℕ → ℕ → Option TransferFacts
 change_from leg b i =
     option_and_then (λ first. option_and_then (λ before. option_and_then (λ next.
-      change_between first (i - b) next before.group next.group) (leg (i + 1))) (leg i)) (leg b)
+    change_between first (i - b) next before.group next.group) (leg (i + 1))) (leg i)) (leg b)
 
 -- leg i + 1 goes on with the run of leg i that began with leg b: both are of one group, and change i is arranged
 unfoldable pub goes_on : FeedRows → (ℕ → Option FareLeg) → ℕ → ℕ → Bool

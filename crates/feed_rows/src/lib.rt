@@ -29,9 +29,9 @@ pub use journeys::{
 };
 pub use lists::{AscendingList, ItemList};
 pub use names::{ColumnName, FileName};
-pub use usage::{StopWord, UsageFault, WordRole};
 pub use rows::{
     AreaRow, ExceptionRow, FrequencyRow, LegRuleRow, Limit, LinkRow, MediumRow, ProductRow,
     RiderRow, RouteRow, ServiceRow, StopAreaRow, StopRow, StopTimeRow, TimeframeRow,
     TransferRuleRow, TripRow,
 };
+pub use usage::{StopWord, UsageFault, WordRole};

@@ -1,5 +1,8 @@
 // Names, numbers and lists, as files and texts have them.
-use crate::{AreaList, ColumnName, FaultKind, FileName, FrameList, Id, ItemList, RideList, Shifts, StopWord, UsageFault};
+use crate::{
+    AreaList, ColumnName, FaultKind, FileName, FrameList, Id, ItemList, RideList, Shifts, StopWord,
+    UsageFault,
+};
 use std::alloc::AllocError;
 use transit_base::{AreaId, FrameId};
 

@@ -1,21 +1,20 @@
 -- The trips of a feed by their ids: each id that is sought is found where a trip has it, and else not.
-use Rattle.std.proofs.Common.{◌≡◌, refl, sym, ◌∙◌, ap, subst, ℕ, ◌+◌, ◌<◌, ◌≤◌, ◌⊎◌, inl, inr, Bool, true, false, ◌==◌, ◌||◌, List, [], ◌∷◌, ◌++◌, length, get_or, All, Contains, IsPermutation, bytes_eq, arith, Option, Some, None}
+use Rattle.std.proofs.Common.{◌≡◌, refl, sym, ◌∙◌, ap, subst, ℕ, ◌+◌, ◌<◌, ◌⊎◌, inl, inr, Bool, true, false, ◌==◌, ◌||◌, List, [], ◌∷◌, ◌++◌, length, get_or, IsPermutation, arith, Option, Some, None}
 use Rattle.std.specs.Prelude.{slice_get}
 use Rattle.std.specs.List.{list_any}
 use Rattle.std.specs.List.Sorted.{IsSortedByKey}
 use Rattle.std.specs.Cmp.Lexicographic.{slice_cmp}
 use Rattle.std.specs.Ordering.{nat_cmp, is_eq}
-use Rattle.std.specs.declared.cmp.Ordering.TheVariants.{Less, Equal, Greater}
-use Rattle.std.proofs.lemmas.Bool.{cases_lt, cases_eq, cases_Bool}
+use Rattle.std.specs.declared.cmp.Ordering.TheVariants.{Equal}
+use Rattle.std.proofs.lemmas.Bool.{cases_eq, cases_Bool}
 use Rattle.std.proofs.lemmas.Bool.Decides.{nat_tests}
 use Rattle.std.proofs.lemmas.Cmp.{nat_list_cmp_total, tied_itself}
 use Rattle.std.proofs.lemmas.Map.Text.{is_eq-slice_cmp}
 use Rattle.std.proofs.lemmas.Slice.Eq.{bytes_eq-Decides}
-use Rattle.std.proofs.lemmas.Option.{none-some, same_Some, slice_get-get_or}
-use Rattle.std.proofs.lemmas.List.Elements.{All-nil, All-push, All-contains}
+use Rattle.std.proofs.lemmas.Option.{same_Some, slice_get-get_or}
+use Rattle.std.proofs.lemmas.List.Elements.{All-push, All-contains}
 use Rattle.std.proofs.lemmas.List.Folds.{list_any-append}
 use Rattle.std.proofs.lemmas.List.Sorted.{All-permutation, list_any-IsPermutation}
-use Rattle.transit_base.specs.declared.numbers.TripId.{TripId}
 use Rattle.feed_rows.specs.declared.rows.TripRow.{TripRow}
 use Rattle.feed_rows.specs.FeedRows.{FeedRows}
 use Rattle.feed_rows.specs.Words.{find_below}
@@ -73,11 +72,11 @@ pub named_in_order : (feed : FeedRows) (names sorted : List NamedTrip) → AreNa
 named_in_order feed names sorted named moved up =
     record {
       named =
-      record {
-        right = All-permutation (λ (x : NamedTrip). has_trip_id feed x.id.now x.trip.0 ≡ true) names sorted moved named.right;
-        within = All-permutation (λ (x : NamedTrip). x.trip.0 < length feed.trips) names sorted moved named.within;
-        all = λ i lt. sym (list_any-IsPermutation (λ (x : NamedTrip). x.trip.0 == i) names sorted moved) ∙ named.all i lt;
-      };
+          record {
+            right = All-permutation (λ (x : NamedTrip). has_trip_id feed x.id.now x.trip.0 ≡ true) names sorted moved named.right;
+            within = All-permutation (λ (x : NamedTrip). x.trip.0 < length feed.trips) names sorted moved named.within;
+            all = λ i lt. sym (list_any-IsPermutation (λ (x : NamedTrip). x.trip.0 == i) names sorted moved) ∙ named.all i lt;
+          };
       sorted = up;
     }
 

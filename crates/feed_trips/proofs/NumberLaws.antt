@@ -1,7 +1,7 @@
 -- Numbers that are sorted and kept once each.
-use Rattle.std.proofs.Common.{◌≡◌, refl, sym, ◌∙◌, ap, subst, ℕ, ◌+◌, ◌<◌, ◌≤◌, Bool, true, false, List, length, get_or, take, AllPairs, Contains, IsPermutation, ℤ, int_cmp, arith}
+use Rattle.std.proofs.Common.{◌≡◌, ℕ, ◌<◌, List, length, get_or, take, IsPermutation, ℤ, int_cmp, arith}
 use Rattle.std.specs.List.{dedup}
-use Rattle.std.specs.List.Sorted.{IsSorted, IsStrictlySortedBy}
+use Rattle.std.specs.List.Sorted.{IsSorted}
 use Rattle.std.specs.Ordering.{int_eq, eq_by_cmp}
 use Rattle.std.specs.declared.cmp.Ordering.TheVariants.{Less}
 use Rattle.std.proofs.lemmas.Bool.Decides.{Decides-int_eq}

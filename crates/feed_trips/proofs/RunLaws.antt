@@ -1,5 +1,5 @@
 -- The shifts of a trip from its frequency rows in any order.
-use Rattle.std.proofs.Common.{◌≡◌, refl, sym, ◌∙◌, ap, ℕ, ◌+◌, ◌<◌, ◌≤◌, Bool, true, false, ◌&&◌, ◌||◌, ◌==◌, List, [], ◌∷◌, length, ℤ, pos, ◌+ℤ◌, ◌-ℤ◌, map, flat_map, arith}
+use Rattle.std.proofs.Common.{◌≡◌, refl, sym, ◌∙◌, ◌<◌, Bool, true, false, ◌&&◌, ◌==◌, List, [], ◌∷◌, length, ℤ, pos, ◌+ℤ◌, ◌-ℤ◌, flat_map, arith}
 use Rattle.std.specs.List.{list_any}
 use Rattle.transit_base.specs.declared.numbers.TripId.{TripId}
 use Rattle.feed_rows.specs.declared.rows.FrequencyRow.{FrequencyRow}
@@ -54,8 +54,8 @@ shifts_of_rows feed trip rows are some =
     let first = first_departure feed trip in
     let numbers = shifts_against first rows in
     sym (shifts_of_only feed trip (ascending_of numbers) (ascending_of_ascending numbers) (λ z.
-      list_any-ascending_of (int_same z) numbers
-      ∙ list_any-map (int_same z) (λ start. pos start -ℤ pos first) (flat_map run_starts rows)
-      ∙ list_any-flat_map (λ start. int_same z (pos start -ℤ pos first)) run_starts rows
-      ∙ list_any_same (λ (f : FrequencyRow). list_any (λ start. int_same z (pos start -ℤ pos first)) (run_starts f)) (λ (f : FrequencyRow). is_run_start f (z +ℤ pos first)) rows (λ f. list_any-run_starts f z first)
-      ∙ sym (is_shift_rows feed trip rows z are some)))
+    list_any-ascending_of (int_same z) numbers
+    ∙ list_any-map (int_same z) (λ start. pos start -ℤ pos first) (flat_map run_starts rows)
+    ∙ list_any-flat_map (λ start. int_same z (pos start -ℤ pos first)) run_starts rows
+    ∙ list_any_same (λ (f : FrequencyRow). list_any (λ start. int_same z (pos start -ℤ pos first)) (run_starts f)) (λ (f : FrequencyRow). is_run_start f (z +ℤ pos first)) rows (λ f. list_any-run_starts f z first)
+    ∙ sym (is_shift_rows feed trip rows z are some)))

@@ -1,6 +1,5 @@
 -- The tables of calls and of frequency rows, from sorted rows.
-use Rattle.std.proofs.Common.{◌≡◌, refl, sym, ◌∙◌, ap, subst, ℕ, ◌+◌, ◌-◌, ◌<◌, ◌≤◌, ◌^◌, drop, Bool, true, ◌==◌, ◌&&◌, List, length, get_or, map, filter, All, AllPairs, IsPermutation, arith}
-use Rattle.std.specs.Prelude.{slice_get, slice_range}
+use Rattle.std.proofs.Common.{◌≡◌, sym, ◌∙◌, ap, subst, ℕ, ◌+◌, ◌-◌, ◌<◌, ◌≤◌, ◌^◌, drop, ◌==◌, ◌&&◌, List, length, get_or, map, filter, All, AllPairs, IsPermutation, arith}
 use Rattle.std.specs.List.{list_any}
 use Rattle.std.specs.List.Sorted.{IsNonDecreasingBy}
 use Rattle.std.proofs.lemmas.List.Elements.{All-take, All-drop}
@@ -21,13 +20,13 @@ use Rattle.feed_rows.proofs.BelowLaws.{collect_below_tells}
 use Rattle.feed_rows.proofs.CallLaws.{walk_calls, calls_of-walk}
 use Rattle.feed_rows.proofs.CallTimes.{calls_of_most}
 use Rattle.feed_rows.proofs.ShiftLaws.{list_any-filter}
-use Rattle.feed_rows.proofs.SoundTrips.{sound_ends, sound_rise, sound_times, calls_apart, sound_trip}
+use Rattle.feed_rows.proofs.SoundTrips.{sound_ends, sound_rise, calls_apart, sound_trip}
 use Rattle.feed_rows.proofs.TripLaws.{IsInOrder, trip_stop_times_of_sorted}
 use Rattle.feed_trips.specs.Groups.{count_less, IsGroup, group, IsGroupOf}
-use Rattle.feed_trips.specs.Runs.{AreRunsOf, IsSoundRun}
+use Rattle.feed_trips.specs.Runs.{IsSoundRun}
 use Rattle.feed_trips.specs.Tables.{AreCallsOf, AreRunTables}
 use Rattle.feed_trips.proofs.GroupLaws.{count_less_zero, get_or-list_below, length-list_below, groups_of_keys, length-group, groups_joined}
-use Rattle.feed_trips.proofs.OrderLaws.{trips_rise, keys_rise}
+use Rattle.feed_trips.proofs.OrderLaws.{trips_rise}
 
 -- the walk makes a call of each row
 length-walk : (rows : List StopTimeRow) → HasTimedEnds rows → length (walk rows) ≡ length rows

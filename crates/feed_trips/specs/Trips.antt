@@ -1,9 +1,5 @@
 -- What contracts see of `Trips`, and what holds of its tables.
-use Rattle.std.specs.Prelude.{ℕ, ◌<◌, List, length, All}
-use Rattle.feed_rows.specs.declared.journeys.Call.{Call}
-use Rattle.feed_rows.specs.declared.rows.FrequencyRow.{FrequencyRow}
 use Rattle.feed_rows.specs.FeedRows.{FeedRows}
-use Rattle.feed_rows.specs.Calls.{calls_of}
 use Rattle.feed_rows.specs.SoundFeed.{IsSoundFeed}
 use Rattle.feed_trips.specs.declared.trips.Trips.TheInside.{Inside}
 use Rattle.feed_trips.specs.Tables.{AreCallsOf, AreRunTables}

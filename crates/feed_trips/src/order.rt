@@ -20,7 +20,10 @@ use std::alloc::{AllocError, Global};
 ///
 /// # Errors
 /// Want of memory.
-pub fn sorted_stop_times(alloc: Global, rows: &[StopTimeRow]) -> Result<Vec<StopTimeRow>, AllocError>
+pub fn sorted_stop_times(
+    alloc: Global,
+    rows: &[StopTimeRow],
+) -> Result<Vec<StopTimeRow>, AllocError>
     ensures moved { IfOk result (λ sorted. IsPermutation rows.now sorted.items) }
     ensures sorted { IfOk result (λ sorted. AllPairs IsInOrder sorted.items) }
 {
@@ -33,7 +36,10 @@ pub fn sorted_stop_times(alloc: Global, rows: &[StopTimeRow]) -> Result<Vec<Stop
 ///
 /// # Errors
 /// Want of memory.
-pub fn sorted_frequencies(alloc: Global, rows: &[FrequencyRow]) -> Result<Vec<FrequencyRow>, AllocError>
+pub fn sorted_frequencies(
+    alloc: Global,
+    rows: &[FrequencyRow],
+) -> Result<Vec<FrequencyRow>, AllocError>
     ensures moved { IfOk result (λ sorted. IsPermutation rows.now sorted.items) }
     ensures sorted { IfOk result (λ sorted. IsNonDecreasingBy (λ (f : FrequencyRow). f.trip.0) sorted.items) }
 {

@@ -83,7 +83,11 @@ fn kept(alloc: Global, numbers: &[i64]) -> Result<Shifts, AllocError>
 /// # Errors
 /// Want of memory.
 #[tactic(auto, using(feed_rows::proofs::ShiftLaws::ascending_of_ascending))]
-pub fn shifts_of_runs(alloc: Global, rows: &[FrequencyRow], first: u32) -> Result<Shifts, AllocError>
+pub fn shifts_of_runs(
+    alloc: Global,
+    rows: &[FrequencyRow],
+    first: u32,
+) -> Result<Shifts, AllocError>
     requires { All IsSoundRun rows.now }
     ensures { IfOk result (λ shifts. shifts ≡ ascending_of (shifts_against first rows.now)) }
 {

@@ -1,7 +1,9 @@
 //! The times of a stop time, and the next stop time that has one.
 ghost use Rattle.std.specs.Prelude.{◌≡◌, ◌<◌, ◌≤◌, length};
 ghost use Rattle.feed_rows.specs.Calls.{
-    first_time as first_time_of, last_time as last_time_of, is_timed as is_row_timed
+  first_time as first_time_of,
+  last_time as last_time_of,
+  is_timed as is_row_timed,
 };
 ghost use Rattle.feed_rows.specs.CallWalk.{next_timed, time_at};
 
@@ -29,12 +31,7 @@ pub fn is_timed(row: StopTimeRow) -> bool
 }
 
 // The next position after a position that has a time; the number of rows where there is none.
-#[tactic(auto, using(
-    feed_rows::proofs::TimedLaws::next_timed_hit,
-    feed_rows::proofs::TimedLaws::next_timed_end,
-    feed_rows::proofs::TimedLaws::untimed_more,
-    feed_rows::proofs::TimedLaws::is_timed_at_row
-))]
+#[tactic(auto, using(feed_rows::proofs::TimedLaws::next_timed_hit, feed_rows::proofs::TimedLaws::next_timed_end, feed_rows::proofs::TimedLaws::untimed_more, feed_rows::proofs::TimedLaws::is_timed_at_row))]
 pub fn next_position(rows: &[StopTimeRow], position: usize) -> usize
     requires inside { position < length rows.now }
     ensures value { result ≡ next_timed rows.now position }

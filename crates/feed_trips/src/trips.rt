@@ -1,11 +1,28 @@
 //! The trips of a feed.
 ghost use Rattle.std.specs.Prelude.{
-    ◌≡◌, ◌<◌, ◌≤◌, ◌≤ℤ◌, pos, negsuc, ℤ, length, All, IfOk
+  ◌≡◌,
+  ◌<◌,
+  ◌≤◌,
+  ◌≤ℤ◌,
+  ◌+ℤ◌,
+  pos,
+  negsuc,
+  ℤ,
+  length,
+  All,
+  IfOk,
 };
 ghost use Rattle.feed_rows.specs.declared.journeys.Call.{Call};
 ghost use Rattle.feed_rows.specs.Calls.{calls_of, first_departure};
 ghost use Rattle.feed_rows.specs.Shifts.{is_shift, shifts_of};
-ghost use Rattle.feed_rows.specs.Rides.{runs_on, is_ride, ride_facts, trip_network};
+ghost use Rattle.feed_rows.specs.Rides.{
+  runs_on,
+  is_ride,
+  ride_facts,
+  facts_between,
+  moment_of,
+  trip_network,
+};
 ghost use Rattle.feed_rows.specs.Queries.{find_trip};
 ghost use Rattle.feed_rows.specs.Words.{at_and};
 ghost use Rattle.feed_trips.specs.Runs.{AreRunsOf, IsSoundRun};
@@ -136,7 +153,7 @@ impl<'f> Trips<'f> {
         if rows.is_empty() {
             return shift == 0;
         }
-        has_run_at(rows, shift + i64::from(self.first_departure(trip)))
+        has_run_at(rows, shifted(shift, self.first_departure(trip)))
     }
 
     // The fare network of a trip's route.
@@ -184,14 +201,49 @@ impl<'f> Trips<'f> {
         let calls = self.calls_of(ride.trip);
         let boarding = calls.get(ride.from as usize)?;
         let alighting = calls.get(ride.to as usize)?;
-        Some(RideFacts {
+        Some(self.facts_between(ride, boarding, alighting))
+    }
+
+    // Where and when a ride between two calls goes.
+    fn facts_between(&self, ride: &Ride, boarding: &Call, alighting: &Call) -> RideFacts
+        requires trip { ride.now.trip.0 < length self.now.trips }
+        requires day_low { negsuc 799_999 ≤ℤ ride.now.day.0 }
+        requires day_high { ride.now.day.0 ≤ℤ pos 3_000_000 }
+        requires shift_low { negsuc 699_999 ≤ℤ ride.now.shift }
+        requires shift_high { ride.now.shift ≤ℤ pos 700_000 }
+        requires departure { boarding.now.departure ≤ 604_799 }
+        requires arrival { alighting.now.arrival ≤ 604_799 }
+        ensures { result ≡ facts_between self.now ride.now boarding.now alighting.now }
+    {
+        RideFacts {
             from: boarding.stop,
             to: alighting.stop,
             network: self.network(ride.trip),
-            departure: Moment::at(ride.day, ride.shift + i64::from(boarding.departure)),
-            arrival: Moment::at(ride.day, ride.shift + i64::from(alighting.arrival)),
-        })
+            departure: moment_of(ride, boarding.departure),
+            arrival: moment_of(ride, alighting.arrival),
+        }
     }
+}
+
+// The moment that is so many seconds of the service day, shifted as the ride is.
+fn moment_of(ride: &Ride, seconds: u32) -> Moment
+    requires day_low { negsuc 799_999 ≤ℤ ride.now.day.0 }
+    requires day_high { ride.now.day.0 ≤ℤ pos 3_000_000 }
+    requires shift_low { negsuc 699_999 ≤ℤ ride.now.shift }
+    requires shift_high { ride.now.shift ≤ℤ pos 700_000 }
+    requires seconds { seconds ≤ 604_799 }
+    ensures { result ≡ moment_of ride.now seconds }
+{
+    Moment::at(ride.day, ride.shift + i64::from(seconds))
+}
+
+// The second of the service day that a second is shifted to.
+fn shifted(shift: i64, second: u32) -> i64
+    requires low { negsuc 699_999 ≤ℤ shift }
+    requires high { shift ≤ℤ pos 700_000 }
+    ensures { result ≡ shift +ℤ pos second }
+{
+    shift + i64::from(second)
 }
 
 // Whether there is a call at the position at which riders may board.

@@ -1,4 +1,3 @@
-use Rattle.std.proofs.Common.{◌≡◌}
 use Rattle.feed_trips.specs.NamedTrips.{AreNamed}
 use Rattle.feed_trips.proofs.ids.named_trips.Given as goal
 

@@ -1,4 +1,4 @@
-use Rattle.std.proofs.Common.{rules, Bor, ℕ, List}
+use Rattle.std.proofs.Common.{rules}
 use Rattle.std.proofs.lemmas.List.Sorted.{answers_always}
 use Rattle.feed_trips.specs.declared.ids.NamedTrip.{NamedTrip}
 use Rattle.feed_trips.proofs.NameLaws.{named_in_order}

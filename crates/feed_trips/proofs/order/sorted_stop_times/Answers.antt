@@ -1,6 +1,5 @@
-use Rattle.std.proofs.Common.{rules, ℕ}
+use Rattle.std.proofs.Common.{rules}
 use Rattle.std.proofs.lemmas.List.Sorted.{answers_always}
-use Rattle.feed_rows.specs.declared.rows.StopTimeRow.{StopTimeRow}
 use Rattle.feed_trips.proofs.OrderLaws.{in_order_from_sort, order_key}
 use Rattle.feed_trips.proofs.order.sorted_stop_times.Goals as goal
 

@@ -1,7 +1,6 @@
-use Rattle.std.proofs.Common.{◌≡◌, sym, ◌∙◌, ap, ◌+◌, ◌<◌, ◌≤◌, ◌^◌, true, false, length, append_assoc, arith}
-use Rattle.std.proofs.lemmas.Grind.{common_steps}
+use Rattle.std.proofs.Common.{◌≡◌, sym, ◌∙◌, ap, false, append_assoc, arith}
 use Rattle.feed_rows.specs.TimedTrips.{is_timed_at}
-use Rattle.feed_rows.specs.CallWalk.{TimedGap, gap_at, time_in, walk_below}
+use Rattle.feed_rows.specs.CallWalk.{TimedGap, gap_at, time_in}
 use Rattle.feed_rows.proofs.TimedLaws.{is_timed_at_row, timed_within}
 use Rattle.feed_rows.proofs.CallLaws.{gap_around, timed_turn, untimed_turn}
 use Rattle.feed_rows.proofs.CallTimes.{around_rises}
@@ -32,19 +31,21 @@ filled_time-time-requires-clause-rise c =
 
 pub loop-m-preserved : goal.loop-m-preserved
 loop-m-preserved c = elim c.if-is_timed.branch [
-      then-is_timed+in_ok-push w ↦
-        (let turn = timed_turn _ _ _ c.loop-m-test.true (sym c.is_timed.ensures ∙ w.if-is_timed.true) in
-        let calls = turn.calls in
-        let gap = turn.gap in
-        let items = w.in_ok-push.ensures.items in
-        (grind (arith, append_assoc, calls, items, c.loop-m.invariant.0, w.calls-is, w.last_time.ensures, w.first_time.ensures, w.unwrap_or-left.ensures, w.unwrap_or.ensures),
-        sym (gap ∙ cc (w.from-is, w.left-is, w.to-is, w.reached-is, w.unwrap_or-left.ensures, w.last_time.ensures, w.next_position-to.ensures.value, w.first_time_at-reached.ensures))))
-      | else-is_timed+in_ok-push-2 w ↦
-        (let turn = untimed_turn _ _ _ c.loop-m-test.true (sym c.is_timed.ensures ∙ w.if-is_timed.false) in
-        let calls = turn.calls in
-        let gap = turn.gap in
-        let items = w.in_ok-push-2.ensures.items in
-        let time : w.filled_time-time.result ≡ time_in (gap_at c.args.rows.now c.loop-m.m) c.loop-m.m = w.filled_time-time.ensures ∙ ap (λ (g : TimedGap). time_in g c.loop-m.m) c.loop-m.invariant.1 in
-        (grind (arith, append_assoc, calls, items, time, c.loop-m.invariant.0, w.calls-is),
-        sym (gap ∙ sym c.loop-m.invariant.1 ∙ cc (w.from-is, w.left-is, w.to-is, w.reached-is))))
-    ]
+  | then-is_timed+in_ok-push w ↦
+      (let turn = timed_turn _ _ _ c.loop-m-test.true (sym c.is_timed.ensures ∙ w.if-is_timed.true) in
+      let calls = turn.calls in
+      let gap = turn.gap in
+      let items = w.in_ok-push.ensures.items in (
+        grind (arith, append_assoc, calls, items, c.loop-m.invariant.0, w.calls-is, w.last_time.ensures, w.first_time.ensures, w.unwrap_or-left.ensures, w.unwrap_or.ensures),
+        sym (gap ∙ cc (w.from-is, w.left-is, w.to-is, w.reached-is, w.unwrap_or-left.ensures, w.last_time.ensures, w.next_position-to.ensures.value, w.first_time_at-reached.ensures)),
+      ))
+  | else-is_timed+in_ok-push-2 w ↦
+      (let turn = untimed_turn _ _ _ c.loop-m-test.true (sym c.is_timed.ensures ∙ w.if-is_timed.false) in
+      let calls = turn.calls in
+      let gap = turn.gap in
+      let items = w.in_ok-push-2.ensures.items in
+      let time : w.filled_time-time.result ≡ time_in (gap_at c.args.rows.now c.loop-m.m) c.loop-m.m = w.filled_time-time.ensures ∙ ap (λ (g : TimedGap). time_in g c.loop-m.m) c.loop-m.invariant.1 in (
+        grind (arith, append_assoc, calls, items, time, c.loop-m.invariant.0, w.calls-is),
+        sym (gap ∙ sym c.loop-m.invariant.1 ∙ cc (w.from-is, w.left-is, w.to-is, w.reached-is)),
+      ))
+]
