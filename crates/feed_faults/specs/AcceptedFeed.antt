@@ -1,5 +1,5 @@
--- The rows of a feed, as its files give them: defined for every feed, and meant for those without fault. Rows are in file
--- order. A reference is the number of the earliest row with the id; services, networks, timeframe groups, products and leg
+-- The rows of a feed, as its files give them. Of files with a fault these rows say nothing: a bad field may read as an
+-- empty one. A contract that names them says too that the files have no fault. Rows are in file order. A reference is the number of the earliest row with the id; services, networks, timeframe groups, products and leg
 -- groups are numbered by the first appearance of their names. What no row has gives the number after the last, which is
 -- no row.
 use Rattle.std.specs.Prelude.{ℕ, zero, suc, ◌&&◌, ◌==◌, not, nat_lt, if◌then◌else◌, Bool, List, [], ◌∷◌, ◌++◌, length, get_or, bytes_eq, is_some, is_none, unwrap_or, Option, None, Some, ℤ, pos, negsuc}

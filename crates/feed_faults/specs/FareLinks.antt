@@ -16,7 +16,7 @@ use Rattle.feed_faults.specs.TimetableLinks.{is_service_unknown}
 abbrev pub is_one_filled : List ℕ → List ℕ → Bool
 is_one_filled a b = (is_filled a && not (is_filled b)) || (is_filled b && not (is_filled a))
 
--- two rows are of one group and one service, and their times overlap; a timeframe ends before its end
+-- two rows are of one group and one service, and their times overlap; the end is no part of a timeframe
 unfoldable pub do_frames_overlap : FileTable → ℕ → ℕ → Bool
 do_frames_overlap frames a b =
     same_field frames TimeframeGroupId a b && same_field frames ServiceId a b

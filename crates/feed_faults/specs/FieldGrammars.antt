@@ -1,5 +1,5 @@
 -- The values of fields by their grammars (Field Types). A text that isn't of the grammar has no value.
-use Rattle.std.specs.Prelude.{ℕ, ◌+◌, ◌-◌, ◌*◌, ◌^◌, ◌==◌, ◌&&◌, ◌||◌, not, nat_le, nat_lt, if◌then◌else◌, Bool, List, [], ◌∷◌, length, take, drop, slice_index, slice_range, bytes_eq, codes, Option, None, Some, option_map, option_and_then, ℤ, pos, negsuc, neg_ℤ, int_le}
+use Rattle.std.specs.Prelude.{ℕ, ◌+◌, ◌-◌, ◌*◌, ◌^◌, ◌==◌, ◌&&◌, ◌||◌, not, nat_le, if◌then◌else◌, Bool, List, [], ◌∷◌, length, take, drop, slice_index, slice_range, bytes_eq, codes, Option, None, Some, option_map, option_and_then, ℤ, pos, negsuc, neg_ℤ, int_le}
 use Rattle.std.specs.List.{list_any, list_all}
 use Rattle.std.specs.Option.{option_map_or}
 use Rattle.std.specs.Str.{all_ascii_digits}
@@ -37,7 +37,7 @@ most_int = 2147483647
 unfoldable pub int_value : ℤ → ℤ → List ℕ → Option ℤ
 int_value least most text = if_between least most (signed_value number_value text)
 
--- a number of changes, or -1 for any number: an integer from -1 on, but not 0 (transfer_count)
+-- a number of changes, or -1 for any number: an integer from -1 to 2147483647, but not 0 (transfer_count)
 unfoldable pub count_value : List ℕ → Option ℤ
 count_value text = option_and_then (λ z. when (not (int_same z (pos 0))) z) (int_value (negsuc 0) (pos most_int) text)
 

@@ -1,5 +1,5 @@
--- The values of a row's fields. A field that isn't of its grammar gives the value after the greatest, which no field of the
--- column has.
+-- The values of a row's fields. A field that is no value from 0 to the greatest gives the one after it. These are values
+-- of files whose fields are of their grammars; of others they say nothing.
 use Rattle.std.specs.Prelude.{ℕ, ◌+◌, if◌then◌else◌, List, Option, None, Some, unwrap_or, ℤ, pos, negsuc, ◌+ℤ◌}
 use Rattle.feed_rows.specs.declared.names.ColumnName.TheVariants as column
 use Rattle.feed_faults.specs.Records.{FileTable, field, is_filled}

@@ -11,7 +11,7 @@ use Rattle.feed_rows.specs.declared.fares.Triple.{Triple}
 use Rattle.feed_rows.specs.declared.fares.Entry.{Entry}
 use Rattle.feed_rows.specs.FeedRows.{FeedRows}
 use Rattle.feed_rows.specs.ParetoTriples.{at_most, is_before}
-use Rattle.feed_rows.specs.JourneyEntries.{IsEntry, IsMinimal, IsExactAnswer}
+use Rattle.feed_rows.specs.JourneyEntries.{IsEntry, IsOffered, IsMinimal, IsExactAnswer, CoversOffers}
 use Rattle.feed_rows.proofs.StrictLaws.{same_from_members}
 use Rattle.feed_rows.proofs.ParetoLaws.{at_most-trans, at_most-antisym, is_before-irrefl, is_before-trans, is_before-of_at_most}
 
@@ -133,3 +133,18 @@ front_of_exact feed query entries exact i j d lt within =
     by (inl h) =
         let same = (exact.minimal j d within).least (get_or entries i d).triple (exact.minimal i d in_i).offered h in
         absurd (both_ways _ (is_before-irrefl (get_or entries j d).triple) (subst (λ t. is_before t (get_or entries j d).triple ≡ true) same (exact.in_order i j d lt within)))
+
+-- entries that cover each entry of the query cover whatever is offered
+pub covers_offers : (feed : FeedRows) (query : Query) (entries : List Entry) →
+    ((e : Entry) → IsEntry feed query e → is_covered entries e.triple ≡ true) → CoversOffers feed query entries
+covers_offers feed query entries covers triple offered =
+    Any-from_list_any (λ entry. at_most entry.triple triple) entries
+    (subst (λ t. is_covered entries t ≡ true) offered.2 (covers offered.0 offered.1))
+
+-- where no entries cover whatever is offered, nothing is
+pub nothing_offered : (feed : FeedRows) (query : Query) → CoversOffers feed query [] → (triple : Triple) → IsOffered feed query triple → ⊥
+nothing_offered feed query covers triple offered = let some = covers triple offered in let lt = some.2 in omega (arith, lt)
+
+-- so an exact answer without entries that covers whatever is offered says that nothing is
+pub empty_answer : (feed : FeedRows) (query : Query) → IsExactAnswer feed query [] × CoversOffers feed query [] → (triple : Triple) → IsOffered feed query triple → ⊥
+empty_answer feed query answer = nothing_offered feed query answer.1

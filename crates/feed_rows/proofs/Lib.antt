@@ -8,6 +8,11 @@ pub mod BaseFeed
 pub mod WorkedRides
 pub mod WorkedEntries
 pub mod WorkedTexts
+pub mod CornerRides
+pub mod CornerJourneys
+pub mod CornerLegs
+pub mod CornerFares
+pub mod CornerTexts
 pub mod FeedReadings
 pub mod BelowLaws
 pub mod StrictLaws
@@ -16,12 +21,15 @@ pub mod TimedLaws
 pub mod CallLaws
 pub mod CallTimes
 pub mod FullFeed
+pub mod BaseSound
+pub mod EdgeFeed
 pub mod ShiftLaws
 pub mod RideLaws
 pub mod SoundTrips
 pub mod TripLaws
 pub mod WordLaws
 pub mod ParetoLaws
+pub mod CornerAnswers
 pub mod ExactLaws
 pub mod WalkLaws
 pub mod JourneyLaws

@@ -1,6 +1,7 @@
 -- The calls of a trip in one walk over its rows, which carries the gap between timed rows that it is in: the timed
 -- position that it passed last, with the time at which that is left, and the next one, with the time at which that is
--- reached. It looks ahead for the next timed row only where it meets a timed one.
+-- reached. It looks ahead for the next timed row only where it meets a timed one. This is what a body carries, and no rule of
+-- its own: the calls are defined in `Calls`, and `CallLaws` proves that the walk gives them.
 use Rattle.std.specs.Prelude.{ℕ, zero, suc, if◌then◌else◌, List, [], ◌∷◌, ◌++◌, length, slice_get, Option, unwrap_or, option_and_then}
 use Rattle.std.specs.Option.{option_map_or}
 use Rattle.feed_rows.specs.declared.rows.StopTimeRow.{StopTimeRow}

@@ -128,16 +128,18 @@ travel_lines feed journey =
 abbrev pub product_text : FeedRows → ProductRow → Option (List ℕ)
 product_text feed row = slice_get feed.product_names row.product.0
 
--- the id of a product row's medium; empty where it has none
-abbrev pub medium_text : FeedRows → ProductRow → List ℕ
-medium_text feed row = option_map_or (λ m. option_map_or (λ r. r.id) (slice_get feed.media m.0) []) row.medium []
+-- the id of a product row's medium; empty where it names none
+abbrev pub medium_text : FeedRows → ProductRow → Option (List ℕ)
+medium_text feed row = option_map_or (λ m. option_map (λ r. r.id) (slice_get feed.media m.0)) row.medium (Some [])
 
 -- a product row with its product, its medium and an amount, as they end a line
 abbrev pub ticket_fields : FeedRows → ProductRowId → ℤ → Option (List (List ℕ))
 ticket_fields feed id amount =
     option_and_then
-    (λ row. option_map
-    (λ product. decimal (id.0 + 1) ∷ product ∷ medium_text feed row ∷ amount_text feed amount ∷ [])
+    (λ row. option_and_then
+    (λ product. option_map
+    (λ medium. decimal (id.0 + 1) ∷ product ∷ medium ∷ amount_text feed amount ∷ [])
+    (medium_text feed row))
     (product_text feed row))
     (slice_get feed.products id.0)
 

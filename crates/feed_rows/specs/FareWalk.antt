@@ -1,4 +1,6 @@
--- The walk along legs: the run of the leg that was met last, and what one more leg adds to the sum.
+-- The walk along legs: the run of the leg that was met last, and what one more leg adds to the sum. This is what a body
+-- carries, and no rule of its own: runs, choices and sums are defined in `TransferRules`, `FareChoices` and `FareSums`, and
+-- `FareLaws`, `ChoiceLaws` and `SumLaws` prove that the walk gives them.
 use Rattle.std.specs.Prelude.{ℕ, zero, suc, ◌+◌, Bool, ◌&&◌, ◌||◌, ◌==◌, if◌then◌else◌, List, [], ◌∷◌, Option, is_none, ℤ, pos, ◌+ℤ◌, ◌-ℤ◌, slice_get, option_map, option_and_then}
 use Rattle.std.specs.Option.{option_map_or}
 use Rattle.feed_rows.specs.declared.fares.ChangeChoice.{ChangeChoice}

@@ -1,4 +1,5 @@
--- The walk along a journey's rides: where and when a traveller stands after each.
+-- The walk along a journey's rides: where and when a traveller stands after each. This is what a body carries, and no rule of
+-- its own: journeys are defined in `Journeys`, and `JourneyLaws` proves that the two agree.
 use Rattle.std.specs.Prelude.{ℕ, Bool, true, false, if◌then◌else◌, List, Option, ℤ, pos, ◌+ℤ◌, option_map, option_and_then}
 use Rattle.transit_base.specs.declared.numbers.StopId.{StopId}
 use Rattle.feed_rows.specs.declared.journeys.Query.{Query}

@@ -1,5 +1,5 @@
 -- The texts of amounts of money, which are whole numbers of minor units.
-use Rattle.std.specs.Prelude.{ℕ, ◌/◌, ◌%◌, ◌==◌, if◌then◌else◌, List, [], ◌∷◌, ◌++◌, ℤ, pos, negsuc, unsigned_abs, decimal}
+use Rattle.std.specs.Prelude.{ℕ, ◌/◌, ◌%◌, ◌==◌, ◌||◌, if◌then◌else◌, List, [], ◌∷◌, ◌++◌, ℤ, pos, negsuc, unsigned_abs, decimal}
 use Rattle.transit_base.specs.DateTexts.{digit, two_digits}
 
 -- `-` of a negative amount
@@ -17,7 +17,10 @@ decimals_text decimals n =
     if decimals == 0 then [] else if decimals == 2 then 46 ∷ two_digits (n % 100)
     else 46 ∷ digit (n % 1000 / 100) ∷ two_digits (n % 100)
 
--- an amount of a currency with 0, 2 or 3 decimals
+-- an amount of a currency with 0, 2 or 3 decimals; no text for others
 unfoldable pub money_text : ℕ → ℤ → List ℕ
 money_text decimals amount =
-    sign_text amount ++ decimal (unsigned_abs amount / units_of_whole decimals) ++ decimals_text decimals (unsigned_abs amount)
+    if (decimals == 0) || (decimals == 2) || (decimals == 3) then
+        sign_text amount ++ decimal (unsigned_abs amount / units_of_whole decimals)
+        ++ decimals_text decimals (unsigned_abs amount)
+    else []

@@ -48,7 +48,8 @@ find_rider feed id = option_map (λ i. record { 0 = i }) (find_below (length fee
 unfoldable pub is_default_rider : FeedRows → ℕ → Bool
 is_default_rider feed i = at_and feed.riders i (λ row. row.default)
 
--- the rider category that is named; where none is, the one that is marked as default, or no category where none is marked
+-- the rider category that is named; where none is, the one that is marked as default, or no category where none is marked;
+-- two or more that are marked are a fault
 abbrev pub chosen_rider : FeedRows → Option (List ℕ) → Result (Option RiderId) UsageFault
 chosen_rider feed (Some id) = unless_fault (ok_or (find_rider feed id) usage.UnknownRider) (λ rider. Ok (Some rider))
 chosen_rider feed None =

@@ -140,7 +140,7 @@ impl FaultKind {
 pub struct FeedFault {
     pub kind: FaultKind,
     pub file: FileName,
-    /// The data row, counted from 1, or 0 where the fault is of the whole file.
+    /// The data row, counted from 1, or 0 where the fault is of the whole file or of its header.
     pub row: u32,
     /// The column, where the fault is of one.
     pub column: Option<ColumnName>,

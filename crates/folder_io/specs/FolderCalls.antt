@@ -1,0 +1,64 @@
+-- What the calls of a folder say, over plain values: counts, names, bytes and answers.
+use Rattle.std.specs.Prelude.{◌≡◌, ℕ, ◌≤◌, List, [], length, take, drop, Option, None, Some, Bool, true, false}
+use Rattle.feed_rows.specs.FaultCounts.{Rose, Stayed}
+use Rattle.folder_io.specs.declared.folder.Opened.{Opened}
+use Rattle.folder_io.specs.declared.folder.Opened.TheVariants as opened
+use Rattle.folder_io.specs.declared.folder.Piece.{Piece}
+use Rattle.folder_io.specs.declared.folder.Piece.TheVariants as piece
+
+-- what a folder holds: the bytes under each name that it holds
+abbrev pub Contents : Type 0
+Contents = List ℕ → Option (List ℕ)
+
+-- the count before and after a call: it rose where the call failed, and stayed where it didn't
+abbrev pub CountsFault : Bool → ℕ → ℕ → Type 0
+CountsFault true before now = Rose before now
+CountsFault false before now = Stayed before now
+
+-- whether an open answers Present
+abbrev pub is_present : Opened → Bool
+is_present opened.Present = true
+is_present opened.Absent = false
+is_present opened.NoMemory = false
+is_present opened.Failed = false
+
+-- whether an open answers Failed
+abbrev pub is_failed_open : Opened → Bool
+is_failed_open opened.Present = false
+is_failed_open opened.Absent = false
+is_failed_open opened.NoMemory = false
+is_failed_open opened.Failed = true
+
+-- whether a read answers Failed
+abbrev pub is_failed_read : Piece → Bool
+is_failed_read (piece.Got n) = false
+is_failed_read piece.End = false
+is_failed_read piece.Failed = true
+
+-- what an open answers of what is held under its name, and what is left to read after it
+abbrev pub Finds : Option (List ℕ) → Option (List ℕ) → Opened → Type 0
+Finds (Some bytes) left opened.Present = left ≡ Some bytes
+Finds None left opened.Present = ⊥
+Finds (Some bytes) left opened.Absent = ⊥
+Finds None left opened.Absent = Unit {0}
+Finds under left opened.NoMemory = Unit {0}
+Finds under left opened.Failed = Unit {0}
+
+-- the same of a folder that may tell what it holds
+abbrev pub Opens : Option Contents → List ℕ → Option (List ℕ) → Opened → Type 0
+Opens None name left answer = Unit {0}
+Opens (Some held) name left answer = Finds (held name) left answer
+
+-- what a read takes of the bytes that were left, where they are told: the first so many, which stand in the room, and
+-- it answers End only where there are none
+abbrev pub Takes : Option (List ℕ) → Option (List ℕ) → List ℕ → Piece → Type 0
+Takes None left room answer = Unit {0}
+Takes (Some bytes) left room (piece.Got n) = (n ≤ length bytes) × (take n room ≡ take n bytes) × (left ≡ Some (drop n bytes))
+Takes (Some bytes) left room piece.End = (bytes ≡ []) × (left ≡ Some bytes)
+Takes (Some bytes) left room piece.Failed = Unit {0}
+
+-- a piece has at least one byte, and no more than there is room
+abbrev pub FitsRoom : ℕ → Piece → Type 0
+FitsRoom room (piece.Got n) = (1 ≤ n) × (n ≤ room)
+FitsRoom room piece.End = Unit {0}
+FitsRoom room piece.Failed = Unit {0}

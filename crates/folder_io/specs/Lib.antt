@@ -1,0 +1,15 @@
+pub mod FilePlaces
+pub mod KeptFiles
+pub mod FolderCalls
+pub mod SinkCalls
+pub mod MemoryCalls
+pub mod SureFolder
+pub mod MemoryFolder
+pub mod ReservedRoom
+pub mod SureSink
+pub mod CutWrites
+pub mod MemorySink
+pub mod CountSink
+pub mod SystemFolder
+pub mod SystemSink
+pub mod FileReading

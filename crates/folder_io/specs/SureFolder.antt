@@ -1,0 +1,22 @@
+-- What a folder in memory holds and has left.
+use Rattle.std.specs.Prelude.{ℕ, List, drop, Option, Bool, option_map, option_and_then, is_some}
+use Rattle.folder_io.specs.declared.files.FileBytes.{FileBytes}
+use Rattle.folder_io.specs.declared.sure_folder.SureFolder.{SureFolder}
+use Rattle.folder_io.specs.FolderCalls.{Contents}
+use Rattle.folder_io.specs.KeptFiles.{file_in, bytes_of, bytes_under}
+
+-- the files that it was made of
+abbrev pub sure_files : SureFolder → List FileBytes
+sure_files folder = folder.files
+
+-- what it holds under each name
+abbrev pub sure_contents : SureFolder → Contents
+sure_contents folder = bytes_under folder.files
+
+-- the bytes of the open file that are not read yet
+abbrev pub sure_left : SureFolder → Option (List ℕ)
+sure_left folder = option_map (drop folder.at) (option_and_then (λ file. bytes_of (file_in folder.files file)) folder.current)
+
+-- whether a file is open
+abbrev pub sure_present : SureFolder → Bool
+sure_present folder = is_some folder.current

@@ -1,0 +1,143 @@
+//! The bytes of a feed's files.
+ghost use Rattle.std.specs.Prelude.{◌≡◌, ◌≢◌, ◌<◌, List, ℕ, length, IfOk, IsTrue, Some, slice_set, replicate};
+ghost use Rattle.folder_io.specs.FilePlaces.{place, file_named};
+
+use feed_rows::FileName;
+use std::alloc::{AllocError, Global};
+use std::marker::Model;
+
+/// Bytes that are kept. Contracts see them as a list.
+#[derive(Debug, Drop)]
+pub struct ByteText {
+    bytes: Vec<u8>,
+}
+
+impl Model for ByteText {
+    ghost use Rattle.std.specs.Prelude.{List, ℕ};
+
+    ghost Value = { List ℕ };
+
+    ghost view = { λ text. text.bytes.items };
+}
+
+impl ByteText {
+    /// A copy of the bytes.
+    ///
+    /// # Errors
+    /// Want of memory.
+    pub fn copy_of(alloc: Global, bytes: &[u8]) -> Result<ByteText, AllocError>
+        ensures { IfOk result (λ text. text ≡ bytes.now) }
+    {
+        Ok(ByteText {
+            bytes: Vec::from_slice(alloc, bytes)?,
+        })
+    }
+
+    // The bytes themselves, without a copy.
+    pub(crate) fn of(bytes: Vec<u8>) -> ByteText
+        ensures { result ≡ bytes.items }
+    {
+        ByteText { bytes }
+    }
+
+    /// The bytes.
+    pub fn bytes(&self) -> &[u8]
+        ensures { result.now ≡ self.now }
+    {
+        self.bytes.as_slice()
+    }
+}
+
+/// What is known of a file.
+#[derive(Debug, Drop)]
+pub enum FileBytes {
+    /// The folder doesn't hold the file.
+    Absent,
+    /// The file has more bytes than are read.
+    TooLarge,
+    /// The file's bytes.
+    Bytes(ByteText),
+}
+
+/// What is known of each file of a feed. Contracts see it as the list of what is known, in the order of
+/// [`FileName::ALL`].
+#[derive(Debug, Drop)]
+pub struct Files {
+    files: [FileBytes; 18],
+}
+
+impl Model for Files {
+    ghost use Rattle.std.specs.Prelude.{◌≡◌, List, length};
+    ghost use Rattle.folder_io.specs.declared.files.FileBytes.{FileBytes};
+
+    ghost Value = { List FileBytes };
+
+    ghost view = { λ files. files.files };
+}
+
+impl Files {
+    ghost use Rattle.folder_io.specs.KeptFiles.{file_in, is_whole, are_whole};
+
+    /// No file is there.
+    pub fn empty() -> Files
+        ensures { result ≡ replicate 18 FileBytes.Absent }
+    {
+        Files {
+            files: [
+                FileBytes::Absent,
+                FileBytes::Absent,
+                FileBytes::Absent,
+                FileBytes::Absent,
+                FileBytes::Absent,
+                FileBytes::Absent,
+                FileBytes::Absent,
+                FileBytes::Absent,
+                FileBytes::Absent,
+                FileBytes::Absent,
+                FileBytes::Absent,
+                FileBytes::Absent,
+                FileBytes::Absent,
+                FileBytes::Absent,
+                FileBytes::Absent,
+                FileBytes::Absent,
+                FileBytes::Absent,
+                FileBytes::Absent,
+            ],
+        }
+    }
+
+    /// Replaces what is known of the file.
+    pub fn put(&mut self, name: FileName, bytes: FileBytes)
+        ensures list { self.new ≡ slice_set self.old (place name) bytes }
+        ensures value { file_in self.new name ≡ bytes }
+        ensures others { (other : FileName) → place other ≢ place name → file_in self.new other ≡ file_in self.old other }
+    {
+        self.files[name as usize] = bytes;
+    }
+
+    // Replaces what is known of the file at that place.
+    pub(crate) fn put_at(&mut self, place: usize, bytes: FileBytes)
+        requires { place < 18 }
+        ensures value { self.new ≡ slice_set self.old place bytes }
+        ensures size { length self.new ≡ 18 }
+    {
+        self.files[place] = bytes;
+    }
+
+    /// What is known of the file.
+    pub fn get(&self, name: FileName) -> &FileBytes
+        ensures { result.now ≡ file_in self.now name }
+    {
+        &self.files[name as usize]
+    }
+}
+
+// The file of that name, if it is one of a feed.
+pub(crate) fn file_of(name: &str) -> Option<FileName>
+    ensures { result ≡ file_named name.now }
+{
+    FileName::ALL
+        .iter()
+        .copied()
+        .find(|file| file.text() == name)
+}

@@ -1,0 +1,99 @@
+//! Reading the files of a feed.
+ghost use Rattle.std.specs.Prelude.{◌≡◌, ◌<◌, List, ℕ, length, IfOk, IfErr, OnOk, IfSome, IsTrue};
+ghost use Rattle.feed_rows.specs.FaultCounts.{Stayed};
+ghost use Rattle.feed_rows.specs.Names.{file_text};
+ghost use Rattle.folder_io.specs.KeptFiles.{IsWithin, AreWithin};
+ghost use Rattle.folder_io.specs.FileReading.{GivesUp, IsRead, StopsPast, AreRead};
+
+use crate::{ByteText, FileBytes, Files, Folder, Opened, Piece};
+use feed_rows::FileName;
+use std::alloc::{AllocError, Global};
+use thiserror::Error;
+
+/// Why a file wasn't read.
+#[derive(Clone, Copy, Debug, PartialEq, Eq, Error)]
+pub enum ReadError {
+    /// A call of the folder failed: its count of faults rose.
+    #[error("the folder can't be read")]
+    ReadFault,
+    /// Want of memory.
+    #[error("out of memory")]
+    NoMemory,
+}
+
+impl From<AllocError> for ReadError {
+    ghost use Rattle.std.specs.Prelude.{◌≡◌};
+    ghost use Rattle.folder_io.specs.declared.reading.ReadError.TheVariants.{NoMemory};
+
+    ghost from_gives = { λ _ error. error ≡ NoMemory };
+
+    fn from(_error: AllocError) -> ReadError {
+        ReadError::NoMemory
+    }
+}
+
+/// The greatest number of bytes of a file of a feed that is read.
+pub const MOST_BYTES: u32 = 268_435_456;
+
+// How many bytes are asked for at a time.
+const ROOM: usize = 65_536;
+
+/// The bytes of a file that has at most `limit` bytes. A larger one is read no further than one byte past the limit.
+///
+/// # Errors
+/// [`ReadError::ReadFault`] where a call of the folder failed, after which no further call was made; want of memory.
+pub fn read_file<F: Folder>(
+    alloc: Global,
+    folder: &mut F,
+    name: FileName,
+    limit: u32,
+) -> Result<FileBytes, ReadError>
+    ensures within { IfOk result (IsWithin limit) }
+    ensures bytes { IfOk result (IsRead (F.holds folder.old) (file_text name) limit) }
+    ensures stops_past { IfOk result (StopsPast (F.holds folder.old) (file_text name) limit (F.left folder.new)) }
+    ensures ok { OnOk result (Stayed (F.faults folder.old) (F.faults folder.new)) }
+    ensures err { IfErr result (λ error. GivesUp error (F.faults folder.old) (F.faults folder.new) (F.failed folder.new)) }
+    ensures ends_at_fault { F.faults folder.old < F.faults folder.new → IsTrue (F.failed folder.new) }
+    ensures holds { F.holds folder.new ≡ F.holds folder.old }
+{
+    match folder.open(name.text()) {
+        Opened::Failed => return Err(ReadError::ReadFault),
+        Opened::NoMemory => return Err(ReadError::NoMemory),
+        Opened::Absent => return Ok(FileBytes::Absent),
+        Opened::Present => {}
+    }
+    let most = limit as usize + 1;
+    let mut bytes = Vec::new(alloc);
+    let mut room = [0u8; ROOM];
+    while bytes.len() < most {
+        let want = ROOM.min(most - bytes.len());
+        match folder.read(&mut room[..want]) {
+            Piece::Failed => return Err(ReadError::ReadFault),
+            Piece::End => return Ok(FileBytes::Bytes(ByteText::of(bytes))),
+            Piece::Got(count) => {
+                bytes.extend_from_slice(&room[..count])?;
+            }
+        }
+    }
+    Ok(FileBytes::TooLarge)
+}
+
+/// Every file of a feed, in order, each of at most [`MOST_BYTES`].
+///
+/// # Errors
+/// [`ReadError::ReadFault`] where a call of the folder failed, after which no further call was made; want of memory.
+pub fn read_files<F: Folder>(alloc: Global, folder: &mut F) -> Result<Files, ReadError>
+    ensures within { IfOk result AreWithin }
+    ensures files { IfOk result (AreRead (F.holds folder.old)) }
+    ensures ok { OnOk result (Stayed (F.faults folder.old) (F.faults folder.new)) }
+    ensures err { IfErr result (λ error. GivesUp error (F.faults folder.old) (F.faults folder.new) (F.failed folder.new)) }
+    ensures ends_at_fault { F.faults folder.old < F.faults folder.new → IsTrue (F.failed folder.new) }
+    ensures holds { F.holds folder.new ≡ F.holds folder.old }
+{
+    let mut files = Files::empty();
+    for (i, name) in FileName::ALL.iter().enumerate() {
+        let bytes = read_file(alloc, folder, *name, MOST_BYTES)?;
+        files.put_at(i, bytes);
+    }
+    Ok(files)
+}

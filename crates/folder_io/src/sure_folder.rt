@@ -1,0 +1,108 @@
+//! A folder in memory that never fails.
+ghost use Rattle.std.specs.Prelude.{◌≡◌, ◌<◌, ◌≤◌, IsTrue, length, true, false, None, Some};
+
+use crate::files::file_of;
+use crate::{FileBytes, Files, Folder, Opened, Piece};
+use feed_rows::FileName;
+
+/// A folder in memory that tells what it holds and never fails: its count of faults is the constant 0.
+#[derive(Debug, Drop)]
+pub struct SureFolder {
+    files: Files,
+    current: Option<FileName>,
+    at: usize,
+}
+
+impl SureFolder {
+    ghost use Rattle.folder_io.specs.KeptFiles.{are_whole};
+    ghost use Rattle.folder_io.specs.SureFolder.{sure_files, sure_present, sure_left};
+
+    /// A folder of these files, none of which is open.
+    pub fn new(files: Files) -> SureFolder
+        requires { IsTrue (are_whole files) }
+        ensures files { sure_files result ≡ files }
+        ensures none_open { sure_present result ≡ false }
+    {
+        SureFolder {
+            files,
+            current: None,
+            at: 0,
+        }
+    }
+
+    // No file is open from here on.
+    pub(crate) fn close(&mut self)
+        ensures files { sure_files self.new ≡ sure_files self.old }
+        ensures none_open { sure_present self.new ≡ false }
+    {
+        self.current = None;
+    }
+}
+
+impl Folder for SureFolder {
+    ghost use Rattle.std.specs.Prelude.{◌≡◌, ◌<◌, ◌≤◌, length, true, false, Some};
+    ghost use Rattle.folder_io.specs.FolderCalls.{CountsFault, is_present, is_failed_open, is_failed_read, Opens, Takes, FitsRoom};
+    ghost use Rattle.folder_io.specs.MemoryCalls.{opened_of};
+    ghost use Rattle.folder_io.specs.SureFolder.{sure_files, sure_contents, sure_left, sure_present};
+
+    ghost holds = { λ folder. Some (sure_contents folder) };
+
+    ghost left = { sure_left };
+
+    ghost present = { sure_present };
+
+    ghost failed = { λ _. false };
+
+    ghost faults = { λ _. 0 };
+
+    /// Present exactly where the name is held, and else Absent.
+    fn open(&mut self, name: &str) -> Opened
+        ensures answer { result ≡ opened_of false (sure_contents self.old name.now) }
+        ensures sure { is_failed_open result ≡ false }
+        ensures files { sure_files self.new ≡ sure_files self.old }
+        ensures present { sure_present self.new ≡ is_present result }
+        ensures finds { Opens (Some (sure_contents self.old)) name.now (sure_left self.new) result }
+    {
+        self.current = None;
+        let Some(file) = file_of(name) else {
+            return Opened::Absent;
+        };
+        match self.files.get(file) {
+            FileBytes::Bytes(_) => {
+                self.current = Some(file);
+                self.at = 0;
+                Opened::Present
+            }
+            FileBytes::Absent | FileBytes::TooLarge => Opened::Absent,
+        }
+    }
+
+    fn read(&mut self, room: &mut [u8]) -> Piece
+        requires is_open { sure_present self.old ≡ true }
+        requires some_room { 0 < length room.old }
+        ensures sure { is_failed_read result ≡ false }
+        ensures files { sure_files self.new ≡ sure_files self.old }
+        ensures present { sure_present self.new ≡ sure_present self.old }
+        ensures fits { FitsRoom (length room.old) result }
+        ensures takes { Takes (sure_left self.old) (sure_left self.new) room.new result }
+    {
+        let Some(file) = self.current else {
+            return Piece::End;
+        };
+        let FileBytes::Bytes(text) = self.files.get(file) else {
+            return Piece::End;
+        };
+        let rest = text.bytes().get(self.at..).unwrap_or(&[]);
+        let count = rest.len().min(room.len());
+        if count == 0 {
+            return Piece::End;
+        }
+        room[..count].copy_from_slice(&rest[..count]);
+        self.at += count;
+        Piece::Got(count)
+    }
+
+    ghost use Rattle.std.proofs.Common.{arith};
+
+    ghost bounded = { λ _. Prim.omega arith };
+}
