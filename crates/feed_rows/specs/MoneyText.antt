@@ -21,6 +21,6 @@ decimals_text decimals n =
 unfoldable pub money_text : ℕ → ℤ → List ℕ
 money_text decimals amount =
     if (decimals == 0) || (decimals == 2) || (decimals == 3) then
-        sign_text amount ++ decimal (unsigned_abs amount / units_of_whole decimals)
-        ++ decimals_text decimals (unsigned_abs amount)
+    sign_text amount ++ decimal (unsigned_abs amount / units_of_whole decimals)
+    ++ decimals_text decimals (unsigned_abs amount)
     else []
