@@ -28,6 +28,8 @@ pub mod BaseSound
 pub mod EdgeFeed
 pub mod ShiftLaws
 pub mod RideLaws
+pub mod SoundTrips
+pub mod TripLaws
 pub mod WordLaws
 pub mod ParetoLaws
 pub mod CornerAnswers

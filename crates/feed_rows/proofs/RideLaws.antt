@@ -1,5 +1,5 @@
 -- Rides: what a ride with facts is, and when it goes.
-use Rattle.std.proofs.Common.{◌≡◌, refl, sym, ◌∙◌, subst, ℕ, ◌*◌, ◌<◌, ◌≤◌, Bool, true, false, nat_lt, ℤ, pos, ◌+ℤ◌, ◌*ℤ◌, ◌≤ℤ◌, arith}
+use Rattle.std.proofs.Common.{◌≡◌, refl, sym, ◌∙◌, subst, ℕ, ◌*◌, ◌<◌, ◌≤◌, Bool, true, false, ◌&&◌, nat_lt, ℤ, pos, ◌+ℤ◌, ◌*ℤ◌, ◌≤ℤ◌, arith}
 use Rattle.std.specs.Prelude.{Option, Some, None, slice_get}
 use Rattle.std.proofs.lemmas.Bool.{and_parts}
 use Rattle.std.proofs.lemmas.Bool.Decides.{nat_tests}
@@ -30,6 +30,12 @@ pub record IsRideWith (feed : FeedRows) (ride : Ride) (facts : RideFacts) : Type
   pub pickup : boarding.pickup ≡ true
   pub drop_off : alighting.drop_off ≡ true
   pub facts_are : facts_between feed ride boarding alighting ≡ facts
+
+-- what a ride is, with its shift told without making the list
+pub is_ride_by_shift : (feed : FeedRows) (ride : Ride) → is_ride feed ride
+    ≡ (runs_on feed ride.trip ride.day.0 && is_shift feed ride.trip ride.shift && nat_lt ride.from ride.to && at_and (calls_of feed ride.trip) ride.from (λ call. call.pickup) && at_and (calls_of feed ride.trip) ride.to (λ call. call.drop_off))
+unfolding is_ride
+is_ride_by_shift feed ride = rw (list_any-shifts_of feed ride.trip ride.shift) refl
 
 -- the tests of a ride
 pub record IsRideTested (feed : FeedRows) (ride : Ride) : Type 0 where

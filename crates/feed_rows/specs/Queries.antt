@@ -2,6 +2,7 @@
 use Rattle.std.specs.Prelude.{ℕ, Bool, ◌||◌, nat_lt, if◌then◌else◌, List, length, Option, Some, None, ok_or, option_map, Result, Ok, Err, bytes_eq}
 use Rattle.transit_base.specs.declared.StopId.{StopId}
 use Rattle.transit_base.specs.declared.RiderId.{RiderId}
+use Rattle.transit_base.specs.declared.TripId.{TripId}
 use Rattle.feed_rows.specs.Words.{at_and, find_below, count_below}
 use Rattle.feed_rows.specs.FeedRows.{FeedRows}
 use Rattle.feed_rows.specs.StopLinks.{is_platform, is_station}
@@ -20,6 +21,14 @@ has_stop_id feed id i = at_and feed.stops i (λ row. bytes_eq row.id id)
 -- the first stop with this id
 abbrev pub find_stop : FeedRows → List ℕ → Option StopId
 find_stop feed id = option_map (λ i. record { 0 = i }) (find_below (length feed.stops) (has_stop_id feed id))
+
+-- trip i has this id
+unfoldable pub has_trip_id : FeedRows → List ℕ → ℕ → Bool
+has_trip_id feed id i = at_and feed.trips i (λ row. bytes_eq row.id id)
+
+-- the first trip with this id
+abbrev pub find_trip : FeedRows → List ℕ → Option TripId
+find_trip feed id = option_map (λ i. record { 0 = i }) (find_below (length feed.trips) (has_trip_id feed id))
 
 -- the platform or station that a word names
 abbrev pub named_stop : FeedRows → StopWord → List ℕ → Result StopId UsageFault

@@ -1,0 +1,6 @@
+pub mod GroupLaws
+pub mod OrderLaws
+pub mod RunLaws
+pub mod NumberLaws
+pub mod NameLaws
+pub mod TableLaws

@@ -1,0 +1,61 @@
+-- The shifts of a trip from its frequency rows in any order.
+use Rattle.std.proofs.Common.{◌≡◌, refl, sym, ◌∙◌, ◌<◌, Bool, true, false, ◌&&◌, ◌==◌, List, [], ◌∷◌, length, ℤ, pos, ◌+ℤ◌, ◌-ℤ◌, flat_map, arith}
+use Rattle.std.specs.List.{list_any}
+use Rattle.transit_base.specs.declared.numbers.TripId.{TripId}
+use Rattle.feed_rows.specs.declared.rows.FrequencyRow.{FrequencyRow}
+use Rattle.feed_rows.specs.FeedRows.{FeedRows}
+use Rattle.feed_rows.specs.Words.{int_same}
+use Rattle.feed_rows.specs.Calls.{first_departure}
+use Rattle.feed_rows.specs.Shifts.{run_starts, ascending_of, has_frequencies, shifts_of, is_run_start, is_shift}
+use Rattle.feed_rows.proofs.ShiftLaws.{ascending_of_ascending, list_any-ascending_of, list_any-map, list_any-flat_map, list_any_same, list_any-run_starts, shifts_of_only}
+use Rattle.feed_trips.specs.Runs.{AreRunsOf, shifts_against}
+
+true_right : (b : Bool) → (b && true) ≡ b
+true_right true = refl
+true_right false = refl
+
+-- a trip has frequency rows where there are some
+frequent : (feed : FeedRows) (trip : TripId) (rows : List FrequencyRow) → AreRunsOf feed trip rows → list_any (λ (f : FrequencyRow). true) rows ≡ has_frequencies feed trip
+frequent feed trip rows are =
+    are (λ (f : FrequencyRow). true) ∙ list_any_same (λ (f : FrequencyRow). f.trip.0 == trip.0 && true) (λ (f : FrequencyRow). f.trip.0 == trip.0) feed.frequencies (λ f. true_right (f.trip.0 == trip.0))
+
+some_any : (rows : List FrequencyRow) → 0 < length rows → list_any (λ (f : FrequencyRow). true) rows ≡ true
+some_any [] some = absurd (omega arith)
+some_any (f ∷ fs) some = refl
+
+none_any : (rows : List FrequencyRow) → length rows ≡ 0 → list_any (λ (f : FrequencyRow). true) rows ≡ false
+none_any [] none = refl
+none_any (f ∷ fs) none = absurd (omega arith)
+
+-- without frequency rows a shift is 0
+pub is_shift_none : (feed : FeedRows) (trip : TripId) (rows : List FrequencyRow) (z : ℤ) → AreRunsOf feed trip rows → length rows ≡ 0 → is_shift feed trip z ≡ int_same z (pos 0)
+unfolding is_shift
+is_shift_none feed trip rows z are none =
+    let bare : has_frequencies feed trip ≡ false = sym (frequent feed trip rows are) ∙ none_any rows none in
+    rw bare refl
+
+-- with them it leads to a run of one of them
+pub is_shift_rows : (feed : FeedRows) (trip : TripId) (rows : List FrequencyRow) (z : ℤ) → AreRunsOf feed trip rows → 0 < length rows → is_shift feed trip z ≡ list_any (λ (f : FrequencyRow). is_run_start f (z +ℤ pos (first_departure feed trip))) rows
+unfolding is_shift
+is_shift_rows feed trip rows z are some =
+    let has : has_frequencies feed trip ≡ true = sym (frequent feed trip rows are) ∙ some_any rows some in
+    rw has (sym (are (λ (f : FrequencyRow). is_run_start f (z +ℤ pos (first_departure feed trip)))))
+
+-- without frequency rows the shifts are 0 alone
+pub shifts_of_none : (feed : FeedRows) (trip : TripId) (rows : List FrequencyRow) → AreRunsOf feed trip rows → length rows ≡ 0 → shifts_of feed trip ≡ pos 0 ∷ []
+unfolding shifts_of
+shifts_of_none feed trip rows are none =
+    let bare : has_frequencies feed trip ≡ false = sym (frequent feed trip rows are) ∙ none_any rows none in
+    rw bare refl
+
+-- with them they are those of their runs
+pub shifts_of_rows : (feed : FeedRows) (trip : TripId) (rows : List FrequencyRow) → AreRunsOf feed trip rows → 0 < length rows → shifts_of feed trip ≡ ascending_of (shifts_against (first_departure feed trip) rows)
+shifts_of_rows feed trip rows are some =
+    let first = first_departure feed trip in
+    let numbers = shifts_against first rows in
+    sym (shifts_of_only feed trip (ascending_of numbers) (ascending_of_ascending numbers) (λ z.
+    list_any-ascending_of (int_same z) numbers
+    ∙ list_any-map (int_same z) (λ start. pos start -ℤ pos first) (flat_map run_starts rows)
+    ∙ list_any-flat_map (λ start. int_same z (pos start -ℤ pos first)) run_starts rows
+    ∙ list_any_same (λ (f : FrequencyRow). list_any (λ start. int_same z (pos start -ℤ pos first)) (run_starts f)) (λ (f : FrequencyRow). is_run_start f (z +ℤ pos first)) rows (λ f. list_any-run_starts f z first)
+    ∙ sym (is_shift_rows feed trip rows z are some)))

@@ -1,0 +1,5 @@
+pub mod Groups
+pub mod NamedTrips
+pub mod Runs
+pub mod Tables
+pub mod Trips

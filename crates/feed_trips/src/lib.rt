@@ -1,0 +1,12 @@
+//! The trips of a feed: their calls, their shifts and the rides that they offer.
+#![tactic(auto)]
+
+mod groups;
+mod ids;
+mod order;
+mod runs;
+mod scan;
+mod trips;
+mod walks;
+
+pub use trips::Trips;

@@ -1,0 +1,56 @@
+//! The times of a stop time, and the next stop time that has one.
+ghost use Rattle.std.specs.Prelude.{◌≡◌, ◌<◌, ◌≤◌, length};
+ghost use Rattle.feed_rows.specs.Calls.{
+  first_time as first_time_of,
+  last_time as last_time_of,
+  is_timed as is_row_timed,
+};
+ghost use Rattle.feed_rows.specs.CallWalk.{next_timed, time_at};
+
+use feed_rows::StopTimeRow;
+
+// When a row is reached, in seconds of the service day.
+pub fn first_time(row: StopTimeRow) -> Option<u32>
+    ensures { result ≡ first_time_of row }
+{
+    row.arrival.or(row.departure)
+}
+
+// When a row is left, in seconds of the service day.
+pub fn last_time(row: StopTimeRow) -> Option<u32>
+    ensures { result ≡ last_time_of row }
+{
+    row.departure.or(row.arrival)
+}
+
+// Whether a row has a time.
+pub fn is_timed(row: StopTimeRow) -> bool
+    ensures { result ≡ is_row_timed row }
+{
+    first_time(row).is_some()
+}
+
+// The next position after a position that has a time; the number of rows where there is none.
+#[tactic(auto, using(feed_rows::proofs::TimedLaws::next_timed_hit, feed_rows::proofs::TimedLaws::next_timed_end, feed_rows::proofs::TimedLaws::untimed_more, feed_rows::proofs::TimedLaws::is_timed_at_row))]
+pub fn next_position(rows: &[StopTimeRow], position: usize) -> usize
+    requires inside { position < length rows.now }
+    ensures value { result ≡ next_timed rows.now position }
+    ensures within { result ≤ length rows.now }
+{
+    for next in position + 1..rows.len() {
+        if is_timed(rows[next]) {
+            return next;
+        }
+    }
+    rows.len()
+}
+
+// When the row at a position is reached, in seconds of the service day; 0 where it has no time.
+pub fn first_time_at(rows: &[StopTimeRow], position: usize) -> u32
+    ensures { result ≡ time_at first_time_of rows.now position }
+{
+    match rows.get(position) {
+        Some(row) => first_time(*row).unwrap_or(0),
+        None => 0,
+    }
+}

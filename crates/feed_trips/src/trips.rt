@@ -1,0 +1,267 @@
+//! The trips of a feed.
+ghost use Rattle.std.specs.Prelude.{
+  ◌≡◌,
+  ◌<◌,
+  ◌≤◌,
+  ◌≤ℤ◌,
+  ◌+ℤ◌,
+  pos,
+  negsuc,
+  ℤ,
+  length,
+  All,
+  IfOk,
+};
+ghost use Rattle.feed_rows.specs.declared.journeys.Call.{Call};
+ghost use Rattle.feed_rows.specs.Calls.{calls_of, first_departure};
+ghost use Rattle.feed_rows.specs.Shifts.{is_shift, shifts_of};
+ghost use Rattle.feed_rows.specs.Rides.{
+  runs_on,
+  is_ride,
+  ride_facts,
+  facts_between,
+  moment_of,
+  trip_network,
+};
+ghost use Rattle.feed_rows.specs.Queries.{find_trip};
+ghost use Rattle.feed_rows.specs.Words.{at_and};
+ghost use Rattle.feed_trips.specs.Runs.{AreRunsOf, IsSoundRun};
+
+use crate::groups::group_at;
+use crate::ids::{NamedTrip, find_named, trips_by_id};
+use crate::order::{call_tables, run_tables};
+use crate::runs::{has_run_at, shifts_of_runs};
+use feed_rows::{Call, Feed, FrequencyRow, Ride, RideFacts, Shifts};
+use std::alloc::{AllocError, Global};
+use std::marker::Model;
+use transit_base::{Moment, NetworkId, TripId};
+
+/// The trips of a feed, with their calls in order, the times filled in. Contracts see it as the rows of its feed.
+#[derive(Drop)]
+pub struct Trips<'f> {
+    feed: &'f Feed,
+    /// The calls of all trips, one trip after another.
+    calls: Vec<Call>,
+    /// Where the calls of each trip begin, and where the last ones end.
+    call_starts: Vec<usize>,
+    /// The frequency rows, one trip after another.
+    frequencies: Vec<FrequencyRow>,
+    /// Where the frequency rows of each trip begin, and where the last ones end.
+    frequency_starts: Vec<usize>,
+    /// The trips in order of their ids.
+    by_id: Vec<NamedTrip<'f>>,
+}
+
+impl<'f> Model for Trips<'f> {
+    ghost use Rattle.feed_rows.specs.FeedRows.{FeedRows};
+
+    ghost Value = { FeedRows };
+
+    ghost use Rattle.feed_trips.specs.Trips.{feed_of, AreTablesOf};
+
+    ghost view = { feed_of };
+
+    ghost invariant = { λ fields. AreTablesOf (feed_of fields) fields };
+}
+
+impl<'f> Trips<'f> {
+    /// The trips of the feed.
+    ///
+    /// # Errors
+    /// Want of memory.
+    pub fn build(alloc: Global, feed: &'f Feed) -> Result<Trips<'f>, AllocError>
+        ensures { IfOk result (λ trips. trips ≡ feed.now) }
+    {
+        let _rows = &feed.trips;
+        let (calls, call_starts) = call_tables(alloc, feed)?;
+        let (frequencies, frequency_starts) = run_tables(alloc, feed)?;
+        let by_id = trips_by_id(alloc, feed)?;
+        Ok(Trips {
+            feed,
+            calls,
+            call_starts,
+            frequencies,
+            frequency_starts,
+            by_id,
+        })
+    }
+
+    /// The trip with this id. None exactly where no trip has it.
+    pub fn find(&self, id: &[u8]) -> Option<TripId>
+        ensures { result ≡ find_trip self.now id.now }
+    {
+        find_named(self.feed, &self.by_id, id)
+    }
+
+    /// The calls of a trip, in order of their `stop_sequence`.
+    pub fn calls_of(&self, trip: TripId) -> &[Call]
+        requires { trip.0 < length self.now.trips }
+        ensures value { result.now ≡ calls_of self.now trip }
+        ensures times { All (λ (c : Call). (c.arrival ≤ 604_799) × (c.departure ≤ 604_799)) result.now }
+    {
+        group_at(&self.calls, &self.call_starts, trip.0 as usize)
+    }
+
+    // The frequency rows of a trip.
+    fn frequencies_of(&self, trip: TripId) -> &[FrequencyRow]
+        requires { trip.0 < length self.now.trips }
+        ensures runs { AreRunsOf self.now trip result.now }
+        ensures sound { All IsSoundRun result.now }
+    {
+        group_at(&self.frequencies, &self.frequency_starts, trip.0 as usize)
+    }
+
+    // The departure from a trip's first call, in seconds of the service day; 0 where it has no call.
+    fn first_departure(&self, trip: TripId) -> u32
+        requires { trip.0 < length self.now.trips }
+        ensures { result ≡ first_departure self.now trip }
+    {
+        match self.calls_of(trip).first() {
+            Some(call) => call.departure,
+            None => 0,
+        }
+    }
+
+    /// The seconds by which the runs of a trip are later than its stop times say, ascending, each once: 0 alone for a
+    /// trip without frequency rows.
+    ///
+    /// # Errors
+    /// Want of memory.
+    #[tactic(auto, using(crate::proofs::RunLaws::shifts_of_none, crate::proofs::RunLaws::shifts_of_rows))]
+    pub fn shifts_of(&self, alloc: Global, trip: TripId) -> Result<Shifts, AllocError>
+        requires { trip.0 < length self.now.trips }
+        ensures { IfOk result (λ shifts. shifts ≡ shifts_of self.now trip) }
+    {
+        let rows = self.frequencies_of(trip);
+        if rows.is_empty() {
+            let mut shifts = Shifts::empty(alloc);
+            shifts.push(0)?;
+            return Ok(shifts);
+        }
+        shifts_of_runs(alloc, rows, self.first_departure(trip))
+    }
+
+    // Whether a run of the trip is so many seconds later than its stop times say.
+    #[tactic(auto, using(crate::proofs::RunLaws::is_shift_none, crate::proofs::RunLaws::is_shift_rows))]
+    fn is_shift(&self, trip: TripId, shift: i64) -> bool
+        requires trip { trip.0 < length self.now.trips }
+        requires low { negsuc 699_999 ≤ℤ shift }
+        requires high { shift ≤ℤ pos 700_000 }
+        ensures { result ≡ is_shift self.now trip shift }
+    {
+        let rows = self.frequencies_of(trip);
+        if rows.is_empty() {
+            return shift == 0;
+        }
+        has_run_at(rows, shifted(shift, self.first_departure(trip)))
+    }
+
+    // The fare network of a trip's route.
+    fn network(&self, trip: TripId) -> Option<NetworkId>
+        requires { trip.0 < length self.now.trips }
+        ensures { result ≡ trip_network self.now trip }
+    {
+        let feed = self.feed;
+        let route = feed.trips.items()[trip.0 as usize].route;
+        feed.routes.items()[route.0 as usize].network
+    }
+
+    // Whether a ride is one of the feed, where its trip's service is active on its day or isn't, as told.
+    #[tactic(auto, using(feed_rows::proofs::RideLaws::is_ride_by_shift))]
+    fn is_ride(&self, active: bool, ride: &Ride) -> bool
+        requires trip { ride.now.trip.0 < length self.now.trips }
+        requires active { active ≡ runs_on self.now ride.now.trip ride.now.day.0 }
+        requires shift_low { negsuc 699_999 ≤ℤ ride.now.shift }
+        requires shift_high { ride.now.shift ≤ℤ pos 700_000 }
+        ensures { result ≡ is_ride self.now ride.now }
+    {
+        let calls = self.calls_of(ride.trip);
+        active
+            && self.is_shift(ride.trip, ride.shift)
+            && ride.from < ride.to
+            && may_board(calls, ride.from)
+            && may_alight(calls, ride.to)
+    }
+
+    /// Where and when a ride goes, where its trip's service is active on its day or isn't, as told. None exactly where
+    /// it is no ride of the feed. The day lies from -800,000 to 3,000,000 and the shift from -700,000 to 700,000.
+    #[tactic(auto, unfolding(feed_rows::specs::Rides::ride_facts))]
+    pub fn facts(&self, active: bool, ride: &Ride) -> Option<RideFacts>
+        requires trip { ride.now.trip.0 < length self.now.trips }
+        requires active { active ≡ runs_on self.now ride.now.trip ride.now.day.0 }
+        requires day_low { negsuc 799_999 ≤ℤ ride.now.day.0 }
+        requires day_high { ride.now.day.0 ≤ℤ pos 3_000_000 }
+        requires shift_low { negsuc 699_999 ≤ℤ ride.now.shift }
+        requires shift_high { ride.now.shift ≤ℤ pos 700_000 }
+        ensures { result ≡ ride_facts self.now ride.now }
+    {
+        if !self.is_ride(active, ride) {
+            return None;
+        }
+        let calls = self.calls_of(ride.trip);
+        let boarding = calls.get(ride.from as usize)?;
+        let alighting = calls.get(ride.to as usize)?;
+        Some(self.facts_between(ride, boarding, alighting))
+    }
+
+    // Where and when a ride between two calls goes.
+    fn facts_between(&self, ride: &Ride, boarding: &Call, alighting: &Call) -> RideFacts
+        requires trip { ride.now.trip.0 < length self.now.trips }
+        requires day_low { negsuc 799_999 ≤ℤ ride.now.day.0 }
+        requires day_high { ride.now.day.0 ≤ℤ pos 3_000_000 }
+        requires shift_low { negsuc 699_999 ≤ℤ ride.now.shift }
+        requires shift_high { ride.now.shift ≤ℤ pos 700_000 }
+        requires departure { boarding.now.departure ≤ 604_799 }
+        requires arrival { alighting.now.arrival ≤ 604_799 }
+        ensures { result ≡ facts_between self.now ride.now boarding.now alighting.now }
+    {
+        RideFacts {
+            from: boarding.stop,
+            to: alighting.stop,
+            network: self.network(ride.trip),
+            departure: moment_of(ride, boarding.departure),
+            arrival: moment_of(ride, alighting.arrival),
+        }
+    }
+}
+
+// The moment that is so many seconds of the service day, shifted as the ride is.
+fn moment_of(ride: &Ride, seconds: u32) -> Moment
+    requires day_low { negsuc 799_999 ≤ℤ ride.now.day.0 }
+    requires day_high { ride.now.day.0 ≤ℤ pos 3_000_000 }
+    requires shift_low { negsuc 699_999 ≤ℤ ride.now.shift }
+    requires shift_high { ride.now.shift ≤ℤ pos 700_000 }
+    requires seconds { seconds ≤ 604_799 }
+    ensures { result ≡ moment_of ride.now seconds }
+{
+    Moment::at(ride.day, ride.shift + i64::from(seconds))
+}
+
+// The second of the service day that a second is shifted to.
+fn shifted(shift: i64, second: u32) -> i64
+    requires low { negsuc 699_999 ≤ℤ shift }
+    requires high { shift ≤ℤ pos 700_000 }
+    ensures { result ≡ shift +ℤ pos second }
+{
+    shift + i64::from(second)
+}
+
+// Whether there is a call at the position at which riders may board.
+fn may_board(calls: &[Call], position: u32) -> bool
+    ensures { result ≡ at_and calls.now position (λ (c : Call). c.pickup) }
+{
+    match calls.get(position as usize) {
+        Some(call) => call.pickup,
+        None => false,
+    }
+}
+
+// Whether there is a call at the position at which riders may alight.
+fn may_alight(calls: &[Call], position: u32) -> bool
+    ensures { result ≡ at_and calls.now position (λ (c : Call). c.drop_off) }
+{
+    match calls.get(position as usize) {
+        Some(call) => call.drop_off,
+        None => false,
+    }
+}
