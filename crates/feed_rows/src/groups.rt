@@ -9,6 +9,7 @@ use std::marker::Model;
 /// An item, and the number of the group that it belongs to.
 #[derive(Clone, Copy, Debug)]
 pub struct Grouped<T> {
+    /// The number of the group.
     pub group: u32,
     pub item: T,
 }
@@ -78,7 +79,7 @@ impl<T: Copy + Drop> Groups<T> {
     pub fn get(&self, number: usize) -> &[T]
         ensures { result.now ≡ unwrap_or (slice_get self.now number) [] }
     {
-        if number < self.len() {
+        if number < self.count() {
             self.group(number)
         } else {
             &[]
@@ -86,7 +87,7 @@ impl<T: Copy + Drop> Groups<T> {
     }
 
     /// How many groups there are.
-    pub fn len(&self) -> usize
+    pub fn count(&self) -> usize
         ensures { result ≡ length self.now }
     {
         self.starts.len() - 1

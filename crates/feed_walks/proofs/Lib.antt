@@ -3,3 +3,4 @@ pub mod RuleLaws
 pub mod PairLaws
 pub mod LinkLaws
 pub mod StepLaws
+pub mod WalkChecks

@@ -1,6 +1,6 @@
 use Rattle.std.proofs.Common.{ap, length, arith}
 use Rattle.feed_rows.proofs.GroupLaws.{length-pieces}
-use Rattle.feed_rows.proofs.groups.Groups.len.Goals as goal
+use Rattle.feed_rows.proofs.groups.Groups.count.Goals as goal
 
 pub returns : goal.returns
 returns g c =
