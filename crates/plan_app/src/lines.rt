@@ -1,0 +1,92 @@
+//! The lines that are written.
+ghost use Rattle.std.specs.Prelude.{◌≡◌, ◌<◌, IsTrue, IfOk, string_bytes, map};
+ghost use Rattle.std.specs.List.{concat};
+ghost use Rattle.feed_rows.specs.FaultCounts.{Rose, Stayed};
+ghost use Rattle.feed_rows.specs.CommandTexts.{usage_line, refused_line, place_text};
+ghost use Rattle.feed_rows.specs.UsageFaults.{usage_argument, stop_word_text};
+ghost use Rattle.plan_app.specs.Written.{WroteAll, WrotePart};
+
+use feed_rows::{ColumnName, FeedFault, StopWord, UsageFault};
+use folder_io::{Sink, Wrote};
+use std::alloc::{AllocError, Global};
+
+// The word that names a stop, as it is printed.
+fn stop_word(word: StopWord) -> &'static str
+    ensures { result.now ≡ stop_word_text word }
+{
+    match word {
+        StopWord::From => "FROM",
+        StopWord::To => "TO",
+    }
+}
+
+// The argument of a usage fault, as it is printed.
+fn argument_of(alloc: Global, fault: UsageFault) -> Result<String, AllocError>
+    ensures { IfOk result (λ text. string_bytes text ≡ usage_argument fault) }
+{
+    match fault {
+        UsageFault::WrongWords => String::from_str(alloc, "-"),
+        UsageFault::BadDate => String::from_str(alloc, "DATE"),
+        UsageFault::BadTime => String::from_str(alloc, "TIME"),
+        UsageFault::BadRides => String::from_str(alloc, "--rides"),
+        UsageFault::BadWindow => String::from_str(alloc, "--within"),
+        UsageFault::BadRide(k) => format!(in alloc; "{k}"),
+        UsageFault::BadSeed => String::from_str(alloc, "SEED"),
+        UsageFault::BadLines => String::from_str(alloc, "LINES"),
+        UsageFault::UnknownStop(word) => String::from_str(alloc, stop_word(word)),
+        UsageFault::WrongStopKind(word) => String::from_str(alloc, stop_word(word)),
+        UsageFault::NoSuchRide(k) => format!(in alloc; "{k}"),
+        UsageFault::NoChange(k) => format!(in alloc; "{k}"),
+        UsageFault::UnknownRider => String::from_str(alloc, "--rider"),
+        UsageFault::RiderNeeded => String::from_str(alloc, "--rider"),
+    }
+}
+
+/// The line of a usage fault.
+pub(crate) fn usage_line_of(alloc: Global, fault: UsageFault) -> Result<String, AllocError>
+    ensures { IfOk result (λ line. string_bytes line ≡ usage_line fault) }
+{
+    let name = fault.text();
+    let argument = argument_of(alloc, fault)?;
+    let argument = argument.as_str();
+    format!(in alloc; "usage\t{name}\t{argument}\n")
+}
+
+// The column of a fault, as it is printed.
+fn column_text(column: Option<ColumnName>) -> &'static str
+    ensures { result.now ≡ place_text column }
+{
+    match column {
+        None => "-",
+        Some(column) => column.text(),
+    }
+}
+
+/// The line of a fault of the feed.
+pub(crate) fn refused_line_of(alloc: Global, fault: FeedFault) -> Result<String, AllocError>
+    ensures { IfOk result (λ line. string_bytes line ≡ refused_line fault) }
+{
+    let number = fault.kind.number();
+    let name = fault.kind.text();
+    let file = fault.file.text();
+    let row = fault.row;
+    let column = column_text(fault.column);
+    format!(in alloc; "refused\t{number}\t{name}\t{file}\t{row}\t{column}\n")
+}
+
+/// Writes the lines one by one.
+pub(crate) fn write_lines<S: Sink>(sink: &mut S, lines: &[String]) -> Wrote
+    ensures all { result ≡ Wrote.All → Stayed (S.faults sink.old) (S.faults sink.new) }
+    ensures whole { result ≡ Wrote.All → WroteAll (S.written sink.old) (S.written sink.new) (concat (map string_bytes lines.now)) }
+    ensures failed { result ≡ Wrote.Failed → Rose (S.faults sink.old) (S.faults sink.new) }
+    ensures ends_at_fault { S.faults sink.old < S.faults sink.new → IsTrue (S.failed sink.new) }
+    ensures part { result ≡ Wrote.Failed → WrotePart (S.written sink.old) (S.written sink.new) (concat (map string_bytes lines.now)) }
+{
+    for line in lines {
+        match sink.write(line.as_bytes()) {
+            Wrote::Failed => return Wrote::Failed,
+            Wrote::All => {}
+        }
+    }
+    Wrote::All
+}

@@ -1,0 +1,79 @@
+//! What a plan's words ask for.
+ghost use Rattle.std.specs.Prelude.{◌≡◌, ◌<◌, option_map, length, bytes_eq, codes};
+ghost use Rattle.feed_rows.specs.CommandWords.{word_at};
+ghost use Rattle.feed_rows.specs.WordValues.{word_date, word_time};
+ghost use Rattle.plan_app.specs.OneRideWords.{has_plan_words, is_stop_word, named_moment, one_ride_request};
+ghost use Rattle.plan_app.specs.Request.{request_of};
+
+use crate::words::WordList;
+use feed_text::{day_of_parts, time_of};
+use transit_base::{Day, Moment};
+
+/// A plan of at most one ride within a day.
+#[derive(Clone, Copy, Debug)]
+pub(crate) struct OneRide<'a> {
+    /// The id of the stop where it starts.
+    pub from: &'a str,
+    /// The id of the stop where it ends.
+    pub to: &'a str,
+    pub departure: Moment,
+}
+
+// The day of the form YYYY-MM-DD, from 1900-01-01 to 2999-12-31.
+fn date_in(word: &str) -> Option<Day>
+    ensures { option_map (λ d. d.0) result ≡ word_date word.now }
+{
+    let text = word.as_bytes();
+    if text.len() != 10 || text[4] != b'-' || text[7] != b'-' {
+        return None;
+    }
+    let day = day_of_parts(&text[..4], &text[5..7], &text[8..10])?;
+    if day.0 < -25_567 || day.0 > 376_199 {
+        return None;
+    }
+    Some(day)
+}
+
+// The moment that a date and a time of the day name.
+fn moment_in(date: &str, time: &str) -> Option<Moment>
+    ensures { option_map (λ m. m.0) result ≡ named_moment date.now time.now }
+{
+    let day = date_in(date)?;
+    let seconds = time_of(time.as_bytes(), 86_399)?;
+    Some(Moment::at(day, i64::from(seconds)))
+}
+
+// Whether a word can name a stop.
+fn is_stop(word: &str) -> bool
+    ensures { result ≡ is_stop_word word.now }
+{
+    !word.is_empty() && !word.starts_with("-")
+}
+
+// Whether the words stand where those of a plan do.
+fn is_plan(words: &WordList) -> bool
+    ensures { result ≡ has_plan_words words.now }
+{
+    words.len() == 7
+        && words.word(0) == "plan"
+        && is_stop(words.word(1))
+        && is_stop(words.word(2))
+        && words.word(5) == "--rides"
+        && words.word(6) == "1"
+}
+
+/// What the words ask for; none where they are not those of a plan.
+#[tactic(auto, unfolding(crate::specs::OneRideWords::one_ride_request))]
+pub(crate) fn one_ride_of(words: &WordList) -> Option<OneRide<'_>>
+    ensures { option_map request_of result ≡ one_ride_request words.now }
+{
+    if !is_plan(words) {
+        return None;
+    }
+    let departure = moment_in(words.word(3), words.word(4))?;
+    Some(OneRide {
+        from: words.word(1),
+        to: words.word(2),
+        departure,
+    })
+}
