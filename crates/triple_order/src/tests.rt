@@ -1,0 +1,27 @@
+// Triples of a small answer.
+use crate::{are_same_triples, is_at_most};
+use feed_rows::Triple;
+use transit_base::{Moment, Money};
+
+#[test]
+fn triples(rt: HostRuntime) {
+    let early = Triple {
+        arrival: Moment(30_600),
+        rides: 2,
+        price: Money(300),
+    };
+    let cheap = Triple {
+        arrival: Moment(32_400),
+        rides: 1,
+        price: Money(250),
+    };
+    let late = Triple {
+        arrival: Moment(32_401),
+        ..cheap
+    };
+    assert!(rt; is_at_most(early, early) && is_at_most(cheap, late));
+    assert!(rt; !is_at_most(late, cheap) && !is_at_most(early, cheap) && !is_at_most(cheap, early));
+    assert!(rt; are_same_triples(&[early, cheap], &[early, cheap]));
+    assert!(rt; !are_same_triples(&[early, cheap], &[cheap, early]));
+    assert!(rt; !are_same_triples(&[early, cheap], &[early]));
+}
