@@ -1,14 +1,19 @@
 #!/usr/bin/env python3
-"""Makes a stop_times.txt of many rows in a folder, as a feed of a large city would have it.
+"""Makes a stop_times.txt of many rows in a folder, as a feed of a large city would have it, and times a command over it.
 
-Usage: stop_times.py ROWS FOLDER
+Usage: stop_times.py ROWS FOLDER [COMMAND ..]
+
+The command is run once, with its output thrown away. A line tells rows, bytes, its seconds and its greatest megabytes.
 
 The rows are those of trips of 20 calls each, two minutes apart, with ids of the kind that exporters write. A row has about 45
 bytes. The same number of rows makes the same file.
 """
 
 import os
+import resource
+import subprocess
 import sys
+import time
 
 CALLS = 20
 STOPS = 4_000
@@ -18,8 +23,17 @@ def time_text(seconds):
     return f"{seconds // 3600:02}:{seconds // 60 % 60:02}:{seconds % 60:02}"
 
 
+def run(command):
+    """The seconds and the greatest megabytes of a run of the command."""
+    start = time.time()
+    subprocess.run(command, stdout=subprocess.DEVNULL, check=False)
+    seconds = time.time() - start
+    kilobytes = resource.getrusage(resource.RUSAGE_CHILDREN).ru_maxrss
+    return f"{seconds:.2f}", kilobytes // 1024
+
+
 def main():
-    if len(sys.argv) != 3:
+    if len(sys.argv) < 3:
         sys.exit(__doc__)
     rows = int(sys.argv[1])
     folder = sys.argv[2]
@@ -36,7 +50,9 @@ def main():
                 f"L{trip % 200:03}-{trip:07},{time_text(arrival)},{time_text(arrival + 20)},"
                 f"de:{10000 + stop}:1,{call + 1}\r\n"
             )
-    print(f"{path}: {rows} rows, {os.path.getsize(path)} bytes")
+    print("rows\tbytes\tseconds\tmegabytes")
+    seconds, megabytes = run(sys.argv[3:]) if len(sys.argv) > 3 else ("-", "-")
+    print(f"{rows}\t{os.path.getsize(path)}\t{seconds}\t{megabytes}")
 
 
 if __name__ == "__main__":
