@@ -1,7 +1,7 @@
 // Names, numbers and lists, as files and texts have them.
 use crate::{
-    AreaList, ColumnName, FaultKind, FileName, FrameList, Id, ItemList, RideList, Shifts, StopWord,
-    UsageFault,
+    AreaList, ColumnName, FaultKind, FileName, FrameList, Grouped, Groups, Id, ItemList, RideList,
+    Shifts, StopWord, UsageFault,
 };
 use std::alloc::AllocError;
 use transit_base::{AreaId, FrameId};
@@ -139,5 +139,25 @@ fn ascending_lists(rt: HostRuntime) -> Result<(), AllocError> {
     let mut frames = FrameList::empty(rt.alloc());
     frames.push(FrameId(1))?;
     assert_eq!(rt; frames.items(), [FrameId(1)].as_slice());
+    Ok(())
+}
+
+#[test]
+fn groups(rt: HostRuntime) -> Result<(), AllocError> {
+    let alloc = rt.alloc();
+    let mut members: Vec<Grouped<u32>> = Vec::new(alloc);
+    members.push(Grouped { group: 2, item: 7 })?;
+    members.push(Grouped { group: 0, item: 5 })?;
+    members.push(Grouped { group: 2, item: 6 })?;
+    members.push(Grouped { group: 3, item: 8 })?;
+    let groups = Groups::of(alloc, members, 3)?;
+    assert_eq!(rt; groups.count(), 3);
+    assert_eq!(rt; groups.get(0), [5].as_slice());
+    assert_eq!(rt; groups.get(1), [].as_slice());
+    assert_eq!(rt; groups.get(2), [7, 6].as_slice());
+    assert_eq!(rt; groups.get(3), [].as_slice());
+    if groups.count() > 2 {
+        assert_eq!(rt; groups.group(2), [7, 6].as_slice());
+    }
     Ok(())
 }
