@@ -27,6 +27,13 @@ none_any : (rows : List FrequencyRow) → length rows ≡ 0 → list_any (λ (f 
 none_any [] none = refl
 none_any (f ∷ fs) none = absurd (omega arith)
 
+-- a trip without them has none, and one with them has some
+pub has_frequencies_none : (feed : FeedRows) (trip : TripId) (rows : List FrequencyRow) → AreRunsOf feed trip rows → length rows ≡ 0 → has_frequencies feed trip ≡ false
+has_frequencies_none feed trip rows are none = sym (frequent feed trip rows are) ∙ none_any rows none
+
+pub has_frequencies_rows : (feed : FeedRows) (trip : TripId) (rows : List FrequencyRow) → AreRunsOf feed trip rows → 0 < length rows → has_frequencies feed trip ≡ true
+has_frequencies_rows feed trip rows are some = sym (frequent feed trip rows are) ∙ some_any rows some
+
 -- without frequency rows a shift is 0
 pub is_shift_none : (feed : FeedRows) (trip : TripId) (rows : List FrequencyRow) (z : ℤ) → AreRunsOf feed trip rows → length rows ≡ 0 → is_shift feed trip z ≡ int_same z (pos 0)
 unfolding is_shift

@@ -14,7 +14,7 @@ ghost use Rattle.std.specs.Prelude.{
 };
 ghost use Rattle.feed_rows.specs.declared.journeys.Call.{Call};
 ghost use Rattle.feed_rows.specs.Calls.{calls_of, first_departure};
-ghost use Rattle.feed_rows.specs.Shifts.{is_shift, shifts_of};
+ghost use Rattle.feed_rows.specs.Shifts.{has_frequencies, is_shift, shifts_of};
 ghost use Rattle.feed_rows.specs.Rides.{
   runs_on,
   is_ride,
@@ -109,6 +109,19 @@ impl<'f> Trips<'f> {
         ensures sound { All IsSoundRun result.now }
     {
         group_at(&self.frequencies, &self.frequency_starts, trip.0 as usize)
+    }
+
+    /// Whether a trip has frequency rows.
+    #[tactic(auto, using(crate::proofs::RunLaws::has_frequencies_none, crate::proofs::RunLaws::has_frequencies_rows))]
+    pub fn has_frequencies(&self, trip: TripId) -> bool
+        requires { trip.0 < length self.now.trips }
+        ensures { result ≡ has_frequencies self.now trip }
+    {
+        let rows = self.frequencies_of(trip);
+        if rows.is_empty() {
+            return false;
+        }
+        true
     }
 
     // The departure from a trip's first call, in seconds of the service day; 0 where it has no call.

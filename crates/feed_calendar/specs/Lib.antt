@@ -1,0 +1,2 @@
+pub mod CalendarRows
+pub mod BuiltCalendar

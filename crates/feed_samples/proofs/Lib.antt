@@ -1,0 +1,2 @@
+pub mod FeedParts
+pub mod VariedSound

@@ -1,0 +1,66 @@
+use Rattle.std.proofs.Common.{sym, subst, refl}
+use Rattle.feed_rows.specs.SoundFeed.{IsSoundFeed}
+use Rattle.feed_samples.specs.VariedRows.{varied_rows}
+use Rattle.feed_samples.proofs.VariedSound.{varied_is_sound}
+use Rattle.feed_samples.proofs.FeedParts.{same_feed}
+use Rattle.feed_samples.proofs.varied.varied_feed.Goals as goal
+
+pub invariant_of-result : goal.invariant_of-result
+unfolding varied_rows
+invariant_of-result c =
+    subst IsSoundFeed (sym (same_feed _ varied_rows (record {
+      stops = c.in_ok-stops.ensures;
+      routes = c.in_ok-routes.ensures;
+      trips = c.in_ok-trips.ensures;
+      stop_times = c.in_ok-stop_times.ensures;
+      services = c.in_ok-services.ensures;
+      exceptions = c.in_ok-exceptions.ensures;
+      frequencies = c.in_ok-frequencies.ensures;
+      links = c.in_ok-links.ensures;
+      areas = c.empty.ensures;
+      stop_areas = c.empty-2.ensures;
+      timeframes = c.empty-3.ensures;
+      riders = c.empty-4.ensures;
+      media = c.empty-5.ensures;
+      products = c.in_ok-tariff.ensures.products;
+      leg_rules = c.in_ok-tariff.ensures.leg_rules;
+      transfer_rules = c.in_ok-tariff.ensures.transfer_rules;
+      service_names = c.in_ok-service_names.ensures;
+      network_names = c.in_ok-tariff.ensures.network_names;
+      frame_names = c.empty-6.ensures;
+      product_names = c.in_ok-tariff.ensures.product_names;
+      group_names = c.in_ok-tariff.ensures.group_names;
+      has_priority = refl;
+      currency = refl;
+      decimals = refl;
+    }))) varied_is_sound
+
+pub returns : goal.returns
+unfolding varied_rows
+returns c =
+    same_feed _ varied_rows (record {
+      stops = c.in_ok-stops.ensures;
+      routes = c.in_ok-routes.ensures;
+      trips = c.in_ok-trips.ensures;
+      stop_times = c.in_ok-stop_times.ensures;
+      services = c.in_ok-services.ensures;
+      exceptions = c.in_ok-exceptions.ensures;
+      frequencies = c.in_ok-frequencies.ensures;
+      links = c.in_ok-links.ensures;
+      areas = c.empty.ensures;
+      stop_areas = c.empty-2.ensures;
+      timeframes = c.empty-3.ensures;
+      riders = c.empty-4.ensures;
+      media = c.empty-5.ensures;
+      products = c.in_ok-tariff.ensures.products;
+      leg_rules = c.in_ok-tariff.ensures.leg_rules;
+      transfer_rules = c.in_ok-tariff.ensures.transfer_rules;
+      service_names = c.in_ok-service_names.ensures;
+      network_names = c.in_ok-tariff.ensures.network_names;
+      frame_names = c.empty-6.ensures;
+      product_names = c.in_ok-tariff.ensures.product_names;
+      group_names = c.in_ok-tariff.ensures.group_names;
+      has_priority = refl;
+      currency = refl;
+      decimals = refl;
+    })

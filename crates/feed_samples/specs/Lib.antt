@@ -1,0 +1,3 @@
+pub mod SampleRows
+pub mod BaseRows
+pub mod VariedRows
