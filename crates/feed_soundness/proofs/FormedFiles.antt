@@ -1,0 +1,128 @@
+-- What the first pass says of a file in which it finds no fault.
+use Rattle.std.proofs.Common.{◌≡◌, refl, ℕ, ◌<◌, ◌≤◌, Bool, true, false, List, [], ◌∷◌, length, arith}
+use Rattle.std.specs.Prelude.{map, Some, None, slice_get, nat_lt, not, option_map}
+use Rattle.std.proofs.lemmas.Bool.Decides.{nat_tests}
+use Rattle.std.specs.Str.{is_utf8}
+use Rattle.feed_rows.specs.declared.names.FileName.{FileName}
+use Rattle.feed_rows.specs.declared.names.FileName.TheVariants as file
+use Rattle.feed_rows.specs.declared.faults.FaultKind.TheVariants as kind
+use Rattle.feed_rows.specs.HeldFiles.{HeldFile}
+use Rattle.feed_rows.specs.Words.{when, first_in, first_of}
+use Rattle.feed_faults.specs.declared.columns.ColumnRule.{ColumnRule}
+use Rattle.feed_faults.specs.Records.{FileTable, table_of_bytes, row_count, is_long}
+use Rattle.feed_faults.specs.FaultPlaces.{file_fault, row_fault, field_fault}
+use Rattle.feed_faults.specs.FormFaults.{most_rows, field_misfit, judged_columns, form_fault_of_row, form_fault_of_rows, form_fault_of_table, form_fault_of_bytes, form_fault_of_held, is_needed, form_fault, header_fault, timetable_form_fault, network_form_fault, fare_form_fault, first_form_fault}
+use Rattle.feed_faults.specs.FeedTables.{table_of, tables_of}
+use Rattle.feed_soundness.specs.AcceptedTables.{IsFormed, AreFormed}
+use Rattle.feed_soundness.proofs.NoneLaws.{none_either, none_below, none_in, none_when, none_map}
+
+-- a row without a fault
+row_formed : (file : FileName) (table : FileTable) (row k : ℕ) (rule : ColumnRule) → form_fault_of_row file table row ≡ None → slice_get (judged_columns file table row) k ≡ Some rule → field_misfit table row rule ≡ None
+unfolding form_fault_of_row
+row_formed file table row k rule none at =
+    let columns = (none_either (when (is_long table row) (row_fault file row kind.LongRow)) (first_in (judged_columns file table row) (λ rule. option_map (field_fault file row rule.name) (field_misfit table row rule))) none).1 in
+    none_map (field_fault file row rule.name) (field_misfit table row rule) (none_in (judged_columns file table row) (λ rule. option_map (field_fault file row rule.name) (field_misfit table row rule)) k rule columns at)
+
+-- the rows without a fault
+rows_formed : (file : FileName) (table : FileTable) (row k : ℕ) (rule : ColumnRule) → form_fault_of_rows file table ≡ None → row < row_count table → slice_get (judged_columns file table row) k ≡ Some rule → field_misfit table row rule ≡ None
+unfolding form_fault_of_rows
+rows_formed file table row k rule none lt at = row_formed file table row k rule (none_below (form_fault_of_row file table) (row_count table) row none lt) at
+
+-- a table without a fault before its rows
+table_few : (needed : Bool) (most : ℕ) (file : FileName) (table : FileTable) → form_fault_of_table needed most file table ≡ None → row_count table ≤ most
+unfolding form_fault_of_table
+table_few needed most file table none = step (nat_lt 0 (length table)) refl
+  where
+    step : (b : Bool) → nat_lt 0 (length table) ≡ b → row_count table ≤ most
+    step true e =
+        let both = none_either (when (nat_lt most (row_count table)) (file_fault file kind.TooManyRows)) (header_fault file table) (rw e at none) in
+        let few = none_when (nat_lt most (row_count table)) (file_fault file kind.TooManyRows) both.0 in
+        grind (arith, nat_tests)
+    step false e = let none : length table ≤ 0 = grind (arith, nat_tests) in omega arith
+
+-- a table in which the first pass finds no fault is formed
+pub table_formed : (needed : Bool) (file : FileName) (table : FileTable) → form_fault_of_table needed most_rows file table ≡ None → form_fault_of_rows file table ≡ None → IsFormed file table
+table_formed needed file table whole rows =
+    record { few = table_few needed most_rows file table whole; fields = λ row k rule lt at. rows_formed file table row k rule rows lt at }
+
+bytes_few : (needed : Bool) (most : ℕ) (file : FileName) (bytes : List ℕ) → form_fault_of_bytes needed most file bytes ≡ None → row_count (table_of_bytes bytes) ≤ most
+unfolding form_fault_of_bytes
+bytes_few needed most file bytes none =
+    table_few needed most file (table_of_bytes bytes) (none_either (when (not (is_utf8 bytes)) (file_fault file kind.NotUtf8)) (form_fault_of_table needed most file (table_of_bytes bytes)) none).1
+
+-- a file without a fault is formed
+held_formed : (needed : Bool) (file : FileName) (held : HeldFile) → form_fault_of_held needed file held ≡ None → IsFormed file (table_of held)
+held_formed needed file HeldFile.Missing none = record { few = omega arith; fields = λ row k rule lt at. absurd (omega arith) }
+held_formed needed file HeldFile.TooLarge none = absurd (cc)
+held_formed needed file (HeldFile.Bytes bytes) none =
+    let both = none_either (form_fault_of_bytes needed most_rows file bytes) (form_fault_of_rows file (table_of_bytes bytes)) none in
+    record {
+      few = bytes_few needed most_rows file bytes both.0;
+      fields = λ row k rule lt at. rows_formed file (table_of_bytes bytes) row k rule both.1 lt at;
+    }
+
+file_formed : (files : FileName → HeldFile) (file : FileName) → form_fault files file ≡ None → IsFormed file (table_of (files file))
+unfolding form_fault
+file_formed files file none = held_formed (is_needed files file) file (files file) none
+
+-- these files are formed
+abbrev AllFormed : (FileName → HeldFile) → List FileName → Type 0
+AllFormed files [] = Unit {0}
+AllFormed files (name ∷ names) = IsFormed name (table_of (files name)) × AllFormed files names
+
+each_formed : (files : FileName → HeldFile) (names : List FileName) → first_of (map (form_fault files) names) ≡ None → AllFormed files names
+each_formed files [] none = tt
+each_formed files (name ∷ names) none =
+    let both = none_either (form_fault files name) (first_of (map (form_fault files) names)) none in
+    (file_formed files name both.0, each_formed files names both.1)
+
+abbrev timetable_files : List FileName
+timetable_files = file.Stops ∷ file.Routes ∷ file.Trips ∷ file.StopTimes ∷ file.Calendar ∷ file.CalendarDates ∷ []
+
+abbrev network_files : List FileName
+network_files = file.Frequencies ∷ file.Transfers ∷ file.Areas ∷ file.StopAreas ∷ file.Networks ∷ file.RouteNetworks ∷ []
+
+abbrev fare_files : List FileName
+fare_files = file.Timeframes ∷ file.RiderCategories ∷ file.FareMedia ∷ file.FareProducts ∷ file.FareLegRules ∷ file.FareTransferRules ∷ []
+
+timetable_formed : (files : FileName → HeldFile) → timetable_form_fault files ≡ None → AllFormed files timetable_files
+unfolding timetable_form_fault
+timetable_formed files none = each_formed files timetable_files none
+
+network_formed : (files : FileName → HeldFile) → network_form_fault files ≡ None → AllFormed files network_files
+unfolding network_form_fault
+network_formed files none = each_formed files network_files none
+
+fare_formed : (files : FileName → HeldFile) → fare_form_fault files ≡ None → AllFormed files fare_files
+unfolding fare_form_fault
+fare_formed files none = each_formed files fare_files none
+
+-- where the first pass finds no fault, all files are formed
+pub formed : (files : FileName → HeldFile) → first_form_fault files ≡ None → AreFormed (tables_of files)
+unfolding tables_of
+formed files none =
+    let one = none_either (timetable_form_fault files) (first_of (network_form_fault files ∷ fare_form_fault files ∷ [])) none in
+    let two = none_either (network_form_fault files) (first_of (fare_form_fault files ∷ [])) one.1 in
+    let timetable = timetable_formed files one.0 in
+    let networks = network_formed files two.0 in
+    let fares = fare_formed files (none_either (fare_form_fault files) None two.1).0 in
+    record {
+      stops = timetable.0;
+      routes = timetable.1.0;
+      trips = timetable.1.1.0;
+      stop_times = timetable.1.1.1.0;
+      calendar = timetable.1.1.1.1.0;
+      calendar_dates = timetable.1.1.1.1.1.0;
+      frequencies = networks.0;
+      transfers = networks.1.0;
+      areas = networks.1.1.0;
+      stop_areas = networks.1.1.1.0;
+      networks = networks.1.1.1.1.0;
+      route_networks = networks.1.1.1.1.1.0;
+      timeframes = fares.0;
+      rider_categories = fares.1.0;
+      fare_media = fares.1.1.0;
+      fare_products = fares.1.1.1.0;
+      fare_leg_rules = fares.1.1.1.1.0;
+      fare_transfer_rules = fares.1.1.1.1.1.0;
+    }
