@@ -18,4 +18,5 @@ pub use dates::{date_of, day_of_parts};
 pub use errors::TextError;
 pub use ids::{currency_of, id_ok};
 pub use numbers::{count_of, int_of, time_of};
-pub use table::Table;
+pub use reading::is_always_needed;
+pub use table::{Table, has_record};

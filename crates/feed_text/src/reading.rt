@@ -39,8 +39,8 @@ fn column_fault(file: FileName, name: ColumnName, kind: FaultKind) -> FeedFault
     }
 }
 
-// Whether a feed needs the file, whatever else it holds.
-fn is_always_needed(file: FileName) -> bool
+/// Whether a feed needs the file, whatever else it holds.
+pub fn is_always_needed(file: FileName) -> bool
     ensures { result ≡ is_always_needed file }
 {
     match file {

@@ -1,5 +1,5 @@
 //! A file as a table, kept flat.
-ghost use Rattle.std.specs.Prelude.{◌≡◌, ◌≤◌, ◌<◌, ◌+◌, ◌-◌, ◌^◌, ◌++◌, ◌∷◌, [], List, ℕ, length, map, get_or, slice_index, IfOk, OnOk, IfSome, Some, bytes_eq, nat_le};
+ghost use Rattle.std.specs.Prelude.{◌≡◌, ◌≤◌, ◌<◌, ◌+◌, ◌-◌, ◌^◌, ◌++◌, ◌∷◌, [], List, ℕ, length, map, get_or, slice_index, IfOk, OnOk, IfSome, Some, bytes_eq, nat_le, nat_lt, not};
 ghost use Rattle.csv.specs.Records.{fields_of};
 ghost use Rattle.feed_rows.specs.Words.{when, any_below};
 ghost use Rattle.feed_rows.specs.Names.{column_text};
@@ -70,7 +70,38 @@ pub(crate) fn table_within(
     Ok(None)
 }
 
+/// Whether a file's bytes have a record. No more than two are read.
+///
+/// # Errors
+/// Want of memory.
+pub fn has_record(alloc: Global, text: &[u8]) -> Result<bool, AllocError>
+    ensures { IfOk result (λ has. has ≡ nat_lt 0 (length (table_of_bytes text.now))) }
+{
+    match table_within(alloc, text, 0)? {
+        Some(table) => Ok(!table.is_empty()),
+        None => Ok(true),
+    }
+}
+
 impl Table {
+    /// The table without a record, as of a file that isn't there.
+    pub fn empty(alloc: Global) -> Table
+        ensures { result ≡ [] }
+    {
+        Table {
+            bytes: Vec::new(alloc),
+            fields: Vec::new(alloc),
+            rows: Vec::new(alloc),
+        }
+    }
+
+    /// Whether there is no record, not even a header.
+    pub fn is_empty(&self) -> bool
+        ensures { result ≡ not (nat_lt 0 (length self.now)) }
+    {
+        self.records() == 0
+    }
+
     // How many records there are, the header among them.
     #[tactic(auto, using(crate::proofs::PartLaws::length_parts))]
     pub(crate) fn records(&self) -> usize

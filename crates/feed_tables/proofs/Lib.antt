@@ -1,0 +1,4 @@
+pub mod IdLaws
+pub mod PassLaws
+pub mod HeldLaws
+pub mod UnbuiltLaws

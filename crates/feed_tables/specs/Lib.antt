@@ -1,0 +1,9 @@
+pub mod Columns
+pub mod RowLimits
+pub mod IndexedColumns
+pub mod OrderedRows
+pub mod TableRecords
+pub mod FieldFaults
+pub mod FirstPass
+pub mod TableGroups
+pub mod UnbuiltFiles

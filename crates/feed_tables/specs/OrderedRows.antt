@@ -1,0 +1,34 @@
+-- The rows of a table in the order of their fields in a column.
+use Rattle.std.specs.Prelude.{◌≡◌, ℕ, ◌<◌, ◌≤◌, ◌==◌, true, false, List, length, slice_index_or, slice_get, bytes_eq, Option, option_and_then, All, AllPairs}
+use Rattle.std.specs.List.{list_any}
+use Rattle.std.specs.Cmp.Lexicographic.{slice_cmp}
+use Rattle.std.specs.Ordering.{nat_cmp, ordering_then, is_lt}
+use Rattle.feed_rows.specs.declared.names.ColumnName.{ColumnName}
+use Rattle.feed_rows.specs.Words.{when}
+use Rattle.feed_faults.specs.Records.{FileTable, row_count, field}
+use Rattle.feed_tables.specs.declared.id_rows.IdRow.{IdRow}
+
+-- the list has the first n rows of the table, each with its field in the column
+pub record AreIdRows (table : FileTable) (name : ColumnName) (n : ℕ) (rows : List IdRow) : Type 0 where
+  pub right : All (λ (entry : IdRow). entry.id.now ≡ field table entry.row name) rows
+  pub within : All (λ (entry : IdRow). entry.row < row_count table) rows
+  pub all : (row : ℕ) → row < n → list_any (λ (entry : IdRow). entry.row == row) rows ≡ true
+
+-- b doesn't stand before a: its id isn't less, and where the ids are equal, neither is its row
+abbrev pub IsNotAfter : IdRow → IdRow → Type 0
+IsNotAfter a b = is_lt (ordering_then (slice_cmp nat_cmp b.id.now a.id.now) (nat_cmp b.row a.row)) ≡ false
+
+-- the list has all rows of the table, in order of their ids, and those of one id in order of the table
+pub record AreOrderedRows (table : FileTable) (name : ColumnName) (rows : List IdRow) : Type 0 where
+  pub rows_are : AreIdRows table name (row_count table) rows
+  pub sorted : AllPairs IsNotAfter rows
+
+-- the place of the first row whose id isn't less than this one
+pub record IsPlaceOf (rows : List IdRow) (id : List ℕ) (place : ℕ) : Type 0 where
+  pub within : place ≤ length rows
+  pub before : (k : ℕ) (d : IdRow) → k < place → is_lt (slice_cmp nat_cmp (slice_index_or rows k d).id.now id) ≡ true
+  pub from : (k : ℕ) (d : IdRow) → place ≤ k → k < length rows → is_lt (slice_cmp nat_cmp (slice_index_or rows k d).id.now id) ≡ false
+
+-- the row at a place, where its id is this one
+abbrev pub row_at : List IdRow → ℕ → List ℕ → Option ℕ
+row_at rows place id = option_and_then (λ (entry : IdRow). when (bytes_eq entry.id.now id) entry.row) (slice_get rows place)

@@ -1,0 +1,199 @@
+//! The table of a feed's file, judged by itself.
+ghost use Rattle.std.specs.Prelude.{◌≡◌, ◌≤◌, nat_lt, true, length, [], None, IfOk, IfErr, OnOk};
+ghost use Rattle.feed_rows.specs.HeldFiles.{HeldFile, most_bytes};
+ghost use Rattle.feed_faults.specs.Records.{row_count, table_of_bytes};
+ghost use Rattle.feed_faults.specs.FaultPlaces.{file_fault};
+ghost use Rattle.feed_faults.specs.FeedTables.{table_of};
+ghost use Rattle.feed_faults.specs.FormFaults.{most_rows, has_record, is_always_needed, is_needed, form_fault_of_bytes, form_fault_of_held};
+ghost use Rattle.feed_text.specs.TextErrors.{IsErrorOf};
+ghost use Rattle.folder_io.specs.KeptFiles.{held_of, held_in, IsWithin, AreWithin};
+ghost use Rattle.feed_tables.specs.FirstPass.{is_built, has_byte, unbuilt_fault, pass_fault};
+
+use crate::fields::is_filled;
+use crate::named::NamedTable;
+use crate::rows::fault_of_rows;
+use feed_rows::{FaultKind, FeedFault, FileName};
+use feed_text::{Table, TextError, has_record, is_always_needed};
+use folder_io::{FileBytes, Files};
+use std::alloc::{AllocError, Global};
+
+/// The greatest number of data rows of a file.
+pub const MOST_ROWS: u32 = 4_000_000;
+
+// A fault of a whole file.
+fn file_fault(file: FileName, kind: FaultKind) -> FeedFault
+    ensures { result ≡ file_fault file kind }
+{
+    FeedFault {
+        kind,
+        file,
+        row: 0,
+        column: None,
+    }
+}
+
+// Whether the rows of the file are read.
+fn is_built(file: FileName) -> bool
+    ensures { result ≡ is_built file }
+{
+    match file {
+        FileName::Stops
+        | FileName::Routes
+        | FileName::Trips
+        | FileName::StopTimes
+        | FileName::Calendar
+        | FileName::CalendarDates
+        | FileName::FareProducts
+        | FileName::FareLegRules => true,
+        FileName::Frequencies
+        | FileName::Transfers
+        | FileName::Areas
+        | FileName::StopAreas
+        | FileName::Networks
+        | FileName::RouteNetworks
+        | FileName::Timeframes
+        | FileName::RiderCategories
+        | FileName::FareMedia
+        | FileName::FareTransferRules => false,
+    }
+}
+
+// Whether a file has a record; one that is too large counts as having records.
+fn file_has_record(alloc: Global, held: &FileBytes) -> Result<bool, AllocError>
+    ensures { IfOk result (λ has. has ≡ has_record (held_of held.now)) }
+{
+    match held {
+        FileBytes::Absent => Ok(false),
+        FileBytes::TooLarge => Ok(true),
+        FileBytes::Bytes(text) => has_record(alloc, text.bytes()),
+    }
+}
+
+// Whether a feed of these files needs the file.
+fn is_needed(alloc: Global, files: &Files, file: FileName) -> Result<bool, AllocError>
+    ensures value { IfOk result (λ needed. needed ≡ is_needed (held_in files.now) file) }
+    ensures always { IfOk result (λ needed. is_always_needed file ≡ true → needed ≡ true) }
+{
+    if file == FileName::Calendar {
+        return Ok(!file_has_record(alloc, files.get(FileName::CalendarDates))?);
+    }
+    Ok(is_always_needed(file))
+}
+
+// The table without a record.
+fn no_table(alloc: Global) -> Result<NamedTable, AllocError>
+    ensures { IfOk result (λ table. table ≡ []) }
+{
+    NamedTable::of(alloc, Table::empty(alloc))
+}
+
+// The table of a file's bytes, judged before its rows.
+#[tactic(auto, using(crate::proofs::HeldLaws::fault_before_rows, crate::proofs::HeldLaws::missing_before_rows, crate::proofs::HeldLaws::none_before_rows, crate::proofs::HeldLaws::few_rows))]
+fn table_before_rows(
+    alloc: Global,
+    bytes: &[u8],
+    file: FileName,
+    needed: bool,
+) -> Result<Table, TextError>
+    requires within { length bytes.now ≤ most_bytes }
+    requires always { is_always_needed file ≡ true → needed ≡ true }
+    ensures fault { IfErr result (IsErrorOf (form_fault_of_bytes needed most_rows file bytes.now)) }
+    ensures sound { OnOk result (form_fault_of_bytes needed most_rows file bytes.now ≡ None) }
+    ensures table { IfOk result (λ table. table ≡ table_of_bytes bytes.now) }
+    ensures few { IfOk result (λ table. row_count table ≤ most_rows) }
+{
+    let table = Table::read(alloc, bytes, file, MOST_ROWS)?;
+    if needed && table.is_empty() {
+        return Err(TextError::Fault(file_fault(file, FaultKind::MissingFile)));
+    }
+    Ok(table)
+}
+
+// The table of a file's bytes, judged whole.
+#[tactic(auto, using(crate::proofs::PassLaws::error_first))]
+fn table_of_text(
+    alloc: Global,
+    bytes: &[u8],
+    file: FileName,
+    needed: bool,
+) -> Result<NamedTable, TextError>
+    requires within { length bytes.now ≤ most_bytes }
+    requires always { is_always_needed file ≡ true → needed ≡ true }
+    ensures fault { IfErr result (IsErrorOf (form_fault_of_held needed file (HeldFile.Bytes bytes.now))) }
+    ensures sound { OnOk result (form_fault_of_held needed file (HeldFile.Bytes bytes.now) ≡ None) }
+    ensures table { IfOk result (λ table. table ≡ table_of_bytes bytes.now) }
+{
+    let table = NamedTable::of(alloc, table_before_rows(alloc, bytes, file, needed)?)?;
+    if let Some(fault) = fault_of_rows(file, &table) {
+        return Err(TextError::Fault(fault));
+    }
+    Ok(table)
+}
+
+// The table of a file whose rows are read.
+fn built_table(
+    alloc: Global,
+    held: &FileBytes,
+    file: FileName,
+    needed: bool,
+) -> Result<NamedTable, TextError>
+    requires within { IsWithin most_bytes held.now }
+    requires always { is_always_needed file ≡ true → needed ≡ true }
+    ensures fault { IfErr result (IsErrorOf (form_fault_of_held needed file (held_of held.now))) }
+    ensures sound { OnOk result (form_fault_of_held needed file (held_of held.now) ≡ None) }
+    ensures table { IfOk result (λ table. table ≡ table_of (held_of held.now)) }
+{
+    match held {
+        FileBytes::Absent => {
+            if needed {
+                return Err(TextError::Fault(file_fault(file, FaultKind::MissingFile)));
+            }
+            Ok(no_table(alloc)?)
+        }
+        FileBytes::TooLarge => Err(TextError::Fault(file_fault(file, FaultKind::FileTooLarge))),
+        FileBytes::Bytes(text) => table_of_text(alloc, text.bytes(), file, needed),
+    }
+}
+
+// Whether a file has a byte.
+fn has_byte(held: &FileBytes) -> bool
+    ensures { result ≡ has_byte (held_of held.now) }
+{
+    match held {
+        FileBytes::Absent => false,
+        FileBytes::TooLarge => true,
+        FileBytes::Bytes(text) => is_filled(text.bytes()),
+    }
+}
+
+// The table of a file whose rows aren't read: it may have no byte.
+#[tactic(auto, using(crate::proofs::HeldLaws::no_byte))]
+fn unbuilt_table(alloc: Global, held: &FileBytes, file: FileName) -> Result<NamedTable, TextError>
+    ensures fault { IfErr result (IsErrorOf (unbuilt_fault file (held_of held.now))) }
+    ensures sound { OnOk result (unbuilt_fault file (held_of held.now) ≡ None) }
+    ensures table { IfOk result (λ table. table ≡ table_of (held_of held.now)) }
+{
+    if has_byte(held) {
+        return Err(TextError::Fault(file_fault(file, FaultKind::NotBuilt)));
+    }
+    Ok(no_table(alloc)?)
+}
+
+/// The table of a file, judged by itself.
+///
+/// # Errors
+/// The file's first fault; want of memory.
+#[tactic(auto, unfolding(crate::specs::FirstPass::pass_fault, feed_faults::specs::FormFaults::form_fault))]
+pub fn file_table(alloc: Global, files: &Files, file: FileName) -> Result<NamedTable, TextError>
+    requires { AreWithin files.now }
+    ensures fault { IfErr result (IsErrorOf (pass_fault (held_in files.now) file)) }
+    ensures sound { OnOk result (pass_fault (held_in files.now) file ≡ None) }
+    ensures table { IfOk result (λ table. table ≡ table_of (held_in files.now file)) }
+{
+    let held = files.get(file);
+    if !is_built(file) {
+        return unbuilt_table(alloc, held, file);
+    }
+    let needed = is_needed(alloc, files, file)?;
+    built_table(alloc, held, file, needed)
+}

@@ -1,0 +1,20 @@
+//! The tables of a feed's files, with the first pass of faults: what is wrong with a file by itself.
+#![tactic(auto)]
+
+mod fields;
+mod files;
+mod group_reading;
+mod groups;
+mod id_rows;
+mod index;
+mod named;
+mod reading;
+mod rows;
+mod tables;
+#[cfg(test)]
+mod tests;
+
+pub use files::MOST_ROWS;
+pub use index::IdIndex;
+pub use named::NamedTable;
+pub use tables::Tables;

@@ -1,0 +1,106 @@
+//! A file's table with the places of its columns.
+ghost use Rattle.std.specs.Prelude.{◌≡◌, ◌<◌, ◌≤◌, map, length, get_or, [], is_some, IfOk, IfSome};
+ghost use Rattle.feed_faults.specs.Records.{header, data_row, row_count, column_of, field, is_long};
+ghost use Rattle.feed_tables.specs.Columns.{all_columns};
+ghost use Rattle.feed_tables.specs.RowLimits.{row_limit};
+
+use feed_rows::ColumnName;
+use feed_text::Table;
+use std::alloc::{AllocError, Global};
+use std::marker::Model;
+
+/// A file's table, whose fields are found by the names of their columns. Contracts see it as the table.
+pub struct NamedTable {
+    table: Table,
+    // The place of each column in the header, in the order of `ColumnName::ALL`.
+    places: Vec<Option<u32>>,
+}
+
+impl Model for NamedTable {
+    ghost use Rattle.feed_faults.specs.Records.{FileTable};
+    ghost use Rattle.feed_tables.specs.Columns.{ArePlaces};
+    ghost use Rattle.feed_tables.specs.RowLimits.{row_limit};
+
+    ghost Value = { FileTable };
+
+    ghost view = { λ t. t.table };
+
+    ghost invariant = { λ t. ArePlaces row_limit t.table t.places.items };
+}
+
+// Written out, so that what lets go of many tables needn't look into each.
+impl Drop for NamedTable {
+    fn drop(self) {
+        let NamedTable {
+            table: _,
+            places: _,
+        } = self;
+    }
+}
+
+// The place of each column in the header.
+fn places_of(alloc: Global, table: &Table) -> Result<Vec<Option<u32>>, AllocError>
+    ensures { IfOk result (λ places. places.items ≡ map (column_of table.now) all_columns) }
+{
+    ColumnName::ALL
+        .iter()
+        .map(|name| table.column(*name))
+        .collect(alloc)
+}
+
+impl NamedTable {
+    /// The table with the places of its columns.
+    ///
+    /// # Errors
+    /// Want of memory.
+    pub fn of(alloc: Global, table: Table) -> Result<NamedTable, AllocError>
+        requires { row_count table ≤ row_limit }
+        ensures { IfOk result (λ named. named ≡ table) }
+    {
+        let places = places_of(alloc, &table)?;
+        Ok(NamedTable { table, places })
+    }
+
+    /// How many data rows there are.
+    pub fn rows(&self) -> u32
+        ensures count { result ≡ row_count self.now }
+        ensures few { result ≤ row_limit }
+    {
+        self.table.rows()
+    }
+
+    // The place of a column in the header.
+    fn column(&self, name: ColumnName) -> Option<u32>
+        ensures { result ≡ column_of self.now name }
+    {
+        self.places[name as usize]
+    }
+
+    /// Whether the header has the column.
+    pub fn has(&self, name: ColumnName) -> bool
+        ensures { result ≡ is_some (column_of self.now name) }
+    {
+        self.column(name).is_some()
+    }
+
+    /// The field of a data row in a column, without the blanks at its ends; empty where the row is short or has no such
+    /// column.
+    #[tactic(auto, unfolding(feed_faults::specs::Records::field))]
+    pub fn field(&self, row: u32, name: ColumnName) -> &[u8]
+        requires { row < row_count self.now }
+        ensures { result.now ≡ field self.now row name }
+    {
+        match self.column(name) {
+            None => &[],
+            Some(column) => self.table.field(row, column),
+        }
+    }
+
+    /// Whether a data row has a field past the header that isn't empty.
+    pub fn is_long(&self, row: u32) -> bool
+        requires { row < row_count self.now }
+        ensures { result ≡ is_long self.now row }
+    {
+        self.table.extra(row)
+    }
+}
