@@ -1,0 +1,5 @@
+pub mod LinkLaws
+pub mod ValueLaws
+pub mod KeyLaws
+pub mod TripNumberLaws
+pub mod PassLaws

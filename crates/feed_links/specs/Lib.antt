@@ -1,0 +1,3 @@
+pub mod RowNumbers
+pub mod JudgedBy
+pub mod SeenKeys

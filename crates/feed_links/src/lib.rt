@@ -1,0 +1,16 @@
+//! The second pass over a feed: what is wrong with the files among each other.
+#![tactic(auto)]
+
+mod exceptions;
+mod files;
+mod pass;
+mod places;
+mod products;
+mod rules;
+mod stop_times;
+#[cfg(test)]
+mod tests;
+mod timetable;
+mod values;
+
+pub use pass::first_link_fault;

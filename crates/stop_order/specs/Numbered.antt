@@ -1,0 +1,59 @@
+-- Stop times whose trips are numbers, and what is wrong with them under the texts of their trips.
+use Rattle.std.specs.Prelude.{◌≡◌, ℕ, ◌<◌, ◌==◌, ◌||◌, Bool, false, List, length, get_or, bytes_eq, is_some, Option, None}
+use Rattle.std.specs.Option.{option_or}
+use Rattle.feed_rows.specs.Words.{list_below}
+use Rattle.feed_faults.specs.RowKeys.{is_repeated}
+use Rattle.feed_faults.specs.StopTimeLinks.{StopTime, same_place, is_end_time_missing, do_times_decrease}
+use Rattle.stop_order.specs.declared.times.NumberedTime.{NumberedTime}
+use Rattle.stop_order.specs.declared.times.OrderFaults.{OrderFaults}
+
+-- past the last row
+abbrev pub no_time : NumberedTime
+no_time = record { trip = 0; sequence = 0; arrival = None; departure = None }
+
+-- the row of this number
+abbrev pub numbered_at : List NumberedTime → ℕ → NumberedTime
+numbered_at times row = get_or times row no_time
+
+-- a row with the text of its trip in place of the number
+abbrev pub named_time : List NumberedTime → (ℕ → List ℕ) → ℕ → StopTime
+named_time times text row =
+    record {
+      trip = text row;
+      sequence = (numbered_at times row).sequence;
+      arrival = (numbered_at times row).arrival;
+      departure = (numbered_at times row).departure;
+    }
+
+-- the rows with the texts of their trips
+abbrev pub named_times : List NumberedTime → (ℕ → List ℕ) → List StopTime
+named_times times text = list_below (length times) (named_time times text)
+
+-- the rows with the text of this row's trip are those with its number
+abbrev pub IsOneTrip : List NumberedTime → (ℕ → List ℕ) → ℕ → Type 0
+IsOneTrip times text row =
+    (other : ℕ) → other < length times
+    → bytes_eq (text other) (text row) ≡ ((numbered_at times other).trip == (numbered_at times row).trip)
+
+-- what is wrong with a stop time among those of its trip
+unfoldable pub faults_at : List StopTime → ℕ → OrderFaults
+faults_at times row =
+    record {
+      is_repeated = is_repeated (same_place times) row;
+      is_end_time_missing = is_end_time_missing times row;
+      do_times_decrease = do_times_decrease times row;
+    }
+
+-- no fault
+abbrev pub no_faults : OrderFaults
+no_faults = record { is_repeated = false; is_end_time_missing = false; do_times_decrease = false }
+
+-- a row has at least one time; its first time, and its last
+abbrev pub is_set : NumberedTime → Bool
+is_set x = is_some x.arrival || is_some x.departure
+
+abbrev pub first_of_times : NumberedTime → Option ℕ
+first_of_times x = option_or x.arrival x.departure
+
+abbrev pub last_of_times : NumberedTime → Option ℕ
+last_of_times x = option_or x.departure x.arrival
