@@ -1,0 +1,22 @@
+-- The currency of accepted products.
+use Rattle.std.proofs.Common.{◌≡◌, refl, ℕ, ◌<◌, List, [], ◌∷◌, length, get_or, arith}
+use Rattle.feed_rows.specs.declared.names.FileName.TheVariants as file
+use Rattle.feed_rows.specs.declared.names.ColumnName.TheVariants.{Currency}
+use Rattle.feed_faults.specs.Records.{row_count, field}
+use Rattle.feed_faults.specs.FileColumns.{currency}
+use Rattle.feed_faults.specs.FeedTables.{FeedTables}
+use Rattle.feed_soundness.specs.AcceptedTables.{AreFormed}
+use Rattle.feed_soundness.proofs.FieldLaws.{must_at}
+use Rattle.feed_soundness.proofs.ValueLaws.{currency_good}
+
+-- it has three letters
+pub currency_of_three : (t : FeedTables) → AreFormed t → 0 < row_count t.fare_products → length (field t.fare_products 0 Currency) ≡ 3
+currency_of_three t formed lt = (currency_good (field t.fare_products 0 Currency) (must_at file.FareProducts t.fare_products 0 3 Currency currency formed.fare_products lt refl).fit).code
+
+-- a text of three bytes, byte by byte
+pub three_bytes : (text : List ℕ) → length text ≡ 3 → get_or text 0 0 ∷ get_or text 1 0 ∷ get_or text 2 0 ∷ [] ≡ text
+three_bytes [] e = absurd (omega arith)
+three_bytes (a ∷ []) e = absurd (omega arith)
+three_bytes (a ∷ b ∷ []) e = absurd (omega arith)
+three_bytes (a ∷ b ∷ c ∷ []) e = refl
+three_bytes (a ∷ b ∷ c ∷ d ∷ rest) e = absurd (omega arith)

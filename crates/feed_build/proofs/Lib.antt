@@ -1,0 +1,5 @@
+pub mod ValueLaws
+pub mod NumberLaws
+pub mod ShortNames
+pub mod CurrencyLaws
+pub mod FeedLaws

@@ -1,0 +1,7 @@
+use Rattle.std.proofs.Common.{◌≡◌}
+use Rattle.feed_rows.specs.Words.{list_below}
+use Rattle.feed_faults.specs.AcceptedFeed.{product_row}
+use Rattle.feed_build.proofs.products.product_rows.Given as goal
+
+abbrev pub invariant-loop-row : goal.invariant-loop-row
+invariant-loop-row l = l.rows ≡ list_below l.row (product_row l.tables)

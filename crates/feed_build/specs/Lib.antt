@@ -1,0 +1,4 @@
+pub mod NameNumbers
+pub mod CallTrips
+pub mod FeedNames
+pub mod FeedParts

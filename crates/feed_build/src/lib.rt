@@ -1,0 +1,19 @@
+//! The rows of a feed from the tables of its files: a typed row for each row of a file, with row numbers in place of ids, and
+//! names numbered by their first appearance.
+#![tactic(auto)]
+
+mod feed;
+mod leg_rules;
+mod names;
+mod numbering;
+mod parts;
+mod products;
+mod routes;
+mod row_numbers;
+mod services;
+mod stop_times;
+mod stops;
+mod trips;
+mod values;
+
+pub use feed::feed_of_tables;

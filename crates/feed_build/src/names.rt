@@ -1,0 +1,96 @@
+//! The names of a feed that have no rows of their own.
+ghost use Rattle.std.specs.Prelude.{◌≡◌, IfOk};
+ghost use Rattle.feed_faults.specs.AcceptedFeed.{
+  service_names,
+  network_names,
+  frame_names,
+  product_names,
+  group_names,
+};
+ghost use Rattle.feed_soundness.specs.AcceptedTables.{AreFormed};
+ghost use Rattle.feed_build.specs.FeedNames.{AreNamesOf};
+
+use crate::numbering::Numbering;
+use feed_rows::ColumnName;
+use feed_tables::Tables;
+use std::alloc::{AllocError, Global};
+
+/// The names of a feed that have no rows of their own, each kind by first appearance.
+#[derive(Drop)]
+pub struct Names<'t> {
+    pub services: Numbering<'t>,
+    pub networks: Numbering<'t>,
+    pub frames: Numbering<'t>,
+    pub products: Numbering<'t>,
+    pub groups: Numbering<'t>,
+}
+
+// The names of services: those of trips, and behind them the new ones of calendars, of their exceptions and of timeframes.
+#[tactic(auto, unfolding(feed_faults::specs::AcceptedFeed::service_names), using(crate::proofs::ShortNames::trip_services_short, crate::proofs::ShortNames::calendar_services_short, crate::proofs::ShortNames::exception_services_short, crate::proofs::ShortNames::frame_services_short))]
+fn service_names<'t>(alloc: Global, tables: &'t Tables) -> Result<Numbering<'t>, AllocError>
+    requires { AreFormed tables.now }
+    ensures { IfOk result (λ names. names ≡ service_names tables.now) }
+{
+    Numbering::empty(alloc)
+        .with_column(alloc, &tables.trips, ColumnName::ServiceId)?
+        .with_column(alloc, &tables.calendar, ColumnName::ServiceId)?
+        .with_column(alloc, &tables.calendar_dates, ColumnName::ServiceId)?
+        .with_column(alloc, &tables.timeframes, ColumnName::ServiceId)
+}
+
+// The names of fare networks: those of routes, and behind them the new ones of networks.txt.
+#[tactic(auto, unfolding(feed_faults::specs::AcceptedFeed::network_names), using(crate::proofs::ShortNames::route_networks_short, crate::proofs::ShortNames::networks_short))]
+fn network_names<'t>(alloc: Global, tables: &'t Tables) -> Result<Numbering<'t>, AllocError>
+    requires { AreFormed tables.now }
+    ensures { IfOk result (λ names. names ≡ network_names tables.now) }
+{
+    Numbering::empty(alloc)
+        .with_column(alloc, &tables.routes, ColumnName::NetworkId)?
+        .with_column(alloc, &tables.networks, ColumnName::NetworkId)
+}
+
+// The names of timeframe groups.
+#[tactic(auto, unfolding(feed_faults::specs::AcceptedFeed::frame_names), using(crate::proofs::ShortNames::frame_groups_short))]
+fn frame_names<'t>(alloc: Global, tables: &'t Tables) -> Result<Numbering<'t>, AllocError>
+    requires { AreFormed tables.now }
+    ensures { IfOk result (λ names. names ≡ frame_names tables.now) }
+{
+    Numbering::empty(alloc).with_column(alloc, &tables.timeframes, ColumnName::TimeframeGroupId)
+}
+
+// The names of fare products.
+#[tactic(auto, unfolding(feed_faults::specs::AcceptedFeed::product_names), using(crate::proofs::ShortNames::products_short))]
+fn product_names<'t>(alloc: Global, tables: &'t Tables) -> Result<Numbering<'t>, AllocError>
+    requires { AreFormed tables.now }
+    ensures { IfOk result (λ names. names ≡ product_names tables.now) }
+{
+    Numbering::empty(alloc).with_column(alloc, &tables.fare_products, ColumnName::FareProductId)
+}
+
+// The names of leg groups.
+#[tactic(auto, unfolding(feed_faults::specs::AcceptedFeed::group_names), using(crate::proofs::ShortNames::leg_groups_short))]
+fn group_names<'t>(alloc: Global, tables: &'t Tables) -> Result<Numbering<'t>, AllocError>
+    requires { AreFormed tables.now }
+    ensures { IfOk result (λ names. names ≡ group_names tables.now) }
+{
+    Numbering::empty(alloc).with_column(alloc, &tables.fare_leg_rules, ColumnName::LegGroupId)
+}
+
+impl<'t> Names<'t> {
+    /// The names that the tables have.
+    ///
+    /// # Errors
+    /// Want of memory.
+    pub fn of(alloc: Global, tables: &'t Tables) -> Result<Names<'t>, AllocError>
+        requires { AreFormed tables.now }
+        ensures { IfOk result (λ names. AreNamesOf tables.now names) }
+    {
+        Ok(Names {
+            services: service_names(alloc, tables)?,
+            networks: network_names(alloc, tables)?,
+            frames: frame_names(alloc, tables)?,
+            products: product_names(alloc, tables)?,
+            groups: group_names(alloc, tables)?,
+        })
+    }
+}

@@ -1,0 +1,68 @@
+//! The rows of stops.txt.
+ghost use Rattle.std.specs.Prelude.{◌≡◌, ◌<◌, IfOk};
+ghost use Rattle.feed_rows.specs.declared.names.ColumnName.TheVariants as column;
+ghost use Rattle.feed_faults.specs.Records.{row_count};
+ghost use Rattle.feed_faults.specs.AcceptedFeed.{parent_of, stop_row, rows_of};
+ghost use Rattle.feed_faults.specs.FieldValues.{stop_kind};
+ghost use Rattle.feed_soundness.specs.AcceptedTables.{AreFormed};
+
+use crate::row_numbers::RowNumbers;
+use crate::values::{is_filled, optional_int};
+use feed_rows::{ColumnName, Id, StopRow, StopRows};
+use feed_tables::{NamedTable, Tables};
+use std::alloc::{AllocError, Global};
+use transit_base::StopId;
+
+// The parent of a stop of this kind: the station that a platform names.
+#[tactic(auto, unfolding(feed_faults::specs::AcceptedFeed::parent_of))]
+fn parent_of(table: &NamedTable, stops: &RowNumbers, kind: u32, row: u32) -> Option<StopId>
+    requires within { row < row_count table.now }
+    requires stops { stops.now ≡ record { table = table.now; name = column.StopId } }
+    requires kind { kind ≡ stop_kind table.now row }
+    ensures { result ≡ parent_of table.now row }
+{
+    let parent = table.field(row, ColumnName::ParentStation);
+    if kind == 0 && is_filled(parent) {
+        Some(StopId(stops.number(parent)))
+    } else {
+        None
+    }
+}
+
+// A row of stops.txt.
+#[tactic(auto, unfolding(feed_faults::specs::AcceptedFeed::stop_row), using(feed_soundness::proofs::IdColumns::stop_id))]
+fn stop_row(
+    alloc: Global,
+    tables: &Tables,
+    stops: &RowNumbers,
+    row: u32,
+) -> Result<StopRow, AllocError>
+    requires formed { AreFormed tables.now }
+    requires within { row < row_count tables.now.stops }
+    requires stops { stops.now ≡ record { table = tables.now.stops; name = column.StopId } }
+    ensures { IfOk result (λ stop. stop ≡ stop_row tables.now row) }
+{
+    let table = &tables.stops;
+    let kind = optional_int(table.field(row, ColumnName::LocationType), 4);
+    Ok(StopRow {
+        id: Id::copy_of(alloc, table.field(row, ColumnName::StopId))?,
+        kind: kind as u8,
+        parent: parent_of(table, stops, kind, row),
+    })
+}
+
+/// The rows of stops.txt.
+///
+/// # Errors
+/// Want of memory.
+pub fn stop_rows(alloc: Global, tables: &Tables) -> Result<StopRows, AllocError>
+    requires formed { AreFormed tables.now }
+    ensures { IfOk result (λ stops. stops ≡ rows_of tables.now.stops (stop_row tables.now)) }
+{
+    let stops = RowNumbers::of(alloc, &tables.stops, ColumnName::StopId)?;
+    let mut rows = StopRows::empty(alloc);
+    for row in 0..tables.stops.rows() {
+        rows.push(stop_row(alloc, tables, &stops, row)?)?;
+    }
+    Ok(rows)
+}
