@@ -1,0 +1,4 @@
+pub mod BuiltFaults
+pub mod BuiltRows
+pub mod CheckErrors
+pub mod LoadErrors

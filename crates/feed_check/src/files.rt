@@ -1,0 +1,57 @@
+//! The feed that files make.
+ghost use Rattle.std.specs.Prelude.{◌≡◌, IfOk, IfErr, OnOk, None};
+ghost use Rattle.feed_faults.specs.AcceptedFeed.{feed_of};
+ghost use Rattle.folder_io.specs.KeptFiles.{AreWithin, held_in};
+ghost use Rattle.feed_check.specs.BuiltRows.{HasBuiltRows};
+ghost use Rattle.feed_check.specs.BuiltFaults.{first_built_fault};
+ghost use Rattle.feed_check.specs.CheckErrors.{IsErrorOf};
+
+use feed_build::feed_of_tables;
+use feed_links::first_link_fault;
+use feed_rows::{Feed, FeedFault};
+use feed_tables::Tables;
+use feed_text::TextError;
+use folder_io::Files;
+use std::alloc::{AllocError, Global};
+
+/// Why files make no feed.
+#[derive(Clone, Copy, Debug, PartialEq, Eq)]
+pub enum CheckError {
+    /// The first fault of the files.
+    Fault(FeedFault),
+    /// Want of memory.
+    NoMemory,
+}
+
+impl From<AllocError> for CheckError {
+    ghost use Rattle.std.specs.Prelude.{◌≡◌};
+    ghost use Rattle.feed_check.specs.declared.files.CheckError.TheVariants as error;
+
+    ghost from_gives = { λ e f. f ≡ error.NoMemory };
+
+    fn from(_error: AllocError) -> CheckError {
+        CheckError::NoMemory
+    }
+}
+
+/// The feed of files that have no fault. `Fault` is exactly their first fault: of each file by itself, in the order of the
+/// files, and then of the files among each other. A file whose rows aren't read yet is a fault, `NotBuilt`, where it has a
+/// byte.
+#[tactic(auto, unfolding(crate::specs::BuiltFaults::first_built_fault))]
+pub fn check(alloc: Global, files: &Files) -> Result<Feed, CheckError>
+    requires { AreWithin files.now }
+    ensures fault { IfErr result (IsErrorOf (first_built_fault (held_in files.now))) }
+    ensures sound { OnOk result (first_built_fault (held_in files.now) ≡ None) }
+    ensures feed { IfOk result (λ feed. feed ≡ feed_of (held_in files.now)) }
+    ensures built { IfOk result HasBuiltRows }
+{
+    let tables = match Tables::read(alloc, files) {
+        Ok(tables) => tables,
+        Err(TextError::Fault(fault)) => return Err(CheckError::Fault(fault)),
+        Err(TextError::NoMemory) => return Err(CheckError::NoMemory),
+    };
+    if let Some(fault) = first_link_fault(alloc, &tables)? {
+        return Err(CheckError::Fault(fault));
+    }
+    Ok(feed_of_tables(alloc, &tables)?)
+}

@@ -1,0 +1,46 @@
+//! The feed that a folder holds.
+ghost use Rattle.std.specs.Prelude.{◌≡◌, ◌<◌, IfOk, IfErr, OnOk, IsTrue};
+ghost use Rattle.feed_rows.specs.FaultCounts.{Stayed};
+ghost use Rattle.feed_check.specs.BuiltRows.{HasBuiltRows};
+ghost use Rattle.feed_check.specs.LoadErrors.{GivesUp, IsFeedOf};
+
+use crate::files::{CheckError, check};
+use feed_rows::{Feed, FeedFault};
+use folder_io::{Folder, ReadError, read_files};
+use std::alloc::Global;
+
+/// Why a folder gives no feed.
+#[derive(Clone, Copy, Debug, PartialEq, Eq)]
+pub enum LoadError {
+    /// A call of the folder failed: its count of faults rose.
+    ReadFault,
+    /// The first fault of the feed.
+    Fault(FeedFault),
+    /// Want of memory.
+    NoMemory,
+}
+
+/// The feed of the files that a folder holds, each opened once, in order, before the first is judged.
+///
+/// # Errors
+/// [`LoadError::ReadFault`] where a call of the folder failed, after which no further call was made; the first fault of the
+/// feed; want of memory.
+pub fn load<F: Folder>(alloc: Global, folder: &mut F) -> Result<Feed, LoadError>
+    ensures feed { IfOk result (IsFeedOf (F.holds folder.old)) }
+    ensures built { IfOk result HasBuiltRows }
+    ensures ok { OnOk result (Stayed (F.faults folder.old) (F.faults folder.new)) }
+    ensures err { IfErr result (λ error. GivesUp error (F.holds folder.old) (F.faults folder.old) (F.faults folder.new) (F.failed folder.new)) }
+    ensures ends_at_fault { F.faults folder.old < F.faults folder.new → IsTrue (F.failed folder.new) }
+    ensures holds { F.holds folder.new ≡ F.holds folder.old }
+{
+    let files = match read_files(alloc, folder) {
+        Ok(files) => files,
+        Err(ReadError::ReadFault) => return Err(LoadError::ReadFault),
+        Err(ReadError::NoMemory) => return Err(LoadError::NoMemory),
+    };
+    match check(alloc, &files) {
+        Ok(feed) => Ok(feed),
+        Err(CheckError::Fault(fault)) => Err(LoadError::Fault(fault)),
+        Err(CheckError::NoMemory) => Err(LoadError::NoMemory),
+    }
+}
