@@ -1,0 +1,269 @@
+//! The stops, trips, walks and services of one feed, beside one another.
+ghost use Rattle.std.specs.Prelude.{◌≡◌, ◌<◌, ◌≤◌, ◌^◌, ◌≤ℤ◌, pos, negsuc, length, All, IfOk, IfSome, IsTrue, option_map, Option, Some, None};
+ghost use Rattle.transit_base.specs.declared.moments.Secs.{Secs};
+ghost use Rattle.transit_base.specs.declared.moments.Moment.{Moment};
+ghost use Rattle.feed_rows.specs.declared.journeys.Call.{Call};
+ghost use Rattle.feed_rows.specs.SoundFeed.{IsSoundFeed};
+ghost use Rattle.feed_rows.specs.Calls.{calls_of, first_departure};
+ghost use Rattle.feed_rows.specs.Shifts.{has_frequencies, shifts_of};
+ghost use Rattle.feed_rows.specs.Rides.{runs_on, ride_facts};
+ghost use Rattle.feed_rows.specs.Queries.{find_stop};
+ghost use Rattle.feed_rows.specs.StopLinks.{link, stop_set};
+ghost use Rattle.feed_rows.specs.Journeys.{stands_for, access, egress, direct, is_caught};
+ghost use Rattle.feed_rows.specs.JourneyWalk.{way_to, way_out, end_arrival};
+ghost use Rattle.feed_timetable.specs.Standings.{stand_of, IsNear, AreShifts};
+
+use crate::standing::Standing;
+use feed_calendar::Calendar;
+use feed_rows::{Call, Feed, Query, Ride, RideFacts, Shifts};
+use feed_stops::Stops;
+use feed_trips::Trips;
+use feed_walks::Walks;
+use std::alloc::{AllocError, Global};
+use std::marker::Model;
+use transit_base::{Day, Moment, Secs, StopId, TripId};
+
+/// The stops, trips, walks and services of a feed. Contracts see it as the rows of its feed.
+#[derive(Drop)]
+pub struct Timetable<'f> {
+    feed: &'f Feed,
+    stops: Stops,
+    trips: Trips<'f>,
+    walks: Walks,
+    calendar: Calendar,
+}
+
+impl<'f> Model for Timetable<'f> {
+    ghost use Rattle.feed_rows.specs.FeedRows.{FeedRows};
+
+    ghost Value = { FeedRows };
+
+    ghost use Rattle.std.specs.Prelude.{◌≡◌};
+    ghost use Rattle.feed_stops.specs.BuiltStops.{AreStopsOf};
+    ghost use Rattle.feed_walks.specs.BuiltWalks.{AreWalksOf};
+    ghost use Rattle.feed_calendar.specs.BuiltCalendar.{IsCalendarOf};
+
+    ghost view = { λ s. s.feed.now };
+
+    ghost invariant = { λ s. (s.trips ≡ s.feed.now) × AreStopsOf s.feed.now s.stops × AreWalksOf s.feed.now s.walks × IsCalendarOf s.feed.now s.calendar };
+}
+
+impl<'f> Timetable<'f> {
+    /// The timetable of the feed.
+    ///
+    /// # Errors
+    /// Want of memory.
+    pub fn build(alloc: Global, feed: &'f Feed) -> Result<Timetable<'f>, AllocError>
+        ensures { IfOk result (λ timetable. timetable ≡ feed.now) }
+    {
+        let stops = Stops::build(alloc, feed)?;
+        let trips = Trips::build(alloc, feed)?;
+        let walks = Walks::build(alloc, feed)?;
+        let calendar = Calendar::build(alloc, feed)?;
+        Ok(Timetable {
+            feed,
+            stops,
+            trips,
+            walks,
+            calendar,
+        })
+    }
+
+    /// The feed.
+    pub fn feed(&self) -> &'f Feed
+        ensures value { result.now ≡ self.now }
+        ensures sound { IsSoundFeed self.now }
+    {
+        let feed = self.feed;
+        let _rows = &feed.trips;
+        feed
+    }
+
+    /// How many trips there are.
+    pub fn trips(&self) -> u32
+        ensures { result ≡ length self.now.trips }
+    {
+        let feed = self.feed;
+        feed.trips.items().len() as u32
+    }
+
+    /// The stop with this id. None exactly where no stop has it.
+    pub fn find(&self, id: &[u8]) -> Option<StopId>
+        ensures { result ≡ find_stop self.now id.now }
+    {
+        self.stops.find(id)
+    }
+
+    /// The platforms that the stop stands for.
+    pub fn members(&self, stop: StopId) -> &[StopId]
+        ensures { result.now ≡ stop_set self.now stop }
+    {
+        self.stops.members(stop)
+    }
+
+    /// Whether the platform is one of those that the stop stands for.
+    pub fn stands_for(&self, stop: StopId, member: StopId) -> bool
+        ensures { result ≡ stands_for self.now stop member }
+    {
+        self.members(stop).iter().any(|s| s.0 == member.0)
+    }
+
+    /// The seconds of the walk from one platform to another or to itself; none where there is no walk.
+    pub fn link(&self, from: StopId, to: StopId) -> Option<Secs>
+        ensures { option_map (λ (seconds : Secs). seconds.0) result ≡ link self.now from to }
+    {
+        self.walks.link(from, to)
+    }
+
+    /// Whether the trip's service is active on the day.
+    pub fn runs_on(&self, trip: TripId, day: Day) -> bool
+        requires { trip.0 < length self.now.trips }
+        ensures { result ≡ runs_on self.now trip day.0 }
+    {
+        let feed = self.feed;
+        let service = feed.trips.items()[trip.0 as usize].service;
+        self.calendar.active(service, day)
+    }
+
+    /// The calls of a trip, in order.
+    #[tactic(auto, using(crate::proofs::TimetableLaws::few_calls))]
+    pub fn calls_of(&self, trip: TripId) -> &[Call]
+        requires { trip.0 < length self.now.trips }
+        ensures value { result.now ≡ calls_of self.now trip }
+        ensures times { All (λ (c : Call). c.departure ≤ 604_799) result.now }
+        ensures few { length result.now < 2 ^ 32 }
+    {
+        let feed = self.feed;
+        let _rows = &feed.trips;
+        self.trips.calls_of(trip)
+    }
+
+    /// The shifts of a trip's runs, ascending.
+    ///
+    /// # Errors
+    /// Want of memory.
+    #[tactic(auto, using(crate::proofs::TimetableLaws::shift_bounds))]
+    pub fn shifts_of(&self, alloc: Global, trip: TripId) -> Result<Shifts, AllocError>
+        requires { trip.0 < length self.now.trips }
+        ensures value { IfOk result (λ shifts. shifts ≡ shifts_of self.now trip) }
+        ensures bounds { AreShifts (shifts_of self.now trip) }
+    {
+        let feed = self.feed;
+        let _rows = &feed.trips;
+        self.trips.shifts_of(alloc, trip)
+    }
+
+    /// Whether a trip has frequency rows.
+    pub fn has_frequencies(&self, trip: TripId) -> bool
+        requires { trip.0 < length self.now.trips }
+        ensures { result ≡ has_frequencies self.now trip }
+    {
+        self.trips.has_frequencies(trip)
+    }
+
+    /// The departure from a trip's first call, in seconds of the service day; 0 where it has no call.
+    pub fn first_departure(&self, trip: TripId) -> u32
+        requires { trip.0 < length self.now.trips }
+        ensures value { result ≡ first_departure self.now trip }
+        ensures most { result ≤ 604_799 }
+    {
+        match self.calls_of(trip).first() {
+            Some(call) => call.departure,
+            None => 0,
+        }
+    }
+
+    /// Where and when a ride goes. None exactly where it is no ride of the feed.
+    pub fn facts(&self, ride: &Ride) -> Option<RideFacts>
+        requires trip { ride.now.trip.0 < length self.now.trips }
+        requires day_low { negsuc 799_999 ≤ℤ ride.now.day.0 }
+        requires day_high { ride.now.day.0 ≤ℤ pos 3_000_000 }
+        requires shift_low { negsuc 699_999 ≤ℤ ride.now.shift }
+        requires shift_high { ride.now.shift ≤ℤ pos 700_000 }
+        ensures { result ≡ ride_facts self.now ride.now }
+    {
+        let active = self.runs_on(ride.trip, ride.day);
+        self.trips.facts(active, ride)
+    }
+
+    // The seconds of the walk, as a number.
+    fn link_seconds(&self, from: StopId, to: StopId) -> Option<u32>
+        ensures { result ≡ link self.now from to }
+    {
+        let seconds = self.link(from, to)?;
+        Some(seconds.0)
+    }
+
+    // The seconds from a journey's first stop to where its first ride boards.
+    fn access(&self, query: &Query, first: StopId, boarding: StopId) -> Option<u32>
+        ensures { result ≡ access self.now query.now first boarding }
+    {
+        if !self.stands_for(query.from, boarding) {
+            return self.link_seconds(first, boarding);
+        }
+        if first.0 == boarding.0 { Some(0) } else { None }
+    }
+
+    // The seconds from where a journey's last ride alights to its last stop.
+    fn egress(&self, query: &Query, alighting: StopId, last: StopId) -> Option<u32>
+        ensures { result ≡ egress self.now query.now alighting last }
+    {
+        if !self.stands_for(query.to, alighting) {
+            return self.link_seconds(alighting, last);
+        }
+        if alighting.0 == last.0 { Some(0) } else { None }
+    }
+
+    // The seconds of a journey without rides.
+    fn direct(&self, first: StopId, last: StopId) -> Option<u32>
+        ensures { result ≡ direct self.now first last }
+    {
+        if first.0 == last.0 {
+            return Some(0);
+        }
+        self.link_seconds(first, last)
+    }
+
+    /// The seconds from where one stands to where a ride boards; none where one can't board there.
+    pub fn way_to(&self, query: &Query, standing: Standing, boarding: StopId) -> Option<u32>
+        ensures { result ≡ way_to self.now query.now (stand_of standing) boarding }
+    {
+        if standing.fresh {
+            self.access(query, standing.stop, boarding)
+        } else {
+            self.link_seconds(standing.stop, boarding)
+        }
+    }
+
+    // The seconds from where one stands to the last stop.
+    fn way_out(&self, query: &Query, standing: Standing, last: StopId) -> Option<u32>
+        ensures { result ≡ way_out self.now query.now (stand_of standing) last }
+    {
+        if standing.fresh {
+            self.direct(standing.stop, last)
+        } else {
+            self.egress(query, standing.stop, last)
+        }
+    }
+
+    /// Whether the ride with these facts is caught from where one stands.
+    pub fn is_caught(&self, query: &Query, standing: Standing, ride: &RideFacts) -> bool
+        requires near { IsNear standing }
+        ensures { result ≡ is_caught standing.at.0 (way_to self.now query.now (stand_of standing) ride.now.from) ride.now }
+    {
+        match self.way_to(query, standing, ride.from) {
+            Some(seconds) => standing.at.0 + i64::from(seconds) <= ride.departure.0,
+            None => false,
+        }
+    }
+
+    /// The arrival at the last stop from where one stands after all rides; none where one doesn't get there.
+    #[tactic(auto, unfolding(feed_rows::specs::JourneyWalk::end_arrival))]
+    pub fn end_arrival(&self, query: &Query, standing: Standing, last: StopId) -> Option<Moment>
+        requires near { IsNear standing }
+        ensures { option_map (λ (moment : Moment). moment.0) result ≡ end_arrival self.now query.now (stand_of standing) last }
+    {
+        let seconds = self.way_out(query, standing, last)?;
+        Some(standing.at.plus(Secs(seconds)))
+    }
+}
