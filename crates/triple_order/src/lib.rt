@@ -6,7 +6,7 @@ ghost use Rattle.std.specs.Bool.{Decides};
 ghost use Rattle.feed_rows.specs.FeedRows.{FeedRows};
 ghost use Rattle.feed_rows.specs.declared.journeys.Query.{Query};
 ghost use Rattle.feed_rows.specs.declared.fares.Entry.{Entry};
-ghost use Rattle.feed_rows.specs.ParetoTriples.{at_most};
+ghost use Rattle.feed_rows.specs.ParetoTriples.{at_most, is_before};
 ghost use Rattle.feed_rows.specs.JourneyEntries.{IsMinimal, IsExactAnswer};
 
 use feed_rows::Triple;
@@ -28,6 +28,15 @@ pub fn is_at_most(one: Triple, other: Triple) -> bool
     ensures minimal { (feed : FeedRows) (query : Query) → IsMinimal feed query one → IsMinimal feed query other → result ≡ true → one ≡ other }
 {
     has_parts_at_most(one, other)
+}
+
+/// Whether the one stands before the other in an answer: by arrival, then rides, then price.
+pub fn is_before(one: Triple, other: Triple) -> bool
+    ensures { result ≡ is_before one other }
+{
+    one.arrival < other.arrival
+        || (one.arrival == other.arrival
+            && (one.rides < other.rides || (one.rides == other.rides && one.price < other.price)))
 }
 
 // Whether two lists of triples are the same.

@@ -1,5 +1,5 @@
 // Triples of a small answer.
-use crate::{are_same_triples, is_at_most};
+use crate::{are_same_triples, is_at_most, is_before};
 use feed_rows::Triple;
 use transit_base::{Moment, Money};
 
@@ -21,6 +21,8 @@ fn triples(rt: HostRuntime) {
     };
     assert!(rt; is_at_most(early, early) && is_at_most(cheap, late));
     assert!(rt; !is_at_most(late, cheap) && !is_at_most(early, cheap) && !is_at_most(cheap, early));
+    assert!(rt; is_before(early, cheap) && is_before(cheap, late));
+    assert!(rt; !is_before(early, early) && !is_before(late, cheap));
     assert!(rt; are_same_triples(&[early, cheap], &[early, cheap]));
     assert!(rt; !are_same_triples(&[early, cheap], &[cheap, early]));
     assert!(rt; !are_same_triples(&[early, cheap], &[early]));

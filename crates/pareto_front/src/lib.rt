@@ -1,0 +1,9 @@
+//! The best of many, kept in order: of whatever is offered, the members that no other offer is at most.
+#![tactic(auto)]
+
+mod entries;
+mod front;
+#[cfg(test)]
+mod tests;
+
+pub use front::{Front, Ranked};
