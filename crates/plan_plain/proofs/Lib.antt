@@ -1,0 +1,4 @@
+pub mod CaughtLaws
+pub mod PriceLaws
+pub mod SearchLaws
+pub mod TicketLaws

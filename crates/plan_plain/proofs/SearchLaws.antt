@@ -1,0 +1,383 @@
+-- How a search goes on, and what it has when it is through.
+use Rattle.std.proofs.Common.{◌≡◌, refl, sym, ◌∙◌, ap, subst, ℕ, ◌+◌, ◌-◌, ◌<◌, ◌≤◌, ◌⊎◌, inl, inr, ⊎_elim, true, List, [], ◌∷◌, ◌++◌, length, get_or, take, append_assoc, arith, ℤ, pos, ◌+ℤ◌, ◌≤ℤ◌}
+use Rattle.std.specs.Prelude.{Option, Some, None, slice_get, option_map, All, Contains, IsTrue, int_le, ◌==◌}
+use Rattle.std.proofs.lemmas.Int.{ints}
+use Rattle.std.proofs.lemmas.Bool.{cases_lt}
+use Rattle.std.proofs.lemmas.Bool.Decides.{nat_tests}
+use Rattle.std.proofs.lemmas.Option.{same_Some, none-some, slice_get_within, slice_get-get_or}
+use Rattle.std.proofs.lemmas.List.Folds.{Any-from_list_any, list_any-from_Any}
+use Rattle.std.proofs.lemmas.List.{get_or_default, map-append, length-map, length_push, append-nil}
+use Rattle.std.proofs.lemmas.List.Elements.{All-weaker, All-nil, All-cons, All-append, All-contains}
+use Rattle.std.proofs.Math.Seq.{take-append_seam}
+use Rattle.feed_rows.specs.declared.fares.Triple.{Triple}
+use Rattle.feed_rows.specs.Rides.{ride_facts}
+use Rattle.feed_rows.specs.PriceTexts.{IsLeastPrice, IsUncovered}
+use Rattle.transit_base.specs.declared.numbers.StopId.{StopId}
+use Rattle.feed_rows.specs.declared.journeys.Query.{Query}
+use Rattle.feed_rows.specs.declared.journeys.Ride.{Ride}
+use Rattle.feed_rows.specs.declared.fares.Entry.{Entry}
+use Rattle.feed_rows.specs.FeedRows.{FeedRows}
+use Rattle.feed_rows.specs.SoundFeed.{IsSoundFeed}
+use Rattle.feed_rows.specs.JourneyEntries.{rides_price, IsEntry, IsExactAnswer, CoversOffers}
+use Rattle.feed_rows.specs.Journeys.{stands_for}
+use Rattle.feed_rows.specs.JourneyWalk.{Stand, first_stand, stand_at_end, next_stand, way_to, way_out, end_arrival}
+use Rattle.feed_rows.specs.ParetoTriples.{at_most, is_before}
+use Rattle.feed_rows.specs.StopLinks.{stop_set}
+use Rattle.feed_rows.specs.Walks.{after}
+use Rattle.feed_rows.specs.Words.{when}
+use Rattle.feed_rows.proofs.ExactLaws.{exact_of_front, covers_offers}
+use Rattle.feed_rows.proofs.JourneyLaws.{taken_of_next, journey_of_after, after_of_journey}
+use Rattle.feed_rows.proofs.ParetoLaws.{at_most-trans}
+use Rattle.feed_rows.proofs.RideLaws.{ride_facts_timed}
+use Rattle.feed_rows.proofs.SoundTrips.{sound_trip}
+use Rattle.feed_rows.proofs.WalkLaws.{chain_gives, after-push}
+use Rattle.feed_rows.proofs.WordLaws.{filled_and-true, when_some}
+use Rattle.pareto_front.specs.Fronts.{CoversAll, IsFront}
+use Rattle.plan_plain.specs.declared.caught.CaughtRide.{CaughtRide}
+use Rattle.plan_plain.specs.InTime.{next_in_time, if_in_time, deadline, IsRight, HasCaught}
+use Rattle.plan_plain.specs.Searches.{rides_of, covers_entry, HasRides, EndsAt, IsBestAt, GoesOn, Gains, StartsAt, IsSearched, IsAmong, EndsAmong, StartsAmong, CoversWays, arrival_in_time}
+
+-- one step in time is a step
+pub step_of_timed : (feed : FeedRows) (query : Query) (s : Stand) (r : Ride) (m : Stand) → next_in_time feed query s r ≡ Some m → next_stand feed query s r ≡ Some m
+unfolding next_in_time
+step_of_timed feed query s r m e =
+    let timed = chain_gives (if_in_time query) (next_stand feed query s r) m e in
+    let late = when_some (int_le timed.value.at (deadline query)) timed.value m timed.gives in
+    timed.is ∙ ap Some late.1
+
+-- steps in time are steps
+pub after_of_timed : (feed : FeedRows) (query : Query) (s : Stand) (rs : List Ride) (q : Stand) → after (next_in_time feed query) s rs ≡ Some q → after (next_stand feed query) s rs ≡ Some q
+after_of_timed feed query s [] q e = e
+after_of_timed feed query s (r ∷ rs) q e =
+    let first = chain_gives (λ m. after (next_in_time feed query) m rs) (next_in_time feed query s r) q e in
+    let step = step_of_timed feed query s r first.value first.is in
+    let rest = after_of_timed feed query first.value rs q first.gives in
+    rw step rest
+
+-- time doesn't run back along a ride
+pub step_later : (feed : FeedRows) (query : Query) (s : Stand) (r : Ride) (m : Stand) → IsSoundFeed feed → next_stand feed query s r ≡ Some m → s.at ≤ℤ m.at
+step_later feed query s r m sound e =
+    let t = taken_of_next feed query s r m e in
+    let timed = ride_facts_timed feed r t.facts 604_799 (sound_trip feed r.trip sound) t.is in
+    let way = filled_and-true (way_to feed query s t.facts.from) (λ (w : ℕ). int_le (s.at +ℤ pos w) t.facts.departure.0) t.caught in
+    subst (λ (q : Stand). s.at ≤ℤ q.at) t.stands (onward s.at t.facts.departure.0 t.facts.arrival.0 way.value (from_test _ _ way.passes) timed.forward)
+  where
+    from_test : (x y : ℤ) → int_le x y ≡ true → x ≤ℤ y
+    from_test x y h = grind (arith, ints)
+
+    onward : (at departs arrives : ℤ) (way : ℕ) → (at +ℤ pos way) ≤ℤ departs → departs ≤ℤ arrives → at ≤ℤ arrives
+    onward at departs arrives way a b = omega (arith, ints)
+
+-- nor along rides
+pub after_later : (feed : FeedRows) (query : Query) (s : Stand) (rs : List Ride) (q : Stand) → IsSoundFeed feed → after (next_stand feed query) s rs ≡ Some q → s.at ≤ℤ q.at
+after_later feed query s [] q sound e = subst (λ (p : Stand). s.at ≤ℤ p.at) (same_Some _ _ e) (same_moment s.at)
+  where
+    same_moment : (z : ℤ) → z ≤ℤ z
+    same_moment z = omega (arith, ints)
+after_later feed query s (r ∷ rs) q sound e =
+    let first = chain_gives (λ m. after (next_stand feed query) m rs) (next_stand feed query s r) q e in
+    let step = step_later feed query s r first.value sound first.is in
+    let rest = after_later feed query first.value rs q sound first.gives in
+    both s.at first.value.at q.at step rest
+  where
+    both : (a b c : ℤ) → a ≤ℤ b → b ≤ℤ c → a ≤ℤ c
+    both a b c x y = omega (arith, ints)
+
+-- so steps that end in time are steps in time
+pub timed_of_after : (feed : FeedRows) (query : Query) (s : Stand) (rs : List Ride) (q : Stand) → IsSoundFeed feed → after (next_stand feed query) s rs ≡ Some q → q.at ≤ℤ deadline query →
+    after (next_in_time feed query) s rs ≡ Some q
+unfolding next_in_time
+timed_of_after feed query s [] q sound e until = e
+timed_of_after feed query s (r ∷ rs) q sound e until =
+    let first = chain_gives (λ m. after (next_stand feed query) m rs) (next_stand feed query s r) q e in
+    let later = after_later feed query first.value rs q sound first.gives in
+    let early : int_le first.value.at (deadline query) ≡ true = by first.value.at q.at (deadline query) later until in
+    let rest = timed_of_after feed query first.value rs q sound first.gives until in
+    rw (first.is, early) rest
+  where
+    by : (a b c : ℤ) → a ≤ℤ b → b ≤ℤ c → int_le a c ≡ true
+    by a b c x y = grind (arith, ints)
+
+-- what is covered covers what it is at most
+pub covers-upward : (xs : List Entry) (a b : Entry) → covers_entry xs a → at_most a.triple b.triple ≡ true → covers_entry xs b
+covers-upward [] a b h le = h
+covers-upward (x ∷ xs) a b h le =
+    let rest = covers-upward xs a b in
+    let step = at_most-trans x.triple a.triple b.triple in
+    grind (arith, rest, step)
+
+-- where a journey ends in time, its last ride does
+pub ends_in_time : (feed : FeedRows) (query : Query) (stand : Stand) (last : StopId) (arrival : ℤ) → end_arrival feed query stand last ≡ Some arrival → arrival ≤ℤ deadline query → stand.at ≤ℤ deadline query
+unfolding end_arrival
+ends_in_time feed query stand last arrival e until = step (way_out feed query stand last) refl e
+  where
+    before : (at arrival limit : ℤ) (s : ℕ) → (at +ℤ pos s) ≡ arrival → arrival ≤ℤ limit → at ≤ℤ limit
+    before at arrival limit s is until = omega (arith, ints)
+
+    step : (o : Option ℕ) → way_out feed query stand last ≡ o → option_map (λ s. stand.at +ℤ pos s) (way_out feed query stand last) ≡ Some arrival → stand.at ≤ℤ deadline query
+    step None none is = let bad = rw none at is in absurd (none-some arrival bad)
+    step (Some s) some is = before stand.at arrival (deadline query) s (same_Some _ _ (rw some at is)) until
+
+-- one part after another
+pub gains_more : (feed : FeedRows) (query : Query) (Part More Whole : Entry → Type 0) (old mid new : List Entry) → Gains feed query Part old mid → Gains feed query More mid new →
+    ((e : Entry) → Whole e → Part e ⊎ More e) → Gains feed query Whole old new
+gains_more feed query Part More Whole old mid new a b split = record {
+  still = record { still = λ t h. b.still.still t (a.still.still t h) };
+  right = λ h. b.right (a.right h);
+  all = λ e whole. ⊎_elim (λ p. b.still.still e (a.all e p)) (λ m. b.all e m) (split e whole);
+}
+
+-- the same part, said otherwise
+pub gains_same : (feed : FeedRows) (query : Query) (Part Whole : Entry → Type 0) (old new : List Entry) → Gains feed query Part old new → ((e : Entry) → Whole e → Part e) → Gains feed query Whole old new
+gains_same feed query Part Whole old new a part = record { still = a.still; right = a.right; all = λ e whole. a.all e (part e whole) }
+
+-- a part without entries
+pub gains_none : (feed : FeedRows) (query : Query) (Whole : Entry → Type 0) (entries : List Entry) → ((e : Entry) → Whole e → ⊥) → Gains feed query Whole entries entries
+gains_none feed query Whole entries never = record { still = record { still = λ t h. h }; right = λ h. h; all = λ e whole. absurd (never e whole) }
+
+-- an entry that is at most each of a part, offered
+pub gains_offer : (feed : FeedRows) (query : Query) (Part : Entry → Type 0) (item : Entry) (old new : List Entry) → IsEntry feed query item → ((e : Entry) → Part e → at_most item.triple e.triple ≡ true) →
+    covers_entry new item → CoversAll (λ (a : Entry) (b : Entry). at_most a.triple b.triple) old new → All (λ x. Contains old x ⊎ (x ≡ item)) new → Gains feed query Part old new
+gains_offer feed query Part item old new is least covered still from = record {
+  still = still;
+  right = λ h. All-weaker (λ x. Contains old x ⊎ (x ≡ item)) (IsEntry feed query) (λ x. ⊎_elim (λ in_old. All-contains (IsEntry feed query) old x h in_old) (λ same. subst (IsEntry feed query) (sym same) is)) new from;
+  all = λ e part. covers-upward new item e covered (least e part);
+}
+
+-- the stop of a number
+abbrev pub stop_id : ℕ → StopId
+stop_id n = record { 0 = n }
+
+-- a stop of those that a stop stands for
+pub stands_for_member : (feed : FeedRows) (stop member : StopId) (k : ℕ) → slice_get (stop_set feed stop) k ≡ Some member → IsTrue (stands_for feed stop member)
+stands_for_member feed stop member k at =
+    let lt = slice_get_within (stop_set feed stop) k member at in
+    let is = same_Some _ _ (sym (slice_get-get_or (stop_set feed stop) k member lt) ∙ at) in
+    list_any-from_Any (λ (s : StopId). s.0 == member.0) (stop_set feed stop) (k, member, lt, is, same member.0)
+  where
+    same : (n : ℕ) → (n == n) ≡ true
+    same n = grind (arith, nat_tests)
+
+-- and each that it stands for is one
+pub member_of_stands_for : (feed : FeedRows) (stop member : StopId) → IsTrue (stands_for feed stop member) → IsAmong (stop_set feed stop) (length (stop_set feed stop)) member
+member_of_stands_for feed stop member h =
+    let some = Any-from_list_any (λ (s : StopId). s.0 == member.0) (stop_set feed stop) h in
+    (some.0, some.2, slice_get-get_or (stop_set feed stop) some.0 some.1 some.2 ∙ ap Some (some.3 ∙ ap stop_id (told some.1.0 member.0 some.4)))
+  where
+    told : (m n : ℕ) → (m == n) ≡ true → m ≡ n
+    told m n e = grind (arith, nat_tests)
+
+-- one more of these stops
+pub among_more : (stops : List StopId) (k : ℕ) (d stop : StopId) → k < length stops → IsAmong stops (k + 1) stop → IsAmong stops k stop ⊎ (stop ≡ get_or stops k d)
+among_more stops k d stop lt among =
+    let below = among.1 in
+    ⊎_elim (λ lower. inl (among.0, lower, among.2))
+    (λ upper. let same : among.0 ≡ k = omega arith in inr (same_Some _ _ (sym among.2 ∙ ap (slice_get stops) same ∙ slice_get-get_or stops k d lt)))
+    (cases_lt among.0 k)
+
+-- one more last stop
+pub gains_last : (feed : FeedRows) (query : Query) (first : StopId) (rides : List Ride) (lasts : List StopId) (k : ℕ) (d : StopId) (old mid new : List Entry) → k < length lasts →
+    Gains feed query (EndsAmong feed query first rides lasts k) old mid → Gains feed query (EndsAt feed query first (get_or lasts k d) rides) mid new → Gains feed query (EndsAmong feed query first rides lasts (k + 1)) old new
+gains_last feed query first rides lasts k d old mid new lt before here =
+    gains_more feed query (EndsAmong feed query first rides lasts k) (EndsAt feed query first (get_or lasts k d) rides) (EndsAmong feed query first rides lasts (k + 1)) old mid new before here
+    (λ e ends. ⊎_elim (λ lower. inl (record { has = ends.has; among = lower })) (λ at. inr (record { has = ends.has; ends = at })) (among_more lasts k d e.journey.last lt ends.among))
+
+-- all last stops
+pub gains_lasts : (feed : FeedRows) (query : Query) (first : StopId) (rides : List Ride) (lasts : List StopId) (k : ℕ) (old new : List Entry) → lasts ≡ stop_set feed query.to → length lasts ≤ k →
+    Gains feed query (EndsAmong feed query first rides lasts k) old new → Gains feed query (HasRides feed query first rides) old new
+gains_lasts feed query first rides lasts k old new same all before =
+    gains_same feed query (EndsAmong feed query first rides lasts k) (HasRides feed query first rides) old new before
+    (λ e has.
+    let member = member_of_stands_for feed query.to e.journey.last has.right.journey.ends in
+    let long = ap length same in
+    let lt = member.1 in
+    record { has = has; among = (member.0, omega arith, ap (λ stops. slice_get stops member.0) same ∙ member.2) })
+
+-- one more first stop
+pub gains_first : (feed : FeedRows) (query : Query) (firsts : List StopId) (k : ℕ) (d : StopId) (old mid new : List Entry) → k < length firsts →
+    Gains feed query (StartsAmong feed query firsts k) old mid → Gains feed query (StartsAt feed query (get_or firsts k d)) mid new → Gains feed query (StartsAmong feed query firsts (k + 1)) old new
+gains_first feed query firsts k d old mid new lt before here =
+    gains_more feed query (StartsAmong feed query firsts k) (StartsAt feed query (get_or firsts k d)) (StartsAmong feed query firsts (k + 1)) old mid new before here
+    (λ e starts. ⊎_elim (λ lower. inl (record { right = starts.right; among = lower })) (λ at. inr (record { right = starts.right; starts = at })) (among_more firsts k d e.journey.first lt starts.among))
+
+-- the entries of a first stop go on from there
+pub gains_start : (feed : FeedRows) (query : Query) (first : StopId) (old new : List Entry) → IsSoundFeed feed →
+    Gains feed query (GoesOn feed query first [] (first_stand query first) query.rides) old new → Gains feed query (StartsAt feed query first) old new
+gains_start feed query first old new sound gains =
+    gains_same feed query (GoesOn feed query first [] (first_stand query first) query.rides) (StartsAt feed query first) old new gains
+    (λ e starts.
+    let walk = after_of_journey feed query e.journey e.triple.arrival.0 starts.right.journey in
+    let until = ends_in_time feed query walk.stand e.journey.last e.triple.arrival.0 walk.arrives starts.right.journey.in_time in
+    let goes = timed_of_after feed query (first_stand query e.journey.first) e.journey.rides walk.stand sound walk.stands until in
+    record {
+      rest = e.journey.rides;
+      end = walk.stand;
+      few = starts.right.journey.few;
+      goes = subst (λ f. after (next_in_time feed query) (first_stand query f) e.journey.rides ≡ Some walk.stand) starts.starts goes;
+      has = record { right = starts.right; starts = starts.starts; goes = refl };
+    })
+
+-- what is searched from all first stops is an exact answer
+pub exact_of_gains : (feed : FeedRows) (query : Query) (firsts : List StopId) (k : ℕ) (entries : List Entry) → firsts ≡ stop_set feed query.from → length firsts ≤ k →
+    Gains feed query (StartsAmong feed query firsts k) [] entries → IsFront (λ (a : Entry) (b : Entry). at_most a.triple b.triple) (λ (a : Entry) (b : Entry). is_before a.triple b.triple) entries →
+    IsExactAnswer feed query entries × CoversOffers feed query entries
+exact_of_gains feed query firsts k entries same all gains front = (
+  exact_of_front feed query entries (gains.right (All-nil (IsEntry feed query))) (λ i j d lt within. (front i j d lt within).earlier) (λ i j d lt within. (front i j d lt within).dearer) covered,
+  covers_offers feed query entries covered,
+)
+  where
+    covered : (e : Entry) → IsEntry feed query e → covers_entry entries e
+    covered e right =
+        let member = member_of_stands_for feed query.from e.journey.first right.journey.starts in
+        let long = ap length same in
+        let lt = member.1 in
+        gains.all e (record { right = right; among = (member.0, omega arith, ap (λ stops. slice_get stops member.0) same ∙ member.2) })
+
+-- an arrival in time is an arrival, and in time
+pub arrives_in_time : (feed : FeedRows) (query : Query) (stand : Stand) (last : StopId) (arrival : ℤ) → arrival_in_time feed query stand last ≡ Some arrival → (end_arrival feed query stand last ≡ Some arrival) × (arrival ≤ℤ deadline query)
+unfolding arrival_in_time
+arrives_in_time feed query stand last arrival e =
+    let got = chain_gives (λ z. when (int_le z (deadline query)) z) (end_arrival feed query stand last) arrival e in
+    let late = when_some (int_le got.value (deadline query)) got.value arrival got.gives in
+    (got.is ∙ ap Some late.1, subst (λ z. z ≤ℤ deadline query) late.1 (from_test got.value (deadline query) late.0))
+  where
+    from_test : (x y : ℤ) → int_le x y ≡ true → x ≤ℤ y
+    from_test x y h = grind (arith, ints)
+
+-- an entry that ends at a stop after the rides of a path arrives there when one gets there from where the path leads
+pub entry_arrival : (feed : FeedRows) (query : Query) (first last : StopId) (stand : Stand) (path : List CaughtRide) (e : Entry) → IsSearched feed query first stand path → EndsAt feed query first last (rides_of path) e →
+    arrival_in_time feed query stand last ≡ Some e.triple.arrival.0
+unfolding arrival_in_time
+entry_arrival feed query first last stand path e searched ends =
+    let walk = after_of_journey feed query e.journey e.triple.arrival.0 ends.has.right.journey in
+    let from : after (next_stand feed query) (first_stand query first) e.journey.rides ≡ Some walk.stand = subst (λ f. after (next_stand feed query) (first_stand query f) e.journey.rides ≡ Some walk.stand) ends.has.starts walk.stands in
+    let along : after (next_stand feed query) (first_stand query first) (rides_of path) ≡ Some walk.stand = subst (λ rs. after (next_stand feed query) (first_stand query first) rs ≡ Some walk.stand) ends.has.goes from in
+    let same : walk.stand ≡ stand = same_Some _ _ (sym along ∙ after_of_timed feed query (first_stand query first) (rides_of path) stand searched.goes) in
+    let arrives : end_arrival feed query stand last ≡ Some e.triple.arrival.0 = subst (λ s. end_arrival feed query s last ≡ Some e.triple.arrival.0) same (subst (λ l. end_arrival feed query walk.stand l ≡ Some e.triple.arrival.0) ends.ends walk.arrives) in
+    let in_time : int_le e.triple.arrival.0 (deadline query) ≡ true = to_test _ _ ends.has.right.journey.in_time in
+    rw (arrives, in_time) refl
+  where
+    to_test : (x y : ℤ) → x ≤ℤ y → int_le x y ≡ true
+    to_test x y h = grind (arith, ints)
+
+-- so where one doesn't get there in time, no entry ends there
+pub none_late : (feed : FeedRows) (query : Query) (first last : StopId) (stand : Stand) (path : List CaughtRide) → IsSearched feed query first stand path → arrival_in_time feed query stand last ≡ None →
+    IsBestAt feed query first last (rides_of path) None
+none_late feed query first last stand path searched late e ends = none-some e.triple.arrival.0 (sym late ∙ entry_arrival feed query first last stand path e searched ends)
+
+-- the price of an entry's rides
+entry_price : (feed : FeedRows) (query : Query) (first last : StopId) (rides : List Ride) (e : Entry) → EndsAt feed query first last rides e → rides_price feed rides e.choice query.rider ≡ Some e.triple.price.0
+entry_price feed query first last rides e ends = subst (λ rs. rides_price feed rs e.choice query.rider ≡ Some e.triple.price.0) ends.has.goes ends.has.right.price
+
+-- where no choice pays the rides, no entry has them
+pub none_uncovered : (feed : FeedRows) (query : Query) (first last : StopId) (rides : List Ride) → IsUncovered feed rides query.rider → IsBestAt feed query first last rides None
+none_uncovered feed query first last rides uncovered e ends = none-some e.triple.price.0 (sym (uncovered e.choice) ∙ entry_price feed query first last rides e ends)
+
+-- the entry of the arrival and of a choice of least price is the best
+pub best_is : (feed : FeedRows) (query : Query) (stand : Stand) (path : List CaughtRide) (entry : Entry) → IsSearched feed query entry.journey.first stand path → IsTrue (stands_for feed query.to entry.journey.last) →
+    length path ≤ query.rides → Some entry.triple.arrival.0 ≡ arrival_in_time feed query stand entry.journey.last → entry.triple.rides ≡ length path → entry.journey.rides ≡ rides_of path →
+    IsLeastPrice feed (rides_of path) query.rider entry.choice entry.triple.price.0 → IsBestAt feed query entry.journey.first entry.journey.last (rides_of path) (Some entry)
+best_is feed query stand path entry searched ends few arrives count rides price =
+    let timed = arrives_in_time feed query stand entry.journey.last entry.triple.arrival.0 (sym arrives) in
+    let long : length entry.journey.rides ≡ length path = ap length rides ∙ length-map path (λ (c : CaughtRide). c.ride) in
+    let goes : after (next_stand feed query) (first_stand query entry.journey.first) entry.journey.rides ≡ Some stand =
+    subst (λ rs. after (next_stand feed query) (first_stand query entry.journey.first) rs ≡ Some stand) (sym rides) (after_of_timed feed query (first_stand query entry.journey.first) (rides_of path) stand searched.goes) in (
+      record {
+        journey = journey_of_after feed query entry.journey entry.triple.arrival.0 stand searched.starts ends (omega arith) goes timed.0 timed.1;
+        rides = count ∙ sym long;
+        price = subst (λ rs. rides_price feed rs entry.choice query.rider ≡ Some entry.triple.price.0) (sym rides) price.paid;
+      },
+      λ e at.
+          let same = same_Some _ _ (arrives ∙ entry_arrival feed query entry.journey.first entry.journey.last stand path e searched at) in
+          let cheap = price.least e.choice e.triple.price.0 (entry_price feed query entry.journey.first entry.journey.last (rides_of path) e at) in
+          let counts : entry.triple.rides ≡ e.triple.rides = count ∙ sym (at.has.right.rides ∙ ap length at.has.goes ∙ length-map path (λ (c : CaughtRide). c.ride)) in
+          at_most_parts entry.triple e.triple same counts cheap,
+    )
+  where
+    at_most_parts : (a b : Triple) → a.arrival.0 ≡ b.arrival.0 → a.rides ≡ b.rides → a.price.0 ≤ℤ b.price.0 → at_most a b ≡ true
+    at_most_parts a b p q r = grind (arith, ints, nat_tests)
+
+-- the way with the ride at a place
+pub gains_way : (feed : FeedRows) (query : Query) (first : StopId) (path : List Ride) (ways : List CaughtRide) (n left : ℕ) (d : CaughtRide) (old new : List Entry) → n < length ways →
+    Gains feed query (GoesOn feed query first (path ++ (get_or ways n d).ride ∷ []) (stand_at_end (get_or ways n d).facts) left) old new →
+    CoversWays feed query first path ways n left old → CoversWays feed query first path ways (n + 1) left new
+gains_way feed query first path ways n left d old new lt gains covered k d' e below goes =
+    ⊎_elim (λ lower. gains.still.still e (covered k d' e lower goes))
+    (λ upper.
+    let same : k ≡ n = omega arith in
+    let way : get_or ways k d' ≡ get_or ways n d = ap (λ i. get_or ways i d') same ∙ get_or_default ways n d' d lt in
+    gains.all e (subst (λ (c : CaughtRide). GoesOn feed query first (path ++ c.ride ∷ []) (stand_at_end c.facts) left e) way goes))
+    (cases_lt k n)
+
+-- the same, as it was explored
+pub gains_explored : (feed : FeedRows) (query : Query) (first : StopId) (path longer : List CaughtRide) (ways : List CaughtRide) (n left : ℕ) (caught : CaughtRide) (old new : List Entry) → n < length ways →
+    caught ≡ get_or ways n caught → longer ≡ path ++ caught ∷ [] → Gains feed query (GoesOn feed query first (rides_of longer) (stand_at_end caught.facts) left) old new →
+    CoversWays feed query first (rides_of path) ways n left old → CoversWays feed query first (rides_of path) ways (n + 1) left new
+gains_explored feed query first path longer ways n left caught old new lt is pushed gains covered =
+    gains_way feed query first (rides_of path) ways n left caught old new lt
+    (subst (λ (c : CaughtRide). Gains feed query (GoesOn feed query first (rides_of path ++ c.ride ∷ []) (stand_at_end c.facts) left) old new) is
+    (subst (λ rs. Gains feed query (GoesOn feed query first rs (stand_at_end caught.facts) left) old new) (ap rides_of pushed ∙ map-append (λ (c : CaughtRide). c.ride) path (caught ∷ [])) gains))
+    covered
+
+-- what was gained before and is kept
+pub gains_then : (feed : FeedRows) (query : Query) (Part More : Entry → Type 0) (old mid new : List Entry) → Gains feed query Part old mid → Gains feed query More mid new → Gains feed query Part old new
+gains_then feed query Part More old mid new a b = gains_more feed query Part More Part old mid new a b (λ e p. inl p)
+
+-- all ways, and to end here
+pub gains_all : (feed : FeedRows) (query : Query) (first : StopId) (path : List Ride) (stand : Stand) (ways : List CaughtRide) (n left : ℕ) (old new : List Entry) →
+    HasCaught feed query stand ways → All (IsRight feed query stand) ways → length ways ≤ n → 0 < left →
+    Gains feed query (HasRides feed query first path) old new → CoversWays feed query first path ways n (left - 1) new → Gains feed query (GoesOn feed query first path stand left) old new
+gains_all feed query first path stand ways n left old new has right all some here covered = record {
+  still = here.still;
+  right = here.right;
+  all = λ e goes. by e goes.rest goes.end goes.few goes.goes goes.has;
+}
+  where
+    by : (e : Entry) (rest : List Ride) (end : Stand) → length rest ≤ left → after (next_in_time feed query) stand rest ≡ Some end → HasRides feed query first (path ++ rest) e → covers_entry new e
+    by e [] end few goes ends = here.all e (record { right = ends.right; starts = ends.starts; goes = ends.goes ∙ append-nil path })
+    by e (r ∷ rs) end few goes ends =
+        let step = chain_gives (λ m. after (next_in_time feed query) m rs) (next_in_time feed query stand r) end goes in
+        let way = has r step.value step.is in
+        let place = way.1 in
+        let lt = place.1 in
+        let caught = right place.0 way.0 place.1 in
+        let is : get_or ways place.0 way.0 ≡ way.0 = place.2 in
+        let ride : (get_or ways place.0 way.0).ride ≡ r = ap (λ (c : CaughtRide). c.ride) is ∙ way.2 in
+        let stands : stand_at_end (get_or ways place.0 way.0).facts ≡ step.value = same_Some _ _ (sym caught.next ∙ ap (next_in_time feed query stand) ride ∙ step.is) in
+        covered place.0 way.0 e (omega arith)
+        (record {
+          rest = rs;
+          end = end;
+          few = omega arith;
+          goes = subst (λ m. after (next_in_time feed query) m rs ≡ Some end) (sym stands) step.gives;
+          has = record { right = ends.right; starts = ends.starts; goes = ends.goes ∙ sym (append_assoc path (r ∷ []) rs) ∙ ap (λ x. (path ++ x ∷ []) ++ rs) (sym ride) };
+        })
+
+-- nothing more, where no ride is left
+pub gains_end : (feed : FeedRows) (query : Query) (first : StopId) (path : List Ride) (stand : Stand) (left : ℕ) (old new : List Entry) → left ≡ 0 →
+    Gains feed query (HasRides feed query first path) old new → Gains feed query (GoesOn feed query first path stand left) old new
+gains_end feed query first path stand left old new none here =
+    gains_same feed query (HasRides feed query first path) (GoesOn feed query first path stand left) old new here
+    (λ e goes. record { right = goes.has.right; starts = goes.has.starts; goes = goes.has.goes ∙ no_rest goes.rest (subst (λ n. length goes.rest ≤ n) none goes.few) })
+  where
+    no_rest : (rest : List Ride) → length rest ≤ 0 → path ++ rest ≡ path
+    no_rest [] few = append-nil path
+    no_rest (r ∷ rs) few = absurd (omega arith)
+
+-- where the path leads with the ride at a place
+pub searched_on : (feed : FeedRows) (query : Query) (first : StopId) (stand : Stand) (path longer : List CaughtRide) (caught : CaughtRide) → IsSearched feed query first stand path → IsRight feed query stand caught →
+    longer ≡ path ++ caught ∷ [] → IsSearched feed query first (stand_at_end caught.facts) longer
+searched_on feed query first stand path longer caught searched right pushed = record {
+  starts = searched.starts;
+  facts = subst (All (λ (c : CaughtRide). ride_facts feed c.ride ≡ Some c.facts)) (sym pushed)
+      (All-append (λ (c : CaughtRide). ride_facts feed c.ride ≡ Some c.facts) path (caught ∷ []) searched.facts (All-cons (λ (c : CaughtRide). ride_facts feed c.ride ≡ Some c.facts) caught [] right.facts (All-nil (λ (c : CaughtRide). ride_facts feed c.ride ≡ Some c.facts))));
+  goes = subst (λ rs. after (next_in_time feed query) (first_stand query first) rs ≡ Some (stand_at_end caught.facts)) (sym (ap rides_of pushed ∙ map-append (λ (c : CaughtRide). c.ride) path (caught ∷ [])))
+      (after-push (next_in_time feed query) (first_stand query first) (rides_of path) caught.ride ∙ rw (searched.goes) right.next);
+}
+
+-- a pop takes back the push
+pub popped_back : (path longer popped : List CaughtRide) (caught : CaughtRide) (n : ℕ) → longer ≡ path ++ caught ∷ [] → n ≡ length longer → popped ≡ take (n - 1) longer → popped ≡ path
+popped_back path longer popped caught n pushed long took =
+    let one = ap length pushed in let more = length_push path caught in
+    let at : n - 1 ≡ length path = omega arith in
+    took ∙ ap (λ m. take m longer) at ∙ ap (take (length path)) pushed ∙ take-append_seam path (caught ∷ [])

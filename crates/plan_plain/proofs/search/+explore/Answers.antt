@@ -1,0 +1,55 @@
+use Rattle.std.proofs.Common.{sym, ◌∙◌, ap, subst, arith, length, ◌<◌, ◌-◌, ◌++◌, ◌∷◌, []}
+use Rattle.std.proofs.lemmas.List.{length_push}
+use Rattle.feed_timetable.specs.Standings.{stand_of}
+use Rattle.plan_plain.specs.InTime.{IsRight}
+use Rattle.plan_plain.proofs.CaughtLaws.{caught_within}
+use Rattle.plan_plain.proofs.SearchLaws.{gains_then, gains_explored, gains_all, searched_on, popped_back}
+use Rattle.plan_plain.proofs.search.+explore.Goals as goal
+
+pub explore-requires : goal.explore-requires
+explore-requires t c =
+    let caught = c.index-caught.result.now in
+    let feed = c.args.timetable.now in
+    let query = c.args.query.now in
+    let lt : c.loop-n.n < length c.in_ok-rides.rides.items = omega (arith, c.loop-n-test.true, c.len-n-end.ensures, c.in_ok-rides.rides.ok.0) in
+    let right = subst (IsRight feed query (stand_of c.args.standing)) (sym c.index-caught.ensures) (c.in_ok-rides.ensures.right c.loop-n.n caught lt) in
+    let pushed = c.in_ok-push.ensures.items ∙ ap (λ xs. xs ++ caught ∷ []) c.loop-n.invariant.path in
+    let one = ap length pushed in
+    let more = length_push c.args.path.now.items caught in
+    let few = c.requires.few in
+    let some = c.if-left-eq0.false in (
+      omega arith,
+      (
+        c.requires.usual,
+        (
+          caught_within feed query (stand_of c.args.standing) caught.ride _ c.feed-feed.ensures.sound c.requires.within right.next,
+          (
+            c.requires.plain,
+            (
+              searched_on feed query c.args.first (stand_of c.args.standing) c.args.path.now.items _ caught c.requires.searched right pushed,
+              (omega (arith, few, one, more, some), c.requires.one),
+            ),
+          ),
+        ),
+      ),
+    )
+
+pub loop-n-preserved : goal.loop-n-preserved
+loop-n-preserved t c =
+    let caught = c.index-caught.result.now in
+    let feed = c.args.timetable.now in
+    let query = c.args.query.now in
+    let lt : c.loop-n.n < length c.in_ok-rides.rides.items = omega (arith, c.loop-n-test.true, c.len-n-end.ensures, c.in_ok-rides.rides.ok.0) in
+    let pushed = c.in_ok-push.ensures.items ∙ ap (λ xs. xs ++ caught ∷ []) c.loop-n.invariant.path in
+    let then = c.in_ok-explore.ensures in
+    record {
+      path = popped_back c.args.path.now.items c.explore.new.path.items c.pop.new.self.items caught _ (then.path ∙ pushed) c.explore.new.path.ok.0 c.pop.ensures.rest;
+      gains = gains_then feed query _ _ _ _ _ c.loop-n.invariant.gains then.gains;
+      covered = gains_explored feed query c.args.first c.args.path.now.items c.push.new.self.items c.in_ok-rides.rides.items c.loop-n.n (c.args.left - 1) caught _ _ lt c.index-caught.ensures pushed then.gains c.loop-n.invariant.covered;
+    }
+
+pub returns-clause-gains : goal.returns-clause-gains
+returns-clause-gains t c =
+    let some = c.if-left-eq0.false in
+    gains_all _ _ _ _ _ c.in_ok-rides.rides.items c.loop-n.n _ _ _ c.in_ok-rides.ensures.all c.in_ok-rides.ensures.right
+    (omega (arith, c.loop-n-test.false, c.len-n-end.ensures, c.in_ok-rides.rides.ok.0)) (omega (arith, some)) c.loop-n.invariant.gains c.loop-n.invariant.covered

@@ -1,0 +1,8 @@
+use Rattle.plan_plain.proofs.SearchLaws.{gains_last, gains_lasts}
+use Rattle.plan_plain.proofs.search.offer_ends.Goals as goal
+
+pub loop-k-preserved : goal.loop-k-preserved
+loop-k-preserved c = gains_last _ _ _ _ _ _ _ _ _ _ c.loop-k-test.true c.loop-k.invariant c.in_ok-offer_at.ensures
+
+pub returns : goal.returns
+returns c = gains_lasts _ _ _ _ _ _ _ _ c.members-lasts.ensures c.loop-k-test.false c.loop-k.invariant

@@ -1,0 +1,17 @@
+use Rattle.std.proofs.Common.{sym, subst}
+use Rattle.feed_rows.specs.JourneyEntries.{IsExactAnswer, CoversOffers}
+use Rattle.plan_plain.proofs.SearchLaws.{gains_first, exact_of_gains}
+use Rattle.plan_plain.proofs.search.plain_entries.Goals as goal
+
+pub loop-k-preserved : goal.loop-k-preserved
+loop-k-preserved c = gains_first _ _ _ _ _ _ _ _ c.loop-k-test.true c.loop-k.invariant c.in_ok-offer_from.ensures
+
+pub returns-clause-exact : goal.returns-clause-exact
+returns-clause-exact c =
+    subst (IsExactAnswer c.args.timetable.now c.args.query.now) (sym c.into_items.ensures.value)
+    (exact_of_gains c.args.timetable.now c.args.query.now c.members-firsts.result.now c.loop-k.k c.loop-k.front c.members-firsts.ensures c.loop-k-test.false c.loop-k.invariant c.into_items.ensures.front).0
+
+pub returns-clause-covers : goal.returns-clause-covers
+returns-clause-covers c =
+    subst (CoversOffers c.args.timetable.now c.args.query.now) (sym c.into_items.ensures.value)
+    (exact_of_gains c.args.timetable.now c.args.query.now c.members-firsts.result.now c.loop-k.k c.loop-k.front c.members-firsts.ensures c.loop-k-test.false c.loop-k.invariant c.into_items.ensures.front).1

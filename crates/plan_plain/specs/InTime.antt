@@ -1,0 +1,116 @@
+-- Rides that are caught and end within a query's window.
+use Rattle.std.specs.Prelude.{◌≡◌, Bool, ◌&&◌, ℕ, ◌<◌, ◌≤◌, Option, Some, All, Contains, List, slice_index_or, ℤ, pos, negsuc, ◌+ℤ◌, ◌-ℤ◌, ◌≤ℤ◌, ◌<ℤ◌, int_le, option_and_then}
+use Rattle.transit_base.specs.Moments.{moment_at, civil_day}
+use Rattle.transit_base.specs.declared.numbers.StopId.{StopId}
+use Rattle.feed_rows.specs.declared.journeys.Call.{Call}
+use Rattle.feed_rows.specs.declared.journeys.Query.{Query}
+use Rattle.feed_rows.specs.declared.journeys.Ride.{Ride}
+use Rattle.feed_rows.specs.FeedRows.{FeedRows}
+use Rattle.feed_rows.specs.JourneyWalk.{Stand, stand_at_end, next_stand, way_to}
+use Rattle.feed_rows.specs.Rides.{ride_facts}
+use Rattle.feed_rows.specs.Words.{when, filled_and}
+use Rattle.plan_plain.specs.declared.caught.Run.{Run}
+use Rattle.plan_plain.specs.declared.caught.CaughtRide.{CaughtRide}
+
+-- the latest moment at which a journey may end
+abbrev pub deadline : Query → ℤ
+deadline query = query.departure.0 +ℤ pos query.window
+
+-- the stand, where one stands there within the window
+abbrev pub if_in_time : Query → Stand → Option Stand
+if_in_time query stand = when (int_le stand.at (deadline query)) stand
+
+-- where one stands after the ride; none where it is no ride of the feed, is not caught, or ends past the window
+unfoldable pub next_in_time : FeedRows → Query → Stand → Ride → Option Stand
+next_in_time feed query stand ride = option_and_then (if_in_time query) (next_stand feed query stand ride)
+
+-- the moment of departure lies in the years 1900 to 3000, and the window is at most three days
+pub record IsUsualQuery (query : Query) : Type 0 where
+  pub early : negsuc 2_208_988_799 ≤ℤ query.departure.0
+  pub late : query.departure.0 ≤ℤ pos 32_504_284_800
+  pub window : query.window ≤ 259_200
+
+-- one stands there no earlier than the query's departure and no later than its window ends
+pub record IsWithin (query : Query) (at : ℤ) : Type 0 where
+  pub since : query.departure.0 ≤ℤ at
+  pub until : at ≤ℤ deadline query
+
+-- a number stands among the first n of a list
+abbrev pub SomeBelow : ℕ → List ℤ → ℤ → Type 0
+SomeBelow n xs z = (k : ℕ) × (k < n) × (slice_index_or xs k z ≡ z)
+
+-- the ride goes so, and is caught from here in time
+pub record IsRight (feed : FeedRows) (query : Query) (stand : Stand) (caught : CaughtRide) : Type 0 where
+  pub facts : ride_facts feed caught.ride ≡ Some caught.facts
+  pub next : next_in_time feed query stand caught.ride ≡ Some (stand_at_end caught.facts)
+
+-- the list has the ride
+abbrev pub HasRide : List CaughtRide → Ride → Type 0
+HasRide rides ride = (caught : CaughtRide) × Contains rides caught × (caught.ride ≡ ride)
+
+-- the list has what it had, and each ride of this part that is caught from here in time, and stays right
+pub record AddsCaught (feed : FeedRows) (query : Query) (stand : Stand) (Part : Ride → Type 0) (old new : List CaughtRide) : Type 0 where
+  pub still : (ride : Ride) → HasRide old ride → HasRide new ride
+  pub all : (ride : Ride) (next : Stand) → next_in_time feed query stand ride ≡ Some next → Part ride → HasRide new ride
+  pub right : All (IsRight feed query stand) old → All (IsRight feed query stand) new
+
+-- the ride is of this run
+pub record IsOfRun (run : Run) (ride : Ride) : Type 0 where
+  pub trip : ride.trip.0 ≡ run.trip.0
+  pub day : ride.day.0 ≡ run.day.0
+  pub shift : ride.shift ≡ run.shift
+
+-- the ride is this one
+abbrev pub IsRideOf : Run → ℕ → ℕ → Ride → Type 0
+IsRideOf run from to ride = IsOfRun run ride × (ride.from ≡ from) × (ride.to ≡ to)
+
+-- the ride boards the run at this call, and leaves it before the n-th
+abbrev pub IsFrom : Run → ℕ → ℕ → Ride → Type 0
+IsFrom run from n ride = IsOfRun run ride × (ride.from ≡ from) × (ride.to < n)
+
+-- the ride boards the run at this call
+abbrev pub IsAt : Run → ℕ → Ride → Type 0
+IsAt run from ride = IsOfRun run ride × (ride.from ≡ from)
+
+-- the ride boards the run before the n-th call
+abbrev pub IsBefore : Run → ℕ → Ride → Type 0
+IsBefore run n ride = IsOfRun run ride × (ride.from < n)
+
+-- the ride is of this trip and day, with one of the first n of these shifts
+abbrev pub HasShift : ℕ → ℤ → List ℤ → ℕ → Ride → Type 0
+HasShift trip day shifts n ride = (ride.trip.0 ≡ trip) × (ride.day.0 ≡ day) × SomeBelow n shifts ride.shift
+
+-- the ride is of this trip and day
+abbrev pub IsOnTrip : ℕ → ℤ → Ride → Type 0
+IsOnTrip trip day ride = (ride.trip.0 ≡ trip) × (ride.day.0 ≡ day)
+
+-- the ride is on this day, of a trip before the n-th
+abbrev pub IsOnDay : ℤ → ℕ → Ride → Type 0
+IsOnDay day n ride = (ride.day.0 ≡ day) × (ride.trip.0 < n)
+
+-- the ride is on a day from the first to before another
+abbrev pub IsOnDays : ℤ → ℤ → Ride → Type 0
+IsOnDays first after ride = (first ≤ℤ ride.day.0) × (ride.day.0 <ℤ after)
+
+-- one gets from where one stands to a stop by a moment
+unfoldable pub gets_there : FeedRows → Query → Stand → StopId → ℤ → Bool
+gets_there feed query stand stop by = filled_and (way_to feed query stand stop) (λ s. int_le (stand.at +ℤ pos s) by)
+
+-- when a run departs from a call
+abbrev pub departure_of : Run → Call → ℤ
+departure_of run call = moment_at run.day.0 (run.shift +ℤ pos call.departure)
+
+-- one may board at the call of a run: riders may board there, and one gets there in time
+unfoldable pub may_board : FeedRows → Query → Stand → Run → Call → Bool
+may_board feed query stand run call = call.pickup && gets_there feed query stand call.stop (departure_of run call)
+
+-- the first day on which a ride can run that is caught, and the day after the last
+abbrev pub first_day : Query → ℤ
+first_day query = civil_day query.departure.0 -ℤ pos 13
+
+abbrev pub day_after : Query → ℤ
+day_after query = civil_day (deadline query) +ℤ pos 1
+
+-- the list has each ride that is caught from here in time
+abbrev pub HasCaught : FeedRows → Query → Stand → List CaughtRide → Type 0
+HasCaught feed query stand rides = (ride : Ride) (next : Stand) → next_in_time feed query stand ride ≡ Some next → HasRide rides ride

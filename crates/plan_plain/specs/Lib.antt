@@ -1,0 +1,4 @@
+pub mod InTime
+pub mod Prices
+pub mod Searches
+pub mod Tickets
