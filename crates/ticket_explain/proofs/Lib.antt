@@ -1,0 +1,4 @@
+pub mod TextLaws
+pub mod LineLaws
+pub mod RideBounds
+pub mod PartLaws

@@ -1,0 +1,106 @@
+-- Lines in parts: what stands before the last fields, and whether a line is written at all.
+use Rattle.std.specs.Prelude.{ℕ, ◌+◌, Bool, ◌&&◌, nat_lt, if◌then◌else◌, List, [], ◌∷◌, ◌++◌, length, Option, codes, decimal, ℤ, pos, negsuc, int_le, slice_get, option_map, option_and_then}
+use Rattle.std.specs.Option.{option_map_or, option_to_list}
+use Rattle.transit_base.specs.declared.numbers.StopId.{StopId}
+use Rattle.transit_base.specs.declared.numbers.ProductRowId.{ProductRowId}
+use Rattle.feed_rows.specs.declared.journeys.Ride.{Ride}
+use Rattle.feed_rows.specs.declared.journeys.RideFacts.{RideFacts}
+use Rattle.feed_rows.specs.declared.journeys.Call.{Call}
+use Rattle.feed_rows.specs.declared.journeys.Journey.{Journey}
+use Rattle.feed_rows.specs.declared.fares.Choice.{Choice}
+use Rattle.feed_rows.specs.declared.fares.LegChoice.{LegChoice}
+use Rattle.feed_rows.specs.declared.fares.ChangeChoice.{ChangeChoice}
+use Rattle.feed_rows.specs.FeedRows.{FeedRows}
+use Rattle.feed_rows.specs.Calls.{calls_of}
+use Rattle.feed_rows.specs.FareSums.{amount_of, is_charged, transfer_kind}
+use Rattle.feed_rows.specs.Words.{when}
+use Rattle.feed_rows.specs.Lines.{fields_text, line}
+use Rattle.feed_rows.specs.EntryText.{stop_text, stop_before, walk_lines, run_fields, way_fields, ride_line, leg_line, change_line}
+
+-- the ride is of a trip of the feed, and its day and shift are small
+abbrev pub is_near : FeedRows → Ride → Bool
+is_near feed ride =
+    nat_lt ride.trip.0 (length feed.trips)
+    && int_le (negsuc 799_999) ride.day.0 && int_le ride.day.0 (pos 3_000_000)
+    && int_le (negsuc 699_999) ride.shift && int_le ride.shift (pos 700_000)
+
+-- a word and its first fields
+abbrev pub head_text : List ℕ → List (List ℕ) → List ℕ
+head_text word [] = word
+head_text word (field ∷ fields) = head_text (word ++ 9 ∷ field) fields
+
+-- the text with the fields that end its line, where there are such
+abbrev pub ended : List ℕ → Option (List (List ℕ)) → Option (List ℕ)
+ended text fields = option_map (λ fs. text ++ fields_text fs) fields
+
+-- the line, where it is written
+abbrev pub if_written : Bool → List ℕ → List (List ℕ)
+if_written written line = option_to_list (when written line)
+
+-- the line of a ride of which all is known
+unfoldable pub whole_ride : FeedRows → Ride → RideFacts → List ℕ → Call → Call → List ℕ → List ℕ → List ℕ
+whole_ride feed ride facts trip boarding alighting from to =
+    line (codes "ride") (run_fields feed ride trip boarding alighting ++ way_fields facts from to)
+
+-- the line of a ride between two calls of its trip
+unfoldable pub ride_between : FeedRows → Ride → RideFacts → List ℕ → Call → Call → Option (List ℕ)
+ride_between feed ride facts trip boarding alighting =
+    option_and_then
+    (λ from. option_map (λ to. whole_ride feed ride facts trip boarding alighting from to) (stop_text feed facts.to))
+    (stop_text feed facts.from)
+
+-- the line of a ride of a trip with this id
+unfoldable pub ride_on : FeedRows → Ride → RideFacts → List ℕ → Option (List ℕ)
+ride_on feed ride facts trip =
+    option_and_then
+    (λ boarding. option_and_then (λ alighting. ride_between feed ride facts trip boarding alighting) (slice_get (calls_of feed ride.trip) ride.to))
+    (slice_get (calls_of feed ride.trip) ride.from)
+
+-- the line of a ride, in these parts
+unfoldable pub ride_line_in : FeedRows → Ride → RideFacts → Option (List ℕ)
+ride_line_in feed ride facts = option_and_then (λ trip. ride_on feed ride facts trip.id) (slice_get feed.trips ride.trip.0)
+
+-- the walk from where the traveller stands
+unfoldable pub walk_part : FeedRows → Option StopId → StopId → List (List ℕ)
+walk_part feed from to = option_map_or (λ stop. walk_lines feed stop to) from []
+
+-- the ride, if there is one
+unfoldable pub ride_part : FeedRows → RideFacts → Option Ride → List (List ℕ)
+ride_part feed facts ride = option_map_or (λ r. option_to_list (ride_line feed r facts)) ride []
+
+-- the lines of ride i, which has these facts
+unfoldable pub known_lines : FeedRows → Journey → ℕ → RideFacts → List (List ℕ)
+known_lines feed journey i facts = walk_part feed (stop_before feed journey i) facts.from ++ ride_part feed facts (slice_get journey.rides i)
+
+-- the leg, if there is one
+unfoldable pub leg_part : FeedRows → ℕ → Bool → Option LegChoice → List (List ℕ)
+leg_part feed i charged pick = option_map_or (λ p. option_to_list (leg_line feed i charged p)) pick []
+
+-- the change, if it is arranged
+unfoldable pub arranged_part : FeedRows → ℕ → Option ChangeChoice → List (List ℕ)
+arranged_part feed i pick = option_map_or (λ p. option_to_list (change_line feed i p)) pick []
+
+-- the change, if there is one and it is arranged
+unfoldable pub change_part : FeedRows → ℕ → Option (Option ChangeChoice) → List (List ℕ)
+change_part feed i place = option_map_or (arranged_part feed i) place []
+
+-- how a leg is paid
+unfoldable pub kind_text : Bool → List ℕ
+kind_text charged = if charged then codes "buy" else codes "included"
+
+-- what a leg's line says that it costs
+unfoldable pub leg_cost : FeedRows → Bool → ProductRowId → ℤ
+leg_cost feed charged product = if charged then amount_of feed product else pos 0
+
+-- the front of a leg's line
+unfoldable pub leg_head : ℕ → Bool → LegChoice → List ℕ
+leg_head i charged pick = head_text (codes "leg") (decimal (i + 1) ∷ kind_text charged ∷ decimal (pick.rule.0 + 1) ∷ [])
+
+-- the front of a change's line
+unfoldable pub change_head : ℕ → ℕ → ChangeChoice → List ℕ
+change_head i kind pick = head_text (codes "change") (decimal (i + 1) ∷ decimal kind ∷ decimal (pick.rule.0 + 1) ∷ [])
+
+-- the lines of a leg and of the change after it, in these parts
+unfoldable pub leg_lines_in : FeedRows → Choice → ℕ → List (List ℕ)
+leg_lines_in feed choice i =
+    leg_part feed i (is_charged (transfer_kind feed choice) i) (slice_get choice.legs i) ++ change_part feed i (slice_get choice.changes i)
