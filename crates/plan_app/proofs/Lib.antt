@@ -1,2 +1,4 @@
 pub mod WrittenLaws
 pub mod CauseLaws
+pub mod PlainLaws
+pub mod WholeLaws

@@ -1,21 +1,24 @@
 -- Texts that are written piece by piece.
-use Rattle.std.proofs.Common.{◌≡◌, ℕ, ◌+◌, ◌<◌, ◌≤◌, min, List, [], ◌∷◌, ◌++◌, zero, suc, length, take, drop, get_or, map, Option, Some, None, arith, refl, sym, ◌∙◌, add-one, append_assoc, append-nil}
+use Rattle.std.proofs.Common.{◌≡◌, ℕ, ◌+◌, ◌<◌, ◌≤◌, min, List, [], ◌∷◌, ◌++◌, zero, suc, length, take, drop, slice_get, Option, Some, None, arith, refl, sym, ap, ◌∙◌, add-one, append_assoc, append-nil}
 use Rattle.std.specs.List.{concat}
 use Rattle.std.proofs.lemmas.List.{take-append-le, take_min}
 use Rattle.std.proofs.Math.Seq.{take-append-add}
+use Rattle.std.proofs.lemmas.Option.{slice_get_within}
 use Rattle.folder_io.specs.declared.sink.Wrote.TheVariants as wrote
 use Rattle.folder_io.specs.SinkCalls.{Writes}
 use Rattle.plan_app.specs.Written.{WroteAll, WrotePart}
 
 -- the pieces so far, the next one and the others
-pub concat_at : {X : Type 0} (f : X → List ℕ) (ls : List X) (i : ℕ) (d : X) → i < length ls
-    → (concat (map f (take (i + 1) ls)) ≡ concat (map f (take i ls)) ++ f (get_or ls i d)) × (concat (map f ls) ≡ concat (map f (take i ls)) ++ f (get_or ls i d) ++ concat (map f (drop (suc i) ls)))
-concat_at f [] i d lt = absurd (omega arith)
-concat_at f (l ∷ ls) zero d lt = (append-nil (f l), refl)
-concat_at f (l ∷ ls) (suc i) d lt =
-    let ih = concat_at f ls i d (omega arith) in
+pub concat_at : (ls : List (List ℕ)) (i : ℕ) (piece : List ℕ) → slice_get ls i ≡ Some piece
+    → (concat (take (i + 1) ls) ≡ concat (take i ls) ++ piece) × (concat ls ≡ concat (take i ls) ++ piece ++ concat (drop (suc i) ls))
+concat_at [] i piece e = let lt = slice_get_within [] i piece e in absurd (omega (arith, lt))
+concat_at (l ∷ ls) zero piece e =
+    let same : l ≡ piece = cc in
+    (append-nil l ∙ same, ap (λ p. p ++ concat ls) same)
+concat_at (l ∷ ls) (suc i) piece e =
+    let ih = concat_at ls i piece e in
     let first = rw (add-one i) at ih.0 in
-    (rw (add-one (suc i), first) (sym (append_assoc (f l) (concat (map f (take i ls))) (f (get_or ls i d)))), rw ih.1 (simp append_assoc))
+    (rw (add-one (suc i), first) (sym (append_assoc l (concat (take i ls)) piece)), rw ih.1 (simp append_assoc))
 
 -- one more piece
 pub one_more : (before now after : Option (List ℕ)) (text piece more : List ℕ) → WroteAll before now text → Writes now after piece wrote.All → more ≡ text ++ piece → WroteAll before after more

@@ -1,8 +1,8 @@
--- The words of a plan of at most one ride: plan FROM TO DATE TIME --rides 1.
+-- The words that are taken: those of a plan of at most one ride, plan FROM TO DATE TIME --rides 1, and check.
 use Rattle.std.specs.Prelude.{ℕ, ◌==◌, ◌&&◌, not, nat_lt, Bool, if◌then◌else◌, List, length, slice_index, Option, Some, None, option_map, option_and_then, ℤ, pos, codes, bytes_eq}
 use Rattle.transit_base.specs.Moments.{moment_at}
 use Rattle.feed_rows.specs.CommandWords.{word_at}
-use Rattle.feed_rows.specs.Requests.{PlanRequest}
+use Rattle.feed_rows.specs.Requests.{PlanRequest, Request}
 use Rattle.feed_rows.specs.WordValues.{word_date, word_time}
 
 -- the word is not empty, and does not begin with `-`
@@ -32,7 +32,15 @@ one_ride words departure =
       window = 86_400;
     }
 
--- what the words ask for; none where they are not of this form
+-- the plan that the words ask for; none where they are not of this form
 unfoldable pub one_ride_request : List (List ℕ) → Option PlanRequest
 one_ride_request words =
     if has_plan_words words then option_map (one_ride words) (named_moment (word_at words 3) (word_at words 4)) else None
+
+-- the words are `check` alone
+unfoldable pub has_check_word : List (List ℕ) → Bool
+has_check_word words = (length words == 1) && bytes_eq (word_at words 0) (codes "check")
+
+-- what the words ask for; none where they are not of these forms
+unfoldable pub asked_of : List (List ℕ) → Option Request
+asked_of words = if has_check_word words then Some Request.Check else option_map Request.Plan (one_ride_request words)

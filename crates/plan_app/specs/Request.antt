@@ -1,9 +1,11 @@
--- What a plan of at most one ride asks for.
-use Rattle.std.specs.Prelude.{None}
-use Rattle.feed_rows.specs.Requests.{PlanRequest}
+-- What the words of a command ask for.
+use Rattle.std.specs.Prelude.{◌≤ℤ◌, ℤ, pos, negsuc, None}
+use Rattle.feed_rows.specs.Requests.{PlanRequest, Request}
+use Rattle.plan_app.specs.declared.request.Asked.{Asked}
+use Rattle.plan_app.specs.declared.request.Asked.TheVariants as asked
 use Rattle.plan_app.specs.declared.request.OneRide.{OneRide}
 
--- the request
+-- the request of a plan of at most one ride
 abbrev pub request_of : OneRide → PlanRequest
 request_of plan =
     record {
@@ -14,3 +16,18 @@ request_of plan =
       rider = None;
       window = 86_400;
     }
+
+-- the request
+abbrev pub asked_request : Asked → Request
+asked_request asked.Check = Request.Check
+asked_request (asked.Plan plan) = Request.Plan (request_of plan)
+
+-- a moment of the years 1900 to 2999
+pub record IsUsualMoment (moment : ℤ) : Type 0 where
+  pub early : negsuc 2_208_988_799 ≤ℤ moment
+  pub late : moment ≤ℤ pos 32_503_680_000
+
+-- a plan departs at such a moment
+abbrev pub IsUsualRequest : Asked → Type 0
+IsUsualRequest asked.Check = Unit {0}
+IsUsualRequest (asked.Plan plan) = IsUsualMoment plan.departure.0

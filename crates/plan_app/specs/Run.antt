@@ -1,17 +1,25 @@
--- Each answer of the program with its cause: what holds of the words, of the counts of faults before and after, and of what
--- was written.
-use Rattle.std.specs.Prelude.{◌≡◌, ◌⊎◌, ℕ, List, Option, IsSome, IsNone}
+-- Each answer of the program with its cause: what holds of the words, of what the folder holds, of the counts of faults
+-- before and after, and of what was written.
+use Rattle.std.specs.Prelude.{◌≡◌, ◌⊎◌, ℕ, List, Option, IsSome, IsNone, Some, None, Ok}
 use Rattle.feed_rows.specs.FaultCounts.{Rose, Stayed}
-use Rattle.feed_rows.specs.CommandTexts.{usage_line, refused_line}
-use Rattle.feed_rows.specs.declared.usage.UsageFault.{UsageFault}
-use Rattle.feed_rows.specs.declared.usage.UsageFault.TheVariants as usage
+use Rattle.feed_rows.specs.HeldFiles.{held}
+use Rattle.feed_rows.specs.Queries.{query_of}
+use Rattle.feed_rows.specs.Requests.{PlanRequest, Request}
+use Rattle.feed_rows.specs.declared.journeys.Query.{Query}
+use Rattle.feed_faults.specs.AcceptedFeed.{feed_of}
+use Rattle.folder_io.specs.FolderCalls.{Contents}
+use Rattle.feed_check.specs.BuiltFaults.{first_built_fault}
 use Rattle.plan_app.specs.declared.status.Status.{Status}
 use Rattle.plan_app.specs.declared.status.Status.TheVariants as status
-use Rattle.plan_app.specs.OneRideWords.{one_ride_request}
+use Rattle.plan_app.specs.Due.{IsDue}
+use Rattle.plan_app.specs.OneRideWords.{asked_of}
+use Rattle.plan_app.specs.Unplanned.{unplanned_fault}
 use Rattle.plan_app.specs.Written.{WroteAll, WrotePart}
 
--- the counts of faults of the folder and of the sink, and what is written, before and after
+-- what the folder holds, where it tells; the counts of faults of the folder and of the sink, and what is written, before
+-- and after
 pub record Outside : Type 0 where
+  pub holds : Option Contents
   pub reads : ℕ
   pub reads_after : ℕ
   pub written : Option (List ℕ)
@@ -27,55 +35,56 @@ NothingFailed o = Stayed o.reads o.reads_after × Stayed o.writes o.writes_after
 abbrev pub WriteFailed : Outside → Type 0
 WriteFailed o = Stayed o.reads o.reads_after × Rose o.writes o.writes_after
 
--- the words are those of a plan, or aren't
-abbrev pub IsPlan : List (List ℕ) → Type 0
-IsPlan words = IsSome (one_ride_request words)
+-- nothing was written
+abbrev pub IsSilent : Outside → Type 0
+IsSilent o = o.written_after ≡ o.written
 
-abbrev pub IsNoPlan : List (List ℕ) → Type 0
-IsNoPlan words = IsNone (one_ride_request words)
+-- the words ask for something, or for nothing
+abbrev pub IsAsked : List (List ℕ) → Type 0
+IsAsked words = IsSome (asked_of words)
 
--- what was due was written in part: the line of wrong words, or what a plan answers
-abbrev pub WroteDue : List (List ℕ) → Outside → Type 0
-WroteDue words o =
-    (IsNoPlan words × WrotePart o.written o.written_after (usage_line usage.WrongWords))
-    ⊎ (IsPlan words × ((text : List ℕ) × WrotePart o.written o.written_after text))
+abbrev pub IsUnasked : List (List ℕ) → Type 0
+IsUnasked words = IsNone (asked_of words)
 
--- a usage fault and its cause: wrong words exactly where they aren't a plan, and an unknown stop only where they are
-abbrev pub IsUsage : List (List ℕ) → UsageFault → Type 0
-IsUsage words usage.WrongWords = IsNoPlan words
-IsUsage words (usage.UnknownStop word) = IsPlan words
-IsUsage words usage.BadDate = ⊥
-IsUsage words usage.BadTime = ⊥
-IsUsage words usage.BadRides = ⊥
-IsUsage words usage.BadWindow = ⊥
-IsUsage words (usage.BadRide k) = ⊥
-IsUsage words usage.BadSeed = ⊥
-IsUsage words usage.BadLines = ⊥
-IsUsage words (usage.WrongStopKind word) = ⊥
-IsUsage words (usage.NoSuchRide k) = ⊥
-IsUsage words (usage.NoChange k) = ⊥
-IsUsage words usage.UnknownRider = ⊥
-IsUsage words usage.RiderNeeded = ⊥
+-- the text that is due for this answer was written whole
+pub record Wrote (o : Outside) (words : List (List ℕ)) (answer : Status) : Type 0 where
+  pub text : List ℕ
+  pub due : IsDue o.holds words answer text
+  pub written : WroteAll o.written o.written_after text
+
+-- of what is due for some answer the first part was written
+pub record WroteFirst (o : Outside) (words : List (List ℕ)) : Type 0 where
+  pub answer : Status
+  pub text : List ℕ
+  pub due : IsDue o.holds words answer text
+  pub written : WrotePart o.written o.written_after text
 
 -- each answer and its cause
 abbrev pub Explains : List (List ℕ) → Outside → Status → Type 0
-Explains words o status.Answered =
-    IsPlan words × NothingFailed o × ((text : List ℕ) × WroteAll o.written o.written_after text)
-Explains words o (status.Usage fault) =
-    IsUsage words fault × NothingFailed o × WroteAll o.written o.written_after (usage_line fault)
-Explains words o (status.Refused fault) =
-    IsPlan words × NothingFailed o × WroteAll o.written o.written_after (refused_line fault)
-Explains words o status.ReadFault =
-    IsPlan words × Rose o.reads o.reads_after × Stayed o.writes o.writes_after × (o.written_after ≡ o.written)
-Explains words o status.WriteFault = WriteFailed o × WroteDue words o
-Explains words o status.NoMemory = NothingFailed o × (o.written_after ≡ o.written)
+Explains words o status.Answered = NothingFailed o × Wrote o words status.Answered
+Explains words o (status.Usage fault) = NothingFailed o × Wrote o words (status.Usage fault)
+Explains words o (status.Refused fault) = NothingFailed o × Wrote o words (status.Refused fault)
+Explains words o status.ReadFault = IsAsked words × Rose o.reads o.reads_after × Stayed o.writes o.writes_after × IsSilent o
+Explains words o status.WriteFault = WriteFailed o × WroteFirst o words
+Explains words o status.NoMemory = NothingFailed o × IsSilent o
 
--- what comes of writing one line, after which this is answered: the answer where it was written whole, and else a failed
--- write or want of memory
-abbrev pub AnswersLine : List ℕ → Status → Outside → Status → Type 0
-AnswersLine line told o status.WriteFault = Rose o.writes o.writes_after × WrotePart o.written o.written_after line
-AnswersLine line told o status.NoMemory = Stayed o.writes o.writes_after × (o.written_after ≡ o.written)
-AnswersLine line told o status.Answered = (told ≡ status.Answered) × Stayed o.writes o.writes_after × WroteAll o.written o.written_after line
-AnswersLine line told o (status.Usage fault) = (told ≡ status.Usage fault) × Stayed o.writes o.writes_after × WroteAll o.written o.written_after line
-AnswersLine line told o (status.Refused fault) = (told ≡ status.Refused fault) × Stayed o.writes o.writes_after × WroteAll o.written o.written_after line
-AnswersLine line told o status.ReadFault = ⊥
+-- a plan can be answered: the folder tells that its files have no fault and hold nothing that isn't planned with, and the
+-- words give a query over their feed
+pub record IsPlannable (contents : Contents) (words : List (List ℕ)) : Type 0 where
+  pub request : PlanRequest
+  pub asked : asked_of words ≡ Some (Request.Plan request)
+  pub accepted : first_built_fault (held contents) ≡ None
+  pub planned : unplanned_fault (feed_of (held contents)) ≡ None
+  pub query : Query
+  pub is_query : query_of (feed_of (held contents)) request ≡ Ok query
+
+-- a check can be answered: the folder tells that its files have no fault
+pub record IsCheckable (contents : Contents) (words : List (List ℕ)) : Type 0 where
+  pub asked : asked_of words ≡ Some Request.Check
+  pub accepted : first_built_fault (held contents) ≡ None
+
+-- what can be answered is, or memory was wanting, where nothing fails outside
+abbrev pub AnswersAll : List (List ℕ) → Outside → Status → Type 0
+AnswersAll words o answer =
+    (contents : Contents) → o.holds ≡ Some contents → IsPlannable contents words ⊎ IsCheckable contents words →
+    ¬ (Rose o.reads o.reads_after) → ¬ (Rose o.writes o.writes_after) → (answer ≡ status.Answered) ⊎ (answer ≡ status.NoMemory)

@@ -1,14 +1,15 @@
 //! The lines that are written.
-ghost use Rattle.std.specs.Prelude.{◌≡◌, ◌<◌, IsTrue, IfOk, string_bytes, map};
+ghost use Rattle.std.specs.Prelude.{◌≡◌, ◌<◌, IsTrue, IfOk, string_bytes};
 ghost use Rattle.std.specs.List.{concat};
 ghost use Rattle.feed_rows.specs.FaultCounts.{Rose, Stayed};
-ghost use Rattle.feed_rows.specs.CommandTexts.{usage_line, refused_line, place_text};
+ghost use Rattle.feed_rows.specs.CommandTexts.{usage_line, refused_line, place_text, check_text};
 ghost use Rattle.feed_rows.specs.UsageFaults.{usage_argument, stop_word_text};
 ghost use Rattle.plan_app.specs.Written.{WroteAll, WrotePart};
 
-use feed_rows::{ColumnName, FeedFault, StopWord, UsageFault};
+use feed_rows::{ColumnName, Feed, FeedFault, StopWord, UsageFault};
 use folder_io::{Sink, Wrote};
 use std::alloc::{AllocError, Global};
+use ticket_explain::{Line, Text};
 
 // The word that names a stop, as it is printed.
 fn stop_word(word: StopWord) -> &'static str
@@ -74,16 +75,32 @@ pub(crate) fn refused_line_of(alloc: Global, fault: FeedFault) -> Result<String,
     format!(in alloc; "refused\t{number}\t{name}\t{file}\t{row}\t{column}\n")
 }
 
-/// Writes the lines one by one.
-pub(crate) fn write_lines<S: Sink>(sink: &mut S, lines: &[String]) -> Wrote
+/// The line of `check` for an accepted feed: how many rows its main files have.
+pub(crate) fn check_line_of(alloc: Global, feed: &Feed) -> Result<Line, AllocError>
+    ensures { IfOk result (λ line. line ≡ check_text feed.now) }
+{
+    let mut line = Line::empty(alloc);
+    line.start(b"accepted")?;
+    line.number(feed.stops.items().len() as u64)?;
+    line.number(feed.routes.items().len() as u64)?;
+    line.number(feed.trips.items().len() as u64)?;
+    line.number(feed.stop_times.items().len() as u64)?;
+    line.number(feed.leg_rules.items().len() as u64)?;
+    line.number(feed.transfer_rules.items().len() as u64)?;
+    line.end()?;
+    Ok(line)
+}
+
+/// Writes the lines of a text one by one.
+pub(crate) fn write_text<S: Sink>(sink: &mut S, text: &Text) -> Wrote
     ensures all { result ≡ Wrote.All → Stayed (S.faults sink.old) (S.faults sink.new) }
-    ensures whole { result ≡ Wrote.All → WroteAll (S.written sink.old) (S.written sink.new) (concat (map string_bytes lines.now)) }
+    ensures whole { result ≡ Wrote.All → WroteAll (S.written sink.old) (S.written sink.new) (concat text.now) }
     ensures failed { result ≡ Wrote.Failed → Rose (S.faults sink.old) (S.faults sink.new) }
     ensures ends_at_fault { S.faults sink.old < S.faults sink.new → IsTrue (S.failed sink.new) }
-    ensures part { result ≡ Wrote.Failed → WrotePart (S.written sink.old) (S.written sink.new) (concat (map string_bytes lines.now)) }
+    ensures part { result ≡ Wrote.Failed → WrotePart (S.written sink.old) (S.written sink.new) (concat text.now) }
 {
-    for line in lines {
-        match sink.write(line.as_bytes()) {
+    for number in 0..text.lines() {
+        match sink.write(text.line(number)) {
             Wrote::Failed => return Wrote::Failed,
             Wrote::All => {}
         }

@@ -1,13 +1,22 @@
 //! What a plan's words ask for.
-ghost use Rattle.std.specs.Prelude.{◌≡◌, ◌<◌, option_map, length, bytes_eq, codes};
+ghost use Rattle.std.specs.Prelude.{◌≡◌, ◌<◌, ◌≤ℤ◌, pos, negsuc, IfSome, option_map, length, bytes_eq, codes};
 ghost use Rattle.feed_rows.specs.CommandWords.{word_at};
 ghost use Rattle.feed_rows.specs.WordValues.{word_date, word_time};
-ghost use Rattle.plan_app.specs.OneRideWords.{has_plan_words, is_stop_word, named_moment, one_ride_request};
-ghost use Rattle.plan_app.specs.Request.{request_of};
+ghost use Rattle.plan_app.specs.OneRideWords.{has_check_word, asked_of, has_plan_words, is_stop_word, named_moment, one_ride_request};
+ghost use Rattle.plan_app.specs.Request.{request_of, asked_request, IsUsualMoment, IsUsualRequest};
 
 use crate::words::WordList;
 use feed_text::{day_of_parts, time_of};
 use transit_base::{Day, Moment};
+
+/// What a command's words ask for.
+#[derive(Clone, Copy, Debug)]
+pub(crate) enum Asked<'a> {
+    /// Whether the feed is accepted.
+    Check,
+    /// The journeys of a plan.
+    Plan(OneRide<'a>),
+}
 
 /// A plan of at most one ride within a day.
 #[derive(Clone, Copy, Debug)]
@@ -21,7 +30,9 @@ pub(crate) struct OneRide<'a> {
 
 // The day of the form YYYY-MM-DD, from 1900-01-01 to 2999-12-31.
 fn date_in(word: &str) -> Option<Day>
-    ensures { option_map (λ d. d.0) result ≡ word_date word.now }
+    ensures value { option_map (λ d. d.0) result ≡ word_date word.now }
+    ensures low { IfSome result (λ d. negsuc 25_566 ≤ℤ d.0) }
+    ensures high { IfSome result (λ d. d.0 ≤ℤ pos 376_199) }
 {
     let text = word.as_bytes();
     if text.len() != 10 || text[4] != b'-' || text[7] != b'-' {
@@ -36,7 +47,8 @@ fn date_in(word: &str) -> Option<Day>
 
 // The moment that a date and a time of the day name.
 fn moment_in(date: &str, time: &str) -> Option<Moment>
-    ensures { option_map (λ m. m.0) result ≡ named_moment date.now time.now }
+    ensures value { option_map (λ m. m.0) result ≡ named_moment date.now time.now }
+    ensures usual { IfSome result (λ m. IsUsualMoment m.0) }
 {
     let day = date_in(date)?;
     let seconds = time_of(time.as_bytes(), 86_399)?;
@@ -62,10 +74,11 @@ fn is_plan(words: &WordList) -> bool
         && words.word(6) == "1"
 }
 
-/// What the words ask for; none where they are not those of a plan.
+// The plan that the words ask for; none where they are not those of a plan.
 #[tactic(auto, unfolding(crate::specs::OneRideWords::one_ride_request))]
-pub(crate) fn one_ride_of(words: &WordList) -> Option<OneRide<'_>>
-    ensures { option_map request_of result ≡ one_ride_request words.now }
+fn one_ride_of(words: &WordList) -> Option<OneRide<'_>>
+    ensures value { option_map request_of result ≡ one_ride_request words.now }
+    ensures usual { IfSome result (λ plan. IsUsualMoment plan.departure.0) }
 {
     if !is_plan(words) {
         return None;
@@ -76,4 +89,25 @@ pub(crate) fn one_ride_of(words: &WordList) -> Option<OneRide<'_>>
         to: words.word(2),
         departure,
     })
+}
+
+// Whether the word `check` stands alone.
+#[tactic(auto, unfolding(crate::specs::OneRideWords::has_check_word))]
+fn is_check(words: &WordList) -> bool
+    ensures { result ≡ has_check_word words.now }
+{
+    words.len() == 1 && words.word(0) == "check"
+}
+
+/// What the words ask for; none where they are of no command.
+#[tactic(auto, unfolding(crate::specs::OneRideWords::asked_of))]
+pub(crate) fn asked_of(words: &WordList) -> Option<Asked<'_>>
+    ensures value { option_map asked_request result ≡ asked_of words.now }
+    ensures usual { IfSome result IsUsualRequest }
+{
+    if is_check(words) {
+        return Some(Asked::Check);
+    }
+    let plan = one_ride_of(words)?;
+    Some(Asked::Plan(plan))
 }

@@ -14,14 +14,29 @@ const ANSWER: &[u8] =
     b"journey\t2025-06-02 09:00:00\t1\t2.50\tEUR\nride\tT3\t2025-06-02\t-\t1\t2\tA\t2025-06-02 08:05:00\tC\t2025-06-02 09:00:00\nleg\t1\tbuy\t1\t1\tsingle\t\t2.50\n";
 
 // The bytes of a file.
-fn file(alloc: Global, bytes: &[u8]) -> Result<FileBytes, AllocError>
+pub(crate) fn file(alloc: Global, bytes: &[u8]) -> Result<FileBytes, AllocError>
     ensures { IfOk result (λ file. IsTrue (is_whole file)) }
 {
     Ok(FileBytes::Bytes(ByteText::copy_of(alloc, bytes)?))
 }
 
+// Another file in the place of one.
+pub(crate) fn put_file(
+    alloc: Global,
+    files: &mut Files,
+    name: FileName,
+    bytes: &[u8],
+) -> Result<(), AllocError>
+    requires { IsTrue (are_whole files.old) }
+    ensures { IsTrue (are_whole files.new) }
+{
+    let file = file(alloc, bytes)?;
+    files.put(name, file);
+    Ok(())
+}
+
 // Two buses and a train on one day, with these stops.
-fn feed(alloc: Global, stops: &[u8]) -> Result<Files, AllocError>
+pub(crate) fn feed(alloc: Global, stops: &[u8]) -> Result<Files, AllocError>
     ensures { IfOk result (λ files. IsTrue (are_whole files)) }
 {
     let mut files = Files::empty();
@@ -68,10 +83,10 @@ fn feed(alloc: Global, stops: &[u8]) -> Result<Files, AllocError>
     Ok(files)
 }
 
-const STOPS: &[u8] = b"stop_id,stop_name\nA,Ash\nB,Birch\nC,Cedar\n";
+pub(crate) const STOPS: &[u8] = b"stop_id,stop_name\nA,Ash\nB,Birch\nC,Cedar\n";
 
 // The words of a command.
-fn words_of(alloc: Global, words: &[&str]) -> Result<WordList, AllocError> {
+pub(crate) fn words_of(alloc: Global, words: &[&str]) -> Result<WordList, AllocError> {
     let mut list = WordList::empty(alloc);
     for word in words {
         list.push(word)?;
@@ -166,6 +181,82 @@ fn refusals(rt: HostRuntime) -> Result<(), Fail> {
         sink.bytes(),
         b"refused\t5\tMissingColumn\tstops.txt\t0\tstop_id\n".as_slice()
     );
+    Ok(())
+}
+
+#[test]
+fn checks(rt: HostRuntime) -> Result<(), Fail> {
+    let alloc = rt.alloc();
+    let (status, sink) = answer_of(alloc, &["check"], STOPS, &[], &[], &[])?;
+    assert_eq!(rt; status, Status::Answered);
+    assert_eq!(rt; sink.bytes(), b"accepted\t3\t2\t3\t6\t2\t0\n".as_slice());
+    // Stops, and the place of the first fault that they give the feed.
+    let cases: [(&[u8], FaultKind, FileName, u32, ColumnName, &[u8]); 4] = [
+        (
+            b"stop_id,stop_name\nA,Ash\nB,Birch\nA,Cedar\n",
+            FaultKind::DoubledKey,
+            FileName::Stops,
+            3,
+            ColumnName::StopId,
+            b"refused\t15\tDoubledKey\tstops.txt\t3\tstop_id\n",
+        ),
+        (
+            b"stop_id,stop_name\nA,Ash\nB,Birch\n",
+            FaultKind::UnknownReference,
+            FileName::StopTimes,
+            4,
+            ColumnName::StopId,
+            b"refused\t16\tUnknownReference\tstop_times.txt\t4\tstop_id\n",
+        ),
+        (
+            b"stop_id,stop_name,parent_station\nA,Ash,\nB,Birch,\nC,Cedar,D\n",
+            FaultKind::UnknownReference,
+            FileName::Stops,
+            3,
+            ColumnName::ParentStation,
+            b"refused\t16\tUnknownReference\tstops.txt\t3\tparent_station\n",
+        ),
+        (
+            b"stop_id,stop_name,parent_station\nA,Ash,\nB,Birch,\nC,Cedar,A\n",
+            FaultKind::BadParent,
+            FileName::Stops,
+            3,
+            ColumnName::ParentStation,
+            b"refused\t17\tBadParent\tstops.txt\t3\tparent_station\n",
+        ),
+    ];
+    for (stops, kind, file, row, column, line) in cases {
+        let fault = FeedFault {
+            kind,
+            file,
+            row,
+            column: Some(column),
+        };
+        for words in [["check"].as_slice(), PLAN.as_slice()] {
+            let (status, sink) = answer_of(alloc, words, stops, &[], &[], &[])?;
+            assert_eq!(rt; status, Status::Refused(fault));
+            assert_eq!(rt; sink.bytes(), line);
+        }
+    }
+    Ok(())
+}
+
+// A feed with stations is accepted, but not planned with yet.
+#[test]
+fn unplanned(rt: HostRuntime) -> Result<(), Fail> {
+    let alloc = rt.alloc();
+    let stops = b"stop_id,stop_name,location_type\nA,Ash,\nB,Birch,\nC,Cedar,\nD,Dock,1\n";
+    let (status, _) = answer_of(alloc, &["check"], stops, &[], &[], &[])?;
+    assert_eq!(rt; status, Status::Answered);
+    let (status, sink) = answer_of(alloc, &PLAN, stops, &[], &[], &[])?;
+    let fault = FeedFault {
+        kind: FaultKind::NotBuilt,
+        file: FileName::Stops,
+        row: 0,
+        column: None,
+    };
+    assert_eq!(rt; status, Status::Refused(fault));
+    assert!(rt; sink.bytes().starts_with(b"refused\t"));
     Ok(())
 }
 

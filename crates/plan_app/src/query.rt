@@ -1,0 +1,51 @@
+//! The query of a plan over a feed.
+ghost use Rattle.std.specs.Prelude.{◌≡◌, ◌||◌, []};
+ghost use Rattle.feed_rows.specs.StopLinks.{is_platform, is_station};
+ghost use Rattle.feed_rows.specs.Queries.{named_stop, query_of};
+ghost use Rattle.plan_app.specs.Request.{request_of};
+
+use crate::request::OneRide;
+use feed_rows::{Feed, Query, StopWord, UsageFault};
+use feed_timetable::Timetable;
+use transit_base::StopId;
+
+// Whether the stop is a platform or a station.
+fn is_endpoint(feed: &Feed, stop: StopId) -> bool
+    ensures { result ≡ (is_platform feed.now stop || is_station feed.now stop) }
+{
+    match feed.stops.items().get(stop.0 as usize) {
+        Some(row) => row.kind == 0 || row.kind == 1,
+        None => false,
+    }
+}
+
+// The platform or station that a word names.
+fn named_stop(timetable: &Timetable, word: StopWord, id: &str) -> Result<StopId, UsageFault>
+    ensures { result ≡ named_stop timetable.now word id.now }
+{
+    let Some(stop) = timetable.find(id.as_bytes()) else {
+        return Err(UsageFault::UnknownStop(word));
+    };
+    if is_endpoint(timetable.feed(), stop) {
+        Ok(stop)
+    } else {
+        Err(UsageFault::WrongStopKind(word))
+    }
+}
+
+/// The query of a plan, or the first fault of the names that its words give.
+pub(crate) fn query_of(timetable: &Timetable, plan: &OneRide) -> Result<Query, UsageFault>
+    requires { timetable.now.riders ≡ [] }
+    ensures { result ≡ query_of timetable.now (request_of plan.now) }
+{
+    let from = named_stop(timetable, StopWord::From, plan.from)?;
+    let to = named_stop(timetable, StopWord::To, plan.to)?;
+    Ok(Query {
+        from,
+        to,
+        departure: plan.departure,
+        rides: 1,
+        window: 86_400,
+        rider: None,
+    })
+}
