@@ -1,4 +1,3 @@
-pub mod ValueLaws
 pub mod NumberLaws
 pub mod ShortNames
 pub mod CurrencyLaws

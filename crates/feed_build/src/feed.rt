@@ -1,6 +1,7 @@
 //! A feed from the tables of its files.
 ghost use Rattle.std.specs.Prelude.{◌≡◌, IfOk};
-ghost use Rattle.feed_faults.specs.AcceptedFeed.{rows_of_tables};
+ghost use Rattle.feed_faults.specs.AcceptedFeed.{rows_of, rows_of_tables, stop_time_row};
+ghost use Rattle.feed_tables.specs.TableIds.{AreIdsOf};
 ghost use Rattle.feed_tables.specs.UnbuiltFiles.{AreUnbuiltEmpty};
 ghost use Rattle.feed_soundness.specs.AcceptedTables.{AreFormed, AreLinked};
 ghost use Rattle.feed_build.specs.FeedNames.{AreNamesOf};
@@ -9,8 +10,8 @@ ghost use Rattle.feed_build.specs.FeedParts.{IsTimetableOf, AreFaresOf};
 use crate::names::Names;
 use crate::parts::{Fares, Timetable};
 use crate::products::{feed_currency, feed_decimals};
-use feed_rows::{ColumnName, Feed};
-use feed_tables::Tables;
+use feed_rows::{ColumnName, Feed, StopTimeRows};
+use feed_tables::{TableIds, Tables};
 use std::alloc::{AllocError, Global};
 
 // The feed of these rows and names.
@@ -55,18 +56,25 @@ fn joined(tables: &Tables, names: Names, timetable: Timetable, fares: Fares) -> 
 }
 
 /// The feed of tables in which both passes find no fault: the typed rows of each file, with row numbers in place of ids, and
-/// names numbered by first appearance. The files whose rows aren't read yet are empty.
+/// names numbered by first appearance. The rows of stop_times.txt are given. The files whose rows aren't read yet are empty.
 ///
 /// # Errors
 /// Want of memory.
-pub fn feed_of_tables(alloc: Global, tables: &Tables) -> Result<Feed, AllocError>
+pub fn feed_of_tables(
+    alloc: Global,
+    tables: &Tables,
+    ids: &TableIds,
+    stop_times: StopTimeRows,
+) -> Result<Feed, AllocError>
     requires formed { AreFormed tables.now }
     requires linked { AreLinked tables.now }
     requires unbuilt { AreUnbuiltEmpty tables.now }
+    requires ids { AreIdsOf tables.now ids.now }
+    requires stop_times { stop_times ≡ rows_of tables.now.stop_times (stop_time_row tables.now) }
     ensures { IfOk result (λ feed. feed ≡ rows_of_tables tables.now) }
 {
     let names = Names::of(alloc, tables)?;
-    let timetable = Timetable::of(alloc, tables, &names)?;
+    let timetable = Timetable::of(alloc, tables, ids, &names, stop_times)?;
     let fares = Fares::of(alloc, tables, &names)?;
     Ok(joined(tables, names, timetable, fares))
 }

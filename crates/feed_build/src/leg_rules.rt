@@ -14,15 +14,17 @@ ghost use Rattle.feed_build.specs.FeedNames.{AreNamesOf};
 use crate::names::Names;
 use crate::numbering::Numbering;
 use crate::routes::network_of_name;
-use crate::row_numbers::RowNumbers;
-use crate::values::{MOST_INT, is_filled, optional_int};
 use feed_rows::{ColumnName, LegRuleRow, LegRuleRows};
-use feed_tables::Tables;
+use feed_tables::{IdIndex, Tables};
+use feed_text::{is_filled, optional_int};
 use std::alloc::{AllocError, Global};
 use transit_base::{AreaId, FrameId, LegGroupId, ProductId};
 
+// The greatest integer of a column without a limit of its own.
+const MOST_INT: u32 = 2_147_483_647;
+
 // The area of an id, where it is filled.
-fn area_of(areas: &RowNumbers, id: &[u8]) -> Option<AreaId>
+fn area_of(areas: &IdIndex, id: &[u8]) -> Option<AreaId>
     ensures { result ≡ if_filled id.now (record { 0 = row_number areas.now.table areas.now.name id.now }) }
 {
     if is_filled(id) {
@@ -56,7 +58,7 @@ fn group_of(groups: &Numbering, name: &[u8]) -> Option<LegGroupId>
 
 // A row of fare_leg_rules.txt.
 #[tactic(auto, unfolding(feed_faults::specs::AcceptedFeed::leg_rule_row))]
-fn leg_rule_row(tables: &Tables, areas: &RowNumbers, names: &Names, row: u32) -> LegRuleRow
+fn leg_rule_row(tables: &Tables, areas: &IdIndex, names: &Names, row: u32) -> LegRuleRow
     requires within { row < row_count tables.now.fare_leg_rules }
     requires areas { areas.now ≡ record { table = tables.now.areas; name = column.AreaId } }
     requires names { AreNamesOf tables.now names.now }
@@ -97,7 +99,7 @@ pub fn leg_rule_rows(
     requires names { AreNamesOf tables.now names.now }
     ensures { IfOk result (λ rows. rows ≡ rows_of tables.now.fare_leg_rules (leg_rule_row tables.now)) }
 {
-    let areas = RowNumbers::of(alloc, &tables.areas, ColumnName::AreaId)?;
+    let areas = IdIndex::of(alloc, &tables.areas, ColumnName::AreaId)?;
     let mut rows = LegRuleRows::empty(alloc);
     for row in 0..tables.fare_leg_rules.rows() {
         rows.push(leg_rule_row(tables, &areas, names, row))?;

@@ -9,11 +9,10 @@ mod numbering;
 mod parts;
 mod products;
 mod routes;
-mod row_numbers;
 mod services;
 mod stop_times;
 mod stops;
 mod trips;
-mod values;
 
 pub use feed::feed_of_tables;
+pub use stop_times::stop_time_rows;

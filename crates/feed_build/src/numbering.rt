@@ -4,9 +4,9 @@ ghost use Rattle.feed_faults.specs.Records.{row_count, is_filled};
 ghost use Rattle.feed_faults.specs.AcceptedFeed.{name_number, with_name, with_column};
 ghost use Rattle.feed_build.specs.NameNumbers.{AreNumbersOf, IsShort, AreShort};
 
-use crate::values::is_filled;
 use feed_rows::{ColumnName, Id, NameList};
 use feed_tables::NamedTable;
+use feed_text::is_filled;
 use std::alloc::{AllocError, Global};
 use std::collections::BTreeMap;
 use std::marker::Model;

@@ -2,6 +2,8 @@
 ghost use Rattle.std.specs.Prelude.{◌≡◌, IfOk};
 ghost use Rattle.feed_tables.specs.UnbuiltFiles.{AreUnbuiltEmpty};
 ghost use Rattle.feed_soundness.specs.AcceptedTables.{AreFormed};
+ghost use Rattle.feed_faults.specs.AcceptedFeed.{rows_of, stop_time_row};
+ghost use Rattle.feed_tables.specs.TableIds.{AreIdsOf};
 ghost use Rattle.feed_build.specs.FeedNames.{AreNamesOf};
 ghost use Rattle.feed_build.specs.FeedParts.{IsTimetableOf, AreFaresOf};
 
@@ -10,7 +12,6 @@ use crate::names::Names;
 use crate::products::product_rows;
 use crate::routes::route_rows;
 use crate::services::{exception_rows, service_rows};
-use crate::stop_times::stop_time_rows;
 use crate::stops::stop_rows;
 use crate::trips::trip_rows;
 use feed_rows::{
@@ -18,7 +19,7 @@ use feed_rows::{
     ProductRows, RiderRows, RouteRows, ServiceRows, StopAreaRows, StopRows, StopTimeRows,
     TimeframeRows, TransferRuleRows, TripRows,
 };
-use feed_tables::Tables;
+use feed_tables::{TableIds, Tables};
 use std::alloc::{AllocError, Global};
 
 /// The rows of the files of the timetable and of footways.
@@ -48,21 +49,30 @@ pub struct Fares {
 }
 
 impl Timetable {
-    /// The rows of the timetable, by the names of the feed. Those of frequencies.txt and transfers.txt aren't read yet.
+    /// The rows of the timetable, by the names of the feed; those of stop_times.txt are given. Those of frequencies.txt and
+    /// transfers.txt aren't read yet.
     ///
     /// # Errors
     /// Want of memory.
-    pub fn of(alloc: Global, tables: &Tables, names: &Names) -> Result<Timetable, AllocError>
+    pub fn of(
+        alloc: Global,
+        tables: &Tables,
+        ids: &TableIds,
+        names: &Names,
+        stop_times: StopTimeRows,
+    ) -> Result<Timetable, AllocError>
         requires formed { AreFormed tables.now }
         requires unbuilt { AreUnbuiltEmpty tables.now }
+        requires ids { AreIdsOf tables.now ids.now }
+        requires stop_times { stop_times ≡ rows_of tables.now.stop_times (stop_time_row tables.now) }
         requires names { AreNamesOf tables.now names.now }
         ensures { IfOk result (IsTimetableOf tables.now) }
     {
         Ok(Timetable {
-            stops: stop_rows(alloc, tables)?,
+            stops: stop_rows(alloc, tables, ids)?,
             routes: route_rows(alloc, tables, &names.networks)?,
-            trips: trip_rows(alloc, tables, &names.services)?,
-            stop_times: stop_time_rows(alloc, tables)?,
+            trips: trip_rows(alloc, tables, ids, &names.services)?,
+            stop_times,
             services: service_rows(alloc, tables, &names.services)?,
             exceptions: exception_rows(alloc, tables, &names.services)?,
             frequencies: ItemList::empty(alloc),

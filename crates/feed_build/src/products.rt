@@ -14,16 +14,14 @@ ghost use Rattle.feed_faults.specs.AcceptedFeed.{
 ghost use Rattle.feed_soundness.specs.AcceptedTables.{AreFormed};
 
 use crate::numbering::Numbering;
-use crate::row_numbers::RowNumbers;
-use crate::values::{amount_or_past, is_filled};
 use feed_rows::{ColumnName, ProductRow, ProductRows};
-use feed_tables::Tables;
-use feed_text::currency_of;
+use feed_tables::{IdIndex, Tables};
+use feed_text::{amount_or_past, currency_of, is_filled};
 use std::alloc::{AllocError, Global};
 use transit_base::{MediumId, ProductId, RiderId};
 
 // The rider category of an id, where it is filled.
-fn rider_of(riders: &RowNumbers, id: &[u8]) -> Option<RiderId>
+fn rider_of(riders: &IdIndex, id: &[u8]) -> Option<RiderId>
     ensures { result ≡ if_filled id.now (record { 0 = row_number riders.now.table riders.now.name id.now }) }
 {
     if is_filled(id) {
@@ -34,7 +32,7 @@ fn rider_of(riders: &RowNumbers, id: &[u8]) -> Option<RiderId>
 }
 
 // The fare medium of an id, where it is filled.
-fn medium_of(media: &RowNumbers, id: &[u8]) -> Option<MediumId>
+fn medium_of(media: &IdIndex, id: &[u8]) -> Option<MediumId>
     ensures { result ≡ if_filled id.now (record { 0 = row_number media.now.table media.now.name id.now }) }
 {
     if is_filled(id) {
@@ -48,8 +46,8 @@ fn medium_of(media: &RowNumbers, id: &[u8]) -> Option<MediumId>
 #[tactic(auto, unfolding(feed_faults::specs::AcceptedFeed::product_row))]
 fn product_row(
     tables: &Tables,
-    riders: &RowNumbers,
-    media: &RowNumbers,
+    riders: &IdIndex,
+    media: &IdIndex,
     products: &Numbering,
     row: u32,
 ) -> ProductRow
@@ -83,8 +81,8 @@ pub fn product_rows(
     requires products { products.now ≡ product_names tables.now }
     ensures { IfOk result (λ rows. rows ≡ rows_of tables.now.fare_products (product_row tables.now)) }
 {
-    let riders = RowNumbers::of(alloc, &tables.rider_categories, ColumnName::RiderCategoryId)?;
-    let media = RowNumbers::of(alloc, &tables.fare_media, ColumnName::FareMediaId)?;
+    let riders = IdIndex::of(alloc, &tables.rider_categories, ColumnName::RiderCategoryId)?;
+    let media = IdIndex::of(alloc, &tables.fare_media, ColumnName::FareMediaId)?;
     let mut rows = ProductRows::empty(alloc);
     for row in 0..tables.fare_products.rows() {
         rows.push(product_row(tables, &riders, &media, products, row))?;

@@ -13,9 +13,9 @@ ghost use Rattle.feed_faults.specs.AcceptedFeed.{
 ghost use Rattle.feed_soundness.specs.AcceptedTables.{AreFormed};
 
 use crate::numbering::Numbering;
-use crate::values::is_filled;
 use feed_rows::{ColumnName, Id, RouteRow, RouteRows};
 use feed_tables::{IdIndex, Tables};
+use feed_text::is_filled;
 use std::alloc::{AllocError, Global};
 use transit_base::NetworkId;
 

@@ -10,9 +10,9 @@ ghost use Rattle.feed_faults.specs.AcceptedFeed.{
 };
 
 use crate::numbering::Numbering;
-use crate::values::{day_or_past, int_or_past};
 use feed_rows::{ColumnName, ExceptionRow, ExceptionRows, ServiceRow, ServiceRows};
 use feed_tables::{NamedTable, Tables};
+use feed_text::{day_or_past, int_or_past};
 use std::alloc::{AllocError, Global};
 use transit_base::ServiceId;
 

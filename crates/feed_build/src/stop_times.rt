@@ -2,20 +2,32 @@
 ghost use Rattle.std.specs.Prelude.{◌≡◌, ◌<◌, ◌+◌, ℕ, IfOk};
 ghost use Rattle.feed_rows.specs.declared.names.ColumnName.TheVariants as column;
 ghost use Rattle.feed_faults.specs.Records.{row_count};
-ghost use Rattle.feed_faults.specs.AcceptedFeed.{stop_time_row, rows_of};
+ghost use Rattle.feed_faults.specs.AcceptedFeed.{permits, stop_time_row, rows_of};
+ghost use Rattle.feed_tables.specs.TableIds.{AreIdsOf};
 ghost use Rattle.feed_build.specs.CallTrips.{trip_of_call, IsTripBefore};
 
-use crate::row_numbers::RowNumbers;
-use crate::values::{MOST_INT, MOST_TIME, int_or_past, permits};
 use feed_rows::{ColumnName, StopTimeRow, StopTimeRows};
-use feed_tables::Tables;
-use feed_text::time_of;
+use feed_tables::{IdIndex, TableIds, Tables};
+use feed_text::{int_or_past, optional_int, time_of};
 use std::alloc::{AllocError, Global};
 use transit_base::{StopId, TripId};
 
+// The greatest sequence.
+const MOST_INT: u32 = 2_147_483_647;
+
+// The greatest time, 167:59:59, in seconds.
+const MOST_TIME: u32 = 604_799;
+
+// Whether a pickup or drop-off type permits: 1 forbids, and 0, 2, 3 and empty permit.
+fn permits(text: &[u8]) -> bool
+    ensures { result ≡ permits text.now }
+{
+    optional_int(text, 3) != 1
+}
+
 // The trip of a row, where `before` is that of the row before it: the rows of a trip mostly follow one another, so an id is
 // looked up only where it is another one.
-fn trip_of_call(tables: &Tables, trips: &RowNumbers, before: TripId, row: u32) -> TripId
+fn trip_of_call(tables: &Tables, trips: &IdIndex, before: TripId, row: u32) -> TripId
     requires within { row < row_count tables.now.stop_times }
     requires trips { trips.now ≡ record { table = tables.now.trips; name = column.TripId } }
     requires before { IsTripBefore tables.now row before }
@@ -30,7 +42,7 @@ fn trip_of_call(tables: &Tables, trips: &RowNumbers, before: TripId, row: u32) -
 
 // A row of stop_times.txt, which is one of this trip.
 #[tactic(auto, unfolding(feed_faults::specs::AcceptedFeed::stop_time_row))]
-fn stop_time_row(tables: &Tables, stops: &RowNumbers, trip: TripId, row: u32) -> StopTimeRow
+fn stop_time_row(tables: &Tables, stops: &IdIndex, trip: TripId, row: u32) -> StopTimeRow
     requires within { row < row_count tables.now.stop_times }
     requires stops { stops.now ≡ record { table = tables.now.stops; name = column.StopId } }
     requires trip { trip ≡ trip_of_call tables.now row }
@@ -48,20 +60,24 @@ fn stop_time_row(tables: &Tables, stops: &RowNumbers, trip: TripId, row: u32) ->
     }
 }
 
-/// The rows of stop_times.txt.
+/// The rows of stop_times.txt, as they are whether the feed has a fault or not: a trip or a stop that isn't there has the
+/// number after the last row of its file.
 ///
 /// # Errors
 /// Want of memory.
-pub fn stop_time_rows(alloc: Global, tables: &Tables) -> Result<StopTimeRows, AllocError>
+pub fn stop_time_rows(
+    alloc: Global,
+    tables: &Tables,
+    ids: &TableIds,
+) -> Result<StopTimeRows, AllocError>
+    requires { AreIdsOf tables.now ids.now }
     ensures { IfOk result (λ calls. calls ≡ rows_of tables.now.stop_times (stop_time_row tables.now)) }
 {
-    let trips = RowNumbers::of(alloc, &tables.trips, ColumnName::TripId)?;
-    let stops = RowNumbers::of(alloc, &tables.stops, ColumnName::StopId)?;
     let mut rows = StopTimeRows::empty(alloc);
     let mut trip = TripId(0);
     for row in 0..tables.stop_times.rows() {
-        trip = trip_of_call(tables, &trips, trip, row);
-        rows.push(stop_time_row(tables, &stops, trip, row))?;
+        trip = trip_of_call(tables, &ids.trips, trip, row);
+        rows.push(stop_time_row(tables, &ids.stops, trip, row))?;
     }
     Ok(rows)
 }

@@ -5,17 +5,17 @@ ghost use Rattle.feed_faults.specs.Records.{row_count};
 ghost use Rattle.feed_faults.specs.AcceptedFeed.{parent_of, stop_row, rows_of};
 ghost use Rattle.feed_faults.specs.FieldValues.{stop_kind};
 ghost use Rattle.feed_soundness.specs.AcceptedTables.{AreFormed};
+ghost use Rattle.feed_tables.specs.TableIds.{AreIdsOf};
 
-use crate::row_numbers::RowNumbers;
-use crate::values::{is_filled, optional_int};
 use feed_rows::{ColumnName, Id, StopRow, StopRows};
-use feed_tables::{NamedTable, Tables};
+use feed_tables::{IdIndex, NamedTable, TableIds, Tables, stop_kind};
+use feed_text::is_filled;
 use std::alloc::{AllocError, Global};
 use transit_base::StopId;
 
 // The parent of a stop of this kind: the station that a platform names.
 #[tactic(auto, unfolding(feed_faults::specs::AcceptedFeed::parent_of))]
-fn parent_of(table: &NamedTable, stops: &RowNumbers, kind: u32, row: u32) -> Option<StopId>
+fn parent_of(table: &NamedTable, stops: &IdIndex, kind: u32, row: u32) -> Option<StopId>
     requires within { row < row_count table.now }
     requires stops { stops.now ≡ record { table = table.now; name = column.StopId } }
     requires kind { kind ≡ stop_kind table.now row }
@@ -34,7 +34,7 @@ fn parent_of(table: &NamedTable, stops: &RowNumbers, kind: u32, row: u32) -> Opt
 fn stop_row(
     alloc: Global,
     tables: &Tables,
-    stops: &RowNumbers,
+    stops: &IdIndex,
     row: u32,
 ) -> Result<StopRow, AllocError>
     requires formed { AreFormed tables.now }
@@ -43,7 +43,7 @@ fn stop_row(
     ensures { IfOk result (λ stop. stop ≡ stop_row tables.now row) }
 {
     let table = &tables.stops;
-    let kind = optional_int(table.field(row, ColumnName::LocationType), 4);
+    let kind = stop_kind(table, row);
     Ok(StopRow {
         id: Id::copy_of(alloc, table.field(row, ColumnName::StopId))?,
         kind: kind as u8,
@@ -55,14 +55,14 @@ fn stop_row(
 ///
 /// # Errors
 /// Want of memory.
-pub fn stop_rows(alloc: Global, tables: &Tables) -> Result<StopRows, AllocError>
+pub fn stop_rows(alloc: Global, tables: &Tables, ids: &TableIds) -> Result<StopRows, AllocError>
     requires formed { AreFormed tables.now }
+    requires ids { AreIdsOf tables.now ids.now }
     ensures { IfOk result (λ stops. stops ≡ rows_of tables.now.stops (stop_row tables.now)) }
 {
-    let stops = RowNumbers::of(alloc, &tables.stops, ColumnName::StopId)?;
     let mut rows = StopRows::empty(alloc);
     for row in 0..tables.stops.rows() {
-        rows.push(stop_row(alloc, tables, &stops, row)?)?;
+        rows.push(stop_row(alloc, tables, &ids.stops, row)?)?;
     }
     Ok(rows)
 }

@@ -4,11 +4,11 @@ ghost use Rattle.feed_rows.specs.declared.names.ColumnName.TheVariants as column
 ghost use Rattle.feed_faults.specs.Records.{row_count};
 ghost use Rattle.feed_faults.specs.AcceptedFeed.{service_names, trip_row, rows_of};
 ghost use Rattle.feed_soundness.specs.AcceptedTables.{AreFormed};
+ghost use Rattle.feed_tables.specs.TableIds.{AreIdsOf};
 
 use crate::numbering::Numbering;
-use crate::row_numbers::RowNumbers;
 use feed_rows::{ColumnName, Id, TripRow, TripRows};
-use feed_tables::Tables;
+use feed_tables::{IdIndex, TableIds, Tables};
 use std::alloc::{AllocError, Global};
 use transit_base::{RouteId, ServiceId};
 
@@ -17,7 +17,7 @@ use transit_base::{RouteId, ServiceId};
 fn trip_row(
     alloc: Global,
     tables: &Tables,
-    routes: &RowNumbers,
+    routes: &IdIndex,
     services: &Numbering,
     row: u32,
 ) -> Result<TripRow, AllocError>
@@ -42,16 +42,17 @@ fn trip_row(
 pub fn trip_rows(
     alloc: Global,
     tables: &Tables,
+    ids: &TableIds,
     services: &Numbering,
 ) -> Result<TripRows, AllocError>
     requires formed { AreFormed tables.now }
+    requires ids { AreIdsOf tables.now ids.now }
     requires services { services.now ≡ service_names tables.now }
     ensures { IfOk result (λ trips. trips ≡ rows_of tables.now.trips (trip_row tables.now)) }
 {
-    let routes = RowNumbers::of(alloc, &tables.routes, ColumnName::RouteId)?;
     let mut rows = TripRows::empty(alloc);
     for row in 0..tables.trips.rows() {
-        rows.push(trip_row(alloc, tables, &routes, services, row)?)?;
+        rows.push(trip_row(alloc, tables, &ids.routes, services, row)?)?;
     }
     Ok(rows)
 }

@@ -1,6 +1,5 @@
 -- What empty tables give.
-use Rattle.std.proofs.Common.{◌≡◌, ap, [], not}
-use Rattle.feed_rows.specs.FeedRows.{FeedRows}
+use Rattle.std.proofs.Common.{ap, [], not}
 use Rattle.feed_rows.specs.Words.{list_below, picks_below}
 use Rattle.feed_rows.specs.declared.names.ColumnName.TheVariants as column
 use Rattle.feed_faults.specs.Records.{FileTable, row_count}

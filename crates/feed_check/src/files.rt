@@ -6,10 +6,10 @@ ghost use Rattle.feed_check.specs.BuiltRows.{HasBuiltRows};
 ghost use Rattle.feed_check.specs.BuiltFaults.{first_built_fault};
 ghost use Rattle.feed_check.specs.CheckErrors.{IsErrorOf};
 
-use feed_build::feed_of_tables;
+use feed_build::{feed_of_tables, stop_time_rows};
 use feed_links::first_link_fault;
 use feed_rows::{Feed, FeedFault};
-use feed_tables::Tables;
+use feed_tables::{TableIds, Tables};
 use feed_text::TextError;
 use folder_io::Files;
 use std::alloc::{AllocError, Global};
@@ -50,8 +50,10 @@ pub fn check(alloc: Global, files: &Files) -> Result<Feed, CheckError>
         Err(TextError::Fault(fault)) => return Err(CheckError::Fault(fault)),
         Err(TextError::NoMemory) => return Err(CheckError::NoMemory),
     };
-    if let Some(fault) = first_link_fault(alloc, &tables)? {
+    let ids = TableIds::of(alloc, &tables)?;
+    let stop_times = stop_time_rows(alloc, &tables, &ids)?;
+    if let Some(fault) = first_link_fault(alloc, &tables, &ids, stop_times.items())? {
         return Err(CheckError::Fault(fault));
     }
-    Ok(feed_of_tables(alloc, &tables)?)
+    Ok(feed_of_tables(alloc, &tables, &ids, stop_times)?)
 }

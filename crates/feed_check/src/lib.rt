@@ -3,6 +3,8 @@
 
 mod files;
 mod folder;
+#[cfg(test)]
+mod tests;
 
 pub use files::{CheckError, check};
 pub use folder::{LoadError, load};

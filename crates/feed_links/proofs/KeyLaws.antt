@@ -2,8 +2,10 @@
 use Rattle.std.proofs.Common.{◌≡◌, refl, sym, ◌∙◌, ap, ℕ, zero, suc, ◌+◌, ◌<◌, Bool, true, false, cond, arith}
 use Rattle.std.specs.Prelude.{◌==◌, ◌&&◌, ◌||◌, bytes_eq, ℤ}
 use Rattle.std.specs.List.{list_any}
-use Rattle.std.specs.HashSet.{HashSet}
-use Rattle.std.specs.Ordering.{int_eq}
+use Rattle.std.specs.BTreeSet.{BTreeSet}
+use Rattle.std.specs.Ordering.{nat_cmp, int_cmp, int_eq, ordering_then, is_eq}
+use Rattle.std.specs.declared.cmp.Ordering.{Ordering}
+use Rattle.std.specs.declared.cmp.Ordering.TheVariants.{Less, Equal, Greater}
 use Rattle.std.proofs.lemmas.Bool.Decides.{nat_tests, Decides-int_eq}
 use Rattle.std.proofs.lemmas.Slice.Eq.{bytes_eq-Decides}
 use Rattle.feed_rows.specs.declared.names.ColumnName.{ColumnName}
@@ -59,12 +61,29 @@ pub any_below_same : (test other : ℕ → Bool) (n : ℕ) → ((k : ℕ) → k 
 any_below_same test other zero same = refl
 any_below_same test other (suc n) same = rw (any_below_same test other n (λ k lt. same k (omega arith)), same n (omega arith)) refl
 
+-- what is compared part by part is equal where each part is
+then_equal : (o p : Ordering) → is_eq (ordering_then o p) ≡ (is_eq o && is_eq p)
+then_equal Less p = refl
+then_equal Equal p = refl
+then_equal Greater p = refl
+
+number_equal : (a b : ℕ) → is_eq (nat_cmp a b) ≡ (a == b)
+number_equal a b = grind (arith, nat_tests)
+
+exception_parts : (a b : ExceptionKey) → same_exception_key a b ≡ ((a.service == b.service) && int_eq a.day b.day)
+exception_parts a b = then_equal (nat_cmp a.service b.service) (int_cmp a.day b.day) ∙ rw (number_equal a.service b.service) refl
+
+product_parts : (a b : ProductKey) → same_product_key a b ≡ ((a.product == b.product) && ((a.rider == b.rider) && (a.medium == b.medium)))
+product_parts a b =
+    then_equal (nat_cmp a.product b.product) (ordering_then (nat_cmp a.rider b.rider) (nat_cmp a.medium b.medium))
+    ∙ rw (then_equal (nat_cmp a.rider b.rider) (nat_cmp a.medium b.medium), number_equal a.product b.product, number_equal a.rider b.rider, number_equal a.medium b.medium) refl
+
 -- an earlier row has the key of a row exactly where it is the same exception
 pub exception_repeated : (dates : FileTable) (row : ℕ) → row < row_count dates → any_below row (λ r. same_exception_key (exception_key dates row) (exception_key dates r)) ≡ is_repeated (same_exception dates) row
 unfolding exception_key same_exception
 exception_repeated dates row lt =
     any_below_same (λ r. same_exception_key (exception_key dates row) (exception_key dates r)) (same_exception dates row) row (λ r small.
-    rw (first_row_same dates ServiceId row r lt (omega arith), day_same (day_or_past (field dates row Date)) (day_or_past (field dates r Date))) refl)
+    exception_parts (exception_key dates row) (exception_key dates r) ∙ rw (first_row_same dates ServiceId row r lt (omega arith), day_same (day_or_past (field dates row Date)) (day_or_past (field dates r Date))) refl)
 
 grouped : (a b c : Bool) → a && (b && c) ≡ a && b && c
 grouped true b c = refl
@@ -75,17 +94,17 @@ unfolding product_key same_product
 product_repeated products row lt =
     any_below_same (λ r. same_product_key (product_key products row) (product_key products r)) (same_product products row) row (λ r small.
     let within : r < row_count products = omega arith in
-    rw (first_row_same products FareProductId row r lt within, first_row_same products RiderCategoryId row r lt within, first_row_same products FareMediaId row r lt within) (grouped (same_field products FareProductId row r) (same_field products RiderCategoryId row r) (same_field products FareMediaId row r)))
+    product_parts (product_key products row) (product_key products r) ∙ rw (first_row_same products FareProductId row r lt within, first_row_same products RiderCategoryId row r lt within, first_row_same products FareMediaId row r lt within) (grouped (same_field products FareProductId row r) (same_field products RiderCategoryId row r) (same_field products FareMediaId row r)))
 
 -- the order in which keys are compared doesn't count
 day_turn : (a b : ℤ) → int_eq a b ≡ int_eq b a
 day_turn a b = same_test (int_eq a b) (int_eq b a) (λ e. (Decides-int_eq b a).1 (sym ((Decides-int_eq a b).0 e))) (λ e. (Decides-int_eq a b).1 (sym ((Decides-int_eq b a).0 e)))
 
 pub exception_turn : (a b : ExceptionKey) → same_exception_key a b ≡ same_exception_key b a
-exception_turn a b = rw (turn a.service b.service, day_turn a.day b.day) refl
+exception_turn a b = exception_parts a b ∙ rw (turn a.service b.service, day_turn a.day b.day) refl ∙ sym (exception_parts b a)
 
 pub product_turn : (a b : ProductKey) → same_product_key a b ≡ same_product_key b a
-product_turn a b = rw (turn a.product b.product, turn a.rider b.rider, turn a.medium b.medium) refl
+product_turn a b = product_parts a b ∙ rw (turn a.product b.product, turn a.rider b.rider, turn a.medium b.medium) refl ∙ sym (product_parts b a)
 
 either : (a b : Bool) → cond a true b ≡ (b || a)
 either true true = refl
@@ -94,7 +113,7 @@ either false true = refl
 either false false = refl
 
 -- the keys that are seen with one more
-pub seen_more : {K S : Type 0} (same : K → K → Bool) (seen next : HashSet K S) (key : ℕ → K) (row : ℕ) → ((a b : K) → same a b ≡ same b a) → AreSeen same seen key row
+pub seen_more : {K : Type 0} (same : K → K → Bool) (seen next : BTreeSet K) (key : ℕ → K) (row : ℕ) → ((a b : K) → same a b ≡ same b a) → AreSeen same seen key row
     → ((k : K) → list_any (same k) next.keys ≡ cond (same (key row) k) true (list_any (same k) seen.keys)) → AreSeen same next key (row + 1)
 seen_more same seen next key row turns are put k =
     let e : row + 1 ≡ suc row = omega arith in

@@ -1,5 +1,4 @@
 pub mod LinkLaws
-pub mod ValueLaws
 pub mod KeyLaws
 pub mod TripNumberLaws
 pub mod PassLaws

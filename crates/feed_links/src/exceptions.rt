@@ -10,14 +10,14 @@ ghost use Rattle.feed_links.specs.SeenKeys.{AreSeen, same_exception_key};
 
 use crate::files::first_row;
 use crate::places::field_fault;
-use crate::values::day_or_past;
 use feed_rows::{ColumnName, FaultKind, FeedFault, FileName};
 use feed_tables::{IdIndex, NamedTable, Tables};
+use feed_text::day_or_past;
 use std::alloc::{AllocError, Global};
-use std::collections::HashSet;
+use std::collections::BTreeSet;
 
 // The service of an exception, as the earliest row of it, and its day.
-#[derive(Clone, Copy, Debug, PartialEq, Eq, Hash)]
+#[derive(Clone, Copy, Debug, PartialEq, Eq, PartialOrd, Ord)]
 pub struct ExceptionKey {
     pub service: u32,
     pub day: i64,
@@ -32,13 +32,13 @@ fn exception_key(dates: &NamedTable, services: &IdIndex, row: u32) -> ExceptionK
 {
     ExceptionKey {
         service: first_row(services, dates, ColumnName::ServiceId, row),
-        day: day_or_past(dates.field(row, ColumnName::Date)),
+        day: day_or_past(dates.field(row, ColumnName::Date)).0,
     }
 }
 
 // Puts the service and the day of a row among those of the rows before it, and says whether they are new.
 fn put_exception(
-    seen: &mut HashSet<ExceptionKey>,
+    seen: &mut BTreeSet<ExceptionKey>,
     dates: &NamedTable,
     services: &IdIndex,
     row: u32,
@@ -59,7 +59,7 @@ pub fn exceptions_fault(alloc: Global, tables: &Tables) -> Result<Option<FeedFau
 {
     let dates = &tables.calendar_dates;
     let services = IdIndex::of(alloc, dates, ColumnName::ServiceId)?;
-    let mut seen = HashSet::new(alloc);
+    let mut seen = BTreeSet::new(alloc);
     for row in 0..dates.rows() {
         if !put_exception(&mut seen, dates, &services, row)? {
             return Ok(Some(field_fault(

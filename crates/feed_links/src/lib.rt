@@ -8,9 +8,6 @@ mod places;
 mod products;
 mod rules;
 mod stop_times;
-#[cfg(test)]
-mod tests;
 mod timetable;
-mod values;
 
 pub use pass::first_link_fault;

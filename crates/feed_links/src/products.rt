@@ -15,10 +15,10 @@ use crate::places::field_fault;
 use feed_rows::{ColumnName, FaultKind, FeedFault, FileName};
 use feed_tables::{IdIndex, NamedTable, Tables};
 use std::alloc::{AllocError, Global};
-use std::collections::HashSet;
+use std::collections::BTreeSet;
 
 // The product, the rider category and the medium of a row, each as the earliest row of it.
-#[derive(Clone, Copy, Debug, PartialEq, Eq, Hash)]
+#[derive(Clone, Copy, Debug, PartialEq, Eq, PartialOrd, Ord)]
 pub struct ProductKey {
     pub product: u32,
     pub rider: u32,
@@ -122,7 +122,7 @@ fn product_ids<'t>(alloc: Global, tables: &'t Tables) -> Result<ProductIds<'t>, 
 
 // Puts the product, the rider category and the medium of a row among those of the rows before it, and says whether they are new.
 fn put_product(
-    seen: &mut HashSet<ProductKey>,
+    seen: &mut BTreeSet<ProductKey>,
     tables: &Tables,
     ids: &ProductIds,
     row: u32,
@@ -142,7 +142,7 @@ pub fn products_fault(alloc: Global, tables: &Tables) -> Result<Option<FeedFault
     ensures { IfOk result (λ fault. fault ≡ first_in_rows tables.now.fare_products (product_fault tables.now)) }
 {
     let ids = product_ids(alloc, tables)?;
-    let mut seen = HashSet::new(alloc);
+    let mut seen = BTreeSet::new(alloc);
     for row in 0..tables.fare_products.rows() {
         let is_new = put_product(&mut seen, tables, &ids, row)?;
         if let Some(fault) = product_fault(tables, &ids, row, !is_new) {

@@ -1,169 +1,123 @@
 //! The stop times.
-ghost use Rattle.std.specs.Prelude.{◌≡◌, ◌≤◌, ◌<◌, ◌==◌, false, length, IfOk, IfSome};
+ghost use Rattle.std.specs.Prelude.{◌≡◌, ◌≤◌, ◌<◌, ◌==◌, false, length, IfOk};
 ghost use Rattle.feed_rows.specs.declared.names.ColumnName.TheVariants as column;
-ghost use Rattle.feed_rows.specs.Words.{filled_and, list_below};
 ghost use Rattle.feed_faults.specs.Records.{row_count, field};
-ghost use Rattle.feed_faults.specs.FieldValues.{stop_kind};
 ghost use Rattle.feed_faults.specs.RowKeys.{is_unknown};
 ghost use Rattle.feed_faults.specs.FirstFault.{first_in_rows};
-ghost use Rattle.feed_faults.specs.StopTimeLinks.{stop_times_of, stop_time_fault};
+ghost use Rattle.feed_faults.specs.StopTimeLinks.{stop_times_of, is_at_platform, stop_time_fault};
+ghost use Rattle.feed_faults.specs.AcceptedFeed.{rows_of, stop_time_row};
 ghost use Rattle.feed_tables.specs.RowLimits.{row_limit};
 ghost use Rattle.stop_order.specs.Numbered.{faults_at};
-ghost use Rattle.feed_links.specs.RowNumbers.{trip_number, numbered_time, numbered_times};
-ghost use Rattle.feed_links.specs.JudgedBy.{AreStopTimeIds, order_fault};
+ghost use Rattle.feed_links.specs.JudgedBy.{AreCallsNamed, AreJudgedCalls, are_platforms, order_fault};
 
 use crate::places::field_fault;
-use crate::values::{int_or_past, is_filled, stop_kind};
-use feed_rows::{ColumnName, FaultKind, FeedFault, FileName};
-use feed_tables::{IdIndex, NamedTable, Tables};
-use feed_text::time_of;
+use feed_rows::{ColumnName, FaultKind, FeedFault, FileName, StopTimeRow};
+use feed_tables::{NamedTable, Tables, stop_kind};
 use std::alloc::{AllocError, Global};
-use stop_order::{NumberedTime, OrderFaults, order_faults};
+use stop_order::{OrderFaults, order_faults};
 
-// The greatest sequence, and the greatest time, 167:59:59, in seconds.
-const MOST_INT: u32 = 2_147_483_647;
-
-const MOST_TIME: u32 = 604_799;
-
-// The number of a trip: its row, or for an id without a row a number past the rows.
-#[tactic(auto, unfolding(crate::specs::RowNumbers::trip_number))]
-fn trip_number(trips: &NamedTable, ids: &IdIndex, id: &[u8]) -> u32
-    requires { ids.now ≡ record { table = trips.now; name = column.TripId } }
-    ensures { result ≡ trip_number trips.now id.now }
-{
-    match ids.row_of(id) {
-        Some(row) => row,
-        None if is_filled(id) => trips.rows() + 1,
-        None => trips.rows(),
-    }
-}
-
-// The number of a row's trip, which is mostly that of the row before.
-fn trip_of(
-    stop_times: &NamedTable,
-    trips: &NamedTable,
-    ids: &IdIndex,
-    times: &[NumberedTime],
-    row: u32,
-) -> u32
-    requires ids { ids.now ≡ record { table = trips.now; name = column.TripId } }
-    requires within { row < row_count stop_times.now }
-    requires times { times.now ≡ list_below row (numbered_time trips.now stop_times.now) }
-    ensures { result ≡ trip_number trips.now (field stop_times.now row column.TripId) }
-{
-    let id = stop_times.field(row, ColumnName::TripId);
-    if row > 0 && stop_times.field(row - 1, ColumnName::TripId) == id {
-        return times[row as usize - 1].trip;
-    }
-    trip_number(trips, ids, id)
-}
-
-// The stop time of a row, by the number of its trip.
-#[tactic(auto, unfolding(crate::specs::RowNumbers::numbered_time))]
-fn numbered_time(
-    stop_times: &NamedTable,
-    trips: &NamedTable,
-    ids: &IdIndex,
-    times: &[NumberedTime],
-    row: u32,
-) -> NumberedTime
-    requires ids { ids.now ≡ record { table = trips.now; name = column.TripId } }
-    requires within { row < row_count stop_times.now }
-    requires times { times.now ≡ list_below row (numbered_time trips.now stop_times.now) }
-    ensures { result ≡ numbered_time trips.now stop_times.now row }
-{
-    NumberedTime {
-        trip: trip_of(stop_times, trips, ids, times, row),
-        sequence: int_or_past(stop_times.field(row, ColumnName::StopSequence), MOST_INT),
-        arrival: time_of(stop_times.field(row, ColumnName::ArrivalTime), MOST_TIME),
-        departure: time_of(stop_times.field(row, ColumnName::DepartureTime), MOST_TIME),
-    }
-}
-
-// The stop times with the numbers of their trips.
-#[tactic(auto, using(crate::proofs::TripNumberLaws::before_many), unfolding(crate::specs::RowNumbers::numbered_times))]
-fn numbered_times(
-    alloc: Global,
-    stop_times: &NamedTable,
-    trips: &NamedTable,
-    ids: &IdIndex,
-) -> Result<Vec<NumberedTime>, AllocError>
-    requires { ids.now ≡ record { table = trips.now; name = column.TripId } }
-    ensures value { IfOk result (λ times. times.items ≡ numbered_times trips.now stop_times.now) }
-    ensures few { IfOk result (λ times. length times.items ≤ row_limit) }
-{
-    let mut times = Vec::with_capacity(alloc, stop_times.rows() as usize)?;
-    for row in 0..stop_times.rows() {
-        let time = numbered_time(stop_times, trips, ids, &times, row);
-        times.push(time)?;
-    }
-    Ok(times)
-}
-
-// What the rows of stop_times.txt are judged by: the stops, the trip of each row, and what is wrong with it in its trip.
+// What the rows of stop_times.txt are judged by: the rows, which stops are platforms, and what is wrong with each row in its
+// trip.
 #[derive(Drop)]
-pub struct StopTimeIds<'t> {
-    pub stops: IdIndex<'t>,
-    pub times: Vec<NumberedTime>,
+pub struct JudgedCalls<'t> {
+    pub rows: &'t [StopTimeRow],
+    pub platforms: Vec<bool>,
     pub faults: Vec<OrderFaults>,
 }
 
-// What the rows of stop_times.txt are judged by.
-fn stop_time_ids<'t>(alloc: Global, tables: &'t Tables) -> Result<StopTimeIds<'t>, AllocError>
-    ensures { IfOk result (λ ids. AreStopTimeIds tables.now ids) }
+// Which stops are platforms.
+#[tactic(auto, unfolding(crate::specs::JudgedBy::are_platforms))]
+fn platforms_of(alloc: Global, stops: &NamedTable) -> Result<Vec<bool>, AllocError>
+    ensures { IfOk result (λ platforms. platforms.items ≡ are_platforms stops.now) }
 {
-    let trips = IdIndex::of(alloc, &tables.trips, ColumnName::TripId)?;
-    let stops = IdIndex::of(alloc, &tables.stops, ColumnName::StopId)?;
-    let times = numbered_times(alloc, &tables.stop_times, &tables.trips, &trips)?;
-    let faults = order_faults(alloc, &times)?;
-    Ok(StopTimeIds {
-        stops,
-        times,
+    let mut platforms = Vec::with_capacity(alloc, stops.rows() as usize)?;
+    for row in 0..stops.rows() {
+        platforms.push(stop_kind(stops, row) == 0)?;
+    }
+    Ok(platforms)
+}
+
+// What the rows of stop_times.txt are judged by.
+fn judged_calls<'t>(
+    alloc: Global,
+    tables: &Tables,
+    rows: &'t [StopTimeRow],
+) -> Result<JudgedCalls<'t>, AllocError>
+    requires named { AreCallsNamed tables.now }
+    requires rows { rows.now ≡ rows_of tables.now.stop_times (stop_time_row tables.now) }
+    ensures { IfOk result (AreJudgedCalls tables.now) }
+{
+    let _few = tables.stop_times.rows();
+    let platforms = platforms_of(alloc, &tables.stops)?;
+    let faults = order_faults(alloc, rows)?;
+    Ok(JudgedCalls {
+        rows,
+        platforms,
         faults,
     })
 }
 
-// Whether the trip of a row isn't there.
-fn is_trip_unknown(tables: &Tables, ids: &StopTimeIds, row: u32) -> bool
-    requires ids { AreStopTimeIds tables.now ids.now }
+// A row of stop_times.txt.
+fn row_at(tables: &Tables, calls: &JudgedCalls, row: u32) -> StopTimeRow
+    requires calls { AreJudgedCalls tables.now calls.now }
+    requires within { row < row_count tables.now.stop_times }
+    ensures { result ≡ stop_time_row tables.now row }
+{
+    let _table = &tables.stop_times;
+    calls.rows[row as usize]
+}
+
+// Whether the trip of a row isn't there: its number is the one after the last.
+#[tactic(auto, unfolding(feed_faults::specs::AcceptedFeed::stop_time_row))]
+fn is_trip_unknown(tables: &Tables, calls: &JudgedCalls, row: u32) -> bool
+    requires calls { AreJudgedCalls tables.now calls.now }
     requires within { row < row_count tables.now.stop_times }
     ensures { result ≡ is_unknown tables.now.trips column.TripId (field tables.now.stop_times row column.TripId) }
 {
-    ids.times[row as usize].trip > tables.trips.rows()
+    row_at(tables, calls, row).trip.0 == tables.trips.rows()
 }
 
-// Whether a stop is there and a platform.
-fn is_platform(stops: &NamedTable, stop: Option<u32>) -> bool
-    requires { IfSome stop (λ row. row < row_count stops.now) }
-    ensures { result ≡ filled_and stop (λ row. stop_kind stops.now row == 0) }
+// Whether the stop of a row isn't there.
+#[tactic(auto, unfolding(feed_faults::specs::AcceptedFeed::stop_time_row))]
+fn is_stop_unknown(tables: &Tables, calls: &JudgedCalls, row: u32) -> bool
+    requires calls { AreJudgedCalls tables.now calls.now }
+    requires within { row < row_count tables.now.stop_times }
+    ensures { result ≡ is_unknown tables.now.stops column.StopId (field tables.now.stop_times row column.StopId) }
 {
-    match stop {
-        Some(row) => stop_kind(stops, row) == 0,
-        None => false,
-    }
+    row_at(tables, calls, row).stop.0 == tables.stops.rows()
+}
+
+// Whether the stop of a row is there and a platform.
+fn is_at_platform(tables: &Tables, calls: &JudgedCalls, row: u32) -> bool
+    requires calls { AreJudgedCalls tables.now calls.now }
+    requires within { row < row_count tables.now.stop_times }
+    ensures { result ≡ is_at_platform tables.now row }
+{
+    let stop = row_at(tables, calls, row).stop.0 as usize;
+    stop < calls.platforms.len() && calls.platforms[stop]
 }
 
 // What is wrong with a row among those of its trip, which is there.
-fn faults_in_trip(tables: &Tables, ids: &StopTimeIds, row: u32) -> OrderFaults
-    requires ids { AreStopTimeIds tables.now ids.now }
+fn faults_in_trip(tables: &Tables, calls: &JudgedCalls, row: u32) -> OrderFaults
+    requires calls { AreJudgedCalls tables.now calls.now }
     requires within { row < row_count tables.now.stop_times }
     requires known { is_unknown tables.now.trips column.TripId (field tables.now.stop_times row column.TripId) ≡ false }
     ensures { result ≡ faults_at (stop_times_of tables.now.stop_times) row }
 {
     let _rows = &tables.stop_times;
-    ids.faults[row as usize]
+    calls.faults[row as usize]
 }
 
 // The first fault of a row among those of its trip, which is there.
-fn order_fault(tables: &Tables, ids: &StopTimeIds, row: u32) -> Option<FeedFault>
-    requires ids { AreStopTimeIds tables.now ids.now }
+fn order_fault(tables: &Tables, calls: &JudgedCalls, row: u32) -> Option<FeedFault>
+    requires calls { AreJudgedCalls tables.now calls.now }
     requires within { row < row_count tables.now.stop_times }
     requires few { row < row_limit }
     requires known { is_unknown tables.now.trips column.TripId (field tables.now.stop_times row column.TripId) ≡ false }
     ensures { result ≡ order_fault (faults_at (stop_times_of tables.now.stop_times) row) row }
 {
     let fault = |column, kind| Some(field_fault(FileName::StopTimes, row, column, kind));
-    let faults = faults_in_trip(tables, ids, row);
+    let faults = faults_in_trip(tables, calls, row);
     if faults.is_repeated {
         return fault(ColumnName::StopSequence, FaultKind::DoubledKey);
     }
@@ -177,36 +131,40 @@ fn order_fault(tables: &Tables, ids: &StopTimeIds, row: u32) -> Option<FeedFault
 }
 
 // The first fault of a row of stop_times.txt.
-#[tactic(auto, unfolding(feed_faults::specs::StopTimeLinks::stop_time_fault, feed_faults::specs::StopTimeLinks::is_at_platform, stop_order::specs::Numbered::faults_at))]
-fn stop_time_fault(tables: &Tables, ids: &StopTimeIds, row: u32) -> Option<FeedFault>
-    requires ids { AreStopTimeIds tables.now ids.now }
+#[tactic(auto, unfolding(feed_faults::specs::StopTimeLinks::stop_time_fault, stop_order::specs::Numbered::faults_at))]
+fn stop_time_fault(tables: &Tables, calls: &JudgedCalls, row: u32) -> Option<FeedFault>
+    requires calls { AreJudgedCalls tables.now calls.now }
     requires within { row < row_count tables.now.stop_times }
     requires few { row < row_limit }
     ensures { result ≡ stop_time_fault tables.now row }
 {
     let fault = |column, kind| Some(field_fault(FileName::StopTimes, row, column, kind));
-    if is_trip_unknown(tables, ids, row) {
+    if is_trip_unknown(tables, calls, row) {
         return fault(ColumnName::TripId, FaultKind::UnknownReference);
     }
-    let id = tables.stop_times.field(row, ColumnName::StopId);
-    let stop = ids.stops.row_of(id);
-    if is_filled(id) && stop.is_none() {
+    if is_stop_unknown(tables, calls, row) {
         return fault(ColumnName::StopId, FaultKind::UnknownReference);
     }
-    if !is_platform(&tables.stops, stop) {
+    if !is_at_platform(tables, calls, row) {
         return fault(ColumnName::StopId, FaultKind::WrongStopKind);
     }
-    order_fault(tables, ids, row)
+    order_fault(tables, calls, row)
 }
 
-// The first fault of the rows of stop_times.txt.
+// The first fault of the rows of stop_times.txt, each of which names a trip and a stop.
 #[tactic(auto, using(feed_rows::proofs::FirstLaws::first_below_found, crate::proofs::LinkLaws::first_below_next))]
-pub fn stop_times_fault(alloc: Global, tables: &Tables) -> Result<Option<FeedFault>, AllocError>
+pub fn stop_times_fault(
+    alloc: Global,
+    tables: &Tables,
+    rows: &[StopTimeRow],
+) -> Result<Option<FeedFault>, AllocError>
+    requires named { AreCallsNamed tables.now }
+    requires rows { rows.now ≡ rows_of tables.now.stop_times (stop_time_row tables.now) }
     ensures { IfOk result (λ fault. fault ≡ first_in_rows tables.now.stop_times (stop_time_fault tables.now)) }
 {
-    let ids = stop_time_ids(alloc, tables)?;
+    let calls = judged_calls(alloc, tables, rows)?;
     for row in 0..tables.stop_times.rows() {
-        if let Some(fault) = stop_time_fault(tables, &ids, row) {
+        if let Some(fault) = stop_time_fault(tables, &calls, row) {
             return Ok(Some(fault));
         }
     }

@@ -3,14 +3,15 @@ ghost use Rattle.std.specs.Prelude.{◌≡◌, ◌<◌, IfOk};
 ghost use Rattle.feed_rows.specs.declared.names.ColumnName.TheVariants as column;
 ghost use Rattle.feed_faults.specs.Records.{row_count};
 ghost use Rattle.feed_tables.specs.RowLimits.{row_limit};
-ghost use Rattle.feed_links.specs.JudgedBy.{AreTripIds};
+ghost use Rattle.feed_tables.specs.TableIds.{AreIdsOf};
+ghost use Rattle.feed_links.specs.JudgedBy.{AreServiceIds};
 ghost use Rattle.feed_faults.specs.FirstFault.{first_in_rows};
 ghost use Rattle.feed_faults.specs.TimetableLinks.{has_parent, is_at_station, stop_fault, route_fault, is_service_unknown, trip_fault, are_dates_reversed, service_fault};
 
 use crate::places::field_fault;
-use crate::values::{day_or_past, is_filled, stop_kind};
 use feed_rows::{ColumnName, FaultKind, FeedFault, FileName};
-use feed_tables::{IdIndex, NamedTable, Tables};
+use feed_tables::{IdIndex, NamedTable, TableIds, Tables, stop_kind};
+use feed_text::{day_or_past, is_filled};
 use std::alloc::{AllocError, Global};
 
 // Whether a platform or a station names a parent.
@@ -62,16 +63,16 @@ fn stop_fault(tables: &Tables, ids: &IdIndex, row: u32) -> Option<FeedFault>
 
 // The first fault of the rows of stops.txt.
 #[tactic(auto, using(feed_rows::proofs::FirstLaws::first_below_found, crate::proofs::LinkLaws::first_below_next))]
-pub fn stops_fault(alloc: Global, tables: &Tables) -> Result<Option<FeedFault>, AllocError>
-    ensures { IfOk result (λ fault. fault ≡ first_in_rows tables.now.stops (stop_fault tables.now)) }
+pub fn stops_fault(tables: &Tables, ids: &TableIds) -> Option<FeedFault>
+    requires { AreIdsOf tables.now ids.now }
+    ensures { result ≡ first_in_rows tables.now.stops (stop_fault tables.now) }
 {
-    let ids = IdIndex::of(alloc, &tables.stops, ColumnName::StopId)?;
     for row in 0..tables.stops.rows() {
-        if let Some(fault) = stop_fault(tables, &ids, row) {
-            return Ok(Some(fault));
+        if let Some(fault) = stop_fault(tables, &ids.stops, row) {
+            return Some(fault);
         }
     }
-    Ok(None)
+    None
 }
 
 // The first fault of a row of routes.txt.
@@ -96,16 +97,16 @@ fn route_fault(tables: &Tables, ids: &IdIndex, row: u32) -> Option<FeedFault>
 
 // The first fault of the rows of routes.txt.
 #[tactic(auto, using(feed_rows::proofs::FirstLaws::first_below_found, crate::proofs::LinkLaws::first_below_next))]
-pub fn routes_fault(alloc: Global, tables: &Tables) -> Result<Option<FeedFault>, AllocError>
-    ensures { IfOk result (λ fault. fault ≡ first_in_rows tables.now.routes (route_fault tables.now)) }
+pub fn routes_fault(tables: &Tables, ids: &TableIds) -> Option<FeedFault>
+    requires { AreIdsOf tables.now ids.now }
+    ensures { result ≡ first_in_rows tables.now.routes (route_fault tables.now) }
 {
-    let ids = IdIndex::of(alloc, &tables.routes, ColumnName::RouteId)?;
     for row in 0..tables.routes.rows() {
-        if let Some(fault) = route_fault(tables, &ids, row) {
-            return Ok(Some(fault));
+        if let Some(fault) = route_fault(tables, &ids.routes, row) {
+            return Some(fault);
         }
     }
-    Ok(None)
+    None
 }
 
 // Whether neither calendar has a row of a service.
@@ -119,19 +120,18 @@ fn is_service_unknown(tables: &Tables, weekly: &IdIndex, dates: &IdIndex, servic
     weekly.is_unknown(service) && dates.is_unknown(service)
 }
 
-// The rows by which trips are judged.
+// The services by the rows of the two calendars.
 #[derive(Drop)]
-pub struct TripIds<'t> {
-    pub trips: IdIndex<'t>,
-    pub routes: IdIndex<'t>,
+pub struct ServiceIds<'t> {
     pub weekly: IdIndex<'t>,
     pub dates: IdIndex<'t>,
 }
 
 // The first fault of a row of trips.txt.
 #[tactic(auto, unfolding(feed_faults::specs::TimetableLinks::trip_fault))]
-fn trip_fault(tables: &Tables, ids: &TripIds, row: u32) -> Option<FeedFault>
-    requires ids { AreTripIds tables.now ids.now }
+fn trip_fault(tables: &Tables, ids: &TableIds, services: &ServiceIds, row: u32) -> Option<FeedFault>
+    requires ids { AreIdsOf tables.now ids.now }
+    requires services { AreServiceIds tables.now services.now }
     requires within { row < row_count tables.now.trips }
     requires few { row < row_limit }
     ensures { result ≡ trip_fault tables.now row }
@@ -145,36 +145,34 @@ fn trip_fault(tables: &Tables, ids: &TripIds, row: u32) -> Option<FeedFault>
         return fault(ColumnName::RouteId, FaultKind::UnknownReference);
     }
     let service = trips.field(row, ColumnName::ServiceId);
-    if is_service_unknown(tables, &ids.weekly, &ids.dates, service) {
+    if is_service_unknown(tables, &services.weekly, &services.dates, service) {
         return fault(ColumnName::ServiceId, FaultKind::UnknownReference);
     }
     None
 }
 
-// The rows by which trips are judged.
-fn trip_ids<'t>(alloc: Global, tables: &'t Tables) -> Result<TripIds<'t>, AllocError>
-    ensures { IfOk result (λ ids. AreTripIds tables.now ids) }
+// The services by the rows of the two calendars.
+fn service_ids<'t>(alloc: Global, tables: &'t Tables) -> Result<ServiceIds<'t>, AllocError>
+    ensures { IfOk result (λ services. AreServiceIds tables.now services) }
 {
-    let trips = IdIndex::of(alloc, &tables.trips, ColumnName::TripId)?;
-    let routes = IdIndex::of(alloc, &tables.routes, ColumnName::RouteId)?;
     let weekly = IdIndex::of(alloc, &tables.calendar, ColumnName::ServiceId)?;
     let dates = IdIndex::of(alloc, &tables.calendar_dates, ColumnName::ServiceId)?;
-    Ok(TripIds {
-        trips,
-        routes,
-        weekly,
-        dates,
-    })
+    Ok(ServiceIds { weekly, dates })
 }
 
 // The first fault of the rows of trips.txt.
 #[tactic(auto, using(feed_rows::proofs::FirstLaws::first_below_found, crate::proofs::LinkLaws::first_below_next))]
-pub fn trips_fault(alloc: Global, tables: &Tables) -> Result<Option<FeedFault>, AllocError>
+pub fn trips_fault(
+    alloc: Global,
+    tables: &Tables,
+    ids: &TableIds,
+) -> Result<Option<FeedFault>, AllocError>
+    requires { AreIdsOf tables.now ids.now }
     ensures { IfOk result (λ fault. fault ≡ first_in_rows tables.now.trips (trip_fault tables.now)) }
 {
-    let ids = trip_ids(alloc, tables)?;
+    let services = service_ids(alloc, tables)?;
     for row in 0..tables.trips.rows() {
-        if let Some(fault) = trip_fault(tables, &ids, row) {
+        if let Some(fault) = trip_fault(tables, ids, &services, row) {
             return Ok(Some(fault));
         }
     }
@@ -188,7 +186,7 @@ fn are_dates_reversed(calendar: &NamedTable, row: u32) -> bool
     ensures { result ≡ are_dates_reversed calendar.now row }
 {
     let start = day_or_past(calendar.field(row, ColumnName::StartDate));
-    day_or_past(calendar.field(row, ColumnName::EndDate)) < start
+    day_or_past(calendar.field(row, ColumnName::EndDate)).0 < start.0
 }
 
 // The first fault of a row of calendar.txt.

@@ -1,5 +1,5 @@
 -- The rows of a table by their ids: the earliest row with an id is found where a row has it, and else none.
-use Rattle.std.proofs.Common.{◌≡◌, refl, sym, ◌∙◌, ap, subst, ℕ, ◌+◌, ◌<◌, ◌≤◌, ◌⊎◌, inl, inr, ⊎_elim, Bool, true, false, ◌==◌, ◌||◌, List, [], ◌∷◌, ◌++◌, length, get_or, AllPairs, IsPermutation, bytes_eq, arith, Option, Some, None, nat_lt, slice_get}
+use Rattle.std.proofs.Common.{All, ◌≡◌, refl, sym, ◌∙◌, ap, subst, ℕ, ◌+◌, ◌<◌, ◌≤◌, ◌⊎◌, inl, inr, ⊎_elim, Bool, true, false, ◌==◌, ◌||◌, List, [], ◌∷◌, ◌++◌, length, get_or, AllPairs, IsPermutation, bytes_eq, arith, Option, Some, None, nat_lt, slice_get}
 use Rattle.std.specs.Prelude.{IfSome}
 use Rattle.std.specs.List.{list_any}
 use Rattle.std.specs.List.Sorted.{IsSortedByKey, IsPartitionedBy}
@@ -24,7 +24,8 @@ use Rattle.feed_rows.proofs.ShiftLaws.{list_any_tells}
 use Rattle.feed_faults.specs.Records.{FileTable, row_count, field}
 use Rattle.feed_faults.specs.RowKeys.{row_of, is_doubled}
 use Rattle.feed_tables.specs.declared.id_rows.IdRow.{IdRow}
-use Rattle.feed_tables.specs.OrderedRows.{AreIdRows, IsNotAfter, AreOrderedRows, IsPlaceOf, row_at}
+use Rattle.feed_tables.proofs.PrefixLaws.{prefix_of_rises}
+use Rattle.feed_tables.specs.OrderedRows.{prefix_of, IsPrefixed, AreIdRows, IsNotAfter, AreOrderedRows, IsPlaceOf, row_at}
 
 same_number : (a b : ℕ) → (a == b) ≡ true → a ≡ b
 same_number a b e = grind (arith, nat_tests)
@@ -34,13 +35,14 @@ number_itself a b e = grind (arith, nat_tests)
 
 -- no row is listed at first
 pub none_listed : (table : FileTable) (name : ColumnName) → AreIdRows table name 0 []
-none_listed table name = record { right = λ k d lt. absurd (omega arith); within = λ k d lt. absurd (omega arith); all = λ i lt. absurd (omega arith) }
+none_listed table name = record { right = λ k d lt. absurd (omega arith); prefixed = λ k d lt. absurd (omega arith); within = λ k d lt. absurd (omega arith); all = λ i lt. absurd (omega arith) }
 
 -- one more row is listed
-pub listed_more : (table : FileTable) (name : ColumnName) (n : ℕ) (rows : List IdRow) (entry : IdRow) → AreIdRows table name n rows → n < row_count table → entry.row ≡ n → entry.id.now ≡ field table n name → AreIdRows table name (n + 1) (rows ++ entry ∷ [])
-listed_more table name n rows entry listed lt here same =
+pub listed_more : (table : FileTable) (name : ColumnName) (n : ℕ) (rows : List IdRow) (entry : IdRow) → AreIdRows table name n rows → n < row_count table → entry.row ≡ n → entry.id.now ≡ field table n name → IsPrefixed entry → AreIdRows table name (n + 1) (rows ++ entry ∷ [])
+listed_more table name n rows entry listed lt here same prefixed =
     record {
       right = All-push (λ (x : IdRow). x.id.now ≡ field table x.row name) rows entry listed.right (rw here same);
+      prefixed = All-push IsPrefixed rows entry listed.prefixed prefixed;
       within = All-push (λ (x : IdRow). x.row < row_count table) rows entry listed.within (rw here lt);
       all = λ i below. list_any-append (λ (x : IdRow). x.row == i) rows (entry ∷ []) ∙ each i (cases_eq i n) below;
     }
@@ -55,21 +57,51 @@ listed_more table name n rows entry listed lt here same =
     each i (inr apart) below = rw (listed.all i (omega arith)) refl
 
 -- by what the rows are sorted
-abbrev pub order_key : IdRow → List ℕ × ℕ
-order_key entry = (entry.id.now, entry.row)
+abbrev pub order_key : IdRow → ℕ × List ℕ × ℕ
+order_key entry = (entry.prefix, entry.id.now, entry.row)
+
+-- of two rows that are so sorted, the later doesn't stand before the earlier
+in_order : (a b : IdRow) → IsPrefixed a → IsPrefixed b
+    → is_lt (ordering_then (ordering_then (nat_cmp b.prefix a.prefix) (slice_cmp nat_cmp b.id.now a.id.now)) (nat_cmp b.row a.row)) ≡ false → IsNotAfter a b
+in_order a b first second up = step (nat_cmp b.prefix a.prefix) refl (slice_cmp nat_cmp b.id.now a.id.now) refl
+  where
+    greater : nat_cmp b.prefix a.prefix ≡ Greater → a.prefix < b.prefix
+    greater e = grind (arith, nat_tests, e)
+
+    step : (o : Ordering) → nat_cmp b.prefix a.prefix ≡ o → (p : Ordering) → slice_cmp nat_cmp b.id.now a.id.now ≡ p → is_lt (ordering_then (slice_cmp nat_cmp b.id.now a.id.now) (nat_cmp b.row a.row)) ≡ false
+    step Less e p f = absurd (let no : true ≡ false = rw e at up in cc)
+    step Equal e p f = rw e at up
+    step Greater e Less f =
+        let rise = prefix_of_rises b.id.now a.id.now second.bytes f in
+        let low = greater e in
+        let one = first.number in
+        let other = second.number in
+        absurd (omega arith)
+    step Greater e Equal f =
+        let same : b.id.now ≡ a.id.now = (bytes_eq-Decides b.id.now a.id.now).0 (sym (is_eq-slice_cmp b.id.now a.id.now) ∙ ap is_eq f) in
+        let level : b.prefix ≡ a.prefix = second.number ∙ ap prefix_of same ∙ sym first.number in
+        let low = greater e in
+        absurd (omega arith)
+    step Greater e Greater f = rw f refl
 
 -- sorted rows are in order
-pub ordered_from_sort : (table : FileTable) (name : ColumnName) (rows sorted : List IdRow) → AreIdRows table name (row_count table) rows → IsPermutation rows sorted → IsSortedByKey order_key (λ x y. ordering_then (slice_cmp nat_cmp x.0 y.0) (nat_cmp x.1 y.1)) sorted → AreOrderedRows table name sorted
+pub ordered_from_sort : (table : FileTable) (name : ColumnName) (rows sorted : List IdRow) → AreIdRows table name (row_count table) rows → IsPermutation rows sorted → IsSortedByKey order_key (λ x y. ordering_then (ordering_then (nat_cmp x.0 y.0) (slice_cmp nat_cmp x.1 y.1)) (nat_cmp x.2 y.2)) sorted → AreOrderedRows table name sorted
 ordered_from_sort table name rows sorted listed moved up =
     record {
       rows_are =
           record {
             right = All-permutation (λ (x : IdRow). x.id.now ≡ field table x.row name) rows sorted moved listed.right;
+            prefixed = All-permutation IsPrefixed rows sorted moved listed.prefixed;
             within = All-permutation (λ (x : IdRow). x.row < row_count table) rows sorted moved listed.within;
             all = λ i lt. sym (list_any-IsPermutation (λ (x : IdRow). x.row == i) rows sorted moved) ∙ listed.all i lt;
           };
-      sorted = λ i j d lt within. sorted_far (λ (a b : IdRow). is_lt (ordering_then (slice_cmp nat_cmp a.id.now b.id.now) (nat_cmp a.row b.row))) (ranks_by (then_total (on_total (λ (x : List ℕ × ℕ). x.0) nat_list_cmp_total) (on_total (λ (x : List ℕ × ℕ). x.1) nat_cmp_total)) order_key) sorted up i j d (omega arith) within;
+      sorted = λ i j d lt within.
+          in_order (get_or sorted i d) (get_or sorted j d) (prefixed i d (omega arith)) (prefixed j d within)
+          (sorted_far (λ (a b : IdRow). is_lt (ordering_then (ordering_then (nat_cmp a.prefix b.prefix) (slice_cmp nat_cmp a.id.now b.id.now)) (nat_cmp a.row b.row))) (ranks_by (then_total (then_total (on_total (λ (x : ℕ × List ℕ × ℕ). x.0) nat_cmp_total) (on_total (λ (x : ℕ × List ℕ × ℕ). x.1) nat_list_cmp_total)) (on_total (λ (x : ℕ × List ℕ × ℕ). x.2) nat_cmp_total)) order_key) sorted up i j d (omega arith) within);
     }
+  where
+    prefixed : All IsPrefixed sorted
+    prefixed = All-permutation IsPrefixed rows sorted moved listed.prefixed
 
 -- rows in order are so by their ids alone
 ids_rise : (rows : List IdRow) → AllPairs IsNotAfter rows → (i j : ℕ) (d : IdRow) → i < j → j < length rows → is_lt (slice_cmp nat_cmp (get_or rows j d).id.now (get_or rows i d).id.now) ≡ false

@@ -1,3 +1,4 @@
+pub mod PrefixLaws
 pub mod IdLaws
 pub mod PassLaws
 pub mod HeldLaws

@@ -7,3 +7,4 @@ pub mod FieldFaults
 pub mod FirstPass
 pub mod TableGroups
 pub mod UnbuiltFiles
+pub mod TableIds

@@ -1,5 +1,5 @@
 -- The rows of a table in the order of their fields in a column.
-use Rattle.std.specs.Prelude.{◌≡◌, ℕ, ◌<◌, ◌≤◌, ◌==◌, true, false, List, length, slice_index_or, slice_get, bytes_eq, Option, option_and_then, All, AllPairs}
+use Rattle.std.specs.Prelude.{◌≡◌, ℕ, zero, suc, ◌+◌, ◌*◌, ◌<◌, ◌≤◌, ◌==◌, nat_lt, if◌then◌else◌, Bool, true, false, List, length, slice_index, slice_index_or, slice_get, bytes_eq, Option, option_and_then, All, AllPairs}
 use Rattle.std.specs.List.{list_any}
 use Rattle.std.specs.Cmp.Lexicographic.{slice_cmp}
 use Rattle.std.specs.Ordering.{nat_cmp, ordering_then, is_lt}
@@ -8,9 +8,28 @@ use Rattle.feed_rows.specs.Words.{when}
 use Rattle.feed_faults.specs.Records.{FileTable, row_count, field}
 use Rattle.feed_tables.specs.declared.id_rows.IdRow.{IdRow}
 
+-- the number that the first n bytes make, the first of them the most; past the end of a text bytes count as 0
+abbrev pub prefix_below : ℕ → List ℕ → ℕ
+prefix_below zero text = 0
+prefix_below (suc n) text = prefix_below n text * 256 + slice_index text n
+
+-- the number that the first eight bytes make
+unfoldable pub prefix_of : List ℕ → ℕ
+prefix_of text = prefix_below 8 text
+
+-- a text of bytes
+abbrev pub AreBytes : List ℕ → Type 0
+AreBytes text = (k : ℕ) → slice_index text k < 256
+
+-- a row has the number that its id, a text of bytes, begins with
+pub record IsPrefixed (entry : IdRow) : Type 0 where
+  pub number : entry.prefix ≡ prefix_of entry.id.now
+  pub bytes : AreBytes entry.id.now
+
 -- the list has the first n rows of the table, each with its field in the column
 pub record AreIdRows (table : FileTable) (name : ColumnName) (n : ℕ) (rows : List IdRow) : Type 0 where
   pub right : All (λ (entry : IdRow). entry.id.now ≡ field table entry.row name) rows
+  pub prefixed : All IsPrefixed rows
   pub within : All (λ (entry : IdRow). entry.row < row_count table) rows
   pub all : (row : ℕ) → row < n → list_any (λ (entry : IdRow). entry.row == row) rows ≡ true
 
@@ -28,6 +47,10 @@ pub record IsPlaceOf (rows : List IdRow) (id : List ℕ) (place : ℕ) : Type 0 
   pub within : place ≤ length rows
   pub before : (k : ℕ) (d : IdRow) → k < place → is_lt (slice_cmp nat_cmp (slice_index_or rows k d).id.now id) ≡ true
   pub from : (k : ℕ) (d : IdRow) → place ≤ k → k < length rows → is_lt (slice_cmp nat_cmp (slice_index_or rows k d).id.now id) ≡ false
+
+-- the id of a row is less than one that begins with this number, as it is told by their numbers first
+abbrev pub is_before : IdRow → ℕ → List ℕ → Bool
+is_before entry prefix id = if entry.prefix == prefix then is_lt (slice_cmp nat_cmp entry.id.now id) else nat_lt entry.prefix prefix
 
 -- the row at a place, where its id is this one
 abbrev pub row_at : List IdRow → ℕ → List ℕ → Option ℕ

@@ -1,7 +1,7 @@
 //! What is wrong with the fields of a row by themselves.
 ghost use Rattle.std.specs.Prelude.{◌≡◌, ◌<◌, is_some, Some};
 ghost use Rattle.feed_rows.specs.declared.names.ColumnName.TheVariants as column;
-ghost use Rattle.feed_faults.specs.Records.{row_count, field, is_filled};
+ghost use Rattle.feed_faults.specs.Records.{row_count, field};
 ghost use Rattle.feed_faults.specs.FieldGrammars.{amount_in};
 ghost use Rattle.feed_faults.specs.FileColumns.{fits, misfit};
 ghost use Rattle.feed_faults.specs.FormFaults.{names_flex_place, empty_misfit, field_misfit};
@@ -9,17 +9,7 @@ ghost use Rattle.feed_faults.specs.FormFaults.{names_flex_place, empty_misfit, f
 use crate::named::NamedTable;
 use feed_faults::{ColumnRule, EmptyField, Grammar};
 use feed_rows::{ColumnName, FaultKind};
-use feed_text::{amount_of, count_of, currency_of, date_of, id_ok, int_of, time_of};
-
-/// Whether a text is filled.
-pub fn is_filled(text: &[u8]) -> bool
-    ensures { result ≡ is_filled text.now }
-{
-    match text {
-        [] => false,
-        [_, ..] => true,
-    }
-}
+use feed_text::{amount_of, count_of, currency_of, date_of, id_ok, int_of, is_filled, time_of};
 
 // Whether a text is an amount in the currency of this code.
 fn is_amount_in(currency: &[u8], text: &[u8]) -> bool

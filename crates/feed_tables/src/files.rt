@@ -9,11 +9,10 @@ ghost use Rattle.feed_text.specs.TextErrors.{IsErrorOf};
 ghost use Rattle.folder_io.specs.KeptFiles.{held_of, held_in, IsWithin, AreWithin};
 ghost use Rattle.feed_tables.specs.FirstPass.{is_built, has_byte, unbuilt_fault, pass_fault};
 
-use crate::fields::is_filled;
 use crate::named::NamedTable;
 use crate::rows::fault_of_rows;
 use feed_rows::{FaultKind, FeedFault, FileName};
-use feed_text::{Table, TextError, has_record, is_always_needed};
+use feed_text::{Table, TextError, has_record, is_always_needed, is_filled};
 use folder_io::{FileBytes, Files};
 use std::alloc::{AllocError, Global};
 

@@ -1,19 +1,52 @@
 //! The rows of a table in the order of their ids.
-ghost use Rattle.std.specs.Prelude.{◌≡◌, ◌≤◌, length, AllPairs, IfOk};
+ghost use Rattle.std.specs.Prelude.{◌≡◌, ◌≤◌, length, slice_index, All, AllPairs, IfOk};
 ghost use Rattle.std.specs.Cmp.Lexicographic.{slice_cmp};
 ghost use Rattle.std.specs.Ordering.{nat_cmp, is_lt};
 ghost use Rattle.feed_faults.specs.Records.{row_count};
-ghost use Rattle.feed_tables.specs.OrderedRows.{AreIdRows, AreOrderedRows, IsNotAfter, IsPlaceOf, row_at};
+ghost use Rattle.feed_tables.specs.OrderedRows.{prefix_of, IsPrefixed, AreIdRows, AreOrderedRows, IsNotAfter, IsPlaceOf, is_before, row_at};
 
 use crate::named::NamedTable;
 use feed_rows::ColumnName;
 use std::alloc::{AllocError, Global};
 
-// A row and its id.
+// A row, its id, and the number that the id begins with, by which most ids are told apart.
 #[derive(Clone, Copy, Debug)]
 pub struct IdRow<'t> {
+    pub prefix: u64,
     pub id: &'t [u8],
     pub row: u32,
+}
+
+// The byte at a place of an id; 0 past its end.
+fn byte_at(id: &[u8], place: usize) -> u8
+    ensures { result ≡ slice_index id.now place }
+{
+    if place < id.len() { id[place] } else { 0 }
+}
+
+/// The number that an id's first eight bytes make. It doesn't fall from an id to a greater one.
+#[tactic(auto, unfolding(crate::specs::OrderedRows::prefix_of))]
+pub fn prefix_of(id: &[u8]) -> u64
+    ensures { result ≡ prefix_of id.now }
+{
+    let mut prefix = 0u64;
+    for place in 0..8usize {
+        prefix = prefix * 256 + u64::from(byte_at(id, place));
+    }
+    prefix
+}
+
+// A row with this id.
+fn id_row<'t>(id: &'t [u8], row: u32) -> IdRow<'t>
+    ensures prefixed { IsPrefixed result }
+    ensures id { result.id.now ≡ id.now }
+    ensures row { result.row ≡ row }
+{
+    IdRow {
+        prefix: prefix_of(id),
+        id,
+        row,
+    }
 }
 
 // The rows in the order of the table, each with its id.
@@ -24,12 +57,9 @@ fn id_rows<'t>(
 ) -> Result<Vec<IdRow<'t>>, AllocError>
     ensures { IfOk result (λ rows. AreIdRows table.now name (row_count table.now) rows.items) }
 {
-    let mut rows = Vec::new(alloc);
+    let mut rows = Vec::with_capacity(alloc, table.rows() as usize)?;
     for row in 0..table.rows() {
-        rows.push(IdRow {
-            id: table.field(row, name),
-            row,
-        })?;
+        rows.push(id_row(table.field(row, name), row))?;
     }
     Ok(rows)
 }
@@ -43,7 +73,7 @@ pub fn ordered_rows<'t>(
     ensures { IfOk result (λ rows. AreOrderedRows table.now name rows.items) }
 {
     let mut rows = id_rows(alloc, table, name)?;
-    rows.sort_unstable_by_key(|entry| (entry.id, entry.row));
+    rows.sort_unstable_by_key(|entry| (entry.prefix, entry.id, entry.row));
     Ok(rows)
 }
 
@@ -54,12 +84,24 @@ fn is_less(id: &[u8], other: &[u8]) -> bool
     id.cmp(other).is_lt()
 }
 
+// Whether the id of a row stands before one that begins with this number.
+fn is_before(entry: &IdRow, prefix: u64, id: &[u8]) -> bool
+    ensures { result ≡ is_before entry.now prefix id.now }
+{
+    if entry.prefix == prefix {
+        return is_less(entry.id, id);
+    }
+    entry.prefix < prefix
+}
+
 /// The place of the first row whose id isn't less than this one.
 pub fn place_of(rows: &[IdRow], id: &[u8]) -> usize
-    requires { AllPairs IsNotAfter rows.now }
+    requires sorted { AllPairs IsNotAfter rows.now }
+    requires prefixed { All IsPrefixed rows.now }
     ensures { IsPlaceOf rows.now id.now result }
 {
-    rows.partition_point(|entry| is_less(entry.id, id))
+    let prefix = prefix_of(id);
+    rows.partition_point(|entry| is_before(entry, prefix, id))
 }
 
 /// The row at a place, where its id is this one.

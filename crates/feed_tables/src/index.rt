@@ -2,6 +2,7 @@
 ghost use Rattle.std.specs.Prelude.{◌≡◌, ◌<◌, IfOk, IfSome};
 ghost use Rattle.feed_faults.specs.Records.{row_count};
 ghost use Rattle.feed_faults.specs.RowKeys.{row_of, is_unknown, is_doubled};
+ghost use Rattle.feed_faults.specs.AcceptedFeed.{row_number};
 ghost use Rattle.feed_tables.specs.OrderedRows.{AreOrderedRows};
 
 use crate::id_rows::{IdRow, ordered_rows, place_of, row_at};
@@ -52,6 +53,16 @@ impl<'t> IdIndex<'t> {
         ensures within { IfSome result (λ row. row < row_count self.now.table) }
     {
         row_at(&self.rows, place_of(&self.rows, id), id)
+    }
+
+    /// The number of the earliest row with this id; that after the last row where no row has it.
+    pub fn number(&self, id: &[u8]) -> u32
+        ensures { result ≡ row_number self.now.table self.now.name id.now }
+    {
+        match self.row_of(id) {
+            Some(row) => row,
+            None => self.table.rows(),
+        }
     }
 
     /// Whether an id is filled and no row has it: an empty reference is no fault.

@@ -6,7 +6,9 @@ mod files;
 mod group_reading;
 mod groups;
 mod id_rows;
+mod ids;
 mod index;
+mod kinds;
 mod named;
 mod reading;
 mod rows;
@@ -15,6 +17,8 @@ mod tables;
 mod tests;
 
 pub use files::MOST_ROWS;
+pub use ids::TableIds;
 pub use index::IdIndex;
+pub use kinds::stop_kind;
 pub use named::NamedTable;
 pub use tables::Tables;

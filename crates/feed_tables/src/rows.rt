@@ -6,11 +6,11 @@ ghost use Rattle.feed_faults.specs.FormFaults.{is_passed_over, judged_columns, f
 ghost use Rattle.feed_tables.specs.FieldFaults.{fault_of_field};
 ghost use Rattle.feed_tables.specs.RowLimits.{row_limit};
 
-use crate::fields::{field_misfit, is_filled};
+use crate::fields::field_misfit;
 use crate::named::NamedTable;
 use feed_faults::{ColumnRule, columns_of};
 use feed_rows::{ColumnName, FaultKind, FeedFault, FileName};
-use feed_text::int_of;
+use feed_text::{int_of, is_filled};
 
 // Whether a row of transfers.txt is passed over: it is of type 4 or 5, or it names routes or trips.
 #[tactic(auto, unfolding(feed_faults::specs::FormFaults::is_passed_over))]

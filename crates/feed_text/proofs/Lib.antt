@@ -8,3 +8,4 @@ pub mod RecordLaws
 pub mod ReaderLaws
 pub mod HeaderLaws
 pub mod Utf8Laws
+pub mod ValueLaws

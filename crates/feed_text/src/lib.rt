@@ -12,6 +12,7 @@ mod reading;
 mod table;
 #[cfg(test)]
 mod tests;
+mod values;
 
 pub use amounts::amount_of;
 pub use dates::{date_of, day_of_parts};
@@ -20,3 +21,4 @@ pub use ids::{currency_of, id_ok};
 pub use numbers::{count_of, int_of, time_of};
 pub use reading::is_always_needed;
 pub use table::{Table, has_record};
+pub use values::{amount_or_past, day_or_past, int_or_past, is_filled, optional_int};

@@ -9,7 +9,7 @@ fn with_digit(value: u64, digit: u8) -> Option<u64>
     requires { digit ≤ 9 }
     ensures { result ≡ at_most (2 ^ 64 - 1) (Some (value * 10 + digit)) }
 {
-    u64::try_from(u128::from(value) * 10 + u128::from(digit)).ok()
+    value.checked_mul(10)?.checked_add(u64::from(digit))
 }
 
 // The number that one or more digits write, where it is below 2^64.

@@ -1,17 +1,22 @@
--- Bounds that a feed without faults keeps.
-use Rattle.std.proofs.Common.{◌≡◌, sym, ◌∙◌, ap, get_or, filter, ℕ, ◌^◌, ◌<◌, ◌≤◌, List, length, true, arith, ℤ, pos, negsuc, ◌≤ℤ◌, ◌<ℤ◌, ◌-ℤ◌}
-use Rattle.std.specs.Prelude.{All, ◌==◌}
+-- Bounds that a feed without faults keeps, and on which days its trips run.
+use Rattle.std.proofs.Common.{◌≡◌, sym, ◌∙◌, ap, subst, get_or, filter, ℕ, ◌+◌, ◌^◌, ◌<◌, Bool, List, [], ◌∷◌, ◌++◌, length, true, arith, ℤ, pos, negsuc, ◌≤ℤ◌, ◌<ℤ◌, ◌-ℤ◌, add-one}
+use Rattle.std.specs.Prelude.{◌==◌, Some, slice_get}
+use Rattle.std.proofs.lemmas.Option.{get_or_from_slice_get, slice_get-get_or}
 use Rattle.std.proofs.lemmas.List.Sums.{length-filter, count_by-le-length}
 use Rattle.feed_rows.specs.declared.rows.StopTimeRow.{StopTimeRow}
 use Rattle.feed_rows.proofs.SequenceLaws.{length-in_sequence}
 use Rattle.std.proofs.lemmas.Int.{ints}
 use Rattle.std.proofs.lemmas.List.Elements.{Contains-get_or}
 use Rattle.transit_base.specs.declared.numbers.TripId.{TripId}
-use Rattle.feed_rows.specs.declared.journeys.Call.{Call}
+use Rattle.feed_rows.specs.declared.rows.TripRow.{TripRow}
 use Rattle.feed_rows.specs.FeedRows.{FeedRows}
 use Rattle.feed_rows.specs.SoundFeed.{IsSoundFeed}
 use Rattle.feed_rows.specs.Calls.{calls_of}
 use Rattle.feed_rows.specs.Shifts.{is_shift, shifts_of}
+use Rattle.feed_rows.specs.Rides.{runs_on}
+use Rattle.feed_rows.specs.ServiceDays.{is_active}
+use Rattle.feed_rows.specs.Words.{list_below}
+use Rattle.feed_rows.proofs.GroupLaws.{length-list_below, slice_get-list_below}
 use Rattle.feed_rows.proofs.CallLaws.{length-calls_of}
 use Rattle.feed_rows.proofs.CallTimes.{first_departure_most}
 use Rattle.feed_rows.proofs.ShiftLaws.{found_from_Contains, list_any-shifts_of, is_shift_bounds}
@@ -41,3 +46,32 @@ shift_bounds feed trip sound k d lt =
   where
     within : (z : ℤ) → (pos 0 -ℤ pos 604_799) ≤ℤ z → z <ℤ pos 604_799 → (negsuc 699_999 ≤ℤ z) × (z ≤ℤ pos 700_000)
     within z low high = (omega (arith, ints), omega (arith, ints))
+
+-- one item more of a list that is made number by number
+pub list_below_more : {X : Type 0} (n : ℕ) (f : ℕ → X) (xs ys : List X) (x : X) → xs ≡ list_below n f → ys ≡ xs ++ x ∷ [] → x ≡ f n → ys ≡ list_below (n + 1) f
+list_below_more n f xs ys x before push is = rw add-one (push ∙ ap (λ zs. zs ++ x ∷ []) before ∙ ap (λ z. list_below n f ++ z ∷ []) is)
+
+-- the service of a trip has a name
+pub trip_service : (feed : FeedRows) (i : ℕ) (row : TripRow) → IsSoundFeed feed → row ≡ get_or feed.trips i row → i < length feed.trips → row.service.0 < length feed.service_names
+trip_service feed i row sound is lt = subst (λ (r : TripRow). r.service.0 < length feed.service_names) (sym is) (sound.trips.services i row lt)
+
+-- the services' list has a place for the service of each trip
+pub service_is_listed : (feed : FeedRows) (day : ℤ) (active : List Bool) (trips : List TripRow) (i : ℕ) (row : TripRow) → IsSoundFeed feed → trips ≡ feed.trips → active ≡ list_below (length feed.service_names) (λ s. is_active feed (record { 0 = s }) day) → row ≡ get_or trips i row → i < length trips →
+    row.service.0 < length active
+service_is_listed feed day active trips i row sound rows all is lt =
+    let row_is = is ∙ ap (λ (ts : List TripRow). get_or ts i row) rows in
+    let service = trip_service feed i row sound row_is (subst (λ (ts : List TripRow). i < length ts) rows lt) in
+    rw (all, length-list_below) service
+
+-- a trip runs on the days of its service
+pub trip_runs : (feed : FeedRows) (day : ℤ) (active : List Bool) (trips : List TripRow) (i : ℕ) (row : TripRow) (runs : Bool) → IsSoundFeed feed → trips ≡ feed.trips → active ≡ list_below (length feed.service_names) (λ s. is_active feed (record { 0 = s }) day) → row ≡ get_or trips i row → i < length trips → runs ≡ get_or active row.service.0 runs →
+    runs ≡ runs_on feed (record { 0 = i }) day
+trip_runs feed day active trips i row runs sound rows all is lt read =
+    let row_is = is ∙ ap (λ (ts : List TripRow). get_or ts i row) rows in
+    let within = subst (λ (ts : List TripRow). i < length ts) rows lt in
+    let service = trip_service feed i row sound row_is within in
+    let on : ℕ → Bool = λ s. is_active feed (record { 0 = s }) day in
+    let got = slice_get-list_below (length feed.service_names) on row.service.0 service in
+    let one : slice_get feed.trips i ≡ Some row = slice_get-get_or feed.trips i row within ∙ ap Some (sym row_is) in
+    let found = get_or_from_slice_get (list_below (length feed.service_names) on) row.service.0 (is_active feed row.service day) runs got in
+    rw one (read ∙ ap (λ (xs : List Bool). get_or xs row.service.0 runs) all ∙ found)

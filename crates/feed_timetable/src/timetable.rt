@@ -7,6 +7,8 @@ ghost use Rattle.feed_rows.specs.SoundFeed.{IsSoundFeed};
 ghost use Rattle.feed_rows.specs.Calls.{calls_of, first_departure};
 ghost use Rattle.feed_rows.specs.Shifts.{has_frequencies, shifts_of};
 ghost use Rattle.feed_rows.specs.Rides.{runs_on, ride_facts};
+ghost use Rattle.feed_rows.specs.ServiceDays.{is_active};
+ghost use Rattle.feed_rows.specs.Words.{list_below};
 ghost use Rattle.feed_rows.specs.Queries.{find_stop};
 ghost use Rattle.feed_rows.specs.StopLinks.{link, stop_set};
 ghost use Rattle.feed_rows.specs.Journeys.{stands_for, access, egress, direct, is_caught};
@@ -21,7 +23,7 @@ use feed_trips::Trips;
 use feed_walks::Walks;
 use std::alloc::{AllocError, Global};
 use std::marker::Model;
-use transit_base::{Day, Moment, Secs, StopId, TripId};
+use transit_base::{Day, Moment, Secs, ServiceId, StopId, TripId};
 
 /// The stops, trips, walks and services of a feed. Contracts see it as the rows of its feed.
 #[derive(Drop)]
@@ -123,6 +125,38 @@ impl<'f> Timetable<'f> {
         let feed = self.feed;
         let service = feed.trips.items()[trip.0 as usize].service;
         self.calendar.active(service, day)
+    }
+
+    // Whether each service is active on the day, by its number.
+    fn services_on(&self, alloc: Global, day: Day) -> Result<Vec<bool>, AllocError>
+        ensures { IfOk result (λ active. active.items ≡ list_below (length self.now.service_names) (λ s. is_active self.now (record { 0 = s }) day.0)) }
+    {
+        let feed = self.feed;
+        let _rows = &feed.trips;
+        let names = feed.service_names.items();
+        let mut active = Vec::with_capacity(alloc, names.len())?;
+        for service in 0..names.len() as u32 {
+            active.push(self.calendar.active(ServiceId(service), day))?;
+        }
+        Ok(active)
+    }
+
+    /// Whether each trip runs on the day, by its number.
+    ///
+    /// # Errors
+    /// Want of memory.
+    pub fn trips_on(&self, alloc: Global, day: Day) -> Result<Vec<bool>, AllocError>
+        ensures { IfOk result (λ runs. runs.items ≡ list_below (length self.now.trips) (λ t. runs_on self.now (record { 0 = t }) day.0)) }
+    {
+        let feed = self.feed;
+        let _rows = &feed.trips;
+        let trips = feed.trips.items();
+        let active = self.services_on(alloc, day)?;
+        let mut runs = Vec::with_capacity(alloc, trips.len())?;
+        for trip in trips {
+            runs.push(active[trip.service.0 as usize])?;
+        }
+        Ok(runs)
     }
 
     /// The calls of a trip, in order.

@@ -4,3 +4,4 @@ pub mod RunLaws
 pub mod NumberLaws
 pub mod NameLaws
 pub mod TableLaws
+pub mod StretchLaws

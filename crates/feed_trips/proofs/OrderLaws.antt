@@ -1,26 +1,48 @@
 -- Rows in order, as sorts leave them.
-use Rattle.std.proofs.Common.{◌≡◌, refl, ℕ, zero, suc, ◌<◌, ◌≤◌, ◌⊎◌, inl, inr, false, List, [], ◌∷◌, length, get_or, map, AllPairs, arith}
-use Rattle.std.specs.List.Sorted.{IsSortedByKey, IsNonDecreasing, IsNonDecreasingBy}
-use Rattle.std.specs.Ordering.{nat_cmp, ordering_then, is_lt}
-use Rattle.std.proofs.lemmas.Cmp.{nat_cmp_total, on_total, then_total}
+use Rattle.std.proofs.Common.{◌≡◌, refl, sym, ◌∙◌, ap, subst, ℕ, zero, suc, ◌+◌, ◌<◌, ◌≤◌, ◌⊎◌, inl, inr, List, [], ◌∷◌, ◌++◌, length, get_or, take, map, AllPairs, IsPermutation, arith}
+use Rattle.std.specs.List.Sorted.{IsNonDecreasing, IsNonDecreasingBy}
 use Rattle.std.proofs.lemmas.Bool.{cases_eq}
-use Rattle.std.proofs.lemmas.Bool.Decides.{nat_tests}
-use Rattle.std.proofs.lemmas.List.{length-map}
-use Rattle.std.proofs.lemmas.List.Sorted.{sorted_far, ranks_by}
+use Rattle.std.proofs.lemmas.List.{length-map, get_or-map, map-append, take_more}
+use Rattle.std.proofs.lemmas.List.Sorted.{IsPermutation-map}
+use Rattle.std.proofs.Math.Seq.{take-length}
+use Rattle.feed_rows.specs.Words.{list_below}
 use Rattle.feed_rows.specs.declared.rows.StopTimeRow.{StopTimeRow}
 use Rattle.feed_rows.proofs.TripLaws.{IsInOrder}
+use Rattle.trip_order.specs.declared.keys.PlaceKey.{PlaceKey}
+use Rattle.trip_order.specs.Order.{no_time, numbered_at, key_of, no_key, key_at, AreSorted}
+use Rattle.trip_order.proofs.SortLaws.{Precedes, key_is, in_order}
 
--- by what stop times are sorted
-abbrev pub order_key : StopTimeRow → ℕ × ℕ
-order_key row = (row.trip.0, row.sequence)
+-- the row of a key
+abbrev pub row_of : List StopTimeRow → PlaceKey → StopTimeRow
+row_of rows key = numbered_at rows key.row
 
--- stop times that are sorted by trip and sequence are in order
-pub in_order_from_sort : (rows : List StopTimeRow) → IsSortedByKey order_key (λ x y. ordering_then (nat_cmp x.0 y.0) (nat_cmp x.1 y.1)) rows → AllPairs IsInOrder rows
-in_order_from_sort rows up i j d lt within =
-    told (get_or rows i d) (get_or rows j d) (sorted_far (λ a b. is_lt (ordering_then (nat_cmp a.trip.0 b.trip.0) (nat_cmp a.sequence b.sequence))) (ranks_by (then_total (on_total (λ (x : ℕ × ℕ). x.0) nat_cmp_total) (on_total (λ (x : ℕ × ℕ). x.1) nat_cmp_total)) order_key) rows up i j d (omega arith) within)
+-- the rows of the keys of the first n rows
+rows_of_keys : (rows : List StopTimeRow) (n : ℕ) → n ≤ length rows → map (row_of rows) (list_below n (key_of rows)) ≡ take n rows
+rows_of_keys rows zero le = refl
+rows_of_keys rows (suc n) le =
+    let e : n + 1 ≡ suc n = omega arith in
+    let more : take (suc n) rows ≡ take n rows ++ numbered_at rows n ∷ [] = rw e at (take_more rows n no_time (omega arith)) in
+    map-append (row_of rows) (list_below n (key_of rows)) (key_of rows n ∷ []) ∙ ap (λ xs. xs ++ numbered_at rows n ∷ []) (rows_of_keys rows n (omega arith)) ∙ sym more
+
+-- the rows of sorted keys are all rows
+pub moved_by_keys : (rows : List StopTimeRow) (keys : List PlaceKey) → AreSorted rows keys → IsPermutation rows (map (row_of rows) keys)
+moved_by_keys rows keys are =
+    let all = rows_of_keys rows (length rows) (omega arith) ∙ take-length rows in
+    subst (λ xs. IsPermutation xs (map (row_of rows) keys)) all (IsPermutation-map (row_of rows) (list_below (length rows) (key_of rows)) keys are.permuted)
+
+-- and they are in order
+pub in_order_by_keys : (rows : List StopTimeRow) (keys : List PlaceKey) → AreSorted rows keys → AllPairs IsInOrder (map (row_of rows) keys)
+in_order_by_keys rows keys are i j d lt within =
+    let below : j < length keys = rw length-map at within in
+    let first = (key_is rows keys are i (omega arith)).0 in
+    let second = (key_is rows keys are j below).0 in
+    rw (get_or-map (row_of rows) keys i no_key d (omega arith), get_or-map (row_of rows) keys j no_key d below) (told (key_at keys i) (key_at keys j) first second (in_order rows keys are i j lt below))
   where
-    told : (a b : StopTimeRow) → is_lt (ordering_then (nat_cmp b.trip.0 a.trip.0) (nat_cmp b.sequence a.sequence)) ≡ false → IsInOrder a b
-    told a b e = grind (arith, nat_tests, e)
+    rise : (a b : PlaceKey) (x y : StopTimeRow) → a.trip ≡ x.trip.0 → a.sequence ≡ x.sequence → b.trip ≡ y.trip.0 → b.sequence ≡ y.sequence → Precedes a b → IsInOrder x y
+    rise a b x y at aq bt bq is = grind (arith, is, at, aq, bt, bq)
+
+    told : (a b : PlaceKey) → a ≡ key_of rows a.row → b ≡ key_of rows b.row → Precedes a b → IsInOrder (row_of rows a) (row_of rows b)
+    told a b ea eb is = rise a b (row_of rows a) (row_of rows b) (ap (λ (k : PlaceKey). k.trip) ea) (ap (λ (k : PlaceKey). k.sequence) ea) (ap (λ (k : PlaceKey). k.trip) eb) (ap (λ (k : PlaceKey). k.sequence) eb) is
 
 -- stop times that are in order are so by their trips
 pub trips_rise : (rows : List StopTimeRow) → AllPairs IsInOrder rows → IsNonDecreasingBy (λ (r : StopTimeRow). r.trip.0) rows

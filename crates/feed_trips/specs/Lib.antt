@@ -3,3 +3,4 @@ pub mod NamedTrips
 pub mod Runs
 pub mod Tables
 pub mod Trips
+pub mod Stretches

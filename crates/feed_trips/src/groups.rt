@@ -32,7 +32,7 @@ pub fn starts_of(alloc: Global, numbers: &[u32], groups: usize) -> Result<Vec<us
     requires few { groups < 2 ^ 32 }
     ensures { IfOk result (λ starts. starts.items ≡ list_below (groups + 1) (count_less numbers.now)) }
 {
-    let mut starts = Vec::new(alloc);
+    let mut starts = Vec::with_capacity(alloc, groups + 1)?;
     let mut at = 0;
     for group in 0..groups + 1 {
         at = start_after(numbers, at, group);

@@ -6,6 +6,7 @@ mod ids;
 mod order;
 mod runs;
 mod scan;
+mod together;
 mod trips;
 mod walks;
 

@@ -10,25 +10,33 @@ ghost use Rattle.feed_rows.specs.TimedTrips.{HasTimedEnds, DoTimesRise};
 ghost use Rattle.feed_rows.proofs.TripLaws.{IsInOrder};
 ghost use Rattle.feed_trips.specs.Groups.{IsGroup, group};
 ghost use Rattle.feed_trips.specs.Tables.{AreCallsOf, AreRunTables};
+ghost use Rattle.feed_trips.specs.Stretches.{AreStretches};
 
 use crate::groups::{group_at, starts_of};
+use crate::together::{Stretch, calls_of_stretches, stretches_of};
 use crate::walks::push_calls;
 use feed_rows::{Call, Feed, FrequencyRow, StopTimeRow};
 use std::alloc::{AllocError, Global};
+use trip_order::sorted_keys;
 
 /// The stop times by trip, and those of a trip by their sequence.
 ///
 /// # Errors
 /// Want of memory.
+#[tactic(auto, using(trip_order::proofs::SortLaws::row_within))]
 pub fn sorted_stop_times(
     alloc: Global,
     rows: &[StopTimeRow],
 ) -> Result<Vec<StopTimeRow>, AllocError>
+    requires { length rows.now < 2 ^ 32 }
     ensures moved { IfOk result (λ sorted. IsPermutation rows.now sorted.items) }
     ensures sorted { IfOk result (λ sorted. AllPairs IsInOrder sorted.items) }
 {
-    let mut sorted = Vec::from_slice(alloc, rows)?;
-    sorted.sort_unstable_by_key(|row| (row.trip.0, row.sequence));
+    let keys = sorted_keys(alloc, rows)?;
+    let mut sorted = Vec::with_capacity(alloc, rows.len())?;
+    for key in &keys {
+        sorted.push(rows[key.row as usize])?;
+    }
     Ok(sorted)
 }
 
@@ -84,11 +92,42 @@ pub fn calls_by_trip(
     requires few { length rows.now < 2 ^ 32 }
     ensures { IfOk result (λ calls. calls.items ≡ joined_below trips (λ t. walk (group rows.now starts.now t))) }
 {
-    let mut calls = Vec::new(alloc);
+    let mut calls = Vec::with_capacity(alloc, rows.len())?;
     for trip in 0..trips {
         push_calls(&mut calls, group_at(rows, starts, trip))?;
     }
     Ok(calls)
+}
+
+// The calls of all trips, one trip after another, and where those of each trip begin, from the feed's rows in order.
+fn call_tables_of(
+    alloc: Global,
+    feed: &Feed,
+    rows: &[StopTimeRow],
+) -> Result<(Vec<Call>, Vec<usize>), AllocError>
+    requires moved { IsPermutation feed.now.stop_times rows.now }
+    requires sorted { AllPairs IsInOrder rows.now }
+    ensures { IfOk result (λ tables. AreCallsOf feed.now tables.0.items tables.1.items) }
+{
+    let trips = feed.trips.items().len();
+    let numbers = trips_of_stop_times(alloc, rows)?;
+    let starts = starts_of(alloc, &numbers, trips)?;
+    let calls = calls_by_trip(alloc, rows, &starts, trips)?;
+    Ok((calls, starts))
+}
+
+// The same from the feed's rows as they stand, where those of each trip stand together and in order.
+fn calls_together(
+    alloc: Global,
+    feed: &Feed,
+    stretches: &[Stretch],
+) -> Result<(Vec<Call>, Vec<usize>), AllocError>
+    requires { AreStretches feed.now.stop_times (length feed.now.stop_times) (length feed.now.trips) stretches.now }
+    ensures { IfOk result (λ tables. AreCallsOf feed.now tables.0.items tables.1.items) }
+{
+    let rows = feed.stop_times.items();
+    let (calls, starts) = calls_of_stretches(alloc, rows, stretches)?;
+    Ok((calls, starts))
 }
 
 /// The calls of all trips, one trip after another, and where those of each trip begin.
@@ -98,12 +137,12 @@ pub fn calls_by_trip(
 pub fn call_tables(alloc: Global, feed: &Feed) -> Result<(Vec<Call>, Vec<usize>), AllocError>
     ensures { IfOk result (λ tables. AreCallsOf feed.now tables.0.items tables.1.items) }
 {
-    let trips = feed.trips.items().len();
-    let rows = sorted_stop_times(alloc, feed.stop_times.items())?;
-    let numbers = trips_of_stop_times(alloc, &rows)?;
-    let starts = starts_of(alloc, &numbers, trips)?;
-    let calls = calls_by_trip(alloc, &rows, &starts, trips)?;
-    Ok((calls, starts))
+    let rows = feed.stop_times.items();
+    if let Some(stretches) = stretches_of(alloc, rows, feed.trips.items().len())? {
+        return calls_together(alloc, feed, &stretches);
+    }
+    let sorted = sorted_stop_times(alloc, rows)?;
+    call_tables_of(alloc, feed, &sorted)
 }
 
 /// The frequency rows, one trip after another, and where those of each trip begin.

@@ -1,6 +1,7 @@
 -- Laws of the pairs of platforms between which there may be a walk.
-use Rattle.std.proofs.Common.{◌≡◌, refl, sym, ap, subst, ℕ, ◌<◌, ◌≤◌, ⊎_elim, Bool, true, false, List, [], ◌∷◌, length, Contains, Option, Some, None, arith}
-use Rattle.std.specs.Prelude.{◌==◌, ◌&&◌, if◌then◌else◌, slice_get, map, flat_map}
+use Rattle.std.proofs.Common.{◌≡◌, refl, sym, ◌∙◌, ap, subst, ℕ, ◌<◌, ◌≤◌, ⊎_elim, Bool, true, false, List, [], ◌∷◌, length, Contains, Option, Some, None, arith}
+use Rattle.std.specs.Prelude.{◌==◌, ◌&&◌, ◌||◌, if◌then◌else◌, slice_get, map, flat_map, filter}
+use Rattle.std.specs.List.{list_any}
 use Rattle.std.specs.Option.{ForSome}
 use Rattle.std.proofs.lemmas.Bool.{cases_lt}
 use Rattle.std.proofs.lemmas.Bool.Decides.{nat_tests}
@@ -37,6 +38,46 @@ module _ {X Y : Type 0} where
       (λ (same : f x ≡ y). (x, Contains-cons_first x xs, same))
       (λ (there : Contains (map f xs) y). let found = map-tells f xs y there in (found.0, Contains-cons_later x xs found.0 found.1, found.2))
       (Contains-cons_cases (f x) (map f xs) y at)
+
+  -- the members of the lists that are mapped to
+  pub Contains-flat_map : (f : X → List Y) (xs : List X) (x : X) (y : Y) → Contains xs x → Contains (f x) y → Contains (flat_map f xs) y
+  Contains-flat_map f [] x y at also = let lt = at.1 in absurd (omega arith)
+  Contains-flat_map f (z ∷ zs) x y at also = ⊎_elim
+      (λ (same : z ≡ x). Contains-append_left (f z) (flat_map f zs) y (subst (λ w. Contains (f w) y) (sym same) also))
+      (λ (there : Contains zs x). Contains-append_right (f z) (flat_map f zs) y (Contains-flat_map f zs x y there also))
+      (Contains-cons_cases z zs x at)
+
+  pub flat_map-tells : (f : X → List Y) (xs : List X) (y : Y) → Contains (flat_map f xs) y → (x : X) × Contains xs x × Contains (f x) y
+  flat_map-tells f [] y at = let lt = at.1 in absurd (omega arith)
+  flat_map-tells f (x ∷ xs) y at = ⊎_elim
+      (λ (here : Contains (f x) y). (x, Contains-cons_first x xs, here))
+      (λ (there : Contains (flat_map f xs) y). let found = flat_map-tells f xs y there in (found.0, Contains-cons_later x xs found.0 found.1, found.2))
+      (Contains-append_cases (f x) (flat_map f xs) y at)
+
+module _ {X : Type 0} where
+  -- what a filter keeps was there
+  pub filter-tells : (p : X → Bool) (xs : List X) (x : X) → Contains (filter p xs) x → Contains xs x
+  filter-tells p [] x at = at
+  filter-tells p (y ∷ ys) x at = step (p y) at (filter-tells p ys x)
+    where
+      step : (b : Bool) → Contains (if b then y ∷ filter p ys else filter p ys) x → (Contains (filter p ys) x → Contains ys x) → Contains (y ∷ ys) x
+      step true here later = ⊎_elim
+          (λ (same : y ≡ x). subst (Contains (y ∷ ys)) same (Contains-cons_first y ys))
+          (λ (there : Contains (filter p ys) x). Contains-cons_later y ys x (later there))
+          (Contains-cons_cases y (filter p ys) x here)
+      step false there later = Contains-cons_later y ys x (later there)
+
+  -- one passes
+  pub any_passes : (p : X → Bool) (xs : List X) (x : X) → Contains xs x → p x ≡ true → list_any p xs ≡ true
+  any_passes p [] x at hit = let lt = at.1 in absurd (omega arith)
+  any_passes p (y ∷ ys) x at hit = ⊎_elim
+      (λ (same : y ≡ x). rw (ap p same ∙ hit) refl)
+      (λ (there : Contains ys x). later (p y) (any_passes p ys x there hit))
+      (Contains-cons_cases y ys x at)
+    where
+      later : (b : Bool) → list_any p ys ≡ true → (b || list_any p ys) ≡ true
+      later true rest = refl
+      later false rest = rest
 
 -- each of these with each of those
 pub Contains-product : (xs ys : List StopId) (a b : StopId) → Contains xs a → Contains ys b → Contains (product xs ys) (pair a b)
@@ -86,6 +127,7 @@ kind_of_platform feed a platform = step (slice_get feed.stops a.0) refl platform
 -- and belongs to its station's
 pub record IsInStation (feed : FeedRows) (a station : StopId) : Type 0 where
   pub within : station.0 < length feed.stops
+  pub is_other : is_platform feed station ≡ false
   pub member : Contains (set_at (stop_sets feed) station.0) a
 
 belongs : (feed : FeedRows) (a station : StopId) (row parent : StopRow) → slice_get feed.stops a.0 ≡ Some row → row.kind ≡ 0 → row.parent ≡ Some station → slice_get feed.stops station.0 ≡ Some parent → parent.kind ≡ 1 → Contains (stop_set feed station) a
@@ -98,7 +140,7 @@ belongs feed a station row parent got flat named there one =
     rw (there, first, second) (subst (λ xs. Contains xs a) (joined_below-picks (length feed.stops) (λ r. at_and feed.stops r (is_member station)) (λ r. record { 0 = r })) (Contains-joined_below (length feed.stops) (λ r. one_where (at_and feed.stops r (is_member station)) (record { 0 = r })) a.0 a (slice_get_within feed.stops a.0 row got) (rw (got, zeroth, named, own) (Contains-cons_first a []))))
 
 pub in_station_set : (feed : FeedRows) (a station : StopId) → AreSoundStops feed → is_platform feed a ≡ true → parent_of feed a ≡ Some station → IsInStation feed a station
-in_station_set feed a station sound platform parent = record { within = within; member = rw (stop_sets-at feed station) (belongs feed a station kinds.row lined.row kinds.got kinds.is named lined.got lined.is) }
+in_station_set feed a station sound platform parent = record { within = within; is_other = is_other; member = rw (stop_sets-at feed station) (belongs feed a station kinds.row lined.row kinds.got kinds.is named lined.got lined.is) }
   where
     kinds : HasKind feed a 0
     kinds = kind_of_platform feed a platform
@@ -113,6 +155,9 @@ in_station_set feed a station sound platform parent = record { within = within; 
     lined =
         let got = slice_get-get_or feed.stops station.0 kinds.row within in
         record { row = _; got = got; is = parent_kind feed a.0 kinds.row _ station sound kinds.got named got }
+
+    is_other : is_platform feed station ≡ false
+    is_other = let there = lined.got in let one = lined.is in let no : (lined.row.kind == 0) ≡ false = grind (arith, nat_tests, one) in rw (there, no) refl
 
 -- what belongs to a set is a platform
 pub set_platform : (feed : FeedRows) (x b : StopId) → Contains (stop_set feed x) b → is_platform feed b ≡ true

@@ -23,7 +23,8 @@ use Rattle.feed_rows.proofs.JoinLaws.{Contains-joined_below, joined_below-tells,
 use Rattle.feed_walks.specs.declared.steps.Step.{Step}
 use Rattle.feed_walks.specs.Places.{is_anew}
 use Rattle.feed_walks.specs.Rules.{AreRules}
-use Rattle.feed_walks.specs.Pairs.{set_at, pairs_below, AreNear}
+use Rattle.feed_walks.specs.Pairs.{set_at, AreNear}
+use Rattle.feed_walks.specs.Reaches.{pairs_below}
 use Rattle.feed_walks.specs.OutOf.{step_list, out_of, walk_steps, step_at, grouped_step, grouped_steps, grouped_steps_below}
 use Rattle.feed_walks.proofs.PairLaws.{kind_of_platform}
 use Rattle.feed_walks.proofs.LinkLaws.{walk_pair, pairs_platforms}
@@ -165,7 +166,7 @@ length-step_at feed a near at = step (is_anew (λ s. s.0) near at) (slice_get ne
     step true (Some to) = length-step_list to (link_by feed a to (governing_row feed a to))
 
 -- the steps out of a stop are the walks out of it
-pub steps_exact : (feed : FeedRows) (rules : List (List LinkRow)) (near : List (List StopId)) (i : ℕ) → AreSoundStops feed → AreRules feed.links rules → AreNear (pairs_below (stop_sets feed) rules (length feed.stops)) near (length feed.stops) → i < length feed.stops → joined_below (length (set_at near i)) (step_at feed (record { 0 = i }) (set_at near i)) ≡ out_of feed (record { 0 = i })
+pub steps_exact : (feed : FeedRows) (rules : List (List LinkRow)) (near : List (List StopId)) (i : ℕ) → AreSoundStops feed → AreRules feed.links rules → AreNear (pairs_below feed (stop_sets feed) rules (length feed.stops)) near (length feed.stops) → i < length feed.stops → joined_below (length (set_at near i)) (step_at feed (record { 0 = i }) (set_at near i)) ≡ out_of feed (record { 0 = i })
 steps_exact feed rules near i sound are is within = same_from_members Before before_strict steps (out_of feed from) ups (out_of-ascends feed from) (record { there = there; back = back })
   where
     from : StopId
@@ -209,13 +210,13 @@ group_of-others feed near k i apart =
     ∙ joined_below-none (length near) (λ at. group_of (map (grouped_step k) (step_at feed (record { 0 = k }) near at)) i) (λ at lt. group_of-other k i (step_at feed (record { 0 = k }) near at) apart)
 
 -- so the groups are the walks out of each stop
-pub walk_steps-from_groups : (feed : FeedRows) (rules : List (List LinkRow)) (near : List (List StopId)) (n : ℕ) → n ≡ length feed.stops → AreSoundStops feed → AreRules feed.links rules → AreNear (pairs_below (stop_sets feed) rules n) near n → groups_below n (grouped_steps_below feed near n) ≡ walk_steps feed
+pub walk_steps-from_groups : (feed : FeedRows) (rules : List (List LinkRow)) (near : List (List StopId)) (n : ℕ) → n ≡ length feed.stops → AreSoundStops feed → AreRules feed.links rules → AreNear (pairs_below feed (stop_sets feed) rules n) near n → groups_below n (grouped_steps_below feed near n) ≡ walk_steps feed
 unfolding groups_below walk_steps grouped_steps_below
 walk_steps-from_groups feed rules near n long sound are is =
     rw long (list_below-same (length feed.stops) (group_of (joined_below (length feed.stops) (λ k. grouped_steps feed k (set_at near k)))) (λ i. out_of feed (record { 0 = i })) each)
   where
-    are_near : AreNear (pairs_below (stop_sets feed) rules (length feed.stops)) near (length feed.stops)
-    are_near = subst (λ k. AreNear (pairs_below (stop_sets feed) rules k) near k) long is
+    are_near : AreNear (pairs_below feed (stop_sets feed) rules (length feed.stops)) near (length feed.stops)
+    are_near = subst (λ k. AreNear (pairs_below feed (stop_sets feed) rules k) near k) long is
 
     each : (i : ℕ) → i < length feed.stops → group_of (joined_below (length feed.stops) (λ k. grouped_steps feed k (set_at near k))) i ≡ out_of feed (record { 0 = i })
     each i lt =
@@ -271,6 +272,6 @@ walk_steps-at feed a = ⊎_elim
         absurd (omega arith)
 
 -- the same, from what each step of the building made
-pub walk_steps-from_parts : (feed inside : FeedRows) (stops : List StopRow) (links : List LinkRow) (rules : List (List LinkRow)) (sets : List (List StopId)) (pairs : List (Grouped StopId)) (near : List (List StopId)) (steps : List (List Step)) → inside ≡ feed → AreSoundStops inside → stops ≡ inside.stops → links ≡ inside.links → AreRules links rules → sets ≡ stop_sets feed → pairs ≡ pairs_below sets rules (length stops) → AreNear pairs near (length stops) → steps ≡ groups_below (length stops) (grouped_steps_below feed near (length stops)) → steps ≡ walk_steps feed
+pub walk_steps-from_parts : (feed inside : FeedRows) (stops : List StopRow) (links : List LinkRow) (rules : List (List LinkRow)) (sets : List (List StopId)) (pairs : List (Grouped StopId)) (near : List (List StopId)) (steps : List (List Step)) → inside ≡ feed → AreSoundStops inside → stops ≡ inside.stops → links ≡ inside.links → AreRules links rules → sets ≡ stop_sets feed → pairs ≡ pairs_below feed sets rules (length stops) → AreNear pairs near (length stops) → steps ≡ groups_below (length stops) (grouped_steps_below feed near (length stops)) → steps ≡ walk_steps feed
 walk_steps-from_parts feed inside stops links rules sets pairs near steps view sound same_stops same_links are same_sets same_pairs is made =
-    made ∙ walk_steps-from_groups feed rules near (length stops) (ap length same_stops ∙ ap (λ (f : FeedRows). length f.stops) view) (subst AreSoundStops view sound) (subst (λ f. AreRules f.links rules) view (subst (λ rows. AreRules rows rules) same_links are)) (subst (λ ps. AreNear ps near (length stops)) (same_pairs ∙ ap (λ xs. pairs_below xs rules (length stops)) same_sets) is)
+    made ∙ walk_steps-from_groups feed rules near (length stops) (ap length same_stops ∙ ap (λ (f : FeedRows). length f.stops) view) (subst AreSoundStops view sound) (subst (λ f. AreRules f.links rules) view (subst (λ rows. AreRules rows rules) same_links are)) (subst (λ ps. AreNear ps near (length stops)) (same_pairs ∙ ap (λ xs. pairs_below feed xs rules (length stops)) same_sets) is)

@@ -1,10 +1,12 @@
--- Pairs of platforms between which there may be a walk.
+-- Pairs of platforms between which there may be a walk, and those among them that rows from platforms link.
 use Rattle.std.specs.Prelude.{ℕ, ◌==◌, if◌then◌else◌, List, [], ◌++◌, length, map, flat_map, find, slice_get, unwrap_or, is_none, ◌<◌, Contains}
 use Rattle.std.specs.List.Sorted.{IsNonDecreasingBy, IsPermutation}
 use Rattle.std.specs.Option.{option_map_or}
 use Rattle.transit_base.specs.declared.numbers.StopId.{StopId}
 use Rattle.feed_rows.specs.declared.rows.LinkRow.{LinkRow}
 use Rattle.feed_rows.specs.declared.groups.Grouped.{Grouped}
+use Rattle.feed_rows.specs.FeedRows.{FeedRows}
+use Rattle.feed_rows.specs.StopLinks.{is_platform}
 use Rattle.feed_rows.specs.Words.{joined_below}
 use Rattle.feed_walks.specs.Places.{is_anew}
 use Rattle.feed_walks.specs.Rules.{rows_from}
@@ -33,13 +35,13 @@ pairs_at sets stop rows at = if is_anew (λ row. row.to.0) rows at then option_m
 unfoldable pub own_pairs : List (List StopId) → ℕ → List LinkRow → List (Grouped StopId)
 own_pairs sets stop rows = if is_none (find (λ row. row.to.0 == stop) rows) then product (set_at sets stop) (set_at sets stop) else []
 
--- the pairs from the set of a stop, by the rows from it
-unfoldable pub pairs_from : List (List StopId) → ℕ → List LinkRow → List (Grouped StopId)
-pairs_from sets stop rows = joined_below (length rows) (pairs_at sets stop rows) ++ own_pairs sets stop rows
+-- the pairs from a platform, by the rows from it
+unfoldable pub pairs_from : FeedRows → List (List StopId) → StopId → List LinkRow → List (Grouped StopId)
+pairs_from feed sets stop rows = if is_platform feed stop then joined_below (length rows) (pairs_at sets stop.0 rows) ++ own_pairs sets stop.0 rows else []
 
--- the pairs from the sets of the first n stops
-unfoldable pub pairs_below : List (List StopId) → List (List LinkRow) → ℕ → List (Grouped StopId)
-pairs_below sets rules n = joined_below n (λ stop. pairs_from sets stop (rows_from rules stop))
+-- the same of the first n stops
+unfoldable pub platform_pairs_below : FeedRows → List (List StopId) → List (List LinkRow) → ℕ → List (Grouped StopId)
+platform_pairs_below feed sets rules n = joined_below n (λ stop. pairs_from feed sets (record { 0 = stop }) (rows_from rules stop))
 
 -- the platforms that are paired with each, ascending
 pub record AreNear (pairs : List (Grouped StopId)) (near : List (List StopId)) (n : ℕ) : Type 0 where

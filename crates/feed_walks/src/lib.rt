@@ -8,7 +8,9 @@ ghost use Rattle.feed_walks.specs.OutOf.{out_of};
 ghost use Rattle.feed_walks.specs.BuiltWalks.{AreWalksOf};
 
 mod pairs;
+mod reaches;
 mod rules;
+mod station_pairs;
 mod steps;
 
 use feed_rows::{Feed, Groups, stop_sets};
@@ -40,7 +42,7 @@ impl Walks {
         let links = feed.links.items();
         let rules = rules_of(alloc, links, count)?;
         let sets = stop_sets(alloc, feed)?;
-        let pairs = pairs_of(alloc, links, &rules, &sets, count)?;
+        let pairs = pairs_of(alloc, feed, &rules, &sets, count)?;
         let near = near_of(alloc, pairs, count)?;
         let steps = steps_of(alloc, feed, &rules, &near, count)?;
         Ok(Walks { steps })

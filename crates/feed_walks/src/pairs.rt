@@ -2,31 +2,37 @@
 ghost use Rattle.std.specs.Prelude.{◌≡◌, ℕ, ◌+◌, ◌<◌, ◌++◌, length, map, IfOk, OnOk};
 ghost use Rattle.std.specs.List.Sorted.{IsNonDecreasingBy};
 ghost use Rattle.feed_walks.specs.Rules.{AreRules};
-ghost use Rattle.feed_walks.specs.Places.{is_anew};
-ghost use Rattle.feed_walks.specs.Pairs.{pair, product, AreNear, AreByItem, pairs_by, pairs_at, own_pairs, pairs_from, pairs_below};
+ghost use Rattle.feed_walks.specs.Pairs.{pair, product, AreNear, AreByItem, pairs_by, pairs_at, own_pairs, pairs_from, platform_pairs_below};
+ghost use Rattle.feed_walks.specs.Reaches.{pairs_below};
 ghost use Rattle.feed_rows.specs.Words.{joined_below};
 
-use crate::rules::row_to;
-use feed_rows::{Grouped, Groups, LinkRow};
+use crate::reaches::reaches_of;
+use crate::rules::{is_platform, leads_anew, row_to};
+use crate::station_pairs::push_station_pairs;
+use feed_rows::{Feed, Grouped, Groups, LinkRow};
 use std::alloc::{AllocError, Global};
 use transit_base::StopId;
 
-/// The pairs that rows link, and those within the set of a stop that has no row to itself.
-#[tactic(auto, unfolding(crate::specs::Pairs::pairs_below))]
+/// The pairs that rows from platforms link, those of a platform with itself where no row leads from it to itself, and
+/// those from the platforms of stations to the platforms that the stations lead to.
+///
+/// A pair stands there at most twice, and there is a walk or a row from the one platform to the other, or they are one.
+/// So the pairs are few more than the walks, the rows and the stops.
+#[tactic(auto, unfolding(crate::specs::Reaches::pairs_below))]
 pub fn pairs_of(
     alloc: Global,
-    links: &[LinkRow],
+    feed: &Feed,
     rules: &Groups<LinkRow>,
     sets: &Groups<StopId>,
     count: u32,
 ) -> Result<Vec<Grouped<StopId>>, AllocError>
-    requires { AreRules links.now rules.now }
-    ensures { IfOk result (λ pairs. pairs.items ≡ pairs_below sets.now rules.now count) }
+    requires { AreRules feed.now.links rules.now }
+    ensures { IfOk result (λ pairs. pairs.items ≡ pairs_below feed.now sets.now rules.now count) }
 {
-    let mut pairs = Vec::new(alloc);
-    for stop in 0..count {
-        push_pairs_from(&mut pairs, sets, StopId(stop), rules.get(stop as usize))?;
-    }
+    let mut pairs = platform_pairs(alloc, feed, rules, sets, count)?;
+    let reaches = reaches_of(alloc, feed, rules, sets, count)?;
+    let by_home = Groups::of(alloc, reaches, count)?;
+    push_station_pairs(alloc, &mut pairs, feed, rules, sets, &by_home, count)?;
     Ok(pairs)
 }
 
@@ -51,17 +57,41 @@ fn sort_by_item(pairs: &mut Vec<Grouped<StopId>>)
     pairs.sort_unstable_by_key(|pair| pair.item.0);
 }
 
-/// Adds the pairs from the set of the stop, by the rows from it.
+/// The pairs from platforms by the rows from them.
+#[tactic(auto, unfolding(crate::specs::Pairs::platform_pairs_below))]
+fn platform_pairs(
+    alloc: Global,
+    feed: &Feed,
+    rules: &Groups<LinkRow>,
+    sets: &Groups<StopId>,
+    count: u32,
+) -> Result<Vec<Grouped<StopId>>, AllocError>
+    requires { AreRules feed.now.links rules.now }
+    ensures { IfOk result (λ pairs. pairs.items ≡ platform_pairs_below feed.now sets.now rules.now count) }
+{
+    let mut pairs = Vec::new(alloc);
+    for stop in 0..count {
+        let rows = rules.get(stop as usize);
+        push_pairs_from(&mut pairs, feed, sets, StopId(stop), rows)?;
+    }
+    Ok(pairs)
+}
+
+/// Adds the pairs from the stop, by the rows from it, where it is a platform.
 #[tactic(auto, unfolding(crate::specs::Pairs::pairs_from))]
 fn push_pairs_from(
     pairs: &mut Vec<Grouped<StopId>>,
+    feed: &Feed,
     sets: &Groups<StopId>,
     stop: StopId,
     rows: &[LinkRow],
 ) -> Result<(), AllocError>
     requires { IsNonDecreasingBy (λ (row : LinkRow). row.to.0) rows.now }
-    ensures { OnOk result (pairs.new.items ≡ pairs.old.items ++ pairs_from sets.now stop.0 rows.now) }
+    ensures { OnOk result (pairs.new.items ≡ pairs.old.items ++ pairs_from feed.now sets.now stop rows.now) }
 {
+    if !is_platform(feed, stop) {
+        return Ok(());
+    }
     push_linked_pairs(pairs, sets, stop, rows)?;
     push_own_pairs(pairs, sets, stop, rows)
 }
@@ -97,17 +127,6 @@ fn push_pairs_at(
         push_pairs_by(pairs, sets, stop, &rows[at])?;
     }
     Ok(())
-}
-
-/// Whether the row at this place leads to another stop than the one before it.
-fn leads_anew(rows: &[LinkRow], at: usize) -> bool
-    requires { at < length rows.now }
-    ensures { result ≡ is_anew (λ (row : LinkRow). row.to.0) rows.now at }
-{
-    if at == 0 {
-        return true;
-    }
-    rows[at - 1].to.0 != rows[at].to.0
 }
 
 /// Adds the pairs that the row links.

@@ -4,7 +4,7 @@ ghost use Rattle.std.specs.List.Sorted.{IsNonDecreasingBy};
 ghost use Rattle.feed_rows.specs.FeedRows.{FeedRows};
 ghost use Rattle.feed_rows.specs.StopLinks as linked;
 ghost use Rattle.feed_rows.specs.Words.{filled_and, when};
-ghost use Rattle.feed_walks.specs.Places.{IsPlace};
+ghost use Rattle.feed_walks.specs.Places.{IsPlace, is_anew};
 ghost use Rattle.feed_walks.specs.Rules.{grouped_row, AreByTarget, AreRules};
 
 use feed_rows::{Feed, Grouped, Groups, LinkRow};
@@ -102,8 +102,29 @@ fn row_between_both(
     }
 }
 
+/// Whether the row at this place leads to another stop than the one before it.
+pub fn leads_anew(rows: &[LinkRow], at: usize) -> bool
+    requires { at < length rows.now }
+    ensures { result ≡ is_anew (λ (row : LinkRow). row.to.0) rows.now at }
+{
+    if at == 0 {
+        return true;
+    }
+    rows[at - 1].to.0 != rows[at].to.0
+}
+
+/// Whether the stop is a platform.
+pub fn is_platform(feed: &Feed, stop: StopId) -> bool
+    ensures { result ≡ linked.is_platform feed.now stop }
+{
+    match feed.stops.items().get(stop.0 as usize) {
+        Some(row) => row.kind == 0,
+        None => false,
+    }
+}
+
 /// The station of a platform, if it has one.
-fn station_of(feed: &Feed, stop: StopId) -> Option<StopId>
+pub fn station_of(feed: &Feed, stop: StopId) -> Option<StopId>
     ensures { result ≡ linked.parent_of feed.now stop }
 {
     let row = feed.stops.items().get(stop.0 as usize)?;

@@ -2,7 +2,7 @@
 use Rattle.std.proofs.Common.{◌≡◌, refl, sym, ◌∙◌, ap, subst, ℕ, ◌+◌, ◌*◌, ◌<◌, ◌≤◌, ◌⊎◌, inl, inr, ⊎_elim, Bool, true, false, List, [], ◌∷◌, ◌++◌, length, get_or, arith, ℤ, pos, ◌+ℤ◌, ◌-ℤ◌, ◌*ℤ◌, ◌≤ℤ◌, ◌<ℤ◌}
 use Rattle.std.specs.Prelude.{Option, Some, None, slice_get, option_and_then, All, Contains, int_le}
 use Rattle.std.proofs.lemmas.Int.{ints}
-use Rattle.std.proofs.lemmas.Option.{same_Some, slice_get_within, slice_get-get_or}
+use Rattle.std.proofs.lemmas.Option.{same_Some, slice_get_within, slice_get-get_or, get_or_from_slice_get}
 use Rattle.std.proofs.lemmas.List.{get_or_default}
 use Rattle.std.proofs.lemmas.Bool.{cases_lt}
 use mathlib.Core.Bool.{true≢false}
@@ -24,7 +24,8 @@ use Rattle.feed_rows.specs.Shifts.{shifts_of}
 use Rattle.feed_rows.proofs.ShiftLaws.{Contains_from_found, list_any-shifts_of}
 use Rattle.feed_rows.specs.Journeys.{is_caught}
 use Rattle.feed_rows.specs.JourneyWalk.{Stand, stand_at_end, way_to, stand_by, next_stand}
-use Rattle.feed_rows.specs.Words.{filled_and}
+use Rattle.feed_rows.specs.Words.{filled_and, list_below}
+use Rattle.feed_rows.proofs.GroupLaws.{slice_get-list_below}
 use Rattle.feed_rows.proofs.RideLaws.{ride_facts_tells, ride_facts_timed}
 use Rattle.feed_rows.proofs.SoundTrips.{sound_trip}
 use Rattle.feed_rows.proofs.WordLaws.{filled_and-true, when_some}
@@ -256,6 +257,22 @@ adds_no_trip feed query stand trip day rides never =
     let runs = caught_runs feed query stand ride next e in
     let here : runs_on feed trip day ≡ true = subst (λ t. runs_on feed t day ≡ true) (ap trip_id is.0) (subst (λ d. runs_on feed ride.trip d ≡ true) is.1 runs.0) in
     true≢false (sym here ∙ sym never))
+
+-- whether a trip runs on a day stands at its number
+pub runs_at : (feed : FeedRows) (day : ℤ) (all : List Bool) (trip : ℕ) (runs : Bool) → all ≡ list_below (length feed.trips) (λ t. runs_on feed (record { 0 = t }) day) → trip < length feed.trips → runs ≡ get_or all trip runs → runs ≡ runs_on feed (record { 0 = trip }) day
+runs_at feed day all trip runs is lt read =
+    let on : ℕ → Bool = λ t. runs_on feed (record { 0 = t }) day in
+    let got = slice_get-list_below (length feed.trips) on trip lt in
+    read ∙ ap (λ (bs : List Bool). get_or bs trip runs) is ∙ get_or_from_slice_get (list_below (length feed.trips) on) trip (on trip) runs got
+
+-- one trip more
+pub adds_trip : (feed : FeedRows) (query : Query) (stand : Stand) (day : ℤ) (trip : ℕ) (old mid new : List CaughtRide) →
+    AddsCaught feed query stand (IsOnDay day trip) old mid → AddsCaught feed query stand (IsOnTrip trip day) mid new → AddsCaught feed query stand (IsOnDay day (trip + 1)) old new
+adds_trip feed query stand day trip old mid new before adds =
+    adds_more feed query stand (IsOnDay day trip) (IsOnTrip trip day) (IsOnDay day (trip + 1)) old mid new before adds
+    (λ ride next e on.
+    let below = on.1 in
+    ⊎_elim (λ lower. inl (on.0, lower)) (λ upper. let same : ride.trip.0 ≡ trip = omega arith in inr (same, on.0)) (cases_lt ride.trip.0 trip))
 
 -- one shift more
 pub adds_shift : (feed : FeedRows) (query : Query) (stand : Stand) (trip : TripId) (day : Day) (shifts : List ℤ) (k : ℕ) (run : Run) (old mid new : List CaughtRide) → k < length shifts → run.trip ≡ trip → run.day ≡ day → run.shift ≡ get_or shifts k (pos 0) →

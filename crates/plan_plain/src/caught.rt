@@ -1,9 +1,9 @@
 //! The rides that are caught from where a traveller stands, and end within the query's window.
-ghost use Rattle.std.specs.Prelude.{◌≡◌, ◌<◌, ◌≤◌, ◌+◌, ◌-◌, ◌^◌, ◌≤ℤ◌, ◌<ℤ◌, ◌+ℤ◌, pos, negsuc, length, All, IfOk, OnOk, IfSome, IfNone, IsSome, Contains, option_map, slice_get, slice_index_or, Some, None, true, false};
+ghost use Rattle.std.specs.Prelude.{◌≡◌, ◌<◌, ◌≤◌, ◌+◌, ◌-◌, ◌^◌, ◌≤ℤ◌, ◌<ℤ◌, ◌+ℤ◌, pos, negsuc, length, All, IfOk, OnOk, IfSome, IfNone, IsSome, IsTrue, Contains, option_map, slice_get, slice_index_or, Some, None, true, false};
 ghost use Rattle.feed_rows.specs.declared.journeys.Ride.{Ride};
 ghost use Rattle.feed_rows.specs.declared.journeys.Call.{Call};
 ghost use Rattle.feed_rows.specs.Calls.{calls_of};
-ghost use Rattle.feed_rows.specs.Rides.{ride_facts};
+ghost use Rattle.feed_rows.specs.Rides.{runs_on, ride_facts};
 ghost use Rattle.feed_rows.specs.JourneyWalk.{stand_at_end};
 ghost use Rattle.feed_rows.specs.Shifts.{shifts_of};
 ghost use Rattle.feed_timetable.specs.Standings.{stand_of, AreShifts};
@@ -268,7 +268,7 @@ fn run_of(trip: TripId, day: Day, shifts: &[i64], k: usize) -> Run
     }
 }
 
-// Adds the rides of a trip on a day.
+// Adds the rides of a trip on a day on which it runs.
 fn add_trip(
     alloc: Global,
     timetable: &Timetable,
@@ -283,11 +283,9 @@ fn add_trip(
     requires trip { trip.0 < length timetable.now.trips }
     requires day_low { negsuc 799_999 ≤ℤ day.0 }
     requires day_high { day.0 ≤ℤ pos 3_000_000 }
+    requires runs { IsTrue (runs_on timetable.now trip day.0) }
     ensures { OnOk result (AddsCaught timetable.now query.now (stand_of standing) (IsOnTrip trip.0 day.0) rides.old.items rides.new.items) }
 {
-    if !timetable.runs_on(trip, day) {
-        return Ok(());
-    }
     let shifts = timetable.shifts_of(alloc, trip)?;
     for k in 0..shifts.items().len() {
         let run = run_of(trip, day, shifts.items(), k);
@@ -311,8 +309,11 @@ fn add_day(
     requires day_high { day.0 ≤ℤ pos 3_000_000 }
     ensures { OnOk result (AddsCaught timetable.now query.now (stand_of standing) (λ (ride : Ride). ride.day.0 ≡ day.0) rides.old.items rides.new.items) }
 {
+    let runs = timetable.trips_on(alloc, day)?;
     for trip in 0..timetable.trips() {
-        add_trip(alloc, timetable, query, standing, TripId(trip), day, rides)?;
+        if runs[trip as usize] {
+            add_trip(alloc, timetable, query, standing, TripId(trip), day, rides)?;
+        }
     }
     Ok(())
 }

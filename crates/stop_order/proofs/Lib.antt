@@ -1,3 +1,2 @@
-pub mod SortLaws
 pub mod PlaceLaws
 pub mod OrderLaws

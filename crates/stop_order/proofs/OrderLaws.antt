@@ -8,15 +8,16 @@ use Rattle.feed_rows.proofs.BelowLaws.{IsLast, last_below_tells, last_below_some
 use Rattle.feed_rows.proofs.GroupLaws.{length-list_below}
 use Rattle.feed_faults.specs.RowKeys.{is_repeated}
 use Rattle.feed_faults.specs.StopTimeLinks.{StopTime, is_timed, is_earlier, first_time, last_time, same_place, comes_before, is_first, is_last, is_end_time_missing, is_nearest_before, do_times_decrease}
-use Rattle.stop_order.specs.declared.times.NumberedTime.{NumberedTime}
-use Rattle.stop_order.specs.declared.keys.PlaceKey.{PlaceKey}
+use Rattle.feed_rows.specs.declared.rows.StopTimeRow.{StopTimeRow}
+use Rattle.trip_order.specs.declared.keys.PlaceKey.{PlaceKey}
 use Rattle.stop_order.specs.Numbered.{numbered_at, named_time, named_times, IsOneTrip, faults_at, first_of_times, last_of_times}
-use Rattle.stop_order.specs.Order.{key_at, AreSorted, goes_on, repeats, goes_further, is_timed_place, latest_timed, falls_behind, place_faults}
-use Rattle.stop_order.proofs.SortLaws.{length_sorted, key_is, place_of, in_order, Precedes}
+use Rattle.trip_order.specs.Order.{key_at, AreSorted}
+use Rattle.stop_order.specs.Order.{goes_on, repeats, goes_further, is_timed_place, latest_timed, falls_behind, place_faults}
+use Rattle.trip_order.proofs.SortLaws.{length_sorted, key_is, place_of, in_order, Precedes}
 use Rattle.stop_order.proofs.PlaceLaws.{same_test, at_and-list_below, Before, trip, sequence, timed, comes_hit, comes_told_first, comes_told_last, same_hit, same_told}
 
 -- the last timed place is one of the places
-pub latest_within : (times : List NumberedTime) (keys : List PlaceKey) (place : ℕ) (latest : Option ℕ) → latest ≡ latest_timed times keys place → place < length keys → IfSome latest (λ q. q < length keys)
+pub latest_within : (times : List StopTimeRow) (keys : List PlaceKey) (place : ℕ) (latest : Option ℕ) → latest ≡ latest_timed times keys place → place < length keys → IfSome latest (λ q. q < length keys)
 unfolding latest_timed
 latest_within times keys place None e lt = tt
 latest_within times keys place (Some q) e lt = let last = last_below_tells (is_timed_place times keys) place q (sym e) in let below = last.within in omega arith
@@ -62,7 +63,7 @@ between a b c x y t s =
 row_less : (a b : PlaceKey) → Precedes a b → a.trip ≡ b.trip → a.sequence ≡ b.sequence → a.row < b.row
 row_less a b is t s = grind (arith, is, t, s)
 
-module _ (times : List NumberedTime) (keys : List PlaceKey) (are : AreSorted times keys) (text : ℕ → List ℕ) (p : ℕ) (below : p < length keys) (one : IsOneTrip times text (key_at keys p).row) where
+module _ (times : List StopTimeRow) (keys : List PlaceKey) (are : AreSorted times keys) (text : ℕ → List ℕ) (p : ℕ) (below : p < length keys) (one : IsOneTrip times text (key_at keys p).row) where
   -- the row at a place
   abbrev row : ℕ → ℕ
   row k = (key_at keys k).row

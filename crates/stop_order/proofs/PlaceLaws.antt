@@ -7,7 +7,7 @@ use Rattle.std.proofs.lemmas.Slice.Eq.{bytes_eq-Decides}
 use Rattle.feed_rows.specs.Words.{at_and, list_below}
 use Rattle.feed_rows.proofs.GroupLaws.{slice_get-list_below}
 use Rattle.feed_faults.specs.StopTimeLinks.{StopTime, is_timed, both_and, same_place, comes_before}
-use Rattle.stop_order.specs.declared.times.NumberedTime.{NumberedTime}
+use Rattle.feed_rows.specs.declared.rows.StopTimeRow.{StopTimeRow}
 use Rattle.stop_order.specs.Numbered.{numbered_at, named_time, named_times, IsOneTrip, is_set}
 
 -- tests that hold alike are equal
@@ -42,10 +42,10 @@ before_told s t a b e = grind (arith, nat_tests, e)
 before_hit : (s t a b : ℕ) → Before s t a b → (nat_lt s t || ((s == t) && nat_lt a b)) ≡ true
 before_hit s t a b e = grind (arith, nat_tests, e)
 
-module _ (times : List NumberedTime) (text : ℕ → List ℕ) where
+module _ (times : List StopTimeRow) (text : ℕ → List ℕ) where
   -- the number of a row's trip, and its sequence
   abbrev pub trip : ℕ → ℕ
-  trip row = (numbered_at times row).trip
+  trip row = (numbered_at times row).trip.0
 
   abbrev pub sequence : ℕ → ℕ
   sequence row = (numbered_at times row).sequence

@@ -1,22 +1,15 @@
 -- Stop times whose trips are numbers, and what is wrong with them under the texts of their trips.
-use Rattle.std.specs.Prelude.{◌≡◌, ℕ, ◌<◌, ◌==◌, ◌||◌, Bool, false, List, length, get_or, bytes_eq, is_some, Option, None}
+use Rattle.std.specs.Prelude.{◌≡◌, ℕ, ◌<◌, ◌==◌, ◌||◌, Bool, false, List, length, bytes_eq, is_some, Option}
 use Rattle.std.specs.Option.{option_or}
 use Rattle.feed_rows.specs.Words.{list_below}
 use Rattle.feed_faults.specs.RowKeys.{is_repeated}
 use Rattle.feed_faults.specs.StopTimeLinks.{StopTime, same_place, is_end_time_missing, do_times_decrease}
-use Rattle.stop_order.specs.declared.times.NumberedTime.{NumberedTime}
+use Rattle.feed_rows.specs.declared.rows.StopTimeRow.{StopTimeRow}
+pub use Rattle.trip_order.specs.Order.{no_time, numbered_at}
 use Rattle.stop_order.specs.declared.times.OrderFaults.{OrderFaults}
 
--- past the last row
-abbrev pub no_time : NumberedTime
-no_time = record { trip = 0; sequence = 0; arrival = None; departure = None }
-
--- the row of this number
-abbrev pub numbered_at : List NumberedTime → ℕ → NumberedTime
-numbered_at times row = get_or times row no_time
-
 -- a row with the text of its trip in place of the number
-abbrev pub named_time : List NumberedTime → (ℕ → List ℕ) → ℕ → StopTime
+abbrev pub named_time : List StopTimeRow → (ℕ → List ℕ) → ℕ → StopTime
 named_time times text row =
     record {
       trip = text row;
@@ -26,14 +19,14 @@ named_time times text row =
     }
 
 -- the rows with the texts of their trips
-abbrev pub named_times : List NumberedTime → (ℕ → List ℕ) → List StopTime
+abbrev pub named_times : List StopTimeRow → (ℕ → List ℕ) → List StopTime
 named_times times text = list_below (length times) (named_time times text)
 
 -- the rows with the text of this row's trip are those with its number
-abbrev pub IsOneTrip : List NumberedTime → (ℕ → List ℕ) → ℕ → Type 0
+abbrev pub IsOneTrip : List StopTimeRow → (ℕ → List ℕ) → ℕ → Type 0
 IsOneTrip times text row =
     (other : ℕ) → other < length times
-    → bytes_eq (text other) (text row) ≡ ((numbered_at times other).trip == (numbered_at times row).trip)
+    → bytes_eq (text other) (text row) ≡ ((numbered_at times other).trip.0 == (numbered_at times row).trip.0)
 
 -- what is wrong with a stop time among those of its trip
 unfoldable pub faults_at : List StopTime → ℕ → OrderFaults
@@ -49,11 +42,11 @@ abbrev pub no_faults : OrderFaults
 no_faults = record { is_repeated = false; is_end_time_missing = false; do_times_decrease = false }
 
 -- a row has at least one time; its first time, and its last
-abbrev pub is_set : NumberedTime → Bool
+abbrev pub is_set : StopTimeRow → Bool
 is_set x = is_some x.arrival || is_some x.departure
 
-abbrev pub first_of_times : NumberedTime → Option ℕ
+abbrev pub first_of_times : StopTimeRow → Option ℕ
 first_of_times x = option_or x.arrival x.departure
 
-abbrev pub last_of_times : NumberedTime → Option ℕ
+abbrev pub last_of_times : StopTimeRow → Option ℕ
 last_of_times x = option_or x.departure x.arrival

@@ -1,35 +1,16 @@
--- The keys by which stop times are sorted, and what neighbours among them tell of a row.
-use Rattle.std.specs.Prelude.{◌≡◌, ℕ, ◌+◌, ◌-◌, ◌<◌, ◌≤◌, ◌==◌, ◌&&◌, ◌||◌, not, nat_lt, Bool, List, length, get_or, Option, ◌⊎◌}
-use Rattle.std.specs.List.Sorted.{IsPermutation}
-use Rattle.feed_rows.specs.Words.{list_below, last_below, filled_and}
+-- What neighbours among the keys of stop times tell of a row.
+use Rattle.std.specs.Prelude.{ℕ, ◌+◌, ◌-◌, ◌==◌, ◌&&◌, ◌||◌, not, nat_lt, Bool, List, length, Option}
+use Rattle.feed_rows.specs.Words.{last_below, filled_and}
 use Rattle.feed_faults.specs.StopTimeLinks.{is_earlier}
-use Rattle.stop_order.specs.declared.times.NumberedTime.{NumberedTime}
+use Rattle.feed_rows.specs.declared.rows.StopTimeRow.{StopTimeRow}
+use Rattle.trip_order.specs.declared.keys.PlaceKey.{PlaceKey}
+use Rattle.trip_order.specs.Order.{numbered_at, key_at}
 use Rattle.stop_order.specs.declared.times.OrderFaults.{OrderFaults}
-use Rattle.stop_order.specs.declared.keys.PlaceKey.{PlaceKey}
-use Rattle.stop_order.specs.Numbered.{numbered_at, is_set, first_of_times, last_of_times}
+use Rattle.stop_order.specs.Numbered.{is_set, first_of_times, last_of_times}
 
--- the key of a row
-abbrev pub key_of : List NumberedTime → ℕ → PlaceKey
-key_of times row = record { trip = (numbered_at times row).trip; sequence = (numbered_at times row).sequence; row = row }
-
-abbrev pub no_key : PlaceKey
-no_key = record { trip = 0; sequence = 0; row = 0 }
-
--- the key at a place, and the row
-abbrev pub key_at : List PlaceKey → ℕ → PlaceKey
-key_at keys place = get_or keys place no_key
-
-abbrev pub time_at : List NumberedTime → List PlaceKey → ℕ → NumberedTime
+-- the row at a place
+abbrev pub time_at : List StopTimeRow → List PlaceKey → ℕ → StopTimeRow
 time_at times keys place = numbered_at times (key_at keys place).row
-
--- key b doesn't come before key a
-abbrev pub Follows : PlaceKey → PlaceKey → Type 0
-Follows a b = (a.trip < b.trip) ⊎ ((a.trip ≡ b.trip) × ((a.sequence < b.sequence) ⊎ ((a.sequence ≡ b.sequence) × (a.row ≤ b.row))))
-
--- the keys of all rows, ascending
-pub record AreSorted (times : List NumberedTime) (keys : List PlaceKey) : Type 0 where
-  pub permuted : IsPermutation (list_below (length times) (key_of times)) keys
-  pub ascends : (k : ℕ) → k + 1 < length keys → Follows (key_at keys k) (key_at keys (k + 1))
 
 -- the place before has the trip of this one
 unfoldable pub goes_on : List PlaceKey → ℕ → Bool
@@ -44,21 +25,21 @@ unfoldable pub goes_further : List PlaceKey → ℕ → Bool
 goes_further keys place = nat_lt (place + 1) (length keys) && ((key_at keys (place + 1)).trip == (key_at keys place).trip)
 
 -- a place is timed
-abbrev pub is_timed_place : List NumberedTime → List PlaceKey → ℕ → Bool
+abbrev pub is_timed_place : List StopTimeRow → List PlaceKey → ℕ → Bool
 is_timed_place times keys place = is_set (time_at times keys place)
 
 -- the last timed place before this one
-unfoldable pub latest_timed : List NumberedTime → List PlaceKey → ℕ → Option ℕ
+unfoldable pub latest_timed : List StopTimeRow → List PlaceKey → ℕ → Option ℕ
 latest_timed times keys place = last_below place (is_timed_place times keys)
 
 -- the time of a place is less than that of the last timed place before it, which is of its trip
-unfoldable pub falls_behind : List NumberedTime → List PlaceKey → ℕ → Option ℕ → Bool
+unfoldable pub falls_behind : List StopTimeRow → List PlaceKey → ℕ → Option ℕ → Bool
 falls_behind times keys place latest =
     filled_and latest (λ q. ((key_at keys q).trip == (key_at keys place).trip)
     && is_earlier (first_of_times (time_at times keys place)) (last_of_times (time_at times keys q)))
 
 -- what is wrong at a place, as its neighbours tell it
-unfoldable pub place_faults : List NumberedTime → List PlaceKey → ℕ → OrderFaults
+unfoldable pub place_faults : List StopTimeRow → List PlaceKey → ℕ → OrderFaults
 place_faults times keys place =
     record {
       is_repeated = repeats keys place;

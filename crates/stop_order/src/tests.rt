@@ -1,13 +1,18 @@
 // Stop times among those of their trips.
-use crate::{NumberedTime, OrderFaults, order_faults};
+use crate::{OrderFaults, order_faults};
+use feed_rows::StopTimeRow;
 use std::test::Fail;
+use transit_base::{StopId, TripId};
 
-fn time(trip: u32, sequence: u32, arrival: Option<u32>, departure: Option<u32>) -> NumberedTime {
-    NumberedTime {
-        trip,
+fn time(trip: u32, sequence: u32, arrival: Option<u32>, departure: Option<u32>) -> StopTimeRow {
+    StopTimeRow {
+        trip: TripId(trip),
+        stop: StopId(0),
         sequence,
         arrival,
         departure,
+        pickup: true,
+        drop_off: true,
     }
 }
 

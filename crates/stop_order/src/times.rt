@@ -1,16 +1,9 @@
-//! Stop times whose trips are numbers.
+//! The times of a stop time, and what is wrong with one.
 ghost use Rattle.std.specs.Prelude.{◌≡◌};
 ghost use Rattle.feed_faults.specs.StopTimeLinks.{is_earlier};
 ghost use Rattle.stop_order.specs.Numbered.{is_set, first_of_times, last_of_times};
 
-/// A stop time whose trip is a number. Times are seconds of the service day.
-#[derive(Clone, Copy, Debug, PartialEq, Eq)]
-pub struct NumberedTime {
-    pub trip: u32,
-    pub sequence: u32,
-    pub arrival: Option<u32>,
-    pub departure: Option<u32>,
-}
+use feed_rows::StopTimeRow;
 
 /// What is wrong with a stop time among those of its trip.
 #[derive(Clone, Copy, Debug, PartialEq, Eq)]
@@ -33,25 +26,23 @@ pub(crate) fn is_earlier(a: Option<u32>, b: Option<u32>) -> bool
     }
 }
 
-impl NumberedTime {
-    // It has at least one time.
-    pub(crate) fn is_timed(self) -> bool
-        ensures { result ≡ is_set self }
-    {
-        self.arrival.is_some() || self.departure.is_some()
-    }
+// A row has at least one time.
+pub(crate) fn is_timed(time: StopTimeRow) -> bool
+    ensures { result ≡ is_set time }
+{
+    time.arrival.is_some() || time.departure.is_some()
+}
 
-    // Its first time: the arrival, or else the departure.
-    pub(crate) fn first(self) -> Option<u32>
-        ensures { result ≡ first_of_times self }
-    {
-        self.arrival.or(self.departure)
-    }
+// Its first time: the arrival, or else the departure.
+pub(crate) fn first_time(time: StopTimeRow) -> Option<u32>
+    ensures { result ≡ first_of_times time }
+{
+    time.arrival.or(time.departure)
+}
 
-    // Its last time: the departure, or else the arrival.
-    pub(crate) fn last(self) -> Option<u32>
-        ensures { result ≡ last_of_times self }
-    {
-        self.departure.or(self.arrival)
-    }
+// Its last time: the departure, or else the arrival.
+pub(crate) fn last_time(time: StopTimeRow) -> Option<u32>
+    ensures { result ≡ last_of_times time }
+{
+    time.departure.or(time.arrival)
 }

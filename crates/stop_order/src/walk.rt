@@ -1,15 +1,17 @@
 //! The walk over stop times in order.
 ghost use Rattle.std.specs.Prelude.{◌≡◌, ◌<◌, ◌+◌, ◌^◌, ℕ, List, get_or, length, IfOk, IfSome, Option};
+ghost use Rattle.trip_order.specs.Order.{AreSorted};
 ghost use Rattle.stop_order.specs.Numbered.{named_times, IsOneTrip, faults_at, no_faults};
-ghost use Rattle.stop_order.specs.Order.{AreSorted, time_at, goes_on, repeats, goes_further, falls_behind, latest_timed, place_faults};
+ghost use Rattle.stop_order.specs.Order.{time_at, goes_on, repeats, goes_further, falls_behind, latest_timed, place_faults};
 
-use crate::keys::{PlaceKey, sorted_keys};
-use crate::times::{NumberedTime, OrderFaults, is_earlier};
+use crate::times::{OrderFaults, first_time, is_earlier, is_timed, last_time};
+use feed_rows::StopTimeRow;
 use std::alloc::{AllocError, Global};
+use trip_order::{PlaceKey, sorted_keys};
 
 // The stop time at a place of the order.
-#[tactic(auto, using(crate::proofs::SortLaws::row_within))]
-fn time_of(times: &[NumberedTime], keys: &[PlaceKey], place: usize) -> NumberedTime
+#[tactic(auto, using(trip_order::proofs::SortLaws::row_within))]
+fn time_of(times: &[StopTimeRow], keys: &[PlaceKey], place: usize) -> StopTimeRow
     requires sorted { AreSorted times.now keys.now }
     requires within { place < length keys.now }
     ensures { result ≡ time_at times.now keys.now place }
@@ -47,7 +49,7 @@ fn goes_further(keys: &[PlaceKey], place: usize) -> bool
 // Whether the time of a place is less than that of the last timed place before it, which is of its trip.
 #[tactic(auto, unfolding(crate::specs::Order::falls_behind))]
 fn falls_behind(
-    times: &[NumberedTime],
+    times: &[StopTimeRow],
     keys: &[PlaceKey],
     place: usize,
     latest: Option<usize>,
@@ -60,14 +62,15 @@ fn falls_behind(
     let Some(before) = latest else {
         return false;
     };
-    let first = time_of(times, keys, place).first();
-    keys[before].trip == keys[place].trip && is_earlier(first, time_of(times, keys, before).last())
+    let first = first_time(time_of(times, keys, place));
+    keys[before].trip == keys[place].trip
+        && is_earlier(first, last_time(time_of(times, keys, before)))
 }
 
 // What is wrong at a place.
 #[tactic(auto, using(crate::proofs::OrderLaws::latest_within), unfolding(crate::specs::Order::place_faults))]
 fn faults_of(
-    times: &[NumberedTime],
+    times: &[StopTimeRow],
     keys: &[PlaceKey],
     place: usize,
     latest: Option<usize>,
@@ -80,9 +83,9 @@ fn faults_of(
     let time = time_of(times, keys, place);
     OrderFaults {
         is_repeated: repeats(keys, place),
-        is_end_time_missing: !time.is_timed()
+        is_end_time_missing: !is_timed(time)
             && (!goes_on(keys, place) || !goes_further(keys, place)),
-        do_times_decrease: is_earlier(time.last(), time.first())
+        do_times_decrease: is_earlier(last_time(time), first_time(time))
             || falls_behind(times, keys, place, latest),
     }
 }
@@ -90,7 +93,7 @@ fn faults_of(
 // The last timed place up to this one, which has this last one before it.
 #[tactic(auto, unfolding(crate::specs::Order::latest_timed))]
 fn latest_with(
-    times: &[NumberedTime],
+    times: &[StopTimeRow],
     keys: &[PlaceKey],
     place: usize,
     latest: Option<usize>,
@@ -100,7 +103,7 @@ fn latest_with(
     requires latest { latest ≡ latest_timed times.now keys.now place }
     ensures { result ≡ latest_timed times.now keys.now (place + 1) }
 {
-    if time_of(times, keys, place).is_timed() {
+    if is_timed(time_of(times, keys, place)) {
         Some(place)
     } else {
         latest
@@ -112,8 +115,8 @@ fn latest_with(
 ///
 /// # Errors
 /// Want of memory.
-#[tactic(auto, using(crate::proofs::SortLaws::row_within, crate::proofs::SortLaws::length_sorted))]
-pub fn order_faults(alloc: Global, times: &[NumberedTime]) -> Result<Vec<OrderFaults>, AllocError>
+#[tactic(auto, using(trip_order::proofs::SortLaws::row_within, trip_order::proofs::SortLaws::length_sorted))]
+pub fn order_faults(alloc: Global, times: &[StopTimeRow]) -> Result<Vec<OrderFaults>, AllocError>
     requires { length times.now < 2 ^ 32 }
     ensures count { IfOk result (λ faults. length faults.items ≡ length times.now) }
     ensures value { IfOk result (λ faults. (text : ℕ → List ℕ) (row : ℕ) → row < length times.now → IsOneTrip times.now text row → get_or faults.items row no_faults ≡ faults_at (named_times times.now text) row) }

@@ -7,7 +7,12 @@ use Rattle.feed_soundness.proofs.FormedFiles.{formed}
 use Rattle.feed_soundness.proofs.LinkedFiles.{linked}
 use Rattle.feed_check.specs.BuiltRows.{HasBuiltRows}
 use Rattle.feed_check.proofs.BuiltLaws.{built_rows}
+use Rattle.feed_check.proofs.NamedLaws.{calls_named}
 use Rattle.feed_check.proofs.files.check.Goals as goal
+
+pub first_link_fault-requires-clause-named : goal.first_link_fault-requires-clause-named
+first_link_fault-requires-clause-named c =
+    calls_named c.in-Ok.tables (subst AreFormed (sym c.in-Ok.ensures.tables) (formed (held_in c.args.files.now) (no_form_fault (held_in c.args.files.now) c.in-Ok.ensures.sound)))
 
 pub feed_of_tables-requires-clause-formed : goal.feed_of_tables-requires-clause-formed
 feed_of_tables-requires-clause-formed c =

@@ -1,59 +1,10 @@
-use Rattle.std.proofs.Common.{◌≡◌, ◌∙◌, sym, ap, subst, length, map}
+use Rattle.std.proofs.Common.{◌≡◌, ◌∙◌, ap, length}
 use Rattle.feed_rows.specs.FeedRows.{FeedRows}
-use Rattle.feed_rows.specs.SoundFeed.{IsSoundFeed}
-use Rattle.feed_rows.specs.declared.rows.StopTimeRow.{StopTimeRow}
-use Rattle.std.proofs.Common.{IsPermutation}
-use Rattle.std.specs.List.Sorted.{IsNonDecreasing}
-use Rattle.feed_trips.specs.Tables.{AreCallsOf}
-use Rattle.feed_trips.proofs.OrderLaws.{keys_rise, trips_rise}
-use Rattle.feed_trips.proofs.TableLaws.{AreSortedRows, rows_lie, rows_end, rows_rise, rows_few, call_groups}
 use Rattle.feed_trips.proofs.order.call_tables.Goals as goal
 
-pub starts_of-requires-clause-ascend : goal.starts_of-requires-clause-ascend
-starts_of-requires-clause-ascend c =
-    let numbers : c.deref-2.result.now ≡ map (λ (r : StopTimeRow). r.trip.0) c.in_ok-rows.rows.items = c.deref-2.ensures.value ∙ c.in_ok-numbers.ensures ∙ ap (map (λ (r : StopTimeRow). r.trip.0)) c.deref.ensures.value in
-    subst IsNonDecreasing (sym numbers) (keys_rise (λ (r : StopTimeRow). r.trip.0) c.in_ok-rows.rows.items (trips_rise c.in_ok-rows.rows.items c.in_ok-rows.ensures.sorted))
-
-are : (c : goal.After-deref-4) → AreSortedRows c.args.feed.now c.in_ok-rows.rows.items c.in_ok-starts.starts.items
-are c =
-    let numbers : c.deref-2.result.now ≡ map (λ (r : StopTimeRow). r.trip.0) c.in_ok-rows.rows.items = c.deref-2.ensures.value ∙ c.in_ok-numbers.ensures ∙ ap (map (λ (r : StopTimeRow). r.trip.0)) c.deref.ensures.value in
-    let trips : length c.items-trips.result.now ≡ length c.args.feed.now.trips = ap length (c.items-trips.ensures.value ∙ ap (λ (f : FeedRows). f.trips) c.feed.view_is) in
-    let starts = rw (numbers, trips) at c.in_ok-starts.ensures in
-    let rows = c.items.ensures.value ∙ ap (λ (f : FeedRows). f.stop_times) c.feed.view_is in
-    record {
-      sound = subst IsSoundFeed c.feed.view_is c.feed.invariant;
-      moved = subst (λ rs. IsPermutation rs c.in_ok-rows.rows.items) rows c.in_ok-rows.ensures.moved;
-      up = c.in_ok-rows.ensures.sorted;
-      starts_are = starts;
-    }
-
-trips : (c : goal.After-deref-4) → length c.items-trips.result.now ≡ length c.args.feed.now.trips
-trips c = ap length (c.items-trips.ensures.value ∙ ap (λ (f : FeedRows). f.trips) c.feed.view_is)
-
-pub calls_by_trip-requires-clause-groups : goal.calls_by_trip-requires-clause-groups
-calls_by_trip-requires-clause-groups c = rw (c.deref-3.ensures.value, c.deref-4.ensures.value, trips c) (rows_lie _ _ _ (are c))
-
-pub calls_by_trip-requires-clause-ends : goal.calls_by_trip-requires-clause-ends
-calls_by_trip-requires-clause-ends c = rw (c.deref-3.ensures.value, c.deref-4.ensures.value, trips c) (rows_end _ _ _ (are c))
-
-pub calls_by_trip-requires-clause-rise : goal.calls_by_trip-requires-clause-rise
-calls_by_trip-requires-clause-rise c = rw (c.deref-3.ensures.value, c.deref-4.ensures.value, trips c) (rows_rise _ _ _ (are c))
-
-pub calls_by_trip-requires-clause-few : goal.calls_by_trip-requires-clause-few
-calls_by_trip-requires-clause-few c = rw c.deref-3.ensures.value (rows_few _ _ _ (are c))
-
-pub returns : goal.returns
-returns c =
-    let numbers : c.deref-2.result.now ≡ map (λ (r : StopTimeRow). r.trip.0) c.in_ok-rows.rows.items = c.deref-2.ensures.value ∙ c.in_ok-numbers.ensures ∙ ap (map (λ (r : StopTimeRow). r.trip.0)) c.deref.ensures.value in
-    let trips : length c.items-trips.result.now ≡ length c.args.feed.now.trips = ap length (c.items-trips.ensures.value ∙ ap (λ (f : FeedRows). f.trips) c.feed.view_is) in
-    let starts = rw (numbers, trips) at c.in_ok-starts.ensures in
-    let rows = c.items.ensures.value ∙ ap (λ (f : FeedRows). f.stop_times) c.feed.view_is in
-    let are : AreSortedRows c.args.feed.now c.in_ok-rows.rows.items c.in_ok-starts.starts.items =
-    record {
-      sound = subst IsSoundFeed c.feed.view_is c.feed.invariant;
-      moved = subst (λ rs. IsPermutation rs c.in_ok-rows.rows.items) rows c.in_ok-rows.ensures.moved;
-      up = c.in_ok-rows.ensures.sorted;
-      starts_are = starts;
-    } in
-    let calls = rw (c.deref-3.ensures.value, c.deref-4.ensures.value, trips) at c.in_ok-calls.ensures in
-    subst (λ cs. AreCallsOf c.args.feed.now cs c.in_ok-starts.starts.items) (sym calls) (call_groups _ _ _ are)
+pub calls_together-requires : goal.calls_together-requires
+calls_together-requires c =
+    let rows : c.items-rows.result.now ≡ c.args.feed.now.stop_times = c.items-rows.ensures.value ∙ ap (λ (f : FeedRows). f.stop_times) c.feed.view_is in
+    let trips : length c.items.result.now ≡ length c.args.feed.now.trips = ap length (c.items.ensures.value ∙ ap (λ (f : FeedRows). f.trips) c.feed.view_is) in
+    let found = rw c.in-Some.is at c.in_ok-stretches.ensures in
+    rw (c.deref.ensures.value, ← rows, ← trips) found

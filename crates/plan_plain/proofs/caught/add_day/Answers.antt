@@ -1,12 +1,31 @@
-use Rattle.std.proofs.Common.{◌≡◌, inl, inr, ⊎_elim, arith}
-use Rattle.std.proofs.lemmas.Bool.{cases_lt}
-use Rattle.plan_plain.proofs.CaughtLaws.{adds_more, adds_whole_day}
+use Rattle.std.proofs.Common.{◌≡◌, ◌<◌, length, ap, sym, ◌∙◌, arith, false}
+use Rattle.feed_rows.proofs.GroupLaws.{length-list_below}
+use Rattle.feed_rows.specs.Rides.{runs_on}
+use Rattle.plan_plain.proofs.CaughtLaws.{adds_no_trip, adds_trip, adds_whole_day, runs_at}
 use Rattle.plan_plain.proofs.caught.add_day.Goals as goal
+use Rattle.plan_plain.proofs.caught.add_day.Goals.{then-index+in_ok-add_trip, else-index}
+
+pub index-requires : goal.index-requires
+index-requires c =
+    let listed = ap length c.in_ok-runs.ensures ∙ length-list_below (length c.args.timetable.now.trips) (λ t. runs_on c.args.timetable.now (record { 0 = t }) c.args.day.0) in
+    omega (arith, listed, c.in_ok-runs.runs.ok)
+
+pub add_trip-requires-clause-runs : goal.add_trip-requires-clause-runs
+add_trip-requires-clause-runs c =
+    let below : c.loop-trip.trip < length c.args.timetable.now.trips = omega arith in
+    let runs = runs_at c.args.timetable.now c.args.day.0 c.in_ok-runs.runs.items c.loop-trip.trip c.index.result.now c.in_ok-runs.ensures below c.index.ensures in
+    sym runs ∙ c.if-index.true
 
 pub returns : goal.returns
 returns c = adds_whole_day _ _ _ _ _ _ _ (omega arith) c.loop-trip.invariant
 
 pub loop-trip-preserved : goal.loop-trip-preserved
 loop-trip-preserved c =
-    adds_more _ _ _ _ _ _ _ _ _ c.loop-trip.invariant c.in_ok-add_trip.ensures
-    (λ ride next e whole. let below = whole.1 in ⊎_elim (λ lt. inl (whole.0, lt)) (λ ge. let same : ride.trip.0 ≡ c.loop-trip.trip = omega arith in inr (same, whole.0)) (cases_lt ride.trip.0 c.loop-trip.trip))
+    let below : c.loop-trip.trip < length c.args.timetable.now.trips = omega arith in
+    let runs = runs_at c.args.timetable.now c.args.day.0 c.in_ok-runs.runs.items c.loop-trip.trip c.index.result.now c.in_ok-runs.ensures below c.index.ensures in
+    elim c.if-index.branch [
+      | then-index+in_ok-add_trip w ↦ rw w.rides-is (adds_trip _ _ _ _ _ _ _ _ c.loop-trip.invariant w.in_ok-add_trip.ensures)
+      | else-index w ↦
+          let never : false ≡ runs_on c.args.timetable.now (record { 0 = c.loop-trip.trip }) c.args.day.0 = sym w.if-index.false ∙ runs in
+          rw w.rides-is (adds_trip _ _ _ _ _ _ _ _ c.loop-trip.invariant (adds_no_trip _ _ _ (record { 0 = c.loop-trip.trip }) _ _ never))
+    ]

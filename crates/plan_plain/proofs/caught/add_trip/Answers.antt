@@ -1,10 +1,7 @@
 use Rattle.std.proofs.Common.{arith, ap, length, ◌∙◌, get_or, refl, pos}
 use Rattle.feed_rows.specs.Shifts.{shifts_of}
-use Rattle.plan_plain.proofs.CaughtLaws.{adds_no_trip, adds_shift, adds_whole_trip}
+use Rattle.plan_plain.proofs.CaughtLaws.{adds_shift, adds_whole_trip}
 use Rattle.plan_plain.proofs.caught.add_trip.Goals as goal
-
-pub returns-then-not-runs_on : goal.returns-then-not-runs_on
-returns-then-not-runs_on c = adds_no_trip _ _ _ _ _ _ c.if-not-runs_on.ensures
 
 pub loop-k-preserved : goal.loop-k-preserved
 loop-k-preserved c =

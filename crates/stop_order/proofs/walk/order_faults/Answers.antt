@@ -3,8 +3,9 @@ use Rattle.std.proofs.lemmas.Bool.{cases_eq}
 use Rattle.std.proofs.lemmas.Grind.{common_steps}
 use Rattle.stop_order.specs.declared.times.OrderFaults.{OrderFaults}
 use Rattle.stop_order.specs.Numbered.{no_faults, IsOneTrip}
-use Rattle.stop_order.specs.Order.{key_at, latest_timed, place_faults}
-use Rattle.stop_order.proofs.SortLaws.{place_of, row_within, rows_apart}
+use Rattle.trip_order.specs.Order.{key_at}
+use Rattle.stop_order.specs.Order.{latest_timed, place_faults}
+use Rattle.trip_order.proofs.SortLaws.{place_of, row_within, rows_apart}
 use Rattle.stop_order.proofs.OrderLaws.{faults_is}
 use Rattle.stop_order.proofs.walk.order_faults.Goals as goal
 

@@ -1,6 +1,7 @@
 use Rattle.std.proofs.Common.{◌≡◌, ◌<◌, ℕ, get_or, length}
 use Rattle.stop_order.specs.Numbered.{no_faults}
-use Rattle.stop_order.specs.Order.{key_at, latest_timed, place_faults}
+use Rattle.trip_order.specs.Order.{key_at}
+use Rattle.stop_order.specs.Order.{latest_timed, place_faults}
 use Rattle.stop_order.proofs.walk.order_faults.Given as goal
 
 abbrev pub invariant-loop-place : goal.invariant-loop-place

@@ -1,0 +1,195 @@
+-- Trips whose rows stand together in the file.
+use Rattle.std.proofs.Common.{◌≡◌, ◌≢◌, refl, sym, ◌∙◌, ap, subst, ℕ, zero, suc, ◌+◌, ◌-◌, ◌<◌, ◌≤◌, ◌⊎◌, inl, inr, Bool, true, false, ◌==◌, List, [], ◌∷◌, ◌++◌, length, get_or, take, drop, filter, arith, slice_set, get_or-set_other, get_or-set_same}
+use Rattle.std.specs.Prelude.{slice_range, nat_le}
+use Rattle.std.proofs.lemmas.Bool.{cases_eq}
+use Rattle.std.proofs.lemmas.Bool.Decides.{nat_tests}
+use Rattle.std.proofs.lemmas.List.{get_or-take, get_or-drop, length-take, length-drop, length-append, take_all, append-nil, get_or-replicate, length-replicate}
+use Rattle.std.proofs.lemmas.List.Elements.{filter-append}
+use Rattle.std.proofs.Math.Seq.{take-suc}
+use Rattle.std.proofs.Math.ListN.{replicate, length-set}
+use Rattle.feed_rows.specs.declared.rows.StopTimeRow.{StopTimeRow}
+use Rattle.feed_rows.specs.declared.journeys.Call.{Call}
+use Rattle.feed_rows.specs.FeedRows.{FeedRows}
+use Rattle.feed_rows.specs.Calls.{in_its_place, in_sequence, trip_stop_times}
+use Rattle.feed_rows.specs.CallWalk.{walk}
+use Rattle.feed_rows.specs.SoundFeed.{IsSoundFeed}
+use Rattle.feed_rows.specs.TimedTrips.{HasTimedEnds, DoTimesRise}
+use Rattle.feed_rows.specs.Words.{list_below, joined_below}
+use Rattle.feed_rows.proofs.CallLaws.{calls_of-walk}
+use Rattle.feed_rows.proofs.SoundTrips.{sound_ends, sound_rise}
+use Rattle.feed_trips.specs.declared.together.Stretch.{Stretch}
+use Rattle.feed_trips.specs.Tables.{AreCallsOf}
+use Rattle.feed_trips.proofs.GroupLaws.{get_or-list_below, length-list_below, groups_joined}
+use Rattle.feed_trips.specs.Stretches.{no_stretch, rows_of, rows_at, IsStretch, AreStretches, AreTimed}
+
+hit : (a b : ℕ) → a ≡ b → (a == b) ≡ true
+hit a b e = grind (arith, nat_tests)
+
+differ : (a b : ℕ) → (a ≡ b → ⊥) → (a == b) ≡ false
+differ a b e = grind (arith, nat_tests)
+
+at_most : (a b : ℕ) → a ≤ b → nat_le a b ≡ true
+at_most a b le = grind (arith, nat_tests)
+
+-- no row stands anywhere at first
+pub none_yet : (rows : List StopTimeRow) (trips : ℕ) → AreStretches rows 0 trips (replicate trips no_stretch)
+none_yet rows trips = record {
+  count = length-replicate trips no_stretch;
+  each = λ t lt. subst (IsStretch rows 0 t) (sym (get_or-replicate trips t no_stretch no_stretch lt)) (record { forward = omega arith; ends = omega arith; are = refl; rise = λ k d low lt. absurd (omega arith) });
+}
+
+-- the first rows of a trip with one more, and where that is of another
+filter_here : (rows : List StopTimeRow) (n trip : ℕ) (d : StopTimeRow) → n < length rows → (get_or rows n d).trip.0 ≡ trip → filter (λ r. r.trip.0 == trip) (take (n + 1) rows) ≡ filter (λ r. r.trip.0 == trip) (take n rows) ++ get_or rows n d ∷ []
+filter_here rows n trip d lt same =
+    let test : StopTimeRow → Bool = λ (r : StopTimeRow). r.trip.0 == trip in
+    let next : n + 1 ≡ suc n = omega arith in
+    rw (next, take-suc rows n d lt, filter-append test (take n rows) (get_or rows n d ∷ []), hit (get_or rows n d).trip.0 trip same) refl
+
+filter_other : (rows : List StopTimeRow) (n trip : ℕ) (d : StopTimeRow) → n < length rows → ((get_or rows n d).trip.0 ≡ trip → ⊥) → filter (λ r. r.trip.0 == trip) (take (n + 1) rows) ≡ filter (λ r. r.trip.0 == trip) (take n rows)
+filter_other rows n trip d lt other =
+    let test : StopTimeRow → Bool = λ (r : StopTimeRow). r.trip.0 == trip in
+    let next : n + 1 ≡ suc n = omega arith in
+    rw (next, take-suc rows n d lt, filter-append test (take n rows) (get_or rows n d ∷ []), differ (get_or rows n d).trip.0 trip other) (append-nil (filter test (take n rows)))
+
+-- a stretch that is longer by a row
+range_more : (rows : List StopTimeRow) (from to : ℕ) (d : StopTimeRow) → from ≤ to → to < length rows → slice_range rows from (to + 1) ≡ slice_range rows from to ++ get_or rows to d ∷ []
+range_more rows from to d forward lt =
+    let next : (to + 1) - from ≡ suc (to - from) = omega arith in
+    let long = length-drop from rows in
+    let at : from + (to - from) ≡ to = omega arith in
+    rw (next, take-suc (drop from rows) (to - from) d (omega (arith, long)), get_or-drop from rows (to - from) d, at) refl
+
+range_none : (rows : List StopTimeRow) (at : ℕ) → slice_range rows at at ≡ []
+range_none rows at = let none : at - at ≡ 0 = omega arith in rw none refl
+
+module _ (rows : List StopTimeRow) (n : ℕ) (d : StopTimeRow) (lt : n < length rows) where
+  -- the stretch of another trip stays
+  other_stays : (trip : ℕ) (s : Stretch) → ((get_or rows n d).trip.0 ≡ trip → ⊥) → IsStretch rows n trip s → IsStretch rows (n + 1) trip s
+  other_stays trip s other is = record { forward = is.forward; ends = let le = is.ends in omega arith; are = is.are ∙ sym (filter_other rows n trip d lt other); rise = is.rise }
+
+  -- a stretch begins
+  begins : (trip : ℕ) (s : Stretch) → (get_or rows n d).trip.0 ≡ trip → s.from ≡ s.to → IsStretch rows n trip s → IsStretch rows (n + 1) trip (record { from = n; to = n + 1 })
+  begins trip s same empty is =
+      let none : filter (λ r. r.trip.0 == trip) (take n rows) ≡ [] = sym is.are ∙ rw empty (range_none rows s.to) in
+      let le : n ≤ n = omega arith in
+      record {
+        forward = omega arith;
+        ends = omega arith;
+        are = range_more rows n n d le lt ∙ rw (range_none rows n) (sym (filter_here rows n trip d lt same ∙ rw none refl));
+        rise = λ k e low below. absurd (omega arith);
+      }
+
+  -- a stretch goes on
+  goes_on : (trip : ℕ) (s : Stretch) → (get_or rows n d).trip.0 ≡ trip → s.to ≡ n → (get_or rows (n - 1) d).sequence ≤ (get_or rows n d).sequence → IsStretch rows n trip s → IsStretch rows (n + 1) trip (record { from = s.from; to = n + 1 })
+  goes_on trip s same here up is =
+      let forward : s.from ≤ n = let le = is.forward in omega arith in
+      record {
+        forward = omega arith;
+        ends = omega arith;
+        are = range_more rows s.from n d forward lt ∙ ap (λ xs. xs ++ get_or rows n d ∷ []) (ap (slice_range rows s.from) (sym here) ∙ is.are) ∙ sym (filter_here rows n trip d lt same);
+        rise = λ k e low below. rises k e low (omega arith) (cases_eq (k + 1) n);
+      }
+    where
+      rises : (k : ℕ) (e : StopTimeRow) → s.from ≤ k → k + 1 ≤ n → (k + 1 ≡ n) ⊎ (k + 1 ≡ n → ⊥) → (get_or rows k e).sequence ≤ (get_or rows (k + 1) e).sequence
+      rises k e low within (inl last) =
+          let before : k ≡ n - 1 = omega arith in
+          rw (last, before, get_or-any rows (n - 1) e d (omega arith), get_or-any rows n e d lt) up
+        where
+          get_or-any : (xs : List StopTimeRow) (i : ℕ) (a b : StopTimeRow) → i < length xs → get_or xs i a ≡ get_or xs i b
+          get_or-any [] i a b below = absurd (omega arith)
+          get_or-any (x ∷ xs) zero a b below = refl
+          get_or-any (x ∷ xs) (suc i) a b below = get_or-any xs i a b (omega arith)
+      rises k e low within (inr earlier) = is.rise k e low (omega arith)
+
+  -- a row is put at its trip's stretch
+  pub put : (trips trip : ℕ) (stretches : List Stretch) (s : Stretch) → (get_or rows n d).trip.0 ≡ trip → trip < trips → AreStretches rows n trips stretches → IsStretch rows (n + 1) trip s → AreStretches rows (n + 1) trips (slice_set stretches trip s)
+  put trips trip stretches s same within are is = record { count = length-set stretches trip s ∙ are.count; each = λ t below. at t below (cases_eq t trip) }
+    where
+      at : (t : ℕ) → t < trips → (t ≡ trip) ⊎ (t ≡ trip → ⊥) → IsStretch rows (n + 1) t (get_or (slice_set stretches trip s) t no_stretch)
+      at t below (inl here) =
+          let count = are.count in
+          let inside : trip < length stretches = omega arith in
+          rw (here, get_or-set_same) is
+      at t below (inr other) =
+          let apart : t ≢ trip = other in
+          rw get_or-set_other (other_stays t (get_or stretches t no_stretch) (λ e. other (sym e ∙ same)) (are.each t below))
+
+  pub put_first : (trips trip : ℕ) (stretches : List Stretch) (s : Stretch) → (get_or rows n d).trip.0 ≡ trip → trip < trips → AreStretches rows n trips stretches → get_or stretches trip no_stretch ≡ s → s.from ≡ s.to
+      → AreStretches rows (n + 1) trips (slice_set stretches trip (record { from = n; to = n + 1 }))
+  put_first trips trip stretches s same within are at empty = put trips trip stretches (record { from = n; to = n + 1 }) same within are (begins trip s same empty (subst (IsStretch rows n trip) at (are.each trip within)))
+
+  pub put_next : (trips trip : ℕ) (stretches : List Stretch) (s : Stretch) → (get_or rows n d).trip.0 ≡ trip → trip < trips → AreStretches rows n trips stretches → get_or stretches trip no_stretch ≡ s → s.to ≡ n → (get_or rows (n - 1) d).sequence ≤ (get_or rows n d).sequence
+      → AreStretches rows (n + 1) trips (slice_set stretches trip (record { from = s.from; to = n + 1 }))
+  put_next trips trip stretches s same within are at here up = put trips trip stretches (record { from = s.from; to = n + 1 }) same within are (goes_on trip s same here up (subst (IsStretch rows n trip) at (are.each trip within)))
+
+-- rows whose sequences don't fall are in order of them
+in_order_already : (rows : List StopTimeRow) → ((k : ℕ) (d : StopTimeRow) → k + 1 < length rows → (get_or rows k d).sequence ≤ (get_or rows (k + 1) d).sequence) → in_sequence rows ≡ rows
+in_order_already [] up = refl
+in_order_already (x ∷ []) up = refl
+in_order_already (x ∷ (y ∷ ys)) up =
+    let rest : in_sequence (y ∷ ys) ≡ y ∷ ys = in_order_already (y ∷ ys) (λ k d lt. later k d lt) in
+    let first : x.sequence ≤ y.sequence = up 0 x (omega arith) in
+    ap (in_its_place x) rest ∙ rw (at_most x.sequence y.sequence first) refl
+  where
+    later : (k : ℕ) (d : StopTimeRow) → k + 1 < length (y ∷ ys) → (get_or (y ∷ ys) k d).sequence ≤ (get_or (y ∷ ys) (k + 1) d).sequence
+    later k d lt = let next : k + 1 ≡ suc k = omega arith in let is = up (suc k) d (omega arith) in let far : suc k + 1 ≡ suc (suc k) = omega arith in rw next (rw far at is)
+
+-- the rows of a stretch, place by place
+range_at : (rows : List StopTimeRow) (from to k : ℕ) (d : StopTimeRow) → from + k < to → get_or (slice_range rows from to) k d ≡ get_or rows (from + k) d
+range_at rows from to k d lt = get_or-take (to - from) (drop from rows) k d (omega arith) ∙ get_or-drop from rows k d
+
+-- the rows of each trip's stretch are its stop times in order
+pub rows_are : (feed : FeedRows) (trips t : ℕ) (stretches : List Stretch) → AreStretches feed.stop_times (length feed.stop_times) trips stretches → t < trips → rows_at feed.stop_times stretches t ≡ trip_stop_times feed (record { 0 = t })
+rows_are feed trips t stretches are lt =
+    let rows = feed.stop_times in
+    let s = get_or stretches t no_stretch in
+    let is = are.each t lt in
+    let whole = take_all (length rows) rows (omega arith) in
+    let own : rows_of rows s ≡ filter (λ r. r.trip.0 == t) rows = is.are ∙ ap (filter (λ r. r.trip.0 == t)) whole in
+    let size = length-take (s.to - s.from) (drop s.from rows) in
+    sym (in_order_already (rows_of rows s) (λ k d below.
+    let inside : s.from + (k + 1) < s.to = omega (arith, size) in
+    let next : s.from + (k + 1) ≡ (s.from + k) + 1 = omega arith in
+    rw (range_at rows s.from s.to k d (omega arith), range_at rows s.from s.to (k + 1) d inside, next) (is.rise (s.from + k) d (omega arith) (omega arith)))) ∙ ap in_sequence own
+
+-- so they begin and end with times, which don't fall
+pub timed : (feed : FeedRows) (trips : ℕ) (stretches : List Stretch) → IsSoundFeed feed → AreStretches feed.stop_times (length feed.stop_times) trips stretches → AreTimed feed.stop_times stretches
+timed feed trips stretches sound are = record {
+  forward = λ t lt. (are.each t (within t lt)).forward;
+  ends = λ t lt. (are.each t (within t lt)).ends;
+  timed = λ t lt. subst HasTimedEnds (sym (rows_are feed trips t stretches are (within t lt))) (sound_ends feed (record { 0 = t }) sound.calls);
+  rise = λ t lt. subst DoTimesRise (sym (rows_are feed trips t stretches are (within t lt))) (sound_rise feed (record { 0 = t }) sound.calls);
+}
+  where
+    within : (t : ℕ) → t < length stretches → t < trips
+    within t lt = let count = are.count in omega arith
+
+-- and their calls, one stretch after another, are those of the trips
+pub stretch_calls : (feed : FeedRows) (stretches : List Stretch) → IsSoundFeed feed → AreStretches feed.stop_times (length feed.stop_times) (length feed.trips) stretches
+    → AreCallsOf feed (joined_below (length stretches) (λ t. walk (rows_at feed.stop_times stretches t))) (list_below (length stretches + 1) (λ k. length (joined_below k (λ t. walk (rows_at feed.stop_times stretches t)))))
+stretch_calls feed stretches sound are t lt =
+    let count = are.count in
+    let long = length-list_below (length stretches + 1) size in
+    let begins : get_or starts 0 0 ≡ 0 = get_or-list_below (length stretches + 1) size 0 0 (omega arith) in
+    let it = groups_joined f starts (length stretches) t (omega arith) begins next (omega arith) in
+    record { lies = it.lies; is = it.is ∙ ap walk (rows_are feed (length feed.trips) t stretches are lt) ∙ sym (calls_of-walk feed (record { 0 = t }) (sound_ends feed (record { 0 = t }) sound.calls)) }
+  where
+    f : ℕ → List Call
+    f s = walk (rows_at feed.stop_times stretches s)
+
+    size : ℕ → ℕ
+    size k = length (joined_below k f)
+
+    starts : List ℕ
+    starts = list_below (length stretches + 1) size
+
+    next : (s : ℕ) → s < length stretches → get_or starts s 0 + length (f s) ≡ get_or starts (s + 1) 0
+    next s below =
+        let here = get_or-list_below (length stretches + 1) size s 0 (omega arith) in
+        let after = get_or-list_below (length stretches + 1) size (s + 1) 0 (omega arith) in
+        let e : s + 1 ≡ suc s = omega arith in
+        let more : size (s + 1) ≡ size s + length (f s) = rw e (length-append (joined_below s f) (f s)) in
+        here_after here after more
+      where
+        here_after : get_or starts s 0 ≡ size s → get_or starts (s + 1) 0 ≡ size (s + 1) → size (s + 1) ≡ size s + length (f s) → get_or starts s 0 + length (f s) ≡ get_or starts (s + 1) 0
+        here_after a b c = omega arith

@@ -1,0 +1,35 @@
+-- Trips whose rows stand together in the file: where those of each stand.
+use Rattle.std.specs.Prelude.{◌≡◌, ℕ, ◌+◌, ◌<◌, ◌≤◌, ◌==◌, List, length, slice_index_or, slice_range, take, filter}
+use Rattle.feed_rows.specs.declared.rows.StopTimeRow.{StopTimeRow}
+use Rattle.feed_rows.specs.TimedTrips.{HasTimedEnds, DoTimesRise}
+use Rattle.feed_trips.specs.declared.together.Stretch.{Stretch}
+
+-- no rows
+abbrev pub no_stretch : Stretch
+no_stretch = record { from = 0; to = 0 }
+
+-- the rows of a stretch
+abbrev pub rows_of : List StopTimeRow → Stretch → List StopTimeRow
+rows_of rows s = slice_range rows s.from s.to
+
+abbrev pub rows_at : List StopTimeRow → List Stretch → ℕ → List StopTimeRow
+rows_at rows stretches trip = rows_of rows (slice_index_or stretches trip no_stretch)
+
+-- of the first n rows those of the trip are those of the stretch, and their sequences don't fall
+pub record IsStretch (rows : List StopTimeRow) (n trip : ℕ) (s : Stretch) : Type 0 where
+  pub forward : s.from ≤ s.to
+  pub ends : s.to ≤ n
+  pub are : rows_of rows s ≡ filter (λ r. r.trip.0 == trip) (take n rows)
+  pub rise : (k : ℕ) (d : StopTimeRow) → s.from ≤ k → k + 1 < s.to → (slice_index_or rows k d).sequence ≤ (slice_index_or rows (k + 1) d).sequence
+
+-- the same of the trips with the numbers below trips, each with its stretch
+pub record AreStretches (rows : List StopTimeRow) (n trips : ℕ) (stretches : List Stretch) : Type 0 where
+  pub count : length stretches ≡ trips
+  pub each : (t : ℕ) → t < trips → IsStretch rows n t (slice_index_or stretches t no_stretch)
+
+-- each stretch lies within the rows, and its rows begin and end with times, which don't fall
+pub record AreTimed (rows : List StopTimeRow) (stretches : List Stretch) : Type 0 where
+  pub forward : (t : ℕ) → t < length stretches → (slice_index_or stretches t no_stretch).from ≤ (slice_index_or stretches t no_stretch).to
+  pub ends : (t : ℕ) → t < length stretches → (slice_index_or stretches t no_stretch).to ≤ length rows
+  pub timed : (t : ℕ) → t < length stretches → HasTimedEnds (rows_at rows stretches t)
+  pub rise : (t : ℕ) → t < length stretches → DoTimesRise (rows_at rows stretches t)

@@ -1,0 +1,110 @@
+//! Trips whose stop times stand together in the file and in order, as they mostly do: their calls are made where the rows
+//! stand.
+ghost use Rattle.std.specs.Prelude.{◌≡◌, ℕ, ◌+◌, ◌<◌, ◌≤◌, ◌^◌, ◌++◌, length, All, IfOk, OnOk, IfSome};
+ghost use Rattle.std.specs.Bool.{OnTrue};
+ghost use Rattle.feed_rows.specs.declared.rows.StopTimeRow.{StopTimeRow};
+ghost use Rattle.feed_rows.specs.CallWalk.{walk};
+ghost use Rattle.feed_rows.specs.Words.{joined_below, list_below};
+ghost use Rattle.feed_trips.specs.Stretches.{AreStretches, AreTimed, rows_at};
+
+use crate::walks::push_calls;
+use feed_rows::{Call, StopTimeRow};
+use std::alloc::{AllocError, Global};
+
+/// Where the rows of a trip stand: from a place, and up to the place after the last.
+#[derive(Clone, Copy, Debug)]
+pub struct Stretch {
+    pub from: usize,
+    pub to: usize,
+}
+
+// Lengthens the stretch of the trip of the row at a place by that row, or begins it there. False where other rows or a
+// later sequence lie between.
+fn put_row(stretches: &mut Vec<Stretch>, rows: &[StopTimeRow], place: usize, trips: usize) -> bool
+    requires within { All (λ (r : StopTimeRow). r.trip.0 < trips) rows.now }
+    requires inside { place < length rows.now }
+    requires before { AreStretches rows.now place trips stretches.old.items }
+    ensures { OnTrue result (AreStretches rows.now (place + 1) trips stretches.new.items) }
+{
+    let row = rows[place];
+    let stretch = stretches[row.trip.0 as usize];
+    if stretch.from == stretch.to {
+        stretches[row.trip.0 as usize] = Stretch {
+            from: place,
+            to: place + 1,
+        };
+        return true;
+    }
+    if stretch.to != place {
+        return false;
+    }
+    if rows[place - 1].sequence > row.sequence {
+        return false;
+    }
+    stretches[row.trip.0 as usize] = Stretch {
+        from: stretch.from,
+        to: place + 1,
+    };
+    true
+}
+
+/// Where the rows of each trip stand, if those of each stand together and in order of their sequence.
+///
+/// # Errors
+/// Want of memory.
+pub fn stretches_of(
+    alloc: Global,
+    rows: &[StopTimeRow],
+    trips: usize,
+) -> Result<Option<Vec<Stretch>>, AllocError>
+    requires { All (λ (r : StopTimeRow). r.trip.0 < trips) rows.now }
+    ensures { IfOk result (λ found. IfSome found (λ stretches. AreStretches rows.now (length rows.now) trips stretches.items)) }
+{
+    let mut stretches = vec![in alloc; Stretch { from: 0, to: 0 }; trips]?;
+    for place in 0..rows.len() {
+        if !put_row(&mut stretches, rows, place, trips) {
+            return Ok(None);
+        }
+    }
+    Ok(Some(stretches))
+}
+
+// Appends the calls of the rows at a stretch.
+fn push_stretch(
+    calls: &mut Vec<Call>,
+    rows: &[StopTimeRow],
+    stretches: &[Stretch],
+    trip: usize,
+) -> Result<(), AllocError>
+    requires timed { AreTimed rows.now stretches.now }
+    requires inside { trip < length stretches.now }
+    requires few { length rows.now < 2 ^ 32 }
+    ensures { OnOk result (calls.new.items ≡ calls.old.items ++ walk (rows_at rows.now stretches.now trip)) }
+{
+    let stretch = stretches[trip];
+    push_calls(calls, &rows[stretch.from..stretch.to])
+}
+
+/// The calls of the rows at these stretches, one stretch after another, and where those of each begin and the last end.
+///
+/// # Errors
+/// Want of memory.
+pub fn calls_of_stretches(
+    alloc: Global,
+    rows: &[StopTimeRow],
+    stretches: &[Stretch],
+) -> Result<(Vec<Call>, Vec<usize>), AllocError>
+    requires timed { AreTimed rows.now stretches.now }
+    requires few { length rows.now < 2 ^ 32 }
+    ensures calls { IfOk result (λ tables. tables.0.items ≡ joined_below (length stretches.now) (λ t. walk (rows_at rows.now stretches.now t))) }
+    ensures starts { IfOk result (λ tables. tables.1.items ≡ list_below (length stretches.now + 1) (λ k. length (joined_below k (λ t. walk (rows_at rows.now stretches.now t))))) }
+{
+    let mut calls = Vec::with_capacity(alloc, rows.len())?;
+    let mut starts = Vec::with_capacity(alloc, stretches.len())?;
+    for trip in 0..stretches.len() {
+        starts.push(calls.len())?;
+        push_stretch(&mut calls, rows, stretches, trip)?;
+    }
+    starts.push(calls.len())?;
+    Ok((calls, starts))
+}

@@ -1,0 +1,73 @@
+//! The keys of stop times, and their order.
+ghost use Rattle.std.specs.Prelude.{◌≡◌, ◌<◌, ◌^◌, length, IfOk};
+ghost use Rattle.std.specs.Bool.{OnTrue};
+ghost use Rattle.std.specs.List.Sorted.{IsPermutation};
+ghost use Rattle.feed_rows.specs.Words.{list_below};
+ghost use Rattle.trip_order.specs.Order.{key_of, DoAscend, AreSorted};
+
+use crate::stretches::gathered_by_trip;
+use feed_rows::StopTimeRow;
+use std::alloc::{AllocError, Global};
+
+/// Where a stop time stands in the order.
+#[derive(Clone, Copy, Debug, PartialEq, Eq, PartialOrd, Ord)]
+pub struct PlaceKey {
+    /// The number of its trip.
+    pub trip: u32,
+    /// The `stop_sequence`.
+    pub sequence: u32,
+    /// The number of its row, from 0.
+    pub row: u32,
+}
+
+// The key of each row, in file order.
+fn keys_of(alloc: Global, times: &[StopTimeRow]) -> Result<Vec<PlaceKey>, AllocError>
+    requires { length times.now < 2 ^ 32 }
+    ensures { IfOk result (λ keys. keys.items ≡ list_below (length times.now) (key_of times.now)) }
+{
+    let mut keys = Vec::with_capacity(alloc, times.len())?;
+    for row in 0..times.len() {
+        let time = times[row];
+        keys.push(PlaceKey {
+            trip: time.trip.0,
+            sequence: time.sequence,
+            row: row as u32,
+        })?;
+    }
+    Ok(keys)
+}
+
+// Whether no key comes before the one before it.
+fn do_ascend(keys: &[PlaceKey]) -> bool
+    ensures { OnTrue result (DoAscend keys.now) }
+{
+    keys.is_sorted()
+}
+
+// Sorts keys that may be in order already.
+fn put_in_order(keys: &mut Vec<PlaceKey>)
+    ensures moved { IsPermutation keys.old.items keys.new.items }
+    ensures sorted { DoAscend keys.new.items }
+{
+    if do_ascend(keys) {
+        return;
+    }
+    keys.sort_unstable();
+}
+
+/// The keys of all stop times, ascending: by trip, within a trip by sequence, and within a sequence by row.
+///
+/// # Errors
+/// Want of memory.
+pub fn sorted_keys(alloc: Global, times: &[StopTimeRow]) -> Result<Vec<PlaceKey>, AllocError>
+    requires { length times.now < 2 ^ 32 }
+    ensures { IfOk result (λ keys. AreSorted times.now keys.items) }
+{
+    let keys = keys_of(alloc, times)?;
+    if do_ascend(&keys) {
+        return Ok(keys);
+    }
+    let mut gathered = gathered_by_trip(alloc, &keys)?;
+    put_in_order(&mut gathered);
+    Ok(gathered)
+}
