@@ -19,7 +19,7 @@ import subprocess
 import sys
 import tempfile
 
-CRATES = ["transit_base", "feed_rows", "feed_trips", "feed_walks"]
+CRATES = ["transit_base", "feed_rows", "trip_order", "feed_trips", "feed_walks"]
 CALLS = 20
 
 PROGRAM = """\
