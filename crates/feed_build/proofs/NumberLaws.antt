@@ -1,58 +1,75 @@
--- Names by their places, as a map from their bytes has them.
-use Rattle.std.proofs.Common.{◌≡◌, refl, sym, ◌∙◌, ap, ℕ, suc, List, [], ◌∷◌, ◌++◌, length, get_or, Bool, true, false, Option, Some, None, Bor, cond, bytes_eq, arith}
-use Rattle.std.specs.Option.{option_or}
-use Rattle.std.specs.BTreeMap as tree
-use Rattle.std.specs.BTreeMap.{BTreeMap}
-use Rattle.std.specs.Cmp.Lexicographic.{slice_cmp}
-use Rattle.std.specs.Ordering.{nat_cmp}
-use Rattle.std.proofs.lemmas.List.{length_push}
-use Rattle.std.proofs.lemmas.Map.Text.{btree_map_updates_str}
-use Rattle.std.proofs.lemmas.Slice.Eq.{bytes_eq-Decides}
-use Rattle.std.proofs.Math.ListN.{get_or-append}
-use Rattle.std.proofs.Math.Seq.{get_or-append_seam}
-use Rattle.feed_rows.specs.Words.{when}
-use Rattle.feed_rows.proofs.BelowLaws.{find_below_same}
-use Rattle.feed_faults.specs.AcceptedFeed.{place_of_name}
-use Rattle.feed_build.specs.NameNumbers.{AreNumbersOf}
+-- Names by their places, as a set of them has them.
+use Rattle.std.proofs.Common.{◌≡◌, refl, sym, subst, ◌∙◌, ap, ℕ, ◌+◌, ◌<◌, ◌≤◌, List, [], ◌∷◌, ◌++◌, take, length, map, get_or, Bool, true, false, Option, Some, None, Bor, is_some, position, bytes_eq, true≢false, arith}
+use Rattle.std.specs.List.{All, list_any}
+use Rattle.indexmap.specs.IndexSet.{insert_key}
+use Rattle.std.proofs.lemmas.Grind.{common_steps}
+use Rattle.std.proofs.lemmas.List.{length-map, get_or-map, map_push, take_more}
+use Rattle.std.proofs.lemmas.List.Folds.{list_any_at, list_any_none}
+use Rattle.std.proofs.lemmas.List.Quantifiers.{position-Some}
+use Rattle.std.proofs.lemmas.List.Sums.{fails_before_first}
+use Rattle.feed_rows.specs.Words.{find_below}
+use Rattle.feed_rows.proofs.BelowLaws.{find_below_same, find_below_hit, find_below_none}
+use Rattle.feed_faults.specs.Records.{is_filled}
+use Rattle.feed_faults.specs.AcceptedFeed.{place_of_name, with_name}
 
-or_none : {X : Type 0} (o : Option X) → option_or o None ≡ o
-or_none None = refl
-or_none (Some x) = refl
-
--- the places of names with one more behind them
-place_more : (names : List (List ℕ)) (name q : List ℕ) → place_of_name (names ++ name ∷ []) q ≡ option_or (place_of_name names q) (when (bytes_eq q name) (length names))
-unfolding place_of_name
-place_more names name q =
-    let long : length (names ++ name ∷ []) ≡ suc (length names) = length_push names name ∙ omega arith in
-    let before = find_below_same (λ i. bytes_eq q (get_or (names ++ name ∷ []) i [])) (λ i. bytes_eq q (get_or names i [])) (length names) (λ i lt. ap (bytes_eq q) (get_or-append names (name ∷ []) [] i lt)) in
-    rw (long, get_or-append_seam names name [] []) (ap (λ o. option_or o (when (bytes_eq q name) (length names))) before)
-
-same_test : (xs ys : List ℕ) → bytes_eq xs ys ≡ bytes_eq ys xs
-same_test xs ys = step (bytes_eq xs ys) refl (bytes_eq ys xs) refl
+-- the first that passes, by its place
+position_below : {X : Type 0} (p : X → Bool) (xs : List X) (d : X) → position p xs ≡ find_below (length xs) (λ i. p (get_or xs i d))
+position_below p xs d = step (position p xs) refl
   where
-    step : (a : Bool) → bytes_eq xs ys ≡ a → (b : Bool) → bytes_eq ys xs ≡ b → a ≡ b
-    step true e true f = refl
-    step false e false f = refl
-    step true e false f = let no : bytes_eq ys xs ≡ true = (bytes_eq-Decides ys xs).1 (sym ((bytes_eq-Decides xs ys).0 e)) in sym no ∙ f
-    step false e true f = let no : bytes_eq xs ys ≡ true = (bytes_eq-Decides xs ys).1 (sym ((bytes_eq-Decides ys xs).0 f)) in sym e ∙ no
+    step : (found : Option ℕ) → position p xs ≡ found → position p xs ≡ find_below (length xs) (λ i. p (get_or xs i d))
+    step (Some i) e = let at = position-Some p xs i d e in e ∙ sym (find_below_hit (λ k. p (get_or xs k d)) (length xs) i (record { within = at.0; passes = at.1; earlier = at.2 }))
+    step None e = e ∙ sym (find_below_none (λ k. p (get_or xs k d)) (length xs) (λ k lt. fails_before_first p xs k d (grind (arith, common_steps))))
 
--- one more in the map
-put_new : (b : Bool) (old : Option ℕ) (n : ℕ) → (b ≡ true → old ≡ None) → cond b (Some n) old ≡ option_or old (when b n)
-put_new true old n none = rw (none refl) refl
-put_new false old n none = sym (or_none old)
+-- one passes where one has a place
+any_placed : {X : Type 0} (p : X → Bool) (xs : List X) (d : X) → list_any p xs ≡ is_some (position p xs)
+any_placed p xs d = step (position p xs) refl
+  where
+    step : (found : Option ℕ) → position p xs ≡ found → list_any p xs ≡ is_some (position p xs)
+    step (Some i) e = let at = position-Some p xs i d e in list_any_at p xs i d at.0 at.1 ∙ sym (ap is_some e)
+    step None e = list_any_none p xs (λ k d lt. fails_before_first p xs k d (grind (arith, common_steps))) ∙ sym (ap is_some e)
 
--- the map with one more name at the place behind the others
-pub numbers_more : (names : List (List ℕ)) (name : List ℕ) (n : ℕ) → n ≡ length names → (old new : BTreeMap (Bor (List ℕ)) ℕ) → AreNumbersOf names old → place_of_name names name ≡ None →
-    tree.UpdatesBy (λ x y. slice_cmp nat_cmp x.now y.now) (λ k. slice_cmp nat_cmp name k.now) old new (Some n) → AreNumbersOf (names ++ name ∷ []) new
-numbers_more names name n count old new are none updates q =
-    btree_map_updates_str name old new (Some n) updates q
-    ∙ ap (λ i. cond (bytes_eq name q) (Some i) (tree.get_by (λ k. slice_cmp nat_cmp q k.now) old)) count
-    ∙ ap (λ o. cond (bytes_eq name q) (Some (length names)) o) (are q)
-    ∙ ap (λ b. cond b (Some (length names)) (place_of_name names q)) (same_test name q)
-    ∙ put_new (bytes_eq q name) (place_of_name names q) (length names) (λ here. let same = (bytes_eq-Decides q name).0 here in rw same none)
-    ∙ sym (place_more names name q)
+-- the names of a set
+abbrev names_of : List (Bor (List ℕ)) → List (List ℕ)
+names_of set = map (λ k. k.now) set
 
--- no name has a place in the empty map
-pub none_numbered : (numbers : BTreeMap (Bor (List ℕ)) ℕ) → tree.IsEmpty numbers → AreNumbersOf [] numbers
+-- the place of a name
+pub place_is : (set : List (Bor (List ℕ))) (name : Bor (List ℕ)) → position (λ k. bytes_eq name.now k.now) set ≡ place_of_name (names_of set) name.now
 unfolding place_of_name
-none_numbered numbers none q = rw none refl
+place_is set name =
+    position_below (λ k. bytes_eq name.now k.now) set name
+    ∙ find_below_same (λ i. bytes_eq name.now (get_or set i name).now) (λ i. bytes_eq name.now (get_or (names_of set) i [])) (length set) (λ i lt. ap (bytes_eq name.now) (sym (get_or-map (λ k. k.now) set i name [] lt)))
+    ∙ ap (λ n. find_below n (λ i. bytes_eq name.now (get_or (names_of set) i []))) (sym (length-map set (λ k. k.now)))
+
+-- the names with one more, where it is new
+pub name_added : (set : List (Bor (List ℕ))) (name : Bor (List ℕ)) → is_filled name.now ≡ true →
+    names_of (insert_key (λ x y. bytes_eq x.now y.now) set name) ≡ with_name (names_of set) name.now
+unfolding with_name
+name_added set name filled = step (position test set) refl
+  where
+    test : Bor (List ℕ) → Bool
+    test k = bytes_eq name.now k.now
+
+    step : (found : Option ℕ) → position test set ≡ found → names_of (insert_key (λ x y. bytes_eq x.now y.now) set name) ≡ with_name (names_of set) name.now
+    step (Some i) e =
+        let any : list_any test set ≡ true = any_placed test set name ∙ ap is_some e in
+        let place : place_of_name (names_of set) name.now ≡ Some i = sym (place_is set name) ∙ e in
+        rw (any, filled, place) refl
+    step None e =
+        let any : list_any test set ≡ false = any_placed test set name ∙ ap is_some e in
+        let place : place_of_name (names_of set) name.now ≡ None = sym (place_is set name) ∙ e in
+        rw (any, filled, place) (map_push (λ k. k.now) set name)
+
+-- a filled name has a byte
+pub filled_long : (name : List ℕ) → is_filled name ≡ true → 1 ≤ length name
+filled_long [] wrong = absurd (true≢false (sym wrong))
+filled_long (c ∷ cs) right = omega arith
+
+-- what is so of each name is so of the one at a place
+pub name_at : (P : List ℕ → Type 0) (set : List (Bor (List ℕ))) → All P (names_of set) → (place : ℕ) (d : Bor (List ℕ)) → place < length set → P (get_or set place d).now
+name_at P set all place d lt =
+    subst P (get_or-map (λ k. k.now) set place d [] lt) (all place [] (rw (length-map set (λ k. k.now)) lt))
+
+-- the names up to a place and the one at it
+pub name_taken : (set : List (Bor (List ℕ))) (place : ℕ) (d : Bor (List ℕ)) → place < length set → take (place + 1) (names_of set) ≡ take place (names_of set) ++ (get_or set place d).now ∷ []
+name_taken set place d lt =
+    take_more (names_of set) place [] (rw (length-map set (λ k. k.now)) lt) ∙ ap (λ n. take place (names_of set) ++ n ∷ []) (get_or-map (λ k. k.now) set place d [] lt)

@@ -1,21 +1,20 @@
 -- Names and their numbers.
-use Rattle.std.specs.Prelude.{◌≡◌, ℕ, ◌<◌, ◌≤◌, ◌^◌, List, length, true}
-use Rattle.std.specs.BTreeMap.{BTreeMap, get_by}
-use Rattle.std.specs.Cmp.Lexicographic.{slice_cmp}
-use Rattle.std.specs.Ordering.{nat_cmp}
+use Rattle.std.specs.Prelude.{◌≡◌, ℕ, ◌<◌, ◌≤◌, ◌^◌, All, List, length, map, true}
 use Rattle.std.specs.Borrow.{Bor}
+use Rattle.indexmap.specs.IndexSet.{IndexSet}
 use Rattle.feed_rows.specs.declared.names.ColumnName.{ColumnName}
 use Rattle.feed_faults.specs.Records.{FileTable, row_count, field, is_filled}
-use Rattle.feed_faults.specs.AcceptedFeed.{place_of_name}
+use Rattle.feed_build.specs.declared.name_hash.NameHash.{NameHash}
 
--- the map has the place of each of these names, and nothing else
-abbrev pub AreNumbersOf : List (List ℕ) → BTreeMap (Bor (List ℕ)) ℕ → Type 0
-AreNumbersOf names numbers = (q : List ℕ) → get_by (λ k. slice_cmp nat_cmp q k.now) numbers ≡ place_of_name names q
+-- the names that a set has, in its order
+abbrev pub names_in : IndexSet (Bor (List ℕ)) NameHash → List (List ℕ)
+names_in set = map (λ k. k.now) set.keys
 
--- the same, where the places are numbers of 32 bits
-pub record IsNumbering (names : List (List ℕ)) (numbers : BTreeMap (Bor (List ℕ)) ℕ) : Type 0 where
-  pub places : AreNumbersOf names numbers
+-- the places of these names are numbers of 32 bits, and each name can be an id
+pub record IsNumbering (names : List (List ℕ)) : Type 0 where
   pub few : length names < 2 ^ 32
+  pub filled : All (λ name. 1 ≤ length name) names
+  pub short : All (λ name. length name ≤ 255) names
 
 -- a name isn't longer than an id, if it is filled
 abbrev pub IsShort : List ℕ → Type 0

@@ -16,18 +16,29 @@ use std::alloc::{AllocError, Global};
 
 // The feed of these rows and names.
 #[tactic(auto, unfolding(feed_faults::specs::AcceptedFeed::rows_of_tables))]
-fn joined(tables: &Tables, names: Names, timetable: Timetable, fares: Fares) -> Feed
+fn joined(
+    alloc: Global,
+    tables: &Tables,
+    names: &Names,
+    timetable: Timetable,
+    fares: Fares,
+) -> Result<Feed, AllocError>
     requires formed { AreFormed tables.now }
     requires linked { AreLinked tables.now }
-    requires names { AreNamesOf tables.now names }
+    requires names { AreNamesOf tables.now names.now }
     requires timetable { IsTimetableOf tables.now timetable }
     requires fares { AreFaresOf tables.now fares }
-    ensures { result ≡ rows_of_tables tables.now }
+    ensures { IfOk result (λ feed. feed ≡ rows_of_tables tables.now) }
 {
     let has_priority = tables.fare_leg_rules.has(ColumnName::RulePriority);
     let currency = feed_currency(tables);
     let decimals = feed_decimals(tables);
-    Feed {
+    let service_names = names.services.ids(alloc)?;
+    let network_names = names.networks.ids(alloc)?;
+    let frame_names = names.frames.ids(alloc)?;
+    let product_names = names.products.ids(alloc)?;
+    let group_names = names.groups.ids(alloc)?;
+    Ok(Feed {
         stops: timetable.stops,
         routes: timetable.routes,
         trips: timetable.trips,
@@ -44,15 +55,15 @@ fn joined(tables: &Tables, names: Names, timetable: Timetable, fares: Fares) -> 
         products: fares.products,
         leg_rules: fares.leg_rules,
         transfer_rules: fares.transfer_rules,
-        service_names: names.services.into_names(),
-        network_names: names.networks.into_names(),
-        frame_names: names.frames.into_names(),
-        product_names: names.products.into_names(),
-        group_names: names.groups.into_names(),
+        service_names,
+        network_names,
+        frame_names,
+        product_names,
+        group_names,
         has_priority,
         currency,
         decimals,
-    }
+    })
 }
 
 /// The feed of tables in which both passes find no fault: the typed rows of each file, with row numbers in place of ids, and
@@ -76,5 +87,5 @@ pub fn feed_of_tables(
     let names = Names::of(alloc, tables)?;
     let timetable = Timetable::of(alloc, tables, ids, &names, stop_times)?;
     let fares = Fares::of(alloc, tables, &names)?;
-    Ok(joined(tables, names, timetable, fares))
+    joined(alloc, tables, &names, timetable, fares)
 }

@@ -4,6 +4,7 @@
 
 mod feed;
 mod leg_rules;
+mod name_hash;
 mod names;
 mod numbering;
 mod parts;

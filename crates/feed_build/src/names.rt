@@ -10,6 +10,7 @@ ghost use Rattle.feed_faults.specs.AcceptedFeed.{
 ghost use Rattle.feed_soundness.specs.AcceptedTables.{AreFormed};
 ghost use Rattle.feed_build.specs.FeedNames.{AreNamesOf};
 
+use crate::name_hash::NameHash;
 use crate::numbering::Numbering;
 use feed_rows::ColumnName;
 use feed_tables::Tables;
@@ -27,53 +28,73 @@ pub struct Names<'t> {
 
 // The names of services: those of trips, and behind them the new ones of calendars, of their exceptions and of timeframes.
 #[tactic(auto, unfolding(feed_faults::specs::AcceptedFeed::service_names), using(crate::proofs::ShortNames::trip_services_short, crate::proofs::ShortNames::calendar_services_short, crate::proofs::ShortNames::exception_services_short, crate::proofs::ShortNames::frame_services_short))]
-fn service_names<'t>(alloc: Global, tables: &'t Tables) -> Result<Numbering<'t>, AllocError>
+fn service_names<'t>(
+    alloc: Global,
+    hash: NameHash,
+    tables: &'t Tables,
+) -> Result<Numbering<'t>, AllocError>
     requires { AreFormed tables.now }
     ensures { IfOk result (λ names. names ≡ service_names tables.now) }
 {
-    Numbering::empty(alloc)
-        .with_column(alloc, &tables.trips, ColumnName::ServiceId)?
-        .with_column(alloc, &tables.calendar, ColumnName::ServiceId)?
-        .with_column(alloc, &tables.calendar_dates, ColumnName::ServiceId)?
-        .with_column(alloc, &tables.timeframes, ColumnName::ServiceId)
+    Numbering::empty(alloc, hash)
+        .with_column(&tables.trips, ColumnName::ServiceId)?
+        .with_column(&tables.calendar, ColumnName::ServiceId)?
+        .with_column(&tables.calendar_dates, ColumnName::ServiceId)?
+        .with_column(&tables.timeframes, ColumnName::ServiceId)
 }
 
 // The names of fare networks: those of routes, and behind them the new ones of networks.txt.
 #[tactic(auto, unfolding(feed_faults::specs::AcceptedFeed::network_names), using(crate::proofs::ShortNames::route_networks_short, crate::proofs::ShortNames::networks_short))]
-fn network_names<'t>(alloc: Global, tables: &'t Tables) -> Result<Numbering<'t>, AllocError>
+fn network_names<'t>(
+    alloc: Global,
+    hash: NameHash,
+    tables: &'t Tables,
+) -> Result<Numbering<'t>, AllocError>
     requires { AreFormed tables.now }
     ensures { IfOk result (λ names. names ≡ network_names tables.now) }
 {
-    Numbering::empty(alloc)
-        .with_column(alloc, &tables.routes, ColumnName::NetworkId)?
-        .with_column(alloc, &tables.networks, ColumnName::NetworkId)
+    Numbering::empty(alloc, hash)
+        .with_column(&tables.routes, ColumnName::NetworkId)?
+        .with_column(&tables.networks, ColumnName::NetworkId)
 }
 
 // The names of timeframe groups.
 #[tactic(auto, unfolding(feed_faults::specs::AcceptedFeed::frame_names), using(crate::proofs::ShortNames::frame_groups_short))]
-fn frame_names<'t>(alloc: Global, tables: &'t Tables) -> Result<Numbering<'t>, AllocError>
+fn frame_names<'t>(
+    alloc: Global,
+    hash: NameHash,
+    tables: &'t Tables,
+) -> Result<Numbering<'t>, AllocError>
     requires { AreFormed tables.now }
     ensures { IfOk result (λ names. names ≡ frame_names tables.now) }
 {
-    Numbering::empty(alloc).with_column(alloc, &tables.timeframes, ColumnName::TimeframeGroupId)
+    Numbering::empty(alloc, hash).with_column(&tables.timeframes, ColumnName::TimeframeGroupId)
 }
 
 // The names of fare products.
 #[tactic(auto, unfolding(feed_faults::specs::AcceptedFeed::product_names), using(crate::proofs::ShortNames::products_short))]
-fn product_names<'t>(alloc: Global, tables: &'t Tables) -> Result<Numbering<'t>, AllocError>
+fn product_names<'t>(
+    alloc: Global,
+    hash: NameHash,
+    tables: &'t Tables,
+) -> Result<Numbering<'t>, AllocError>
     requires { AreFormed tables.now }
     ensures { IfOk result (λ names. names ≡ product_names tables.now) }
 {
-    Numbering::empty(alloc).with_column(alloc, &tables.fare_products, ColumnName::FareProductId)
+    Numbering::empty(alloc, hash).with_column(&tables.fare_products, ColumnName::FareProductId)
 }
 
 // The names of leg groups.
 #[tactic(auto, unfolding(feed_faults::specs::AcceptedFeed::group_names), using(crate::proofs::ShortNames::leg_groups_short))]
-fn group_names<'t>(alloc: Global, tables: &'t Tables) -> Result<Numbering<'t>, AllocError>
+fn group_names<'t>(
+    alloc: Global,
+    hash: NameHash,
+    tables: &'t Tables,
+) -> Result<Numbering<'t>, AllocError>
     requires { AreFormed tables.now }
     ensures { IfOk result (λ names. names ≡ group_names tables.now) }
 {
-    Numbering::empty(alloc).with_column(alloc, &tables.fare_leg_rules, ColumnName::LegGroupId)
+    Numbering::empty(alloc, hash).with_column(&tables.fare_leg_rules, ColumnName::LegGroupId)
 }
 
 impl<'t> Names<'t> {
@@ -85,12 +106,13 @@ impl<'t> Names<'t> {
         requires { AreFormed tables.now }
         ensures { IfOk result (λ names. AreNamesOf tables.now names) }
     {
+        let hash = NameHash::of(tables);
         Ok(Names {
-            services: service_names(alloc, tables)?,
-            networks: network_names(alloc, tables)?,
-            frames: frame_names(alloc, tables)?,
-            products: product_names(alloc, tables)?,
-            groups: group_names(alloc, tables)?,
+            services: service_names(alloc, hash, tables)?,
+            networks: network_names(alloc, hash, tables)?,
+            frames: frame_names(alloc, hash, tables)?,
+            products: product_names(alloc, hash, tables)?,
+            groups: group_names(alloc, hash, tables)?,
         })
     }
 }

@@ -1,5 +1,5 @@
 -- Trips whose rows stand together in the file: where those of each stand.
-use Rattle.std.specs.Prelude.{◌≡◌, ℕ, ◌+◌, ◌<◌, ◌≤◌, ◌==◌, List, length, slice_index_or, slice_range, take, filter}
+use Rattle.std.specs.Prelude.{◌≡◌, ℕ, ◌+◌, ◌-◌, ◌<◌, ◌≤◌, ◌==◌, List, length, slice_index_or, slice_range, take, filter}
 use Rattle.feed_rows.specs.declared.rows.StopTimeRow.{StopTimeRow}
 use Rattle.feed_rows.specs.TimedTrips.{HasTimedEnds, DoTimesRise}
 use Rattle.feed_trips.specs.declared.together.Stretch.{Stretch}
@@ -26,6 +26,20 @@ pub record IsStretch (rows : List StopTimeRow) (n trip : ℕ) (s : Stretch) : Ty
 pub record AreStretches (rows : List StopTimeRow) (n trips : ℕ) (stretches : List Stretch) : Type 0 where
   pub count : length stretches ≡ trips
   pub each : (t : ℕ) → t < trips → IsStretch rows n t (slice_index_or stretches t no_stretch)
+
+-- the trip of the row at a place has a stretch before it that the row doesn't lengthen: where the stretch ends just before
+-- the place, the row's sequence is below that of the row before
+pub record IsApart (rows : List StopTimeRow) (place : ℕ) (stretches : List Stretch) : Type 0 where
+  pub begun : (d : StopTimeRow) → (slice_index_or stretches (slice_index_or rows place d).trip.0 no_stretch).from < (slice_index_or stretches (slice_index_or rows place d).trip.0 no_stretch).to
+  pub apart : (d : StopTimeRow) → (slice_index_or stretches (slice_index_or rows place d).trip.0 no_stretch).to ≡ place → (slice_index_or rows place d).sequence < (slice_index_or rows (place - 1) d).sequence
+
+-- somewhere a row doesn't lengthen the stretch of its trip
+pub record IsScattered (rows : List StopTimeRow) (trips : ℕ) : Type 0 where
+  pub place : ℕ
+  pub inside : place < length rows
+  pub stretches : List Stretch
+  pub before : AreStretches rows place trips stretches
+  pub apart : IsApart rows place stretches
 
 -- each stretch lies within the rows, and its rows begin and end with times, which don't fall
 pub record AreTimed (rows : List StopTimeRow) (stretches : List Stretch) : Type 0 where

@@ -1,11 +1,11 @@
 //! Trips whose stop times stand together in the file and in order, as they mostly do: their calls are made where the rows
 //! stand.
-ghost use Rattle.std.specs.Prelude.{◌≡◌, ℕ, ◌+◌, ◌<◌, ◌≤◌, ◌^◌, ◌++◌, length, All, IfOk, OnOk, IfSome};
-ghost use Rattle.std.specs.Bool.{OnTrue};
+ghost use Rattle.std.specs.Prelude.{◌≡◌, ℕ, ◌+◌, ◌<◌, ◌≤◌, ◌^◌, ◌++◌, length, All, IfOk, OnOk, IfNone, IfSome};
+ghost use Rattle.std.specs.Bool.{OnFalse, OnTrue};
 ghost use Rattle.feed_rows.specs.declared.rows.StopTimeRow.{StopTimeRow};
 ghost use Rattle.feed_rows.specs.CallWalk.{walk};
 ghost use Rattle.feed_rows.specs.Words.{joined_below, list_below};
-ghost use Rattle.feed_trips.specs.Stretches.{AreStretches, AreTimed, rows_at};
+ghost use Rattle.feed_trips.specs.Stretches.{AreStretches, AreTimed, IsApart, IsScattered, rows_at};
 
 use crate::walks::push_calls;
 use feed_rows::{Call, StopTimeRow};
@@ -24,7 +24,8 @@ fn put_row(stretches: &mut Vec<Stretch>, rows: &[StopTimeRow], place: usize, tri
     requires within { All (λ (r : StopTimeRow). r.trip.0 < trips) rows.now }
     requires inside { place < length rows.now }
     requires before { AreStretches rows.now place trips stretches.old.items }
-    ensures { OnTrue result (AreStretches rows.now (place + 1) trips stretches.new.items) }
+    ensures put { OnTrue result (AreStretches rows.now (place + 1) trips stretches.new.items) }
+    ensures apart { OnFalse result (IsApart rows.now place stretches.old.items) }
 {
     let row = rows[place];
     let stretch = stretches[row.trip.0 as usize];
@@ -48,7 +49,8 @@ fn put_row(stretches: &mut Vec<Stretch>, rows: &[StopTimeRow], place: usize, tri
     true
 }
 
-/// Where the rows of each trip stand, if those of each stand together and in order of their sequence.
+/// Where the rows of each trip stand, if those of each stand together and in order of their sequence; none only where
+/// some row doesn't follow those of its trip before it.
 ///
 /// # Errors
 /// Want of memory.
@@ -58,7 +60,8 @@ pub fn stretches_of(
     trips: usize,
 ) -> Result<Option<Vec<Stretch>>, AllocError>
     requires { All (λ (r : StopTimeRow). r.trip.0 < trips) rows.now }
-    ensures { IfOk result (λ found. IfSome found (λ stretches. AreStretches rows.now (length rows.now) trips stretches.items)) }
+    ensures together { IfOk result (λ found. IfSome found (λ stretches. AreStretches rows.now (length rows.now) trips stretches.items)) }
+    ensures scattered { IfOk result (λ found. IfNone found (IsScattered rows.now trips)) }
 {
     let mut stretches = vec![in alloc; Stretch { from: 0, to: 0 }; trips]?;
     for place in 0..rows.len() {
@@ -100,7 +103,7 @@ pub fn calls_of_stretches(
     ensures starts { IfOk result (λ tables. tables.1.items ≡ list_below (length stretches.now + 1) (λ k. length (joined_below k (λ t. walk (rows_at rows.now stretches.now t))))) }
 {
     let mut calls = Vec::with_capacity(alloc, rows.len())?;
-    let mut starts = Vec::with_capacity(alloc, stretches.len())?;
+    let mut starts = Vec::with_capacity(alloc, stretches.len() + 1)?;
     for trip in 0..stretches.len() {
         starts.push(calls.len())?;
         push_stretch(&mut calls, rows, stretches, trip)?;

@@ -4,8 +4,8 @@ use Rattle.feed_trips.specs.Stretches.{no_stretch}
 use Rattle.feed_trips.proofs.StretchLaws.{put_next}
 use Rattle.feed_trips.proofs.together.put_row.Goals as goal
 
-pub returns : goal.returns
-returns c =
+pub returns-clause-put : goal.returns-clause-put
+returns-clause-put c =
     let trip_within = c.requires.within c.args.place _ c.requires.inside in
     let count = c.requires.before.count in
     let s = c.index-stretch.result.now in

@@ -1,0 +1,61 @@
+//! The hash by which names are found.
+ghost use Rattle.std.specs.Hash.DefaultHasher.{initial, write};
+ghost use Rattle.std.specs.Hash as fed;
+ghost use Rattle.std.specs.Prelude.{fold};
+
+use feed_rows::ColumnName;
+use feed_tables::{NamedTable, Tables};
+use std::hash::{BuildHasher, DefaultHasher, Hasher};
+
+/// A hash with a seed. Names are a stranger's text, and no random number is at hand where a feed is read, so the seed is made
+/// of all the names of the feed: names that are chosen to collide by one seed make another one.
+#[derive(Clone, Copy)]
+pub struct NameHash {
+    seed: u64,
+}
+
+// Reads the fields of a column into a seed.
+fn write_column(hasher: &mut DefaultHasher, table: &NamedTable, column: ColumnName) {
+    for row in 0..table.rows() {
+        hasher.write(table.field(row, column));
+    }
+}
+
+impl NameHash {
+    /// The hash for the names of these tables.
+    pub fn of(tables: &Tables) -> NameHash {
+        let mut hasher = DefaultHasher::new();
+        write_column(&mut hasher, &tables.trips, ColumnName::ServiceId);
+        write_column(&mut hasher, &tables.calendar, ColumnName::ServiceId);
+        write_column(&mut hasher, &tables.calendar_dates, ColumnName::ServiceId);
+        write_column(&mut hasher, &tables.routes, ColumnName::NetworkId);
+        write_column(&mut hasher, &tables.networks, ColumnName::NetworkId);
+        write_column(&mut hasher, &tables.timeframes, ColumnName::ServiceId);
+        write_column(
+            &mut hasher,
+            &tables.timeframes,
+            ColumnName::TimeframeGroupId,
+        );
+        write_column(
+            &mut hasher,
+            &tables.fare_products,
+            ColumnName::FareProductId,
+        );
+        write_column(&mut hasher, &tables.fare_leg_rules, ColumnName::LegGroupId);
+        NameHash {
+            seed: hasher.finish(),
+        }
+    }
+}
+
+impl BuildHasher for NameHash {
+    type Hasher = DefaultHasher;
+
+    ghost build_hasher = { λ s. fold write initial (fed.u64 s.seed) };
+
+    fn build_hasher(&self) -> DefaultHasher {
+        let mut hasher = DefaultHasher::new();
+        hasher.write_u64(self.seed);
+        hasher
+    }
+}
