@@ -1,11 +1,11 @@
 #!/usr/bin/env python3
 """Makes a whole feed without fault, of any number of stop times, and times commands over it.
 
-  whole_feed.py FOLDER ROWS [--prefix BYTES] [COMMAND ..]
+  whole_feed.py FOLDER ROWS [--prefix BYTES] [--names COUNT] [COMMAND ..]
 
 Trips have 25 calls, stops are a fiftieth of the stop times, and rows of trips and stops are shuffled. --prefix puts so
-many equal bytes before each id, so that ids differ only at their ends. Without a command the files are read by Python's
-csv.reader alone.
+many equal bytes before each id, so that ids differ only at their ends. --names gives the feed so many services. Without a
+command the files are read by Python's csv.reader alone.
 """
 import csv
 import os
@@ -28,7 +28,7 @@ def write(folder, name, header, rows):
         file.writelines(row + "\n" for row in rows)
 
 
-def make(folder, rows, prefix):
+def make(folder, rows, prefix, names):
     os.makedirs(folder, exist_ok=True)
     rng = random.Random(1)
     stops = [f"{prefix}S{n:06}" for n in range(max(CALLS, rows // 50))]
@@ -48,7 +48,8 @@ def make(folder, rows, prefix):
     write(folder, "stops.txt", "stop_id,stop_name,location_type", (f"{it},Stop {n},0" for n, it in enumerate(stops)))
     write(folder, "trips.txt", "route_id,service_id,trip_id", (f"R{n % 500},W,{it}" for n, it in enumerate(shuffled)))
     write(folder, "routes.txt", "route_id,route_type,network_id", (f"R{n},3,bus" for n in range(500)))
-    write(folder, "calendar_dates.txt", "service_id,date,exception_type", ["W,20250602,1"])
+    services = ["W"] + [f"{prefix}service {n:07}" for n in range(1, names)]
+    write(folder, "calendar_dates.txt", "service_id,date,exception_type", (f"{it},20250602,1" for it in services))
     write(folder, "fare_products.txt", "fare_product_id,amount,currency", ["single,2.50,EUR"])
     write(folder, "fare_leg_rules.txt", "network_id,fare_product_id", ["bus,single"])
 
@@ -65,7 +66,10 @@ def main():
     prefix = ""
     if words[:1] == ["--prefix"]:
         prefix, words = "x" * int(words[1]), words[2:]
-    make(folder, rows, prefix)
+    names = 1
+    if words[:1] == ["--names"]:
+        names, words = int(words[1]), words[2:]
+    make(folder, rows, prefix, names)
     size = sum(os.path.getsize(f"{folder}/{it}") for it in os.listdir(folder))
     start = time.perf_counter()
     if words:
