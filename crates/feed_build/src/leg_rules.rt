@@ -11,6 +11,7 @@ ghost use Rattle.feed_faults.specs.AcceptedFeed.{
 };
 ghost use Rattle.feed_build.specs.FeedNames.{AreNamesOf};
 
+use crate::MOST_INT;
 use crate::names::Names;
 use crate::numbering::Numbering;
 use crate::routes::network_of_name;
@@ -19,9 +20,6 @@ use feed_tables::{IdIndex, Tables};
 use feed_text::{is_filled, optional_int};
 use std::alloc::{AllocError, Global};
 use transit_base::{AreaId, FrameId, LegGroupId, ProductId};
-
-// The greatest integer of a column without a limit of its own.
-const MOST_INT: u32 = 2_147_483_647;
 
 // The area of an id, where it is filled.
 fn area_of(areas: &IdIndex, id: &[u8]) -> Option<AreaId>

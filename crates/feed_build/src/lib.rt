@@ -15,5 +15,8 @@ mod stop_times;
 mod stops;
 mod trips;
 
+// The greatest integer of a column without a limit of its own.
+const MOST_INT: u32 = 2_147_483_647;
+
 pub use feed::feed_of_tables;
 pub use stop_times::stop_time_rows;

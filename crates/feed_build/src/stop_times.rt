@@ -6,14 +6,12 @@ ghost use Rattle.feed_faults.specs.AcceptedFeed.{permits, stop_time_row, rows_of
 ghost use Rattle.feed_tables.specs.TableIds.{AreIdsOf};
 ghost use Rattle.feed_build.specs.CallTrips.{trip_of_call, IsTripBefore};
 
+use crate::MOST_INT;
 use feed_rows::{ColumnName, StopTimeRow, StopTimeRows};
 use feed_tables::{IdIndex, TableIds, Tables};
 use feed_text::{int_or_past, optional_int, time_of};
 use std::alloc::{AllocError, Global};
 use transit_base::{StopId, TripId};
-
-// The greatest sequence.
-const MOST_INT: u32 = 2_147_483_647;
 
 // The greatest time, 167:59:59, in seconds.
 const MOST_TIME: u32 = 604_799;

@@ -2,14 +2,13 @@
 use Rattle.std.proofs.Common.{◌≡◌, refl, sym, ◌∙◌, ap, ℕ, ◌<◌, Bool, true, false, List, length, get_or, arith}
 use Rattle.std.specs.Prelude.{◌==◌, ◌&&◌, nat_lt, bytes_eq, Option, Some, None}
 use Rattle.std.proofs.lemmas.Bool.Decides.{nat_tests}
-use Rattle.std.proofs.lemmas.Option.{same_Some, slice_get-get_or}
 use Rattle.std.proofs.lemmas.Slice.Eq.{bytes_eq-Decides}
 use Rattle.feed_rows.specs.declared.rows.StopTimeRow.{StopTimeRow}
 use Rattle.feed_rows.specs.declared.names.ColumnName.{ColumnName}
 use Rattle.feed_rows.specs.declared.names.ColumnName.TheVariants.{TripId, StopId}
 use Rattle.feed_rows.specs.Words.{list_below, filled_and}
 use Rattle.feed_rows.proofs.BelowLaws.{find_below_tells}
-use Rattle.feed_rows.proofs.GroupLaws.{length-list_below, slice_get-list_below, list_below-same}
+use Rattle.feed_rows.proofs.GroupLaws.{length-list_below, list_below-same}
 use Rattle.feed_faults.specs.Records.{FileTable, row_count, field, is_filled}
 use Rattle.feed_faults.specs.FeedTables.{FeedTables}
 use Rattle.feed_faults.specs.FieldValues.{stop_kind}
@@ -18,6 +17,7 @@ use Rattle.feed_faults.specs.StopTimeLinks.{stop_time_of, stop_times_of, is_at_p
 use Rattle.feed_faults.specs.AcceptedFeed.{row_number, rows_of, stop_time_row}
 use Rattle.stop_order.specs.declared.times.OrderFaults.{OrderFaults}
 use Rattle.stop_order.specs.Numbered.{no_time, numbered_at, named_time, named_times, IsOneTrip, no_faults, faults_at}
+use Rattle.trip_order.proofs.SortLaws.{get_or-list_below}
 use Rattle.stop_order.proofs.PlaceLaws.{same_test}
 use Rattle.feed_links.specs.JudgedBy.{AreCallsNamed, are_platforms}
 
@@ -65,18 +65,12 @@ one_text table name a b filled known same = step (row_of table name a) refl (row
         absurd (omega arith)
     step o ea None eb = absurd (let no' : true ≡ false = rw (filled, eb) at known in cc)
 
--- a list that is made number by number
-at_below : {X : Type 0} (n : ℕ) (f : ℕ → X) (i : ℕ) (d : X) → i < n → get_or (list_below n f) i d ≡ f i
-at_below n f i d lt =
-    same_Some (get_or (list_below n f) i d) (f i)
-    (sym (slice_get-get_or (list_below n f) i d (let long = length-list_below n f in omega arith)) ∙ slice_get-list_below n f i lt)
-
 -- the rows of stop_times.txt
 pub length_rows : (t : FeedTables) (rows : List StopTimeRow) → rows ≡ rows_of t.stop_times (stop_time_row t) → length rows ≡ row_count t.stop_times
 length_rows t rows e = ap length e ∙ length-list_below (row_count t.stop_times) (stop_time_row t)
 
 pub row_is : (t : FeedTables) (rows : List StopTimeRow) (row : ℕ) (d : StopTimeRow) → rows ≡ rows_of t.stop_times (stop_time_row t) → row < row_count t.stop_times → get_or rows row d ≡ stop_time_row t row
-row_is t rows row d e lt = ap (λ xs. get_or xs row d) e ∙ at_below (row_count t.stop_times) (stop_time_row t) row d lt
+row_is t rows row d e lt = ap (λ xs. get_or xs row d) e ∙ get_or-list_below (row_count t.stop_times) (stop_time_row t) row d lt
 
 -- the stop of a row is a platform where its number is that of one
 pub platform_by_number : (t : FeedTables) (row : ℕ) (platforms : List Bool) → platforms ≡ are_platforms t.stops
@@ -96,7 +90,7 @@ platform_by_number t row platforms e = step (row_of t.stops StopId id) refl
     step : (o : Option ℕ) → row_of t.stops StopId id ≡ o → (nat_lt (row_number t.stops StopId id) (length platforms) && get_or platforms (row_number t.stops StopId id) false) ≡ filled_and (row_of t.stops StopId id) kinds
     step (Some stop) is =
         let lt = (row_tells t.stops StopId id stop is).0 in
-        rw (is, long, less stop (row_count t.stops) lt) (ap (λ xs. get_or xs stop false) e ∙ at_below (row_count t.stops) kinds stop false lt)
+        rw (is, long, less stop (row_count t.stops) lt) (ap (λ xs. get_or xs stop false) e ∙ get_or-list_below (row_count t.stops) kinds stop false lt)
     step None is = rw (is, long, itself (row_count t.stops)) refl
 
 module _ (t : FeedTables) (named : AreCallsNamed t) where
@@ -108,7 +102,7 @@ module _ (t : FeedTables) (named : AreCallsNamed t) where
 
   trip_is : (row : ℕ) → row < row_count t.stop_times → (numbered_at rows row).trip.0 ≡ row_number t.trips TripId (text row)
   unfolding stop_time_row
-  trip_is row lt = ap (λ (x : StopTimeRow). x.trip.0) (at_below (row_count t.stop_times) (stop_time_row t) row no_time lt)
+  trip_is row lt = ap (λ (x : StopTimeRow). x.trip.0) (get_or-list_below (row_count t.stop_times) (stop_time_row t) row no_time lt)
 
   -- the rows of a trip that is there are those with its number
   one_trip : (row : ℕ) → row < row_count t.stop_times → is_unknown t.trips TripId (text row) ≡ false → IsOneTrip rows text row
@@ -125,7 +119,7 @@ module _ (t : FeedTables) (named : AreCallsNamed t) where
   unfolding stop_times_of stop_time_of stop_time_row
   named_is =
       ap (λ n. list_below n (named_time rows text)) (length-list_below (row_count t.stop_times) (stop_time_row t))
-      ∙ list_below-same (row_count t.stop_times) (named_time rows text) (stop_time_of t.stop_times) (λ row lt. rw (at_below (row_count t.stop_times) (stop_time_row t) row no_time lt) refl)
+      ∙ list_below-same (row_count t.stop_times) (named_time rows text) (stop_time_of t.stop_times) (λ row lt. rw (get_or-list_below (row_count t.stop_times) (stop_time_row t) row no_time lt) refl)
 
   -- what is said of each row with every text is said of the file's rows whose trip is there
   pub judged : (faults : List OrderFaults)

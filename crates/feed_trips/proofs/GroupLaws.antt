@@ -1,11 +1,13 @@
 -- Groups of items: where they begin, and what is in them.
-use Rattle.std.proofs.Common.{◌≡◌, refl, sym, ◌∙◌, ap, ℕ, zero, suc, ◌+◌, ◌-◌, ◌<◌, ◌≤◌, ◌⊎◌, inl, inr, Bool, true, false, ◌==◌, nat_lt, List, [], ◌∷◌, ◌++◌, length, get_or, take, drop, map, filter, arith}
+use Rattle.std.proofs.Common.{◌≡◌, refl, sym, ap, ℕ, zero, suc, ◌+◌, ◌-◌, ◌<◌, ◌≤◌, ◌⊎◌, inl, inr, Bool, true, false, ◌==◌, nat_lt, List, [], ◌∷◌, ◌++◌, length, get_or, take, drop, map, filter, arith}
 use Rattle.std.specs.Prelude.{slice_range}
 use Rattle.std.specs.List.Sorted.{IsNonDecreasing, IsNonDecreasingBy}
 use Rattle.std.proofs.lemmas.Bool.{cases_lt, cases_eq}
 use Rattle.std.proofs.lemmas.Bool.Decides.{nat_tests}
-use Rattle.std.proofs.lemmas.List.{length_push, length-map, length-append, length-take, length-drop, take-append-le, drop-append-le, take_all, drop_at, get_or_append_left, get_or_at}
+use Rattle.std.proofs.lemmas.List.{length-map, length-append, length-take, length-drop, take-append-le, drop-append-le, take_all, drop_at}
 use Rattle.feed_rows.specs.Words.{list_below, joined_below}
+use Rattle.feed_rows.proofs.GroupLaws.{length-list_below}
+use Rattle.trip_order.proofs.SortLaws.{get_or-list_below}
 use Rattle.feed_trips.specs.Groups.{count_less, IsGroup, group, IsGroupOf}
 
 -- a list that ascends does so without its first item
@@ -110,22 +112,6 @@ module _ {X : Type 0} (key : X → ℕ) where
           let rest' : take (count_less (map key xs) (n + 1)) xs ≡ filter (λ y. key y == n) xs = rw whole at (rw none at rest) in
           let same : suc (count_less (map key xs) (n + 1)) - 0 ≡ suc (count_less (map key xs) (n + 1)) = omega arith in
           rw (a, b, here, none, same) (ap (λ ys. x ∷ ys) rest')
-
-module _ {X : Type 0} where
-  -- a list made number by number
-  pub length-list_below : (n : ℕ) (f : ℕ → X) → length (list_below n f) ≡ n
-  length-list_below zero f = refl
-  length-list_below (suc n) f = let before = length-list_below n f in length_push (list_below n f) (f n) ∙ omega arith
-
-  pub get_or-list_below : (n : ℕ) (f : ℕ → X) (i : ℕ) (d : X) → i < n → get_or (list_below n f) i d ≡ f i
-  get_or-list_below zero f i d lt = absurd (omega arith)
-  get_or-list_below (suc n) f i d lt = step (get_or-list_below n f i d) (cases_eq i n)
-    where
-      step : (i < n → get_or (list_below n f) i d ≡ f i) → (i ≡ n) ⊎ (i ≡ n → ⊥) → get_or (list_below (suc n) f) i d ≡ f i
-      step before (inl same) = rw same (get_or_at (list_below n f) (f n) [] d n (length-list_below n f))
-      step before (inr apart) =
-          let long = length-list_below n f in
-          get_or_append_left (list_below n f) (f n ∷ []) d i (omega arith) ∙ before (omega arith)
 
 -- items in order of their keys lie in groups
 pub groups_of_keys : {X : Type 0} (key : X → ℕ) (items : List X) (starts : List ℕ) (groups at : ℕ) → IsNonDecreasingBy key items → starts ≡ list_below (groups + 1) (count_less (map key items)) → at < groups

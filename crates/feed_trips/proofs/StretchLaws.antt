@@ -15,11 +15,13 @@ use Rattle.feed_rows.specs.CallWalk.{walk}
 use Rattle.feed_rows.specs.SoundFeed.{IsSoundFeed}
 use Rattle.feed_rows.specs.TimedTrips.{HasTimedEnds, DoTimesRise}
 use Rattle.feed_rows.specs.Words.{list_below, joined_below}
+use Rattle.feed_rows.proofs.GroupLaws.{length-list_below}
 use Rattle.feed_rows.proofs.CallLaws.{calls_of-walk}
 use Rattle.feed_rows.proofs.SoundTrips.{sound_ends, sound_rise}
+use Rattle.trip_order.proofs.SortLaws.{get_or-list_below}
 use Rattle.feed_trips.specs.declared.together.Stretch.{Stretch}
 use Rattle.feed_trips.specs.Tables.{AreCallsOf}
-use Rattle.feed_trips.proofs.GroupLaws.{get_or-list_below, length-list_below, groups_joined}
+use Rattle.feed_trips.proofs.GroupLaws.{groups_joined}
 use Rattle.feed_trips.specs.Stretches.{no_stretch, rows_of, rows_at, IsStretch, AreStretches, AreTimed}
 
 hit : (a b : ℕ) → a ≡ b → (a == b) ≡ true

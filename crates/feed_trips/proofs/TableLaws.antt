@@ -25,7 +25,9 @@ use Rattle.feed_rows.proofs.TripLaws.{IsInOrder, trip_stop_times_of_sorted}
 use Rattle.feed_trips.specs.Groups.{count_less, IsGroup, group, IsGroupOf}
 use Rattle.feed_trips.specs.Runs.{IsSoundRun}
 use Rattle.feed_trips.specs.Tables.{AreCallsOf, AreRunTables}
-use Rattle.feed_trips.proofs.GroupLaws.{count_less_zero, get_or-list_below, length-list_below, groups_of_keys, length-group, groups_joined}
+use Rattle.feed_rows.proofs.GroupLaws.{length-list_below}
+use Rattle.trip_order.proofs.SortLaws.{get_or-list_below}
+use Rattle.feed_trips.proofs.GroupLaws.{count_less_zero, groups_of_keys, length-group, groups_joined}
 use Rattle.feed_trips.proofs.OrderLaws.{trips_rise}
 
 -- the walk makes a call of each row

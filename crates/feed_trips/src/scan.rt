@@ -1,34 +1,10 @@
-//! The times of a stop time, and the next stop time that has one.
+//! The next stop time that has a time.
 ghost use Rattle.std.specs.Prelude.{◌≡◌, ◌<◌, ◌≤◌, length};
-ghost use Rattle.feed_rows.specs.Calls.{
-  first_time as first_time_of,
-  last_time as last_time_of,
-  is_timed as is_row_timed,
-};
+ghost use Rattle.feed_rows.specs.Calls.{first_time as first_time_of};
 ghost use Rattle.feed_rows.specs.CallWalk.{next_timed, time_at};
 
 use feed_rows::StopTimeRow;
-
-// When a row is reached, in seconds of the service day.
-pub fn first_time(row: StopTimeRow) -> Option<u32>
-    ensures { result ≡ first_time_of row }
-{
-    row.arrival.or(row.departure)
-}
-
-// When a row is left, in seconds of the service day.
-pub fn last_time(row: StopTimeRow) -> Option<u32>
-    ensures { result ≡ last_time_of row }
-{
-    row.departure.or(row.arrival)
-}
-
-// Whether a row has a time.
-pub fn is_timed(row: StopTimeRow) -> bool
-    ensures { result ≡ is_row_timed row }
-{
-    first_time(row).is_some()
-}
+use trip_order::{first_time, is_timed};
 
 // The next position after a position that has a time; the number of rows where there is none.
 #[tactic(auto, using(feed_rows::proofs::TimedLaws::next_timed_hit, feed_rows::proofs::TimedLaws::next_timed_end, feed_rows::proofs::TimedLaws::untimed_more, feed_rows::proofs::TimedLaws::is_timed_at_row))]

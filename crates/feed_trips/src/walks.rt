@@ -4,9 +4,10 @@ ghost use Rattle.feed_rows.specs.Calls.{time_between};
 ghost use Rattle.feed_rows.specs.CallWalk.{walk};
 ghost use Rattle.feed_rows.specs.TimedTrips.{HasTimedEnds, DoTimesRise};
 
-use crate::scan::{first_time, first_time_at, is_timed, last_time, next_position};
+use crate::scan::{first_time_at, next_position};
 use feed_rows::{Call, StopTimeRow};
 use std::alloc::AllocError;
+use trip_order::{first_time, is_timed, last_time};
 
 // The time at a position between two timed ones, which are left and reached at these seconds of the service day.
 fn filled_time(before: usize, position: usize, after: usize, left: u32, reached: u32) -> u32

@@ -1,5 +1,5 @@
 //! The bytes of a feed's files.
-ghost use Rattle.std.specs.Prelude.{◌≡◌, ◌≢◌, ◌<◌, List, ℕ, length, IfOk, IsTrue, Some, slice_set, replicate};
+ghost use Rattle.std.specs.Prelude.{◌≡◌, ◌≢◌, ◌<◌, List, ℕ, length, IfOk, IsTrue, Some, slice_set, replicate, true};
 ghost use Rattle.folder_io.specs.FilePlaces.{place, file_named};
 
 use feed_rows::FileName;
@@ -107,10 +107,12 @@ impl Files {
     }
 
     /// Replaces what is known of the file.
+    #[tactic(auto, using(crate::proofs::WholeLaws::whole_put))]
     pub fn put(&mut self, name: FileName, bytes: FileBytes)
         ensures list { self.new ≡ slice_set self.old (place name) bytes }
         ensures value { file_in self.new name ≡ bytes }
         ensures others { (other : FileName) → place other ≢ place name → file_in self.new other ≡ file_in self.old other }
+        ensures whole { are_whole self.old ≡ true → is_whole bytes ≡ true → are_whole self.new ≡ true }
     {
         self.files[name as usize] = bytes;
     }

@@ -1,4 +1,3 @@
 pub mod WrittenLaws
 pub mod CauseLaws
 pub mod PlainLaws
-pub mod WholeLaws

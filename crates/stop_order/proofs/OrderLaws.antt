@@ -14,7 +14,7 @@ use Rattle.stop_order.specs.Numbered.{numbered_at, named_time, named_times, IsOn
 use Rattle.trip_order.specs.Order.{key_at, AreSorted}
 use Rattle.stop_order.specs.Order.{goes_on, repeats, goes_further, is_timed_place, latest_timed, falls_behind, place_faults}
 use Rattle.trip_order.proofs.SortLaws.{length_sorted, key_is, place_of, in_order, Precedes}
-use Rattle.stop_order.proofs.PlaceLaws.{same_test, at_and-list_below, Before, trip, sequence, timed, comes_hit, comes_told_first, comes_told_last, same_hit, same_told}
+use Rattle.stop_order.proofs.PlaceLaws.{same_test, at_and-list_below, Before, trip, sequence, timed, comes_hit, comes_told_first, comes_told_last, same_hit, same_told, timed_alike}
 
 -- the last timed place is one of the places
 pub latest_within : (times : List StopTimeRow) (keys : List PlaceKey) (place : ℕ) (latest : Option ℕ) → latest ≡ latest_timed times keys place → place < length keys → IfSome latest (λ q. q < length keys)
@@ -330,6 +330,7 @@ module _ (times : List StopTimeRow) (keys : List PlaceKey) (are : AreSorted time
   unfolding is_end_time_missing
   missing_is =
       ap (λ (b : Bool). b && (is_first rows (row p) || is_last rows (row p))) (at_and-list_below (length times) (named_time times text) (row p) (λ x. not (is_timed x)) (within p below))
+      ∙ ap (λ (b : Bool). not b && (is_first rows (row p) || is_last rows (row p))) (timed_alike times text (row p))
       ∙ rw (first_is, last_is) refl
 
   -- all that is wrong at a place

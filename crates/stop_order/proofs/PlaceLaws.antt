@@ -1,6 +1,7 @@
 -- Named stop times by their rows: to come before another, and to be of one trip, by numbers.
 use Rattle.std.proofs.Common.{◌≡◌, refl, sym, ◌∙◌, ℕ, ◌<◌, ◌⊎◌, Bool, true, false, List, length, arith}
-use Rattle.std.specs.Prelude.{◌==◌, ◌&&◌, ◌||◌, nat_lt, bytes_eq}
+use Rattle.std.specs.Prelude.{◌==◌, ◌&&◌, ◌||◌, nat_lt, bytes_eq, is_some, Option, None, Some}
+use Rattle.std.specs.Option.{option_or}
 use Rattle.std.proofs.lemmas.Bool.{and_parts, and_from}
 use Rattle.std.proofs.lemmas.Bool.Decides.{nat_tests}
 use Rattle.std.proofs.lemmas.Slice.Eq.{bytes_eq-Decides}
@@ -42,6 +43,11 @@ before_told s t a b e = grind (arith, nat_tests, e)
 before_hit : (s t a b : ℕ) → Before s t a b → (nat_lt s t || ((s == t) && nat_lt a b)) ≡ true
 before_hit s t a b e = grind (arith, nat_tests, e)
 
+-- there is a first time where there is either
+some_time : (arrival departure : Option ℕ) → is_some arrival || is_some departure ≡ is_some (option_or arrival departure)
+some_time None departure = refl
+some_time (Some time) departure = refl
+
 module _ (times : List StopTimeRow) (text : ℕ → List ℕ) where
   -- the number of a row's trip, and its sequence
   abbrev pub trip : ℕ → ℕ
@@ -56,8 +62,11 @@ module _ (times : List StopTimeRow) (text : ℕ → List ℕ) where
       at_and-list_below (length times) (named_time times text) a (λ x. at_and (named_times times text) b (λ y. test x y)) la
       ∙ at_and-list_below (length times) (named_time times text) b (λ y. test (named_time times text a) y) lb
 
+  pub timed_alike : (a : ℕ) → is_timed (named_time times text a) ≡ is_set (numbered_at times a)
+  timed_alike a = some_time (numbered_at times a).arrival (numbered_at times a).departure
+
   pub timed : (a : ℕ) → a < length times → at_and (named_times times text) a is_timed ≡ is_set (numbered_at times a)
-  timed a lt = at_and-list_below (length times) (named_time times text) a is_timed lt
+  timed a lt = at_and-list_below (length times) (named_time times text) a is_timed lt ∙ timed_alike a
 
   module _ (row : ℕ) (within : row < length times) (one : IsOneTrip times text row) where
     -- a row of the trip has its text

@@ -1,10 +1,10 @@
 -- Stop times whose trips are numbers, and what is wrong with them under the texts of their trips.
-use Rattle.std.specs.Prelude.{◌≡◌, ℕ, ◌<◌, ◌==◌, ◌||◌, Bool, false, List, length, bytes_eq, is_some, Option}
-use Rattle.std.specs.Option.{option_or}
+use Rattle.std.specs.Prelude.{◌≡◌, ℕ, ◌<◌, ◌==◌, false, List, length, bytes_eq}
 use Rattle.feed_rows.specs.Words.{list_below}
 use Rattle.feed_faults.specs.RowKeys.{is_repeated}
 use Rattle.feed_faults.specs.StopTimeLinks.{StopTime, same_place, is_end_time_missing, do_times_decrease}
 use Rattle.feed_rows.specs.declared.rows.StopTimeRow.{StopTimeRow}
+pub use Rattle.feed_rows.specs.Calls.{first_time as first_of_times, last_time as last_of_times, is_timed as is_set}
 pub use Rattle.trip_order.specs.Order.{no_time, numbered_at}
 use Rattle.stop_order.specs.declared.times.OrderFaults.{OrderFaults}
 
@@ -40,13 +40,3 @@ faults_at times row =
 -- no fault
 abbrev pub no_faults : OrderFaults
 no_faults = record { is_repeated = false; is_end_time_missing = false; do_times_decrease = false }
-
--- a row has at least one time; its first time, and its last
-abbrev pub is_set : StopTimeRow → Bool
-is_set x = is_some x.arrival || is_some x.departure
-
-abbrev pub first_of_times : StopTimeRow → Option ℕ
-first_of_times x = option_or x.arrival x.departure
-
-abbrev pub last_of_times : StopTimeRow → Option ℕ
-last_of_times x = option_or x.departure x.arrival

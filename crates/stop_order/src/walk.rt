@@ -4,10 +4,10 @@ ghost use Rattle.trip_order.specs.Order.{AreSorted};
 ghost use Rattle.stop_order.specs.Numbered.{named_times, IsOneTrip, faults_at, no_faults};
 ghost use Rattle.stop_order.specs.Order.{time_at, goes_on, repeats, goes_further, falls_behind, latest_timed, place_faults};
 
-use crate::times::{OrderFaults, first_time, is_earlier, is_timed, last_time};
+use crate::times::{OrderFaults, is_earlier};
 use feed_rows::StopTimeRow;
 use std::alloc::{AllocError, Global};
-use trip_order::{PlaceKey, sorted_keys};
+use trip_order::{PlaceKey, first_time, is_timed, last_time, sorted_keys};
 
 // The stop time at a place of the order.
 #[tactic(auto, using(trip_order::proofs::SortLaws::row_within))]

@@ -1,14 +1,15 @@
 -- What a sort of the keys of all rows gives: each row has one place, and places ascend strictly.
-use Rattle.std.proofs.Common.{◌≡◌, refl, sym, ◌∙◌, ap, ℕ, zero, suc, ◌+◌, ◌<◌, ◌⊎◌, inl, inr, ⊎_elim, Bool, false, List, [], ◌∷◌, length, get_or, All, Contains, arith}
+use Rattle.std.proofs.Common.{◌≡◌, refl, sym, ◌∙◌, ap, ℕ, zero, suc, ◌+◌, ◌<◌, ◌⊎◌, ⊎_elim, Bool, false, List, length, get_or, All, Contains, arith}
 use Rattle.std.specs.Prelude.{◌==◌}
 use Rattle.std.specs.List.{IsDistinct}
 use Rattle.std.proofs.lemmas.Bool.{cases_eq}
 use Rattle.std.proofs.lemmas.Bool.Decides.{nat_tests}
-use Rattle.std.proofs.lemmas.List.{get_or_default, get_or_push, get_or_append_left}
+use Rattle.std.proofs.lemmas.List.{get_or_default}
 use Rattle.std.proofs.lemmas.List.Sorted.{length_permutation, All-permutation, Contains-permutation}
+use Rattle.std.proofs.lemmas.Option.{same_Some, slice_get-get_or}
 use Rattle.std.proofs.lemmas.Map.Keys.{IsDistinct-from_apart, IsDistinct-IsPermutation, apart_from_distinct}
 use Rattle.feed_rows.specs.Words.{list_below}
-use Rattle.feed_rows.proofs.GroupLaws.{length-list_below}
+use Rattle.feed_rows.proofs.GroupLaws.{length-list_below, slice_get-list_below}
 use Rattle.feed_rows.specs.declared.rows.StopTimeRow.{StopTimeRow}
 use Rattle.trip_order.specs.declared.keys.PlaceKey.{PlaceKey}
 use Rattle.trip_order.specs.Order.{key_of, no_key, key_at, Follows, AreSorted}
@@ -27,13 +28,10 @@ far keys next i (suc j) lt below =
     (cases_eq i j)
 
 -- an item of a list that is made number by number
-get_or-list_below : {X : Type 0} (n : ℕ) (f : ℕ → X) (i : ℕ) (d : X) → i < n → get_or (list_below n f) i d ≡ f i
-get_or-list_below zero f i d lt = absurd (omega arith)
-get_or-list_below {X} (suc n) f i d lt = step (length-list_below n f) (get_or-list_below n f i d) (cases_eq i n)
-  where
-    step : length (list_below n f) ≡ n → (i < n → get_or (list_below n f) i d ≡ f i) → (i ≡ n) ⊎ (i ≡ n → ⊥) → get_or (list_below (suc n) f) i d ≡ f i
-    step long before (inl same) = rw same (get_or_push (list_below n f) (f n) d n long)
-    step long before (inr other) = let below : i < n = omega arith in get_or_append_left (list_below n f) (f n ∷ []) d i (omega (arith, long)) ∙ before below
+pub get_or-list_below : {X : Type 0} (n : ℕ) (f : ℕ → X) (i : ℕ) (d : X) → i < n → get_or (list_below n f) i d ≡ f i
+get_or-list_below n f i d lt =
+    same_Some (get_or (list_below n f) i d) (f i)
+    (sym (slice_get-get_or (list_below n f) i d (let long = length-list_below n f in omega arith)) ∙ slice_get-list_below n f i lt)
 
 abbrev same_row : PlaceKey → PlaceKey → Bool
 same_row a b = a.row == b.row
