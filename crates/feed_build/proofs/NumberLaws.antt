@@ -1,5 +1,5 @@
 -- Names by their places, as a set of them has them.
-use Rattle.std.proofs.Common.{◌≡◌, refl, sym, subst, ◌∙◌, ap, ℕ, ◌+◌, ◌<◌, ◌≤◌, List, [], ◌∷◌, ◌++◌, take, length, map, get_or, Bool, true, false, Option, Some, None, Bor, is_some, position, bytes_eq, true≢false, arith}
+use Rattle.std.proofs.Common.{◌≡◌, refl, sym, subst, ◌∙◌, ap, ℕ, ◌+◌, ◌<◌, List, [], ◌∷◌, ◌++◌, take, length, map, get_or, Bool, true, false, Option, Some, None, Bor, is_some, position, bytes_eq, arith}
 use Rattle.std.specs.List.{All, list_any}
 use Rattle.indexmap.specs.IndexSet.{insert_key}
 use Rattle.std.proofs.lemmas.Grind.{common_steps}
@@ -58,11 +58,6 @@ name_added set name filled = step (position test set) refl
         let any : list_any test set ≡ false = any_placed test set name ∙ ap is_some e in
         let place : place_of_name (names_of set) name.now ≡ None = sym (place_is set name) ∙ e in
         rw (any, filled, place) (map_push (λ k. k.now) set name)
-
--- a filled name has a byte
-pub filled_long : (name : List ℕ) → is_filled name ≡ true → 1 ≤ length name
-filled_long [] wrong = absurd (true≢false (sym wrong))
-filled_long (c ∷ cs) right = omega arith
 
 -- what is so of each name is so of the one at a place
 pub name_at : (P : List ℕ → Type 0) (set : List (Bor (List ℕ))) → All P (names_of set) → (place : ℕ) (d : Bor (List ℕ)) → place < length set → P (get_or set place d).now

@@ -8,7 +8,8 @@ use feed_tables::{NamedTable, Tables};
 use std::hash::{BuildHasher, DefaultHasher, Hasher};
 
 /// A hash with a seed. Names are a stranger's text, and no random number is at hand where a feed is read, so the seed is made
-/// of all the names of the feed: names that are chosen to collide by one seed make another one.
+/// of all the names of the feed: whoever chooses names to collide changes the seed by them. That makes a slow feed hard to
+/// find, and isn't a promise that there is none.
 #[derive(Clone, Copy)]
 pub struct NameHash {
     seed: u64,
