@@ -3,6 +3,7 @@ pub mod FirstLaws
 pub mod WordChecks
 pub mod TextChecks
 pub mod TransferLaws
+pub mod SelectionLaws
 pub mod EntryChecks
 pub mod BaseFeed
 pub mod WorkedRides

@@ -49,15 +49,26 @@ elapsed kind change = counted_to kind change -ℤ counted_from kind change
 unfoldable pub limit_holds : TransferFacts → Limit → Bool
 limit_holds change limit = int_le (elapsed limit.kind change) (pos limit.seconds)
 
+-- a change as a row is asked about it: the groups of its two legs, its count, and which limits hold
+pub record AskedChange : Type 0 where
+  pub from : LegGroupId
+  pub to : LegGroupId
+  pub count : ℕ
+  pub holds : Limit → Bool
+
+-- a change between legs whose moments are known: its limits hold by the seconds elapsed
+abbrev pub asked_of : TransferFacts → AskedChange
+asked_of change = record { from = change.from; to = change.to; count = change.count; holds = limit_holds change }
+
 -- the row is a candidate for the change: its groups match, and its limit is empty or holds
-unfoldable pub is_candidate : FeedRows → TransferFacts → TransferRuleRow → Bool
+unfoldable pub is_candidate : FeedRows → AskedChange → TransferRuleRow → Bool
 is_candidate feed change row =
     group_matches feed (λ r. r.from) row.from change.from
     && group_matches feed (λ r. r.to) row.to change.to
-    && empty_or row.limit (limit_holds change)
+    && empty_or row.limit change.holds
 
 -- the row is a candidate whose count is at least the change's; an empty count is unlimited
-unfoldable pub suffices : FeedRows → TransferFacts → TransferRuleRow → Bool
+unfoldable pub suffices : FeedRows → AskedChange → TransferRuleRow → Bool
 suffices feed change row = is_candidate feed change row && empty_or row.count (nat_le change.count)
 
 -- the one count is at most the other; an empty one is greater than every number
@@ -67,13 +78,17 @@ count_le None (Some n) = false
 count_le (Some m) (Some n) = nat_le m n
 
 -- no candidate whose count suffices has a lesser one
-unfoldable pub is_least_count : FeedRows → TransferFacts → Option ℕ → Bool
+unfoldable pub is_least_count : FeedRows → AskedChange → Option ℕ → Bool
 is_least_count feed change count =
     list_all (λ row. not (suffices feed change row) || count_le count row.count) feed.transfer_rules
 
--- the row is selected for the change: its count suffices, and is the least among those that do
+-- the row is selected: its count suffices, and is the least among those that do
+abbrev pub is_selected : FeedRows → AskedChange → TransferRuleRow → Bool
+is_selected feed change row = suffices feed change row && is_least_count feed change row.count
+
+-- the row is selected for the change by the moments of its legs
 unfoldable pub is_selected_transfer : FeedRows → TransferFacts → TransferRuleRow → Bool
-is_selected_transfer feed change row = suffices feed change row && is_least_count feed change row.count
+is_selected_transfer feed change row = is_selected feed (asked_of change) row
 
 -- the rows that are selected for a change, in file order
 abbrev pub selected_transfers : FeedRows → TransferFacts → List XferId
