@@ -40,6 +40,7 @@ pub mod JourneyLaws
 pub mod FareLaws
 pub mod SumLaws
 pub mod ChoiceLaws
+pub mod LeastPriceLaws
 pub mod TextMaps
 pub mod GroupLaws
 pub mod StopSetLaws

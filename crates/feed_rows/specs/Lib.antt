@@ -19,6 +19,7 @@ pub mod TransferRules
 pub mod FareChoices
 pub mod FareSums
 pub mod FareWalk
+pub mod LeastPrices
 pub mod ParetoTriples
 pub mod JourneyEntries
 pub mod UsageFaults

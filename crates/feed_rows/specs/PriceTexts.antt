@@ -1,5 +1,5 @@
 -- The least price of given rides, and its printed text.
-use Rattle.std.specs.Prelude.{◌≡◌, ℕ, ◌+◌, ◌<◌, ◌⊎◌, All, IsTrue, List, [], ◌∷◌, ◌++◌, length, Option, Some, None, ℤ, ◌≤ℤ◌, codes, decimal}
+use Rattle.std.specs.Prelude.{◌≡◌, ℕ, ◌+◌, ◌<◌, ◌⊎◌, All, IsTrue, List, [], ◌∷◌, ◌++◌, length, Option, Some, None, ℤ, codes, decimal}
 use Rattle.std.specs.List.{concat}
 use Rattle.transit_base.specs.declared.numbers.RiderId.{RiderId}
 use Rattle.feed_rows.specs.declared.journeys.Ride.{Ride}
@@ -8,6 +8,7 @@ use Rattle.feed_rows.specs.FeedRows.{FeedRows}
 use Rattle.feed_rows.specs.Rides.{is_ride}
 use Rattle.feed_rows.specs.Journeys.{catches_next}
 use Rattle.feed_rows.specs.JourneyEntries.{rides_price}
+use Rattle.feed_rows.specs.LeastPrices.{IsLeastBy, HasNoPrice}
 use Rattle.feed_rows.specs.EntryText.{amount_text, currency_text, fare_lines}
 use Rattle.feed_rows.specs.Lines.{line}
 
@@ -17,13 +18,12 @@ pub record AreJoinedRides (feed : FeedRows) (rides : List Ride) : Type 0 where
   pub goes_on : (i : ℕ) → i + 1 < length rides → IsTrue (catches_next feed rides i)
 
 -- the choice pays the rides for the rider at this price, and no other choice pays them at less
-pub record IsLeastPrice (feed : FeedRows) (rides : List Ride) (rider : Option RiderId) (choice : Choice) (price : ℤ) : Type 0 where
-  pub paid : rides_price feed rides choice rider ≡ Some price
-  pub least : (other : Choice) (sum : ℤ) → rides_price feed rides other rider ≡ Some sum → price ≤ℤ sum
+abbrev pub IsLeastPrice : FeedRows → List Ride → Option RiderId → Choice → ℤ → Type 0
+IsLeastPrice feed rides rider choice price = IsLeastBy (λ c. rides_price feed rides c rider) choice price
 
 -- no choice pays the rides for the rider
 abbrev pub IsUncovered : FeedRows → List Ride → Option RiderId → Type 0
-IsUncovered feed rides rider = (choice : Choice) → rides_price feed rides choice rider ≡ None
+IsUncovered feed rides rider = HasNoPrice (λ c. rides_price feed rides c rider)
 
 -- the line of the price of so many rides, and the fare lines of the choice
 unfoldable pub price_text : FeedRows → ℕ → Choice → ℤ → List ℕ
