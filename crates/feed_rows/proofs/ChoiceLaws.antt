@@ -6,7 +6,6 @@ use Rattle.std.proofs.lemmas.List.{length_push}
 use Rattle.transit_base.specs.declared.numbers.RiderId.{RiderId}
 use Rattle.feed_rows.specs.declared.journeys.LegFacts.{LegFacts}
 use Rattle.feed_rows.specs.declared.journeys.Ride.{Ride}
-use Rattle.feed_rows.specs.declared.rows.LegRuleRow.{LegRuleRow}
 use Rattle.feed_rows.specs.declared.fares.ChangeChoice.{ChangeChoice}
 use Rattle.feed_rows.specs.declared.fares.LegChoice.{LegChoice}
 use Rattle.feed_rows.specs.declared.fares.Choice.{Choice}
@@ -15,13 +14,13 @@ use Rattle.feed_rows.specs.Words.{all_below}
 use Rattle.feed_rows.specs.Rides.{ride_facts}
 use Rattle.feed_rows.specs.Journeys.{facts_at}
 use Rattle.feed_rows.specs.Legs.{leg_facts, legs_of}
-use Rattle.feed_rows.specs.TransferRules.{change_at}
-use Rattle.feed_rows.specs.FareChoices.{fare_leg, is_leg_choice, is_change_choice, is_leg_paid, is_change_paid, is_fare_choice}
-use Rattle.feed_rows.specs.FareWalk.{Run, change_to}
+use Rattle.feed_rows.specs.TransferRules.{FareLeg, change_at}
+use Rattle.feed_rows.specs.FareChoices.{chosen_leg, fare_leg, is_leg_choice, is_change_choice, is_leg_paid, is_change_paid, is_fare_choice}
+use Rattle.feed_rows.specs.FareWalk.{Run, change_to, next_run, IsRunAt}
 use Rattle.feed_rows.proofs.WordLaws.{collect_below-same, all_below-same}
 use Rattle.feed_rows.proofs.WalkLaws.{slice_get-append_left}
 use Rattle.feed_rows.proofs.BelowLaws.{slice_get-push_last}
-use Rattle.feed_rows.proofs.FareLaws.{IsRunAt, IsRunAt-prefix, change_at-prefix, change_of_run}
+use Rattle.feed_rows.proofs.FareLaws.{IsRunAt-prefix, change_at-prefix, change_of_run, run_of_next}
 use Rattle.feed_rows.proofs.SumLaws.{IsPushed, slice_get-old_item, slice_get-new_item}
 
 -- the legs of one more ride
@@ -43,23 +42,33 @@ fare_leg-append feed legs more_legs picks more_picks i lt lt' =
     rw (leg, pick) refl
 
 -- the new leg, as changes see it
-pub fare_leg_push : (feed : FeedRows) (legs : List LegFacts) (leg : LegFacts) (picks : List LegChoice) (pick : LegChoice) (rule : LegRuleRow) (n : ℕ) →
-    length legs ≡ n → length picks ≡ n → slice_get feed.leg_rules pick.rule.0 ≡ Some rule →
-    fare_leg feed (legs ++ leg ∷ []) (picks ++ pick ∷ []) n ≡ Some (record { group = rule.group; departure = leg.departure; arrival = leg.arrival })
-fare_leg_push feed legs leg picks pick rule n long long' is =
+pub fare_leg_push : (feed : FeedRows) (legs : List LegFacts) (leg : LegFacts) (picks : List LegChoice) (pick : LegChoice) (n : ℕ) →
+    length legs ≡ n → length picks ≡ n → fare_leg feed (legs ++ leg ∷ []) (picks ++ pick ∷ []) n ≡ chosen_leg feed leg pick
+fare_leg_push feed legs leg picks pick n long long' =
     let last : slice_get (legs ++ leg ∷ []) n ≡ Some leg = slice_get-push_last legs leg _ (sym long) in
     let last_pick : slice_get (picks ++ pick ∷ []) n ≡ Some pick = slice_get-push_last picks pick _ (sym long') in
-    rw (last, last_pick, is) refl
+    rw (last, last_pick) refl
 
--- the change to a new leg is the change from the run of the last
-pub change_at_push : (feed : FeedRows) (legs : List LegFacts) (leg : LegFacts) (picks : List LegChoice) (pick : LegChoice) (rule : LegRuleRow) (n : ℕ) (run : Run) →
-    length legs ≡ suc n → length picks ≡ suc n → slice_get feed.leg_rules pick.rule.0 ≡ Some rule → IsRunAt feed (fare_leg feed legs picks) n run →
-    change_at feed (fare_leg feed (legs ++ leg ∷ []) (picks ++ pick ∷ [])) n ≡ change_to run (record { group = rule.group; departure = leg.departure; arrival = leg.arrival })
-change_at_push feed legs leg picks pick rule n run long long' is at =
-    change_of_run feed (fare_leg feed (legs ++ leg ∷ []) (picks ++ pick ∷ [])) n run _
-    (IsRunAt-prefix feed (fare_leg feed legs picks) (fare_leg feed (legs ++ leg ∷ []) (picks ++ pick ∷ [])) n run
-    (λ j le. sym (fare_leg-append feed legs (leg ∷ []) picks (pick ∷ []) j (omega arith) (omega arith))) at)
-    (fare_leg_push feed legs leg picks pick rule (n + 1) (omega arith) (omega arith) is)
+-- what one more leg does to the run of the last: `run` is that of n + 1 legs, and `next` the new leg as changes see it
+module _ (feed : FeedRows) (legs : List LegFacts) (leg : LegFacts) (picks : List LegChoice) (pick : LegChoice) (n : ℕ) (run : Run) (next : FareLeg)
+    (long : length legs ≡ suc n) (long' : length picks ≡ suc n) (is : chosen_leg feed leg pick ≡ Some next)
+    (at : IsRunAt feed (fare_leg feed legs picks) n run) where
+  new_leg : fare_leg feed (legs ++ leg ∷ []) (picks ++ pick ∷ []) (n + 1) ≡ Some next
+  new_leg = fare_leg_push feed legs leg picks pick (n + 1) (omega arith) (omega arith) ∙ is
+
+  -- the run of the leg before stays
+  pub run_stays : IsRunAt feed (fare_leg feed (legs ++ leg ∷ []) (picks ++ pick ∷ [])) n run
+  run_stays =
+      IsRunAt-prefix feed (fare_leg feed legs picks) (fare_leg feed (legs ++ leg ∷ []) (picks ++ pick ∷ [])) n run
+      (λ j le. sym (fare_leg-append feed legs (leg ∷ []) picks (pick ∷ []) j (omega arith) (omega arith))) at
+
+  -- the run of the new leg is the next run
+  pub run_of_push : IsRunAt feed (fare_leg feed (legs ++ leg ∷ []) (picks ++ pick ∷ [])) (suc n) (next_run feed run next)
+  run_of_push = run_of_next feed (fare_leg feed (legs ++ leg ∷ []) (picks ++ pick ∷ [])) n run next run_stays new_leg
+
+  -- the change to the new leg is the change from the run of the last
+  pub change_at_push : change_at feed (fare_leg feed (legs ++ leg ∷ []) (picks ++ pick ∷ [])) n ≡ change_to run next
+  change_at_push = change_of_run feed (fare_leg feed (legs ++ leg ∷ []) (picks ++ pick ∷ [])) n run next run_stays new_leg
 
 -- the same leg with the same pick is paid in both, or in neither
 same_paid_leg : (feed : FeedRows) (legs legs' : List LegFacts) (a b : Choice) (rider : Option RiderId) (i : ℕ) →

@@ -41,6 +41,7 @@ pub mod FareLaws
 pub mod SumLaws
 pub mod ChoiceLaws
 pub mod LeastPriceLaws
+pub mod StandLaws
 pub mod TextMaps
 pub mod GroupLaws
 pub mod StopSetLaws

@@ -1,6 +1,6 @@
 -- What one more leg does to the sum.
 use Rattle.std.proofs.Common.{◌≡◌, refl, sym, ◌∙◌, ap, ℕ, zero, suc, ◌+◌, ◌<◌, ◌≤◌, Bool, true, false, not, ◌&&◌, ◌||◌, List, [], ◌∷◌, ◌++◌, length, arith, cond}
-use Rattle.std.specs.Prelude.{Option, Some, None, is_none, ℤ, pos, ◌+ℤ◌, ◌-ℤ◌, slice_get}
+use Rattle.std.specs.Prelude.{Option, Some, None, is_none, if◌then◌else◌, ℤ, pos, ◌+ℤ◌, ◌-ℤ◌, slice_get}
 use Rattle.std.proofs.lemmas.Int.{ints}
 use Rattle.std.proofs.lemmas.List.{length_push}
 use Rattle.std.proofs.lemmas.Option.{slice_get_past}
@@ -10,10 +10,30 @@ use Rattle.feed_rows.specs.declared.fares.Choice.{Choice}
 use Rattle.feed_rows.specs.FeedRows.{FeedRows}
 use Rattle.feed_rows.specs.Words.{sum_below}
 use Rattle.feed_rows.specs.FareSums.{transfer_kind, starts_chain, is_charged, amount_of, leg_amount, leg_charge, change_charge, fare_sum}
-use Rattle.feed_rows.specs.FareWalk.{cost, total, held_at, frees_next, frees_first, added, taken_back, next_held, next_total, place_kind, place_charge}
+use Rattle.feed_rows.specs.FareWalk.{held_at, frees_next, frees_first, next_held, next_paid, place_kind, place_charge}
 use Rattle.feed_rows.proofs.WordLaws.{sum_below-same}
 use Rattle.feed_rows.proofs.WalkLaws.{slice_get-append_left}
 use Rattle.feed_rows.proofs.BelowLaws.{slice_get-push_last}
+
+-- what leg i costs, where `kind` gives the type of each change and `amount` the amount of each leg
+abbrev pub cost : (ℕ → Option ℕ) → (ℕ → ℤ) → ℕ → ℤ
+cost kind amount i = if is_charged kind i then amount i else pos 0
+
+-- the sum of n + 1 legs and the n changes between them
+abbrev pub total : (ℕ → Option ℕ) → (ℕ → ℤ) → (ℕ → ℤ) → ℕ → ℤ
+total kind amount change n = sum_below (suc n) (cost kind amount) +ℤ sum_below n change
+
+-- what the leg after a change of this type adds
+abbrev added : Option ℕ → ℤ → ℤ
+added kind amount = if frees_next kind then pos 0 else amount
+
+-- what a change of this type takes back of what is held
+abbrev taken_back : Option ℕ → ℤ → ℤ
+taken_back kind held = if frees_first kind then held else pos 0
+
+-- the sum after one more leg, with what the change before it costs
+abbrev pub next_total : ℤ → ℤ → Option ℕ → ℤ → ℤ → ℤ
+next_total sum held kind amount change = sum +ℤ (added kind amount +ℤ change) -ℤ taken_back kind held
 
 -- the one says of n + 1 legs, and the n changes between them, what the other says of these and one leg more
 pub record IsOneMore (kind : ℕ → Option ℕ) (amount change : ℕ → ℤ) (kind' : ℕ → Option ℕ) (amount' change' : ℕ → ℤ) (n : ℕ) : Type 0 where
@@ -102,21 +122,41 @@ pub total-first : (kind : ℕ → Option ℕ) (amount change : ℕ → ℤ) → 
 unfolding is_charged starts_chain
 total-first kind amount change ends = rw ends (omega (arith, ints))
 
--- a leg that no arranged change enters adds its amount
-pub next_total-apart : (sum held amount change : ℤ) → next_total sum held None amount change ≡ sum +ℤ amount +ℤ change
-next_total-apart sum held amount change = omega (arith, ints)
+-- what is paid and what is held after one more leg are the sum after it
+pub next_paid-total : (paid held amount change : ℤ) (kind : Option ℕ) →
+    next_paid paid held kind amount change +ℤ next_held kind amount ≡ next_total (paid +ℤ held) held kind amount change
+next_paid-total paid held amount change kind = by (is_none kind) (frees_next kind) (frees_first kind) (unfreed kind)
+  where
+    unfreed : (o : Option ℕ) → is_none o ≡ true → frees_next o ≡ false
+    unfreed None e = refl
+    unfreed (Some k) e = absurd (cc)
+
+    by : (none next first : Bool) → (none ≡ true → next ≡ false) →
+        paid +ℤ cond first (pos 0) held +ℤ change +ℤ cond (none || next) (pos 0) amount +ℤ cond none amount (pos 0)
+        ≡ (paid +ℤ held) +ℤ (cond next (pos 0) amount +ℤ change) -ℤ cond first held (pos 0)
+    by true true first apart = absurd (let bad = apart refl in cc)
+    by true false true apart = omega (arith, ints)
+    by true false false apart = omega (arith, ints)
+    by false true true apart = omega (arith, ints)
+    by false true false apart = omega (arith, ints)
+    by false false true apart = omega (arith, ints)
+    by false false false apart = omega (arith, ints)
+
+-- a leg that no arranged change enters is held, and what was held is paid
+pub next_paid-apart : (paid held amount change : ℤ) → next_paid paid held None amount change ≡ paid +ℤ held +ℤ change
+next_paid-apart paid held amount change = omega (arith, ints)
 
 -- a leg that a change of type 0 enters is free
-pub next_total-free : (sum held amount change : ℤ) → next_total sum held (Some 0) amount change ≡ sum +ℤ change
-next_total-free sum held amount change = omega (arith, ints)
+pub next_paid-free : (paid held amount change : ℤ) → next_paid paid held (Some 0) amount change ≡ paid +ℤ held +ℤ change
+next_paid-free paid held amount change = omega (arith, ints)
 
--- a leg that a change of type 1 enters adds its amount
-pub next_total-both : (sum held amount change : ℤ) → next_total sum held (Some 1) amount change ≡ sum +ℤ amount +ℤ change
-next_total-both sum held amount change = omega (arith, ints)
+-- a leg that a change of type 1 enters is paid
+pub next_paid-both : (paid held amount change : ℤ) → next_paid paid held (Some 1) amount change ≡ paid +ℤ held +ℤ change +ℤ amount
+next_paid-both paid held amount change = omega (arith, ints)
 
 -- a leg that a change of type 2 enters is free, and so is the leg before it where that is the first of its chain
-pub next_total-change_alone : (sum held amount change : ℤ) → next_total sum held (Some 2) amount change ≡ sum +ℤ change -ℤ held
-next_total-change_alone sum held amount change = omega (arith, ints)
+pub next_paid-change_alone : (paid held amount change : ℤ) → next_paid paid held (Some 2) amount change ≡ paid +ℤ change
+next_paid-change_alone paid held amount change = omega (arith, ints)
 
 -- the one choice is the other with one more leg, and the place of the change to it
 pub record IsPushed (choice : Choice) (place : Option ChangeChoice) (pick : LegChoice) (more : Choice) (n : ℕ) : Type 0 where

@@ -55,7 +55,8 @@ run_start-run feed leg (suc i) = step (run_start-run feed leg i) (goes_on feed l
         rw (run_start-on feed leg i on) (run-on feed leg _ i before (and_parts _ _ both).0 (and_parts _ _ both).1)
     step before false off = let e : i + 1 ≡ suc i = omega arith in rw (run_start-off feed leg i off, e) (run-fresh feed leg (suc i))
 
-run-off : (feed : FeedRows) (leg : ℕ → Option FareLeg) (b i : ℕ) → IsRun feed leg b (suc i) → b ≤ i → IsRun feed leg b i
+-- the same legs without the last
+pub run-off : (feed : FeedRows) (leg : ℕ → Option FareLeg) (b i : ℕ) → IsRun feed leg b (suc i) → b ≤ i → IsRun feed leg b i
 run-off feed leg b i run le =
     record {
       begun = le;

@@ -25,16 +25,17 @@ is_open product rider row =
 abbrev pub open_rows : FeedRows → ProductId → Option RiderId → List ProductRowId
 open_rows feed product rider = ids_where (λ i. record { 0 = i }) (is_open product rider) feed.products
 
--- leg i as changes see it, with the leg group of its chosen rule
+-- the leg as changes see it, with the leg group of its chosen rule
+abbrev pub chosen_leg : FeedRows → LegFacts → LegChoice → Option FareLeg
+chosen_leg feed leg pick =
+    option_map
+    (λ rule. record { group = rule.group; departure = leg.departure; arrival = leg.arrival })
+    (slice_get feed.leg_rules pick.rule.0)
+
+-- leg i as changes see it
 abbrev pub fare_leg : FeedRows → List LegFacts → List LegChoice → ℕ → Option FareLeg
 fare_leg feed legs picks i =
-    option_and_then
-    (λ leg. option_and_then
-    (λ pick. option_map
-    (λ rule. record { group = rule.group; departure = leg.departure; arrival = leg.arrival })
-    (slice_get feed.leg_rules pick.rule.0))
-    (slice_get picks i))
-    (slice_get legs i)
+    option_and_then (λ leg. option_and_then (chosen_leg feed leg) (slice_get picks i)) (slice_get legs i)
 
 -- the chosen rule is selected by the leg, and the product row is an open row of its product
 unfoldable pub is_leg_choice : FeedRows → Option RiderId → LegFacts → LegChoice → Bool

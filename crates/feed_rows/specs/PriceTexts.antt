@@ -1,5 +1,5 @@
 -- The least price of given rides, and its printed text.
-use Rattle.std.specs.Prelude.{◌≡◌, ℕ, ◌+◌, ◌<◌, ◌⊎◌, All, IsTrue, List, [], ◌∷◌, ◌++◌, length, Option, Some, None, ℤ, codes, decimal}
+use Rattle.std.specs.Prelude.{◌≡◌, ℕ, ◌+◌, ◌<◌, ◌⊎◌, All, IsTrue, List, [], ◌∷◌, ◌++◌, length, Option, ℤ, codes, decimal}
 use Rattle.std.specs.List.{concat}
 use Rattle.transit_base.specs.declared.numbers.RiderId.{RiderId}
 use Rattle.feed_rows.specs.declared.journeys.Ride.{Ride}
