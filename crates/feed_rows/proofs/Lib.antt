@@ -40,6 +40,8 @@ pub mod JourneyLaws
 pub mod FareLaws
 pub mod SumLaws
 pub mod ChoiceLaws
+pub mod LeastLaws
+pub mod OpenRowLaws
 pub mod LeastPriceLaws
 pub mod StandLaws
 pub mod TextMaps

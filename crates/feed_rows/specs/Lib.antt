@@ -17,6 +17,7 @@ pub mod Legs
 pub mod LegRules
 pub mod TransferRules
 pub mod FareChoices
+pub mod OpenRows
 pub mod FareSums
 pub mod FareWalk
 pub mod LeastPrices
