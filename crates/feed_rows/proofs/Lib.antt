@@ -44,6 +44,7 @@ pub mod LeastLaws
 pub mod OpenRowLaws
 pub mod LeastPriceLaws
 pub mod StandLaws
+pub mod SumBounds
 pub mod TextMaps
 pub mod GroupLaws
 pub mod StopSetLaws
