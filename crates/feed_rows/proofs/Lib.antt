@@ -13,6 +13,9 @@ pub mod CornerRides
 pub mod CornerJourneys
 pub mod CornerLegs
 pub mod CornerFares
+pub mod LegEdges
+pub mod FareEdges
+pub mod LeastEdges
 pub mod CornerTexts
 pub mod CornerWords
 pub mod CornerPrinted
