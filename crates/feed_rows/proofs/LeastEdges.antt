@@ -1,9 +1,10 @@
 -- Worked examples of least prices and of the cheapest open row of a product.
 use Rattle.std.proofs.Common.{◌≡◌, refl, ap, ℕ, List, [], ◌∷◌, get_or, inl, inr, arith}
-use Rattle.std.specs.Prelude.{Option, Some, None, pos, negsuc, ◌≤ℤ◌}
+use Rattle.std.specs.Prelude.{Option, Some, None, ℤ, pos, negsuc, ◌≤ℤ◌}
 use Rattle.std.proofs.lemmas.Int.{ints}
 use Rattle.feed_rows.specs.FeedRows.{FeedRows}
 use Rattle.feed_rows.specs.declared.rows.ProductRow.{ProductRow}
+use Rattle.feed_rows.specs.declared.fares.Choice.{Choice}
 use Rattle.transit_base.specs.declared.numbers.ProductRowId.{ProductRowId}
 use Rattle.transit_base.specs.declared.numbers.RiderId.{RiderId}
 use Rattle.feed_rows.specs.ServiceDays.{is_active}
@@ -94,3 +95,8 @@ not_uncovered_text : IsTextOfLeastPrice two_tickets one_bus None uncovered_text 
 unfolding is_ride ride_facts is_active shifts_of calls_of call_at legs_of leg_facts stop_areas holds_at network_matches area_matches frame_matches rule_matches is_top_priority is_selected_rule group_matches limit_holds is_candidate suffices is_least_count is_selected_transfer is_arranged goes_on run_start change_at is_open is_leg_choice is_transfer_choice is_leg_paid is_change_paid is_fare_choice transfer_kind starts_chain is_charged amount_of leg_charge change_charge fare_sum price_text
 not_uncovered_text (inl priced) = let first : 117 ≡ 112 = ap (λ (text : List ℕ). get_or text 0 0) priced.3 in omega (arith, first)
 not_uncovered_text (inr uncovered) = let wrong : Some (pos 250) ≡ None = uncovered.0 (paid (leg 0 0 ∷ []) []) in absurd (cc)
+
+-- a choice of least price gives a text, which tells the number of rides
+tells_rides : (choice : Choice) (price : ℤ) → IsLeastPrice two_tickets one_bus None choice price →
+    IsTextOfLeastPrice two_tickets one_bus None (price_text two_tickets 1 choice price)
+tells_rides choice price least = inl (choice, price, least, refl)
