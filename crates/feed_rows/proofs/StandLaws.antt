@@ -6,6 +6,7 @@ use Rattle.std.specs.Option.{is_some}
 use Rattle.std.proofs.lemmas.Int.{ints}
 use Rattle.std.proofs.lemmas.Bool.{and_parts, eqb-true}
 use Rattle.std.proofs.lemmas.List.{length_push}
+use Rattle.std.proofs.lemmas.Option.{same_Some}
 use Rattle.transit_base.specs.declared.numbers.RiderId.{RiderId}
 use Rattle.feed_rows.specs.declared.journeys.LegFacts.{LegFacts}
 use Rattle.feed_rows.specs.declared.rows.LegRuleRow.{LegRuleRow}
@@ -17,7 +18,7 @@ use Rattle.feed_rows.specs.Words.{when}
 use Rattle.feed_rows.specs.TransferRules.{FareLeg, change_at}
 use Rattle.feed_rows.specs.FareChoices.{chosen_leg, fare_leg, is_leg_choice, is_change_choice, is_leg_paid, is_fare_choice}
 use Rattle.feed_rows.specs.FareSums.{amount_of, fare_sum, fare_price}
-use Rattle.feed_rows.specs.FareWalk.{change_to, next_run, IsRunAt, frees_next, frees_first, next_held, next_paid, place_kind, place_charge, FareStand, stand_price, stand_of_first, stand_of_next, first_stand, next_stand, stand_at, IsStandOf}
+use Rattle.feed_rows.specs.FareWalk.{Run, change_to, next_run, IsRunAt, frees_next, frees_first, next_held, next_paid, place_kind, place_charge, FareStand, stand_price, stand_of_first, stand_of_next, first_stand, next_stand, stand_at, IsStandOf}
 use Rattle.feed_rows.proofs.WordLaws.{when_some}
 use Rattle.feed_rows.proofs.WalkLaws.{slice_get-append_left}
 use Rattle.feed_rows.proofs.BelowLaws.{slice_get-push_last}
@@ -218,6 +219,46 @@ places_of_paid feed rider legs choice paid =
     first_two true true c d e = (refl, refl)
     first_two true false c d e = absurd (cc)
     first_two false b c d e = absurd (cc)
+
+-- a choice that pays one leg has one pick, and no change
+pub one_of_paid : (feed : FeedRows) (rider : Option RiderId) (leg : LegFacts) (choice : Choice) → is_fare_choice feed (leg ∷ []) choice rider ≡ true →
+    (pick : LegChoice) × (choice ≡ choice_of_one pick)
+one_of_paid feed rider leg choice paid =
+    let places = places_of_paid feed rider (leg ∷ []) choice paid in
+    by choice.legs choice.changes places.0 places.1
+  where
+    by : (picks : List LegChoice) (places : List (Option ChangeChoice)) → length picks ≡ 1 → length places ≡ 0 →
+        (pick : LegChoice) × (record { legs = picks; changes = places } ≡ choice_of_one pick)
+    by (pick ∷ []) [] long long' = (pick, refl)
+    by (pick ∷ []) (place ∷ places) long long' = absurd (omega arith)
+    by (pick ∷ other ∷ picks) places long long' = absurd (omega arith)
+    by [] places long long' = absurd (omega arith)
+
+-- fares stand in one way after legs that a choice pays
+pub IsStandOf-one : (feed : FeedRows) (legs : List LegFacts) (choice : Choice) (n : ℕ) (a b : FareStand) → IsStandOf feed legs choice n a → IsStandOf feed legs choice n b → a ≡ b
+IsStandOf-one feed legs choice n a b p q =
+    let first : a.run.first ≡ b.run.first = same_Some _ _ (sym p.run.first ∙ q.run.first) in
+    let changes : a.run.changes ≡ b.run.changes = sym p.run.changes ∙ q.run.changes in
+    let held : a.held ≡ b.held = p.held ∙ sym q.held in
+    equal a.run b.run a.paid b.paid a.held b.held (same_run a.run b.run first changes) (same_paid a.paid b.paid a.held b.held held (p.price ∙ sym q.price)) held
+  where
+    same_run : (r s : Run) → r.first ≡ s.first → r.changes ≡ s.changes → r ≡ s
+    same_run r s e f = by_parts r.first s.first r.changes s.changes e f
+      where
+        run_of : FareLeg → ℕ → Run
+        run_of x i = record { first = x; changes = i }
+
+        by_parts : (x y : FareLeg) (i j : ℕ) → x ≡ y → i ≡ j → run_of x i ≡ run_of y j
+        by_parts x y i j e f = rw (e, f) refl
+
+    same_paid : (x y h k : ℤ) → h ≡ k → x +ℤ h ≡ y +ℤ k → x ≡ y
+    same_paid x y h k e f = omega (arith, ints, e, f)
+
+    stand_by : Run → ℤ → ℤ → FareStand
+    stand_by r x h = record { run = r; paid = x; held = h }
+
+    equal : (r s : Run) (x y h k : ℤ) → r ≡ s → x ≡ y → h ≡ k → stand_by r x h ≡ stand_by s y k
+    equal r s x y h k e f g = rw (e, f, g) refl
 
 -- ---- all legs
 
