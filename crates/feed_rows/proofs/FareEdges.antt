@@ -33,18 +33,21 @@ abbrev bus_rail_rail : Option ℕ → Option Limit → FeedRows
 bus_rail_rail count limit =
     record (chain None None) {
       trips = trip (codes "U1") 0 ∷ trip (codes "U2") 1 ∷ trip (codes "U3") 1 ∷ [];
-      transfer_rules = transfer_rule 0 1 0 None ∷ record (transfer_rule 1 1 0 None) { count = count; limit = limit } ∷ [];
+      transfer_rules = transfer_rule 0 1 0 None ∷ record
+          (transfer_rule 1 1 0 None) { count = count; limit = limit } ∷ [];
     }
 
 abbrev bus_rail_rail_price : Option ℕ → Option Limit → Option ℤ
 bus_rail_rail_price count limit =
-    rides_price (bus_rail_rail count limit) three_rides (paid (leg 0 0 ∷ leg 1 1 ∷ leg 1 1 ∷ []) (free_change 0 ∷ free_change 1 ∷ [])) None
+    rides_price (bus_rail_rail count limit) three_rides
+    (paid (leg 0 0 ∷ leg 1 1 ∷ leg 1 1 ∷ []) (free_change 0 ∷ free_change 1 ∷ [])) None
 
 -- four buses of one group, with a rule for so many changes
 abbrev four_buses : ℕ → FeedRows
 four_buses count =
     record (chain None None) {
-      stops = platform (codes "A") ∷ platform (codes "B") ∷ platform (codes "C") ∷ platform (codes "D") ∷ platform (codes "E") ∷ [];
+      stops = platform (codes "A") ∷ platform (codes "B") ∷ platform (codes "C") ∷ platform (codes "D") ∷ platform
+          (codes "E") ∷ [];
       trips = trip (codes "U1") 0 ∷ trip (codes "U2") 0 ∷ trip (codes "U3") 0 ∷ trip (codes "U4") 0 ∷ [];
       stop_times =
           call 0 0 1 28800 ∷ call 0 1 2 29400 ∷ call 1 1 1 29700 ∷ call 1 2 2 30300
@@ -69,7 +72,8 @@ any_to_any = record (transfer_rule 0 0 0 None) { from = None; to = None }
 
 -- bus, rail and tram with these rules
 abbrev chain_price : List TransferRuleRow → List (Option ChangeChoice) → Option ℤ
-chain_price rules changes = rides_price (record (chain None None) { transfer_rules = rules }) three_rides (paid three_legs changes) None
+chain_price rules changes = rides_price (record (chain None None) { transfer_rules = rules }) three_rides
+    (paid three_legs changes) None
 
 -- what prices of several legs tell of runs, counts and groups
 record RunEdges : Type 0 where
@@ -84,7 +88,11 @@ record RunEdges : Type 0 where
       × (four_price 3 (free_change 0 ∷ free_change 0 ∷ free_change 0 ∷ []) ≡ Some (pos 250))
       × (four_price 1 (free_change 0 ∷ None ∷ free_change 0 ∷ []) ≡ Some (pos 500))
   -- elapsed seconds that are negative are within each limit
-  pub negative_seconds : selected_transfers (record base { transfer_rules = record (transfer_rule 0 0 0 None) { limit = Some (record { seconds = 1; kind = 0 }) } ∷ [] }) (record { from = record { 0 = 0 }; to = record { 0 = 0 }; count = 1; first_departure = record { 0 = pos 100 }; first_arrival = record { 0 = pos 200 }; next_departure = record { 0 = negsuc 50 }; next_arrival = record { 0 = pos 60 } }) ≡ record { 0 = 0 } ∷ []
+  pub negative_seconds : selected_transfers (record base {
+    transfer_rules = record
+        (transfer_rule 0 0 0 None) { limit = Some (record { seconds = 1; kind = 0 }) } ∷ [];
+  })
+      (record { from = record { 0 = 0 }; to = record { 0 = 0 }; count = 1; first_departure = record { 0 = pos 100 }; first_arrival = record { 0 = pos 200 }; next_departure = record { 0 = negsuc 50 }; next_arrival = record { 0 = pos 60 } }) ≡ record { 0 = 0 } ∷ []
   -- an empty group that is changed from is not for one that a row names there, and is for the others
   pub empty_from :
       (chain_price (any_to_any ∷ transfer_rule 1 0 0 None ∷ []) (free_change 0 ∷ None ∷ []) ≡ Some (pos 350))
@@ -117,9 +125,11 @@ many_rows =
       riders = record { id = codes "child"; default = false } ∷ [];
       media = record { id = codes "card" } ∷ [];
       products =
-          ticket 0 250 ∷ record (ticket 0 200) { medium = Some (record { 0 = 0 }) } ∷ record (ticket 0 120) { rider = Some (record { 0 = 0 }) }
+          ticket 0 250 ∷ record (ticket 0 200) { medium = Some (record { 0 = 0 }) } ∷ record
+          (ticket 0 120) { rider = Some (record { 0 = 0 }) }
           ∷ ticket 1 400 ∷ ticket 2 50 ∷ record (ticket 2 30) { medium = Some (record { 0 = 0 }) } ∷ [];
-      transfer_rules = transfer_rule 0 1 0 (Some (record { 0 = 2 })) ∷ transfer_rule 0 1 1 (Some (record { 0 = 2 })) ∷ [];
+      transfer_rules = transfer_rule 0 1 0 (Some (record { 0 = 2 })) ∷ transfer_rule 0 1 1
+          (Some (record { 0 = 2 })) ∷ [];
     }
 
 abbrev child_price : List LegChoice → Option ℤ
@@ -145,8 +155,10 @@ record ProductEdges : Type 0 where
       × (changed_price (change 1 5) ≡ Some (pos 680))
   -- a rule without product takes no product row
   pub no_product_no_row :
-      (rides_price (record base { transfer_rules = transfer_rule 0 1 0 None ∷ [] }) two_rides (paid (leg 0 0 ∷ leg 1 1 ∷ []) (change 0 2 ∷ [])) None ≡ None)
-      × (rides_price (record base { transfer_rules = transfer_rule 0 1 0 None ∷ [] }) two_rides (paid (leg 0 0 ∷ leg 1 1 ∷ []) (free_change 0 ∷ [])) None ≡ Some (pos 250))
+      (rides_price (record base { transfer_rules = transfer_rule 0 1 0 None ∷ [] }) two_rides
+      (paid (leg 0 0 ∷ leg 1 1 ∷ []) (change 0 2 ∷ [])) None ≡ None)
+      × (rides_price (record base { transfer_rules = transfer_rule 0 1 0 None ∷ [] }) two_rides
+      (paid (leg 0 0 ∷ leg 1 1 ∷ []) (free_change 0 ∷ [])) None ≡ Some (pos 250))
 
 product_edges : ProductEdges
 unfolding is_ride ride_facts is_active shifts_of calls_of call_at legs_of leg_facts stop_areas holds_at network_matches area_matches frame_matches rule_matches is_top_priority is_selected_rule group_matches limit_holds is_candidate suffices is_least_count is_selected_transfer is_arranged goes_on run_start change_at is_open is_leg_choice is_transfer_choice is_leg_paid is_change_paid is_fare_choice transfer_kind starts_chain is_charged amount_of leg_charge change_charge fare_sum

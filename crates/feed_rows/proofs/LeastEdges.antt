@@ -79,7 +79,8 @@ not_dearer h = let le : pos 250 ≤ℤ pos 200 = h.least (paid (leg 0 1 ∷ []) 
 -- nor has a choice a least price that isn't its own
 not_of_another : IsLeastPrice two_tickets one_bus None (paid (leg 0 0 ∷ []) []) (pos 200) → ⊥
 unfolding is_ride ride_facts is_active shifts_of calls_of call_at legs_of leg_facts stop_areas holds_at network_matches area_matches frame_matches rule_matches is_top_priority is_selected_rule group_matches limit_holds is_candidate suffices is_least_count is_selected_transfer is_arranged goes_on run_start change_at is_open is_leg_choice is_transfer_choice is_leg_paid is_change_paid is_fare_choice transfer_kind starts_chain is_charged amount_of leg_charge change_charge fare_sum
-not_of_another h = let is : Some (pos 250) ≡ Some (pos 200) = h.paid in let same : pos 250 ≡ pos 200 = cc in omega (arith, ints, same)
+not_of_another h = let is : Some (pos 250) ≡ Some (pos 200) = h.paid in let same : pos 250 ≡ pos 200 = cc in omega
+    (arith, ints, same)
 
 -- rides that a child can pay aren't uncovered for a child, nor those that all can pay for one without category
 covered_for_child : IsUncovered child_ticket one_bus child → ⊥
@@ -93,8 +94,10 @@ covered_for_all uncovered = let wrong : Some (pos 250) ≡ None = uncovered (pai
 -- and no text says that they are
 not_uncovered_text : IsTextOfLeastPrice two_tickets one_bus None uncovered_text → ⊥
 unfolding is_ride ride_facts is_active shifts_of calls_of call_at legs_of leg_facts stop_areas holds_at network_matches area_matches frame_matches rule_matches is_top_priority is_selected_rule group_matches limit_holds is_candidate suffices is_least_count is_selected_transfer is_arranged goes_on run_start change_at is_open is_leg_choice is_transfer_choice is_leg_paid is_change_paid is_fare_choice transfer_kind starts_chain is_charged amount_of leg_charge change_charge fare_sum price_text
-not_uncovered_text (inl priced) = let first : 117 ≡ 112 = ap (λ (text : List ℕ). get_or text 0 0) priced.3 in omega (arith, first)
-not_uncovered_text (inr uncovered) = let wrong : Some (pos 250) ≡ None = uncovered.0 (paid (leg 0 0 ∷ []) []) in absurd (cc)
+not_uncovered_text (inl priced) = let first : 117 ≡ 112 = ap (λ (text : List ℕ). get_or text 0 0) priced.3 in omega
+    (arith, first)
+not_uncovered_text (inr uncovered) = let wrong : Some (pos 250) ≡ None = uncovered.0
+    (paid (leg 0 0 ∷ []) []) in absurd (cc)
 
 -- a choice of least price gives a text, which tells the number of rides
 tells_rides : (choice : Choice) (price : ℤ) → IsLeastPrice two_tickets one_bus None choice price →

@@ -13,7 +13,8 @@ use Rattle.feed_rows.specs.LeastPrices.{IsLeastBy, HasNoPrice, IsLeastPriceOfLeg
 use Rattle.feed_rows.specs.PriceTexts.{IsLeastPrice, IsUncovered}
 
 -- where each choice has one price by both, the least is the same
-IsLeastBy-same : (f g : Choice → Option ℤ) → ((c : Choice) → f c ≡ g c) → (choice : Choice) (price : ℤ) → IsLeastBy f choice price → IsLeastBy g choice price
+IsLeastBy-same : (f g : Choice → Option ℤ) → ((c : Choice) → f c ≡ g c) → (choice : Choice) (price : ℤ) →
+    IsLeastBy f choice price → IsLeastBy g choice price
 IsLeastBy-same f g same choice price l = record {
   paid = sym (same choice) ∙ l.paid;
   least = λ other sum is. l.least other sum (same other ∙ is);
@@ -23,28 +24,39 @@ HasNoPrice-same : (f g : Choice → Option ℤ) → ((c : Choice) → f c ≡ g 
 HasNoPrice-same f g same none choice = sym (same choice) ∙ none choice
 
 -- a choice pays rides as it pays their legs
-pub rides_price-legs : (feed : FeedRows) (rides : List Ride) (legs : List LegFacts) (rider : Option RiderId) → legs_of feed rides ≡ Some legs →
+pub rides_price-legs : (feed : FeedRows) (rides : List Ride) (legs : List LegFacts) (rider : Option RiderId) →
+    legs_of feed rides ≡ Some legs →
     (choice : Choice) → rides_price feed rides choice rider ≡ fare_price feed legs choice rider
-rides_price-legs feed rides legs rider is choice = ap (λ (o : Option (List LegFacts)). option_and_then (λ ls. fare_price feed ls choice rider) o) is
+rides_price-legs feed rides legs rider is choice = ap
+    (λ (o : Option (List LegFacts)). option_and_then (λ ls. fare_price feed ls choice rider) o) is
 
 -- the least price of rides is that of their legs
-pub least_price_of_legs : (feed : FeedRows) (rides : List Ride) (legs : List LegFacts) (rider : Option RiderId) → legs_of feed rides ≡ Some legs →
-    (choice : Choice) (price : ℤ) → IsLeastPrice feed rides rider choice price → IsLeastPriceOfLegs feed legs rider choice price
+pub least_price_of_legs : (feed : FeedRows) (rides : List Ride) (legs : List LegFacts) (rider : Option RiderId) →
+    legs_of feed rides ≡ Some legs →
+    (choice : Choice) (price : ℤ) → IsLeastPrice feed rides rider choice price →
+    IsLeastPriceOfLegs feed legs rider choice price
 least_price_of_legs feed rides legs rider is = IsLeastBy-same _ _ (rides_price-legs feed rides legs rider is)
 
-pub least_price_of_rides : (feed : FeedRows) (rides : List Ride) (legs : List LegFacts) (rider : Option RiderId) → legs_of feed rides ≡ Some legs →
-    (choice : Choice) (price : ℤ) → IsLeastPriceOfLegs feed legs rider choice price → IsLeastPrice feed rides rider choice price
-least_price_of_rides feed rides legs rider is = IsLeastBy-same _ _ (λ c. sym (rides_price-legs feed rides legs rider is c))
+pub least_price_of_rides : (feed : FeedRows) (rides : List Ride) (legs : List LegFacts) (rider : Option RiderId) →
+    legs_of feed rides ≡ Some legs →
+    (choice : Choice) (price : ℤ) → IsLeastPriceOfLegs feed legs rider choice price →
+    IsLeastPrice feed rides rider choice price
+least_price_of_rides feed rides legs rider is = IsLeastBy-same _ _
+    (λ c. sym (rides_price-legs feed rides legs rider is c))
 
 -- rides are uncovered where their legs are
-pub uncovered_legs : (feed : FeedRows) (rides : List Ride) (legs : List LegFacts) (rider : Option RiderId) → legs_of feed rides ≡ Some legs →
+pub uncovered_legs : (feed : FeedRows) (rides : List Ride) (legs : List LegFacts) (rider : Option RiderId) →
+    legs_of feed rides ≡ Some legs →
     IsUncovered feed rides rider → AreUncoveredLegs feed legs rider
 uncovered_legs feed rides legs rider is = HasNoPrice-same _ _ (rides_price-legs feed rides legs rider is)
 
-pub uncovered_rides : (feed : FeedRows) (rides : List Ride) (legs : List LegFacts) (rider : Option RiderId) → legs_of feed rides ≡ Some legs →
+pub uncovered_rides : (feed : FeedRows) (rides : List Ride) (legs : List LegFacts) (rider : Option RiderId) →
+    legs_of feed rides ≡ Some legs →
     AreUncoveredLegs feed legs rider → IsUncovered feed rides rider
 uncovered_rides feed rides legs rider is = HasNoPrice-same _ _ (λ c. sym (rides_price-legs feed rides legs rider is c))
 
 -- rides that have a least price are rides of the feed, since without legs no choice pays them
-pub uncovered_without_legs : (feed : FeedRows) (rides : List Ride) (rider : Option RiderId) → legs_of feed rides ≡ None → IsUncovered feed rides rider
-uncovered_without_legs feed rides rider none choice = ap (λ (o : Option (List LegFacts)). option_and_then (λ ls. fare_price feed ls choice rider) o) none
+pub uncovered_without_legs : (feed : FeedRows) (rides : List Ride) (rider : Option RiderId) →
+    legs_of feed rides ≡ None → IsUncovered feed rides rider
+uncovered_without_legs feed rides rider none choice = ap
+    (λ (o : Option (List LegFacts)). option_and_then (λ ls. fare_price feed ls choice rider) o) none

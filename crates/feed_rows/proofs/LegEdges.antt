@@ -51,7 +51,13 @@ to_z0 rule = record rule { to_area = Some (record { 0 = 0 }) }
 -- the bus has no network
 abbrev without_network : FeedRows → FeedRows
 without_network feed =
-    record feed { routes = record { id = codes "R1"; network = None } ∷ record { id = codes "R2"; network = Some (record { 0 = 1 }) } ∷ [] }
+    record feed {
+      routes = record { id = codes "R1"; network = None } ∷ record {
+        id = codes "R2";
+        network = Some
+            (record { 0 = 1 });
+      } ∷ [];
+    }
 
 -- a rule for the empty network
 abbrev any_network : LegRuleRow
@@ -68,23 +74,33 @@ record LegEdges : Type 0 where
       (bus_price (with_areas (in_area 0 0 ∷ []) (from_z0 (network_rule 0 0 0) ∷ [])) 0 0 ≡ Some (pos 250))
       × (bus_price (with_areas (in_area 0 2 ∷ []) (from_z0 (network_rule 0 0 0) ∷ [])) 0 0 ≡ None)
   -- one of the stop's areas is enough for a filled field
-  pub one_of_two_areas : bus_price (with_areas (in_area 0 0 ∷ in_area 1 0 ∷ []) (from_z0 (network_rule 0 0 0) ∷ [])) 0 0 ≡ Some (pos 250)
+  pub one_of_two_areas : bus_price (with_areas (in_area 0 0 ∷ in_area 1 0 ∷ [])
+      (from_z0 (network_rule 0 0 0) ∷ [])) 0 0 ≡ Some (pos 250)
   -- an empty field is not for a stop in an area that the column names, even if another of its areas isn't named
-  pub one_listed_area : bus_price (with_areas (in_area 0 0 ∷ in_area 1 0 ∷ []) (from_z0 (network_rule 0 1 0) ∷ network_rule 1 0 1 ∷ [])) 1 1 ≡ None
+  pub one_listed_area : bus_price (with_areas (in_area 0 0 ∷ in_area 1 0 ∷ [])
+      (from_z0 (network_rule 0 1 0) ∷ network_rule 1 0 1 ∷ [])) 1 1 ≡ None
   -- an empty field is for a stop without area, and a filled one isn't
   pub no_area :
       (bus_price (with_areas [] (from_z0 (network_rule 0 1 0) ∷ network_rule 1 0 1 ∷ [])) 1 1 ≡ Some (pos 400))
       × (bus_price (with_areas [] (from_z0 (network_rule 0 0 0) ∷ [])) 0 0 ≡ None)
   -- where there are priorities the empty network is for a leg without network too
-  pub no_network_ranked : bus_price (without_network (with_rules true (network_rule 0 0 0 ∷ any_network ∷ []))) 1 1 ≡ Some (pos 400)
+  pub no_network_ranked : bus_price (without_network (with_rules true (network_rule 0 0 0 ∷ any_network ∷ []))) 1 1
+      ≡ Some (pos 400)
   -- and for one whose network a rule names
   pub named_network_ranked : bus_price (with_rules true (network_rule 0 0 0 ∷ any_network ∷ [])) 1 1 ≡ Some (pos 400)
   -- a rule that doesn't match stands in nobody's way, whatever its priority
-  pub other_priority : bus_price (with_rules true (network_rule 0 0 0 ∷ record (network_rule 1 1 1) { priority = 9 } ∷ [])) 0 0 ≡ Some (pos 250)
+  pub other_priority : bus_price (with_rules true
+      (network_rule 0 0 0 ∷ record (network_rule 1 1 1) { priority = 9 } ∷ [])) 0 0 ≡ Some (pos 250)
   -- one of the groups that hold is enough, and an empty field asks for none
   pub one_of_two_frames :
-      (bus_price (record (with_rules false (record (network_rule 0 0 0) { from_frame = Some (record { 0 = 1 }); to_frame = Some (record { 0 = 0 }) } ∷ [])) { timeframes = record { frame = record { 0 = 0 }; start = 0; end = 86400; service = record { 0 = 0 } } ∷ record { frame = record { 0 = 1 }; start = 0; end = 86400; service = record { 0 = 0 } } ∷ []; frame_names = codes "a" ∷ codes "b" ∷ [] }) 0 0 ≡ Some (pos 250))
-      × (bus_price (record (with_rules false (network_rule 0 0 0 ∷ [])) { timeframes = record { frame = record { 0 = 0 }; start = 0; end = 86400; service = record { 0 = 0 } } ∷ []; frame_names = codes "a" ∷ [] }) 0 0 ≡ Some (pos 250))
+      (bus_price (record (with_rules false (record (network_rule 0 0 0) {
+        from_frame = Some
+            (record { 0 = 1 });
+        to_frame = Some
+            (record { 0 = 0 });
+      } ∷ [])) { timeframes = record { frame = record { 0 = 0 }; start = 0; end = 86400; service = record { 0 = 0 } } ∷ record { frame = record { 0 = 1 }; start = 0; end = 86400; service = record { 0 = 0 } } ∷ []; frame_names = codes "a" ∷ codes "b" ∷ [] }) 0 0 ≡ Some (pos 250))
+      × (bus_price (record
+      (with_rules false (network_rule 0 0 0 ∷ [])) { timeframes = record { frame = record { 0 = 0 }; start = 0; end = 86400; service = record { 0 = 0 } } ∷ []; frame_names = codes "a" ∷ [] }) 0 0 ≡ Some (pos 250))
 
 leg_edges : LegEdges
 unfolding is_ride ride_facts is_active shifts_of calls_of call_at legs_of leg_facts stop_areas holds_at network_matches area_matches frame_matches rule_matches is_top_priority is_selected_rule group_matches limit_holds is_candidate suffices is_least_count is_selected_transfer is_arranged goes_on run_start change_at is_open is_leg_choice is_transfer_choice is_leg_paid is_change_paid is_fare_choice transfer_kind starts_chain is_charged amount_of leg_charge change_charge fare_sum

@@ -30,13 +30,16 @@ pub is_selected-some : (feed : FeedRows) (change : AskedChange) →
     list_any (is_selected feed change) feed.transfer_rules ≡ list_any (suffices feed change) feed.transfer_rules
 unfolding is_least_count
 is_selected-some feed change = same_test _ _
-    (any_of_any (is_selected feed change) (suffices feed change) feed.transfer_rules (λ row h. (and_parts (suffices feed change row) _ h).0))
+    (any_of_any (is_selected feed change) (suffices feed change) feed.transfer_rules
+    (λ row h. (and_parts (suffices feed change row) _ h).0))
     (λ some.
-    let l = least_of_some (suffices feed change) (λ row. row.count) count_le count_le-trans count_le-either feed.transfer_rules some in
+    let l = least_of_some (suffices feed change)
+    (λ row. row.count) count_le count_le-trans count_le-either feed.transfer_rules some in
     let passes = l.passes in
     l.is_item (is_selected feed change) (rw passes l.least))
 
 -- a change is arranged exactly where some row suffices for it
-pub is_arranged-suffices : (feed : FeedRows) (change : TransferFacts) → is_arranged feed change ≡ list_any (suffices feed (asked_of change)) feed.transfer_rules
+pub is_arranged-suffices : (feed : FeedRows) (change : TransferFacts) →
+    is_arranged feed change ≡ list_any (suffices feed (asked_of change)) feed.transfer_rules
 unfolding is_arranged is_selected_transfer
 is_arranged-suffices feed change = is_selected-some feed (asked_of change)

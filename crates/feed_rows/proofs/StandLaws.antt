@@ -69,7 +69,8 @@ first_stand-paid feed rider leg pick =
     by (Some rule) is = kept (is_leg_choice feed rider leg pick) _
 
 -- then they stand as the choice of that leg says
-pub first_stand-of : (feed : FeedRows) (rider : Option RiderId) (leg : LegFacts) (pick : LegChoice) (stand : FareStand) →
+pub first_stand-of : (feed : FeedRows) (rider : Option RiderId) (leg : LegFacts) (pick : LegChoice)
+    (stand : FareStand) →
     first_stand feed rider leg pick ≡ Some stand → IsStandOf feed (leg ∷ []) (choice_of_one pick) 0 stand
 unfolding first_stand
 first_stand-of feed rider leg pick stand e = by (chosen_leg feed leg pick) refl e
@@ -77,7 +78,8 @@ first_stand-of feed rider leg pick stand e = by (chosen_leg feed leg pick) refl 
     amount : ℤ
     amount = amount_of feed pick.product
 
-    stands : (first : FareLeg) → chosen_leg feed leg pick ≡ Some first → IsStandOf feed (leg ∷ []) (choice_of_one pick) 0 (stand_of_first feed first pick)
+    stands : (first : FareLeg) → chosen_leg feed leg pick ≡ Some first →
+        IsStandOf feed (leg ∷ []) (choice_of_one pick) 0 (stand_of_first feed first pick)
     stands first is = record {
       run = run_of_first feed (fare_leg feed (leg ∷ []) (pick ∷ [])) first is;
       held = sym (held_at-first feed (choice_of_one pick) pick refl);
@@ -95,7 +97,8 @@ first_stand-of feed rider leg pick stand e = by (chosen_leg feed leg pick) refl 
     choose first is false e = absurd (cc)
 
     by : (o : Option FareLeg) → chosen_leg feed leg pick ≡ o →
-        option_and_then (λ first. when (is_leg_choice feed rider leg pick) (stand_of_first feed first pick)) o ≡ Some stand →
+        option_and_then (λ first. when (is_leg_choice feed rider leg pick) (stand_of_first feed first pick)) o
+        ≡ Some stand →
         IsStandOf feed (leg ∷ []) (choice_of_one pick) 0 stand
     by None is e = absurd (cc)
     by (Some first) is e = choose first is (is_leg_choice feed rider leg pick) e
@@ -103,8 +106,10 @@ first_stand-of feed rider leg pick stand e = by (chosen_leg feed leg pick) refl 
 -- ---- one more leg
 
 -- n + 1 legs with a choice of them, after which fares stand at `stand`, and the same with one leg more
-module _ (feed : FeedRows) (rider : Option RiderId) (legs : List LegFacts) (leg : LegFacts) (choice : Choice) (place : Option ChangeChoice) (pick : LegChoice) (more : Choice) (n : ℕ) (stand : FareStand)
-    (long : length legs ≡ suc n) (pushed : IsPushed choice place pick more n) (at : IsStandOf feed legs choice n stand) where
+module _ (feed : FeedRows) (rider : Option RiderId) (legs : List LegFacts) (leg : LegFacts) (choice : Choice)
+    (place : Option ChangeChoice) (pick : LegChoice) (more : Choice) (n : ℕ) (stand : FareStand)
+    (long : length legs ≡ suc n) (pushed : IsPushed choice place pick more n)
+    (at : IsStandOf feed legs choice n stand) where
   -- the change to the new leg is the change from the run
   change_is : (next : FareLeg) → chosen_leg feed leg pick ≡ Some next →
       change_at feed (fare_leg feed (legs ++ leg ∷ []) more.legs) n ≡ change_to stand.run next
@@ -128,7 +133,8 @@ module _ (feed : FeedRows) (rider : Option RiderId) (legs : List LegFacts) (leg 
       never a b e = rw e refl
 
       by : (o : Option LegRuleRow) → slice_get feed.leg_rules pick.rule.0 ≡ o →
-          (is_leg_choice feed rider leg pick && is_change_choice feed rider (change_at feed (fare_leg feed (legs ++ leg ∷ []) more.legs) n) place)
+          (is_leg_choice feed rider leg pick && is_change_choice feed rider
+          (change_at feed (fare_leg feed (legs ++ leg ∷ []) more.legs) n) place)
           ≡ is_some {T = FareStand} (option_and_then
           (λ next. when
           (is_leg_choice feed rider leg pick && is_change_choice feed rider (change_to stand.run next) place)
@@ -137,38 +143,50 @@ module _ (feed : FeedRows) (rider : Option RiderId) (legs : List LegFacts) (leg 
       by None is = never _ _ (rule_of_choice feed rider leg pick is)
       by (Some rule) is =
           let next : FareLeg = record { group = rule.group; departure = leg.departure; arrival = leg.arrival } in
-          let same = change_is next (ap (option_map (λ (r : LegRuleRow). record { group = r.group; departure = leg.departure; arrival = leg.arrival })) is) in
+          let same = change_is next
+          (ap (option_map (λ (r : LegRuleRow). record { group = r.group; departure = leg.departure; arrival = leg.arrival })) is) in
           ap (λ c. is_leg_choice feed rider leg pick && is_change_choice feed rider c place) same ∙ kept _ _
 
   -- and the step leads to where fares stand after the longer legs
-  pub next_stand-of : (stand' : FareStand) → next_stand feed rider stand leg pick place ≡ Some stand' → IsStandOf feed (legs ++ leg ∷ []) more (suc n) stand'
+  pub next_stand-of : (stand' : FareStand) → next_stand feed rider stand leg pick place ≡ Some stand' →
+      IsStandOf feed (legs ++ leg ∷ []) more (suc n) stand'
   unfolding next_stand
   next_stand-of stand' e = by (chosen_leg feed leg pick) refl e
     where
-      same_total : (s s' h h' : ℤ) (k : Option ℕ) (a c : ℤ) → s ≡ s' → h ≡ h' → next_total s h k a c ≡ next_total s' h' k a c
+      same_total : (s s' h h' : ℤ) (k : Option ℕ) (a c : ℤ) → s ≡ s' → h ≡ h' →
+          next_total s h k a c ≡ next_total s' h' k a c
       same_total s s' h h' k a c e f = rw (e, f) refl
 
-      stands : (next : FareLeg) → chosen_leg feed leg pick ≡ Some next → IsStandOf feed (legs ++ leg ∷ []) more (suc n) (stand_of_next feed stand next pick place)
+      stands : (next : FareLeg) → chosen_leg feed leg pick ≡ Some next →
+          IsStandOf feed (legs ++ leg ∷ []) more (suc n) (stand_of_next feed stand next pick place)
       stands next is = record {
         run =
-            subst (λ (picks : List LegChoice). IsRunAt feed (fare_leg feed (legs ++ leg ∷ []) picks) (suc n) (next_run feed stand.run next)) (sym pushed.more_legs)
+            subst (λ (picks : List LegChoice). IsRunAt feed (fare_leg feed (legs ++ leg ∷ []) picks) (suc n)
+            (next_run feed stand.run next)) (sym pushed.more_legs)
             (run_of_push feed legs leg choice.legs pick n stand.run next long pushed.legs is at.run);
         held = sym (held_at-push feed choice place pick more n pushed);
         price =
-            next_paid-total stand.paid stand.held (amount_of feed pick.product) (place_charge feed place) (place_kind feed place)
-            ∙ same_total _ _ _ _ (place_kind feed place) (amount_of feed pick.product) (place_charge feed place) at.price at.held
+            next_paid-total stand.paid stand.held (amount_of feed pick.product) (place_charge feed place)
+            (place_kind feed place)
+            ∙ same_total _ _ _ _ (place_kind feed place) (amount_of feed pick.product)
+            (place_charge feed place) at.price at.held
             ∙ sym (fare_sum-push feed choice place pick more n pushed);
       }
 
-      choose : (next : FareLeg) → chosen_leg feed leg pick ≡ Some next → (b : Bool) → when b (stand_of_next feed stand next pick place) ≡ Some stand' → IsStandOf feed (legs ++ leg ∷ []) more (suc n) stand'
-      choose next is true e = let same : stand_of_next feed stand next pick place ≡ stand' = cc in subst (IsStandOf feed (legs ++ leg ∷ []) more (suc n)) same (stands next is)
+      choose : (next : FareLeg) → chosen_leg feed leg pick ≡ Some next → (b : Bool) →
+          when b (stand_of_next feed stand next pick place) ≡ Some stand' →
+          IsStandOf feed (legs ++ leg ∷ []) more (suc n) stand'
+      choose next is true e = let same : stand_of_next feed stand next pick place ≡ stand' = cc in subst
+          (IsStandOf feed (legs ++ leg ∷ []) more (suc n)) same (stands next is)
       choose next is false e = absurd (cc)
 
       by : (o : Option FareLeg) → chosen_leg feed leg pick ≡ o →
-          option_and_then (λ next. when (is_leg_choice feed rider leg pick && is_change_choice feed rider (change_to stand.run next) place) (stand_of_next feed stand next pick place)) o ≡ Some stand' →
+          option_and_then (λ next. when (is_leg_choice feed rider leg pick && is_change_choice feed rider
+          (change_to stand.run next) place) (stand_of_next feed stand next pick place)) o ≡ Some stand' →
           IsStandOf feed (legs ++ leg ∷ []) more (suc n) stand'
       by None is e = absurd (cc)
-      by (Some next) is e = choose next is (is_leg_choice feed rider leg pick && is_change_choice feed rider (change_to stand.run next) place) e
+      by (Some next) is e = choose next is (is_leg_choice feed rider leg pick && is_change_choice feed rider
+          (change_to stand.run next) place) e
 
 -- ---- the last places of a choice
 
@@ -196,7 +214,8 @@ pub record HasLastPlaces (more : Choice) (n : ℕ) : Type 0 where
   pub pushed : IsPushed choice place pick more n
 
 -- a choice of n + 2 legs and n + 1 changes is one of a leg and a change fewer, with these after it
-pub last_places : (more : Choice) (n : ℕ) → length more.legs ≡ suc (suc n) → length more.changes ≡ suc n → HasLastPlaces more n
+pub last_places : (more : Choice) (n : ℕ) → length more.legs ≡ suc (suc n) → length more.changes ≡ suc n →
+    HasLastPlaces more n
 last_places more n long long' =
     let legs = ends_with more.legs (suc n) long in
     let changes = ends_with more.changes n long' in
@@ -208,7 +227,8 @@ last_places more n long long' =
     }
 
 -- a choice that pays legs has a place for each leg and for each change
-pub places_of_paid : (feed : FeedRows) (rider : Option RiderId) (legs : List LegFacts) (choice : Choice) → is_fare_choice feed legs choice rider ≡ true →
+pub places_of_paid : (feed : FeedRows) (rider : Option RiderId) (legs : List LegFacts) (choice : Choice) →
+    is_fare_choice feed legs choice rider ≡ true →
     (length choice.legs ≡ length legs) × (length choice.changes ≡ length legs - 1)
 unfolding is_fare_choice
 places_of_paid feed rider legs choice paid =
@@ -221,7 +241,8 @@ places_of_paid feed rider legs choice paid =
     first_two false b c d e = absurd (cc)
 
 -- a choice that pays one leg has one pick, and no change
-pub one_of_paid : (feed : FeedRows) (rider : Option RiderId) (leg : LegFacts) (choice : Choice) → is_fare_choice feed (leg ∷ []) choice rider ≡ true →
+pub one_of_paid : (feed : FeedRows) (rider : Option RiderId) (leg : LegFacts) (choice : Choice) →
+    is_fare_choice feed (leg ∷ []) choice rider ≡ true →
     (pick : LegChoice) × (choice ≡ choice_of_one pick)
 one_of_paid feed rider leg choice paid =
     let places = places_of_paid feed rider (leg ∷ []) choice paid in
@@ -235,12 +256,14 @@ one_of_paid feed rider leg choice paid =
     by [] places long long' = absurd (omega arith)
 
 -- fares stand in one way after legs that a choice pays
-pub IsStandOf-one : (feed : FeedRows) (legs : List LegFacts) (choice : Choice) (n : ℕ) (a b : FareStand) → IsStandOf feed legs choice n a → IsStandOf feed legs choice n b → a ≡ b
+pub IsStandOf-one : (feed : FeedRows) (legs : List LegFacts) (choice : Choice) (n : ℕ) (a b : FareStand) →
+    IsStandOf feed legs choice n a → IsStandOf feed legs choice n b → a ≡ b
 IsStandOf-one feed legs choice n a b p q =
     let first : a.run.first ≡ b.run.first = same_Some _ _ (sym p.run.first ∙ q.run.first) in
     let changes : a.run.changes ≡ b.run.changes = sym p.run.changes ∙ q.run.changes in
     let held : a.held ≡ b.held = p.held ∙ sym q.held in
-    equal a.run b.run a.paid b.paid a.held b.held (same_run a.run b.run first changes) (same_paid a.paid b.paid a.held b.held held (p.price ∙ sym q.price)) held
+    equal a.run b.run a.paid b.paid a.held b.held (same_run a.run b.run first changes)
+    (same_paid a.paid b.paid a.held b.held held (p.price ∙ sym q.price)) held
   where
     same_run : (r s : Run) → r.first ≡ s.first → r.changes ≡ s.changes → r ≡ s
     same_run r s e f = by_parts r.first s.first r.changes s.changes e f
@@ -263,25 +286,31 @@ IsStandOf-one feed legs choice n a b p q =
 -- ---- all legs
 
 -- where fares stand after leg i looks at no leg, choice or change after it
-stand_at-same : (feed : FeedRows) (rider : Option RiderId) (legs legs' : List LegFacts) (choice choice' : Choice) (i : ℕ) →
-    ((j : ℕ) → j ≤ i → slice_get legs j ≡ slice_get legs' j) → ((j : ℕ) → j ≤ i → slice_get choice.legs j ≡ slice_get choice'.legs j) →
-    ((j : ℕ) → j < i → slice_get choice.changes j ≡ slice_get choice'.changes j) → stand_at feed rider legs choice i ≡ stand_at feed rider legs' choice' i
+stand_at-same : (feed : FeedRows) (rider : Option RiderId) (legs legs' : List LegFacts) (choice choice' : Choice)
+    (i : ℕ) →
+    ((j : ℕ) → j ≤ i → slice_get legs j ≡ slice_get legs' j) →
+    ((j : ℕ) → j ≤ i → slice_get choice.legs j ≡ slice_get choice'.legs j) →
+    ((j : ℕ) → j < i → slice_get choice.changes j ≡ slice_get choice'.changes j) →
+    stand_at feed rider legs choice i ≡ stand_at feed rider legs' choice' i
 stand_at-same feed rider legs legs' choice choice' zero leg pick place =
     let first = leg 0 (omega arith) in
     let first_pick = pick 0 (omega arith) in
     rw (first, first_pick) refl
 stand_at-same feed rider legs legs' choice choice' (suc i) leg pick place =
     let before =
-    stand_at-same feed rider legs legs' choice choice' i (λ j le. leg j (omega arith)) (λ j le. pick j (omega arith)) (λ j lt. place j (omega arith)) in
+    stand_at-same feed rider legs legs' choice choice' i (λ j le. leg j (omega arith)) (λ j le. pick j (omega arith))
+    (λ j lt. place j (omega arith)) in
     let next = leg (suc i) (omega arith) in
     let next_pick = pick (suc i) (omega arith) in
     let next_place = place i (omega arith) in
     rw (before, next, next_pick, next_place) refl
 
 -- the walk along one more leg is one step after the walk along the others
-pub stand_at-push : (feed : FeedRows) (rider : Option RiderId) (legs : List LegFacts) (leg : LegFacts) (choice : Choice) (place : Option ChangeChoice) (pick : LegChoice) (more : Choice) (n : ℕ) →
+pub stand_at-push : (feed : FeedRows) (rider : Option RiderId) (legs : List LegFacts) (leg : LegFacts)
+    (choice : Choice) (place : Option ChangeChoice) (pick : LegChoice) (more : Choice) (n : ℕ) →
     length legs ≡ suc n → IsPushed choice place pick more n →
-    stand_at feed rider (legs ++ leg ∷ []) more (suc n) ≡ option_and_then (λ stand. next_stand feed rider stand leg pick place) (stand_at feed rider legs choice n)
+    stand_at feed rider (legs ++ leg ∷ []) more (suc n) ≡ option_and_then
+    (λ stand. next_stand feed rider stand leg pick place) (stand_at feed rider legs choice n)
 stand_at-push feed rider legs leg choice place pick more n long pushed =
     let picks = pushed.legs in
     let places = pushed.changes in
@@ -297,25 +326,35 @@ stand_at-push feed rider legs leg choice place pick more n long pushed =
 -- the choice pays the legs, and fares stand here after them; or it doesn't, and they stand nowhere
 abbrev pub Walked : FeedRows → Option RiderId → List LegFacts → Choice → ℕ → Option FareStand → Type 0
 Walked feed rider legs choice n None = is_fare_choice feed legs choice rider ≡ false
-Walked feed rider legs choice n (Some stand) = (is_fare_choice feed legs choice rider ≡ true) × IsStandOf feed legs choice n stand
+Walked feed rider legs choice n (Some stand) = (is_fare_choice feed legs choice rider ≡ true)
+    × IsStandOf feed legs choice n stand
 
 walked_first : (feed : FeedRows) (rider : Option RiderId) (leg : LegFacts) (pick : LegChoice) →
     Walked feed rider (leg ∷ []) (choice_of_one pick) 0 (first_stand feed rider leg pick)
 walked_first feed rider leg pick = by (first_stand feed rider leg pick) refl
   where
-    by : (o : Option FareStand) → first_stand feed rider leg pick ≡ o → Walked feed rider (leg ∷ []) (choice_of_one pick) 0 o
+    by : (o : Option FareStand) → first_stand feed rider leg pick ≡ o →
+        Walked feed rider (leg ∷ []) (choice_of_one pick) 0 o
     by None is = first_stand-paid feed rider leg pick ∙ ap is_some is
-    by (Some stand) is = (first_stand-paid feed rider leg pick ∙ ap is_some is, first_stand-of feed rider leg pick stand is)
+    by (Some stand) is = (
+      first_stand-paid feed rider leg pick
+          ∙ ap is_some is,
+      first_stand-of feed rider leg pick stand is,
+    )
 
-walked_next : (feed : FeedRows) (rider : Option RiderId) (legs : List LegFacts) (leg : LegFacts) (choice : Choice) (place : Option ChangeChoice) (pick : LegChoice) (more : Choice) (n : ℕ) →
-    length legs ≡ suc n → IsPushed choice place pick more n → (o : Option FareStand) → Walked feed rider legs choice n o →
-    Walked feed rider (legs ++ leg ∷ []) more (suc n) (option_and_then (λ stand. next_stand feed rider stand leg pick place) o)
+walked_next : (feed : FeedRows) (rider : Option RiderId) (legs : List LegFacts) (leg : LegFacts) (choice : Choice)
+    (place : Option ChangeChoice) (pick : LegChoice) (more : Choice) (n : ℕ) →
+    length legs ≡ suc n → IsPushed choice place pick more n → (o : Option FareStand) →
+    Walked feed rider legs choice n o →
+    Walked feed rider (legs ++ leg ∷ []) more (suc n)
+    (option_and_then (λ stand. next_stand feed rider stand leg pick place) o)
 walked_next feed rider legs leg choice place pick more n long pushed None before =
     is_fare_choice-push feed legs leg choice place pick more rider n long pushed ∙ never _ _ before
   where
     never : (a b : Bool) → a ≡ false → (a && b) ≡ false
     never a b e = rw e refl
-walked_next feed rider legs leg choice place pick more n long pushed (Some stand) before = by (next_stand feed rider stand leg pick place) refl
+walked_next feed rider legs leg choice place pick more n long pushed (Some stand) before = by
+    (next_stand feed rider stand leg pick place) refl
   where
     paid : is_fare_choice feed (legs ++ leg ∷ []) more rider ≡ is_some (next_stand feed rider stand leg pick place)
     paid =
@@ -325,14 +364,18 @@ walked_next feed rider legs leg choice place pick more n long pushed (Some stand
         and_true : (a b : Bool) → a ≡ true → (a && b) ≡ b
         and_true a b e = rw e refl
 
-    by : (o : Option FareStand) → next_stand feed rider stand leg pick place ≡ o → Walked feed rider (legs ++ leg ∷ []) more (suc n) o
+    by : (o : Option FareStand) → next_stand feed rider stand leg pick place ≡ o →
+        Walked feed rider (legs ++ leg ∷ []) more (suc n) o
     by None is = paid ∙ ap is_some is
-    by (Some stand') is = (paid ∙ ap is_some is, next_stand-of feed rider legs leg choice place pick more n stand long pushed before.1 stand' is)
+    by (Some stand') is =
+        (paid ∙ ap is_some is, next_stand-of feed rider legs leg choice place pick more n stand long pushed before.1 stand' is)
 
 -- a choice with the right number of places pays the legs exactly where each step is right, and then fares stand as it says
-pub walked : (feed : FeedRows) (rider : Option RiderId) (n : ℕ) (legs : List LegFacts) (picks : List LegChoice) (places : List (Option ChangeChoice)) →
+pub walked : (feed : FeedRows) (rider : Option RiderId) (n : ℕ) (legs : List LegFacts) (picks : List LegChoice)
+    (places : List (Option ChangeChoice)) →
     length legs ≡ suc n → length picks ≡ suc n → length places ≡ n →
-    Walked feed rider legs (record { legs = picks; changes = places }) n (stand_at feed rider legs (record { legs = picks; changes = places }) n)
+    Walked feed rider legs (record { legs = picks; changes = places }) n
+    (stand_at feed rider legs (record { legs = picks; changes = places }) n)
 walked feed rider zero (leg ∷ []) (pick ∷ []) [] long long' long'' = walked_first feed rider leg pick
 walked feed rider zero (leg ∷ []) (pick ∷ []) (place ∷ places) long long' long'' = absurd (omega arith)
 walked feed rider zero (leg ∷ []) [] places long long' long'' = absurd (omega arith)
@@ -344,7 +387,8 @@ walked feed rider (suc n) legs picks places long long' long'' =
     let front = ends_with legs (suc n) long in
     let last = last_places more n long' long'' in
     let before = walked feed rider n front.front last.choice.legs last.choice.changes front.long last.pushed.legs last.pushed.changes in
-    subst (λ (ls : List LegFacts). Walked feed rider ls more (suc n) (stand_at feed rider ls more (suc n))) (sym front.is)
+    subst (λ (ls : List LegFacts). Walked feed rider ls more (suc n) (stand_at feed rider ls more (suc n)))
+    (sym front.is)
     (subst (Walked feed rider (front.front ++ front.last ∷ []) more (suc n))
     (sym (stand_at-push feed rider front.front front.last last.choice last.place last.pick more n front.long last.pushed))
     (walked_next feed rider front.front front.last last.choice last.place last.pick more n front.long last.pushed _ before))
@@ -356,18 +400,23 @@ pub fare_price-stand : (feed : FeedRows) (rider : Option RiderId) (legs : List L
 fare_price-stand feed rider legs choice n long long' long'' =
     by (stand_at feed rider legs choice n) (walked feed rider n legs choice.legs choice.changes long long' long'')
   where
-    by : (o : Option FareStand) → Walked feed rider legs choice n o → fare_price feed legs choice rider ≡ option_map stand_price o
+    by : (o : Option FareStand) → Walked feed rider legs choice n o →
+        fare_price feed legs choice rider ≡ option_map stand_price o
     by None unpaid = rw unpaid refl
     by (Some stand) paid = let pays = paid.0 in rw pays (ap Some (sym paid.1.price))
 
 -- where a choice has other places it has no price
-pub fare_price-places : (feed : FeedRows) (rider : Option RiderId) (legs : List LegFacts) (choice : Choice) (price : ℤ) →
-    fare_price feed legs choice rider ≡ Some price → (length choice.legs ≡ length legs) × (length choice.changes ≡ length legs - 1)
+pub fare_price-places : (feed : FeedRows) (rider : Option RiderId) (legs : List LegFacts) (choice : Choice)
+    (price : ℤ) →
+    fare_price feed legs choice rider ≡ Some price → (length choice.legs ≡ length legs)
+    × (length choice.changes ≡ length legs - 1)
 fare_price-places feed rider legs choice price is =
-    places_of_paid feed rider legs choice (when_some (is_fare_choice feed legs choice rider) (fare_sum feed choice) price is).0
+    places_of_paid feed rider legs choice (when_some (is_fare_choice feed legs choice rider)
+    (fare_sum feed choice) price is).0
 
 -- a choice that pays legs, and where fares stand after them
-pub record StandsAfter (feed : FeedRows) (rider : Option RiderId) (legs : List LegFacts) (choice : Choice) (n : ℕ) : Type 0 where
+pub record StandsAfter (feed : FeedRows) (rider : Option RiderId) (legs : List LegFacts) (choice : Choice)
+    (n : ℕ) : Type 0 where
   pub stand : FareStand
   pub is : stand_at feed rider legs choice n ≡ Some stand
   pub of : IsStandOf feed legs choice n stand
@@ -379,14 +428,17 @@ stand_of_paid feed rider legs choice n long paid =
     let places = places_of_paid feed rider legs choice paid in
     let picks = places.0 in
     let changes = places.1 in
-    by (stand_at feed rider legs choice n) refl (walked feed rider n legs choice.legs choice.changes long (omega arith) (omega arith))
+    by (stand_at feed rider legs choice n) refl (walked feed rider n legs choice.legs choice.changes long
+    (omega arith) (omega arith))
   where
-    by : (o : Option FareStand) → stand_at feed rider legs choice n ≡ o → Walked feed rider legs choice n o → StandsAfter feed rider legs choice n
+    by : (o : Option FareStand) → stand_at feed rider legs choice n ≡ o → Walked feed rider legs choice n o →
+        StandsAfter feed rider legs choice n
     by None is unpaid = absurd (cc)
     by (Some stand) is w = record { stand = stand; is = is; of = w.1 }
 
 -- a choice over one more leg as a choice over the legs before, and one step
-pub record IsStepFrom (feed : FeedRows) (rider : Option RiderId) (legs : List LegFacts) (leg : LegFacts) (more : Choice) (n : ℕ) : Type 0 where
+pub record IsStepFrom (feed : FeedRows) (rider : Option RiderId) (legs : List LegFacts) (leg : LegFacts)
+    (more : Choice) (n : ℕ) : Type 0 where
   pub last : HasLastPlaces more n
   pub paid : is_fare_choice feed legs last.choice rider ≡ true
   pub before : StandsAfter feed rider legs last.choice n
@@ -395,8 +447,10 @@ pub record IsStepFrom (feed : FeedRows) (rider : Option RiderId) (legs : List Le
   pub of : IsStandOf feed (legs ++ leg ∷ []) more (suc n) after
 
 -- each choice that pays one more leg is such
-pub step_of_paid : (feed : FeedRows) (rider : Option RiderId) (legs : List LegFacts) (leg : LegFacts) (more : Choice) (n : ℕ) →
-    length legs ≡ suc n → is_fare_choice feed (legs ++ leg ∷ []) more rider ≡ true → IsStepFrom feed rider legs leg more n
+pub step_of_paid : (feed : FeedRows) (rider : Option RiderId) (legs : List LegFacts) (leg : LegFacts) (more : Choice)
+    (n : ℕ) →
+    length legs ≡ suc n → is_fare_choice feed (legs ++ leg ∷ []) more rider ≡ true →
+    IsStepFrom feed rider legs leg more n
 step_of_paid feed rider legs leg more n long paid =
     let places = places_of_paid feed rider (legs ++ leg ∷ []) more paid in
     let picks = places.0 in
@@ -404,8 +458,10 @@ step_of_paid feed rider legs leg more n long paid =
     let long' = length_push legs leg in
     with_last (last_places more n (omega arith) (omega arith))
   where
-    with_step : (last : HasLastPlaces more n) → is_fare_choice feed legs last.choice rider ≡ true → (before : StandsAfter feed rider legs last.choice n) →
-        (o : Option FareStand) → next_stand feed rider before.stand leg last.pick last.place ≡ o → is_some o ≡ true → IsStepFrom feed rider legs leg more n
+    with_step : (last : HasLastPlaces more n) → is_fare_choice feed legs last.choice rider ≡ true →
+        (before : StandsAfter feed rider legs last.choice n) →
+        (o : Option FareStand) → next_stand feed rider before.stand leg last.pick last.place ≡ o → is_some o ≡ true →
+        IsStepFrom feed rider legs leg more n
     with_step last pays before None is some = absurd (cc)
     with_step last pays before (Some after) is some = record {
       last = last;
@@ -416,11 +472,13 @@ step_of_paid feed rider legs leg more n long paid =
       of = next_stand-of feed rider legs leg last.choice last.place last.pick more n before.stand long last.pushed before.of after is;
     }
 
-    with_stand : (last : HasLastPlaces more n) → is_fare_choice feed legs last.choice rider ≡ true → StandsAfter feed rider legs last.choice n → IsStepFrom feed rider legs leg more n
+    with_stand : (last : HasLastPlaces more n) → is_fare_choice feed legs last.choice rider ≡ true →
+        StandsAfter feed rider legs last.choice n → IsStepFrom feed rider legs leg more n
     with_stand last pays before =
         let whole = next_stand-paid feed rider legs leg last.choice last.place last.pick more n before.stand long last.pushed before.of in
         with_step last pays before (next_stand feed rider before.stand leg last.pick last.place) refl
-        (and_parts (is_fare_choice feed legs last.choice rider) (is_some (next_stand feed rider before.stand leg last.pick last.place)) (sym whole ∙ paid)).1
+        (and_parts (is_fare_choice feed legs last.choice rider)
+        (is_some (next_stand feed rider before.stand leg last.pick last.place)) (sym whole ∙ paid)).1
 
     with_last : HasLastPlaces more n → IsStepFrom feed rider legs leg more n
     with_last last =
@@ -429,8 +487,11 @@ step_of_paid feed rider legs leg more n long paid =
         with_stand last pays (stand_of_paid feed rider legs last.choice n long pays)
 
 -- and each step from a choice that pays the legs before leads to one that pays one more leg
-pub paid_of_step : (feed : FeedRows) (rider : Option RiderId) (legs : List LegFacts) (leg : LegFacts) (choice : Choice) (place : Option ChangeChoice) (pick : LegChoice) (more : Choice) (n : ℕ) (stand after : FareStand) →
-    length legs ≡ suc n → IsPushed choice place pick more n → is_fare_choice feed legs choice rider ≡ true → IsStandOf feed legs choice n stand →
+pub paid_of_step : (feed : FeedRows) (rider : Option RiderId) (legs : List LegFacts) (leg : LegFacts)
+    (choice : Choice) (place : Option ChangeChoice) (pick : LegChoice) (more : Choice) (n : ℕ)
+    (stand after : FareStand) →
+    length legs ≡ suc n → IsPushed choice place pick more n → is_fare_choice feed legs choice rider ≡ true →
+    IsStandOf feed legs choice n stand →
     next_stand feed rider stand leg pick place ≡ Some after → is_fare_choice feed (legs ++ leg ∷ []) more rider ≡ true
 paid_of_step feed rider legs leg choice place pick more n stand after long pushed paid at step =
     next_stand-paid feed rider legs leg choice place pick more n stand long pushed at ∙ both _ _ paid (ap is_some step)
@@ -440,13 +501,17 @@ paid_of_step feed rider legs leg choice place pick more n stand after long pushe
 
 -- ---- of two stands with one run, one that has paid no more and costs no more stays so
 
-pub next_paid-covers : (paid paid' held held' : ℤ) (kind : Option ℕ) (amount change : ℤ) → paid ≤ℤ paid' → (paid +ℤ held) ≤ℤ (paid' +ℤ held') →
+pub next_paid-covers : (paid paid' held held' : ℤ) (kind : Option ℕ) (amount change : ℤ) → paid ≤ℤ paid' →
+    (paid +ℤ held) ≤ℤ (paid' +ℤ held') →
     (next_paid paid held kind amount change ≤ℤ next_paid paid' held' kind amount change)
-    × ((next_paid paid held kind amount change +ℤ next_held kind amount) ≤ℤ (next_paid paid' held' kind amount change +ℤ next_held kind amount))
-next_paid-covers paid paid' held held' kind amount change le le' = by (frees_first kind) (cond (is_none kind || frees_next kind) (pos 0) amount) (next_held kind amount)
+    × ((next_paid paid held kind amount change +ℤ next_held kind amount) ≤ℤ
+    (next_paid paid' held' kind amount change +ℤ next_held kind amount))
+next_paid-covers paid paid' held held' kind amount change le le' = by (frees_first kind)
+    (cond (is_none kind || frees_next kind) (pos 0) amount) (next_held kind amount)
   where
     by : (first : Bool) (next here : ℤ) →
         ((paid +ℤ cond first (pos 0) held +ℤ change +ℤ next) ≤ℤ (paid' +ℤ cond first (pos 0) held' +ℤ change +ℤ next))
-        × (((paid +ℤ cond first (pos 0) held +ℤ change +ℤ next) +ℤ here) ≤ℤ ((paid' +ℤ cond first (pos 0) held' +ℤ change +ℤ next) +ℤ here))
+        × (((paid +ℤ cond first (pos 0) held +ℤ change +ℤ next) +ℤ here) ≤ℤ
+        ((paid' +ℤ cond first (pos 0) held' +ℤ change +ℤ next) +ℤ here))
     by true next here = (omega (arith, ints, le, le'), omega (arith, ints, le, le'))
     by false next here = (omega (arith, ints, le, le'), omega (arith, ints, le, le'))
