@@ -7,6 +7,7 @@ use Rattle.feed_rows.specs.declared.rows.Limit.{Limit}
 use Rattle.feed_rows.specs.declared.rows.TransferRuleRow.{TransferRuleRow}
 use Rattle.feed_rows.specs.declared.fares.LegChoice.{LegChoice}
 use Rattle.feed_rows.specs.declared.fares.ChangeChoice.{ChangeChoice}
+use Rattle.feed_rows.specs.declared.fares.TransferFacts.{TransferFacts}
 use Rattle.feed_rows.specs.declared.journeys.Ride.{Ride}
 use Rattle.feed_rows.specs.ServiceDays.{is_active}
 use Rattle.feed_rows.specs.Calls.{call_at, calls_of}
@@ -75,6 +76,25 @@ abbrev chain_price : List TransferRuleRow → List (Option ChangeChoice) → Opt
 chain_price rules changes = rides_price (record (chain None None) { transfer_rules = rules }) three_rides
     (paid three_legs changes) None
 
+-- a rule with a limit of one second, and a change to a leg that departs and arrives before the first one
+abbrev one_second : FeedRows
+one_second =
+    record base {
+      transfer_rules = record (transfer_rule 0 0 0 None) { limit = Some (record { seconds = 1; kind = 0 }) } ∷ [];
+    }
+
+abbrev back_in_time : TransferFacts
+back_in_time =
+    record {
+      from = record { 0 = 0 };
+      to = record { 0 = 0 };
+      count = 1;
+      first_departure = record { 0 = pos 100 };
+      first_arrival = record { 0 = pos 200 };
+      next_departure = record { 0 = negsuc 50 };
+      next_arrival = record { 0 = pos 60 };
+    }
+
 -- what prices of several legs tell of runs, counts and groups
 record RunEdges : Type 0 where
   -- the run of the second rail leg starts with the first rail leg, though the change from the bus is arranged
@@ -88,11 +108,7 @@ record RunEdges : Type 0 where
       × (four_price 3 (free_change 0 ∷ free_change 0 ∷ free_change 0 ∷ []) ≡ Some (pos 250))
       × (four_price 1 (free_change 0 ∷ None ∷ free_change 0 ∷ []) ≡ Some (pos 500))
   -- elapsed seconds that are negative are within each limit
-  pub negative_seconds : selected_transfers (record base {
-    transfer_rules = record
-        (transfer_rule 0 0 0 None) { limit = Some (record { seconds = 1; kind = 0 }) } ∷ [];
-  })
-      (record { from = record { 0 = 0 }; to = record { 0 = 0 }; count = 1; first_departure = record { 0 = pos 100 }; first_arrival = record { 0 = pos 200 }; next_departure = record { 0 = negsuc 50 }; next_arrival = record { 0 = pos 60 } }) ≡ record { 0 = 0 } ∷ []
+  pub negative_seconds : selected_transfers one_second back_in_time ≡ record { 0 = 0 } ∷ []
   -- an empty group that is changed from is not for one that a row names there, and is for the others
   pub empty_from :
       (chain_price (any_to_any ∷ transfer_rule 1 0 0 None ∷ []) (free_change 0 ∷ None ∷ []) ≡ Some (pos 350))

@@ -63,6 +63,23 @@ without_network feed =
 abbrev any_network : LegRuleRow
 any_network = record (network_rule 1 0 1) { network = None }
 
+-- a row of a timeframe group
+abbrev frame_row : ℕ → ℕ → ℕ → ℕ → TimeframeRow
+frame_row frame start end service =
+    record { frame = record { 0 = frame }; start = start; end = end; service = record { 0 = service } }
+
+-- two timeframe groups that hold all day, and this rule
+abbrev all_day : LegRuleRow → FeedRows
+all_day rule =
+    record (with_rules false (rule ∷ [])) {
+      timeframes = frame_row 0 0 86400 0 ∷ frame_row 1 0 86400 0 ∷ [];
+      frame_names = codes "a" ∷ codes "b" ∷ [];
+    }
+
+-- a bus rule for the second of them at the departure, and for the first at the arrival
+abbrev framed_rule : LegRuleRow
+framed_rule = record (network_rule 0 0 0) { from_frame = Some (record { 0 = 1 }); to_frame = Some (record { 0 = 0 }) }
+
 -- what the price of T3 tells of leg rules
 record LegEdges : Type 0 where
   -- a filled area that a leg goes to is one of the stop where it ends
@@ -93,14 +110,8 @@ record LegEdges : Type 0 where
       (network_rule 0 0 0 ∷ record (network_rule 1 1 1) { priority = 9 } ∷ [])) 0 0 ≡ Some (pos 250)
   -- one of the groups that hold is enough, and an empty field asks for none
   pub one_of_two_frames :
-      (bus_price (record (with_rules false (record (network_rule 0 0 0) {
-        from_frame = Some
-            (record { 0 = 1 });
-        to_frame = Some
-            (record { 0 = 0 });
-      } ∷ [])) { timeframes = record { frame = record { 0 = 0 }; start = 0; end = 86400; service = record { 0 = 0 } } ∷ record { frame = record { 0 = 1 }; start = 0; end = 86400; service = record { 0 = 0 } } ∷ []; frame_names = codes "a" ∷ codes "b" ∷ [] }) 0 0 ≡ Some (pos 250))
-      × (bus_price (record
-      (with_rules false (network_rule 0 0 0 ∷ [])) { timeframes = record { frame = record { 0 = 0 }; start = 0; end = 86400; service = record { 0 = 0 } } ∷ []; frame_names = codes "a" ∷ [] }) 0 0 ≡ Some (pos 250))
+      (bus_price (all_day framed_rule) 0 0 ≡ Some (pos 250))
+      × (bus_price (all_day (network_rule 0 0 0)) 0 0 ≡ Some (pos 250))
 
 leg_edges : LegEdges
 unfolding is_ride ride_facts is_active shifts_of calls_of call_at legs_of leg_facts stop_areas holds_at network_matches area_matches frame_matches rule_matches is_top_priority is_selected_rule group_matches limit_holds is_candidate suffices is_least_count is_selected_transfer is_arranged goes_on run_start change_at is_open is_leg_choice is_transfer_choice is_leg_paid is_change_paid is_fare_choice transfer_kind starts_chain is_charged amount_of leg_charge change_charge fare_sum
@@ -116,16 +127,17 @@ leg_edges = record {
   one_of_two_frames = (refl, refl);
 }
 
--- a row of a timeframe group
-abbrev frame_row : ℕ → ℕ → ℕ → ℕ → TimeframeRow
-frame_row frame start end service = record { frame = record { 0 = frame }; start = start; end = end; service = record { 0 = service } }
-
 -- a group of two rows, the later of a service with a calendar row from Monday 2025-06-02 on, and a group of another row
 abbrev two_frames : FeedRows
 two_frames =
     record base {
       services =
-          record { service = record { 0 = 1 }; days = true ∷ false ∷ false ∷ false ∷ false ∷ false ∷ false ∷ []; first = record { 0 = pos 20241 }; last = record { 0 = pos 20300 } }
+          record {
+            service = record { 0 = 1 };
+            days = true ∷ false ∷ false ∷ false ∷ false ∷ false ∷ false ∷ [];
+            first = record { 0 = pos 20241 };
+            last = record { 0 = pos 20300 };
+          }
           ∷ [];
       timeframes = frame_row 0 0 600 0 ∷ frame_row 0 600 1200 1 ∷ frame_row 1 1200 1300 0 ∷ [];
       service_names = codes "W" ∷ codes "M" ∷ [];
