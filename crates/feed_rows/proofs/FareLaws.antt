@@ -25,31 +25,44 @@ record HasGroup (leg : ℕ → Option FareLeg) (i : ℕ) (group : Option LegGrou
 
 -- a leg of the same group as the one before
 group_on : (leg : ℕ → Option FareLeg) (i j : ℕ) (group : Option LegGroupId) →
-    filled_and (leg i) (λ a. filled_and (leg j) (λ b. same_group a.group b.group)) ≡ true → HasGroup leg i group → HasGroup leg j group
+    filled_and (leg i) (λ a. filled_and (leg j) (λ b. same_group a.group b.group)) ≡ true → HasGroup leg i group →
+    HasGroup leg j group
 group_on leg i j group same h =
     let is = h.is in
     by (leg j) refl (rw is at same)
   where
-    by : (o : Option FareLeg) → leg j ≡ o → filled_and o (λ b. same_group h.value.group b.group) ≡ true → HasGroup leg j group
+    by : (o : Option FareLeg) → leg j ≡ o → filled_and o (λ b. same_group h.value.group b.group) ≡ true →
+        HasGroup leg j group
     by None is same = absurd (cc)
-    by (Some b) is same = record { value = b; is = is; of_group = sym (same_group-equal h.value.group b.group same) ∙ h.of_group }
+    by (Some b) is same = record {
+      value = b;
+      is = is;
+      of_group = sym (same_group-equal h.value.group b.group same)
+          ∙ h.of_group;
+    }
 
 -- each leg of a run has the group of its first
-group_of_run : (feed : FeedRows) (leg : ℕ → Option FareLeg) (b i : ℕ) (group : Option LegGroupId) → IsRun feed leg b i → HasGroup leg b group → HasGroup leg i group
-group_of_run feed leg b zero group run first = let begun = run.begun in let e : b ≡ 0 = omega arith in subst (λ n. HasGroup leg n group) e first
+group_of_run : (feed : FeedRows) (leg : ℕ → Option FareLeg) (b i : ℕ) (group : Option LegGroupId) →
+    IsRun feed leg b i → HasGroup leg b group → HasGroup leg i group
+group_of_run feed leg b zero group run first = let begun = run.begun in let e : b ≡ 0 = omega arith in subst
+    (λ n. HasGroup leg n group) e first
 group_of_run feed leg b (suc i) group run first =
     by (λ le. group_of_run feed leg b i group (run-off feed leg b i run le) first) (cases_lt i b)
   where
     by : (b ≤ i → HasGroup leg i group) → (i < b) ⊎ (b ≤ i) → HasGroup leg (suc i) group
-    by before (inl gt) = let begun = run.begun in let e : b ≡ suc i = omega arith in subst (λ n. HasGroup leg n group) e first
+    by before (inl gt) = let begun = run.begun in let e : b ≡ suc i = omega arith in subst
+        (λ n. HasGroup leg n group) e first
     by before (inr le) =
         let e : i + 1 ≡ suc i = omega arith in
-        subst (λ n. HasGroup leg n group) e (group_on leg i (i + 1) group (run.one_group i le (omega arith)) (before le))
+        subst (λ n. HasGroup leg n group) e (group_on leg i (i + 1) group (run.one_group i le (omega arith))
+        (before le))
 
 -- so the last leg has the group of the run
-last_of_run : (feed : FeedRows) (leg : ℕ → Option FareLeg) (i : ℕ) (run : Run) → IsRunAt feed leg i run → HasGroup leg i run.first.group
+last_of_run : (feed : FeedRows) (leg : ℕ → Option FareLeg) (i : ℕ) (run : Run) → IsRunAt feed leg i run →
+    HasGroup leg i run.first.group
 last_of_run feed leg i run at =
-    group_of_run feed leg (run_start feed leg i) i run.first.group (run_start-run feed leg i) (record { value = run.first; is = at.first; of_group = refl })
+    group_of_run feed leg (run_start feed leg i) i run.first.group (run_start-run feed leg i)
+    (record { value = run.first; is = at.first; of_group = refl })
 
 -- ---- the walk
 
@@ -74,7 +87,8 @@ extends_of_run feed leg i run next at is_next =
     rw (at.first, last_is, is_next, at.changes, group) refl
 
 -- the run of the first leg
-pub run_of_first : (feed : FeedRows) (leg : ℕ → Option FareLeg) (first : FareLeg) → leg 0 ≡ Some first → IsRunAt feed leg 0 (fresh_run first)
+pub run_of_first : (feed : FeedRows) (leg : ℕ → Option FareLeg) (first : FareLeg) → leg 0 ≡ Some first →
+    IsRunAt feed leg 0 (fresh_run first)
 run_of_first feed leg first is =
     let start = run_start-zero feed leg in
     record {

@@ -37,7 +37,8 @@ extends feed run next = same_group run.first.group next.group && filled_and (cha
 
 -- the run of the next leg
 unfoldable pub next_run : FeedRows → Run → FareLeg → Run
-next_run feed run next = if extends feed run next then record { first = run.first; changes = run.changes + 1 } else fresh_run next
+next_run feed run next =
+    if extends feed run next then record { first = run.first; changes = run.changes + 1 } else fresh_run next
 
 -- the run is that of leg i, where `leg` gives each leg by its number
 pub record IsRunAt (feed : FeedRows) (leg : ℕ → Option FareLeg) (i : ℕ) (run : Run) : Type 0 where
@@ -104,7 +105,9 @@ stand_of_next feed stand next pick place =
 -- where fares stand after a first leg; nowhere where the choice isn't one for it
 unfoldable pub first_stand : FeedRows → Option RiderId → LegFacts → LegChoice → Option FareStand
 first_stand feed rider leg pick =
-    option_and_then (λ first. when (is_leg_choice feed rider leg pick) (stand_of_first feed first pick)) (chosen_leg feed leg pick)
+    option_and_then
+    (λ first. when (is_leg_choice feed rider leg pick) (stand_of_first feed first pick))
+    (chosen_leg feed leg pick)
 
 -- where fares stand after one more leg; nowhere where its choice or the place of the change to it isn't right
 unfoldable pub next_stand : FeedRows → Option RiderId → FareStand → LegFacts → LegChoice → Option ChangeChoice → Option FareStand
