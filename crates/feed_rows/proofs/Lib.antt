@@ -22,6 +22,7 @@ pub mod CornerPrinted
 pub mod CornerOutside
 pub mod FeedReadings
 pub mod BelowLaws
+pub mod PickLaws
 pub mod StrictLaws
 pub mod SequenceLaws
 pub mod TimedLaws

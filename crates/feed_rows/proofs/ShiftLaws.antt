@@ -1,10 +1,10 @@
 -- The shifts of a trip: they ascend, each run of a frequency row gives one, and none else is one.
-use Rattle.std.proofs.Common.{◌≡◌, refl, sym, ◌∙◌, ap, subst, ℕ, ◌+◌, ◌-◌, ◌*◌, ◌/◌, ◌%◌, ◌<◌, ◌≤◌, ◌⊎◌, inl, inr, Bool, true, false, ◌&&◌, ◌||◌, ◌==◌, nat_lt, List, [], ◌∷◌, map, filter, flat_map, get_or, All, AllPairs, Contains, ℤ, pos, negsuc, ◌+ℤ◌, ◌-ℤ◌, ◌<ℤ◌, ◌≤ℤ◌, int_lt, int_le, unsigned_abs, arith, int_cmp, mul-le-mul_right, div-mul-le_self, div-add-mod', add-mul}
+use Rattle.std.proofs.Common.{◌≡◌, refl, sym, ◌∙◌, ap, subst, ℕ, ◌+◌, ◌-◌, ◌*◌, ◌/◌, ◌%◌, ◌<◌, ◌≤◌, ◌⊎◌, inl, inr, Bool, true, false, ◌&&◌, ◌||◌, ◌==◌, nat_lt, List, [], ◌∷◌, map, filter, flat_map, get_or, All, AllPairs, Contains, ℤ, pos, negsuc, ◌+ℤ◌, ◌-ℤ◌, ◌<ℤ◌, ◌≤ℤ◌, int_lt, int_le, unsigned_abs, arith, int_cmp, mul-le-mul_right, mul-le-mul_left, div-mul-le_self, div-add-mod', add-mul}
 use Rattle.std.specs.List.{list_any}
 use Rattle.std.specs.declared.cmp.Ordering.TheVariants.{Less}
 use Rattle.std.proofs.Math.Nat.{div-zero, mul-mod_left}
 use Rattle.std.proofs.lemmas.Nat.{le-div}
-use Rattle.std.proofs.lemmas.Bool.{cases_Bool, cases_eq, and_parts, and_from}
+use Rattle.std.proofs.lemmas.Bool.{cases_Bool, cases_eq, cases_lt, and_parts, and_from, ltb-true, lt-ltb, false_from_ne_true}
 use Rattle.std.proofs.lemmas.Bool.Decides.{nat_tests}
 use Rattle.std.proofs.lemmas.Int.{ints}
 use Rattle.std.proofs.lemmas.List.Elements.{All-cons, All-weaker, All-contains, Contains-get_or}
@@ -13,11 +13,12 @@ use Rattle.transit_base.specs.declared.numbers.TripId.{TripId}
 use Rattle.feed_rows.specs.declared.rows.FrequencyRow.{FrequencyRow}
 use Rattle.feed_rows.specs.FeedRows.{FeedRows}
 use Rattle.feed_rows.specs.Ascending.{IsAscending}
-use Rattle.feed_rows.specs.Words.{int_same, any_below}
+use Rattle.feed_rows.specs.Words.{int_same, any_below, list_below}
 use Rattle.feed_rows.specs.Calls.{first_departure}
-use Rattle.feed_rows.specs.Shifts.{run_count, run_starts, with_number, ascending_of, trip_frequencies, has_frequencies, shifts_of, is_run_start, is_shift}
+use Rattle.feed_rows.specs.Shifts.{has_run, run_count, run_starts, with_number, ascending_of, trip_frequencies, has_frequencies, shifts_of, is_run_start, is_shift}
 use Rattle.feed_rows.specs.TimedTrips.{DoRunsEndBy}
 use Rattle.feed_rows.proofs.BelowLaws.{any_below_hit, any_below_tells, Contains-list_below, list_below_tells, list_any-list_below}
+use Rattle.feed_rows.proofs.PickLaws.{picks_below_first}
 use Rattle.feed_rows.proofs.StrictLaws.{IsStrictOrder, HaveSameMembers, AllPairs-cons, AllPairs-tail, AllPairs-head, Contains-cons_cases, Contains-cons_first, Contains-cons_later, same_from_members}
 
 -- to be less is a strict order
@@ -207,6 +208,35 @@ run_count_tells row x lt = step (cases_eq row.headway 0)
 pub run_count_hit : (row : FrequencyRow) (x : ℕ) → 0 < row.headway → row.start + x * row.headway < row.end → x < run_count row
 run_count_hit row x some lt = below_fits x (row.end - row.start) row.headway some (omega arith)
 
+-- the runs that a row has are the first so many
+has_run_hit : (row : FrequencyRow) (x : ℕ) → x < run_count row → has_run row x ≡ true
+has_run_hit row x lt =
+    let within = run_count_tells row x lt in
+    and_from _ _ (lt-ltb 0 row.headway within.0) (lt-ltb (row.start + x * row.headway) row.end within.1)
+
+has_run_tells : (row : FrequencyRow) (x : ℕ) → has_run row x ≡ true → x < run_count row
+has_run_tells row x e =
+    let parts = and_parts _ _ e in run_count_hit row x (ltb-true _ _ parts.0) (ltb-true _ _ parts.1)
+
+-- no headway is less than a second, so they are no more than the seconds between start and end
+run_count_most : (row : FrequencyRow) → run_count row ≤ row.end - row.start
+run_count_most row = step (cases_lt (row.end - row.start) (run_count row))
+  where
+    step : (row.end - row.start < run_count row) ⊎ (run_count row ≤ row.end - row.start) → run_count row ≤ row.end - row.start
+    step (inr le) = le
+    step (inl lt) =
+        let within = run_count_tells row (row.end - row.start) lt in
+        let some = within.0 in
+        let before = within.1 in
+        let more : (row.end - row.start) * 1 ≤ (row.end - row.start) * row.headway = mul-le-mul_left (row.end - row.start) some in
+        absurd (omega (arith, more))
+
+-- so the departures are those of the first so many runs
+pub run_starts_counted : (row : FrequencyRow) → run_starts row ≡ list_below (run_count row) (λ x. row.start + x * row.headway)
+run_starts_counted row =
+    picks_below_first (has_run row) (λ x. row.start + x * row.headway) (run_count row) (row.end - row.start) (run_count_most row)
+    (has_run_hit row) (λ x from. false_from_ne_true (has_run row x) (λ e. let lt = has_run_tells row x e in omega arith))
+
 -- the start of a run, by its number
 pub run_start_at : (row : FrequencyRow) (x : ℕ) → 0 < row.headway → row.start + x * row.headway < row.end → IsRunStart row (row.start + x * row.headway)
 run_start_at row x some lt =
@@ -227,24 +257,24 @@ run_start_number row s run =
 -- the starts of a row's runs: exactly those between start and end that are whole headways after the start
 pub run_starts_tells : (row : FrequencyRow) (s : ℕ) → Contains (run_starts row) s → IsRunStart row s
 run_starts_tells row s at =
-    let found = list_below_tells (run_count row) (λ x. row.start + x * row.headway) s at in
+    let found = list_below_tells (run_count row) (λ x. row.start + x * row.headway) s (rw run_starts_counted at at) in
     let within = run_count_tells row found.0 found.1 in
     subst (IsRunStart row) found.2 (run_start_at row found.0 within.0 within.1)
 
 pub run_starts_hit : (row : FrequencyRow) (s : ℕ) → IsRunStart row s → Contains (run_starts row) s
 run_starts_hit row s run =
     let found = run_start_number row s run in
-    subst (Contains (run_starts row)) found.2 (Contains-list_below (run_count row) (λ x. row.start + x * row.headway) found.0 found.1)
+    rw run_starts_counted (subst (Contains (list_below (run_count row) (λ x. row.start + x * row.headway))) found.2 (Contains-list_below (run_count row) (λ x. row.start + x * row.headway) found.0 found.1))
 
 -- the same by the number of the run
 pub run_starts_number : (row : FrequencyRow) (s : ℕ) → Contains (run_starts row) s → (x : ℕ) × (0 < row.headway) × (s ≡ row.start + x * row.headway) × (row.start + x * row.headway < row.end)
 run_starts_number row s at =
-    let found = list_below_tells (run_count row) (λ x. row.start + x * row.headway) s at in
+    let found = list_below_tells (run_count row) (λ x. row.start + x * row.headway) s (rw run_starts_counted at at) in
     let within = run_count_tells row found.0 found.1 in
     (found.0, within.0, sym found.2, within.1)
 
 pub run_starts_at : (row : FrequencyRow) (x : ℕ) → 0 < row.headway → row.start + x * row.headway < row.end → Contains (run_starts row) (row.start + x * row.headway)
-run_starts_at row x some lt = Contains-list_below (run_count row) (λ k. row.start + k * row.headway) x (run_count_hit row x some lt)
+run_starts_at row x some lt = rw run_starts_counted (Contains-list_below (run_count row) (λ k. row.start + k * row.headway) x (run_count_hit row x some lt))
 
 -- the test of a run's start
 pub is_run_start_hit : (row : FrequencyRow) (s : ℕ) → IsRunStart row s → is_run_start row (pos s) ≡ true
@@ -308,7 +338,8 @@ module _ {X : Type 0} where
 pub list_any-run_starts : (row : FrequencyRow) (z : ℤ) (first : ℕ) → list_any (λ start. int_same z (pos start -ℤ pos first)) (run_starts row) ≡ is_run_start row (z +ℤ pos first)
 list_any-run_starts row z first =
     let test = λ (x : ℕ). int_same z (pos (row.start + x * row.headway) -ℤ pos first) in
-    list_any-list_below (λ start. int_same z (pos start -ℤ pos first)) (run_count row) (λ x. row.start + x * row.headway)
+    ap (list_any (λ start. int_same z (pos start -ℤ pos first))) (run_starts_counted row)
+    ∙ list_any-list_below (λ start. int_same z (pos start -ℤ pos first)) (run_count row) (λ x. row.start + x * row.headway)
     ∙ same_from_both (any_below (run_count row) test) (is_run_start row (z +ℤ pos first)) (λ e. there (any_below_tells test (run_count row) e)) (λ e. back (is_run_start_tells row (z +ℤ pos first) e))
   where
     there : (k : ℕ) × (k < run_count row) × (int_same z (pos (row.start + k * row.headway) -ℤ pos first) ≡ true) → is_run_start row (z +ℤ pos first) ≡ true

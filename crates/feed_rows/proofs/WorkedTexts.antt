@@ -14,7 +14,6 @@ use Rattle.feed_rows.specs.MoneyText.{money_text}
 use Rattle.feed_rows.specs.EntryText.{journey_line, walk_line, ride_line, ride_lines, travel_lines, leg_line, change_line, leg_lines, fare_lines, entry_lines, lines_of_entries, text_of_entries}
 use Rattle.feed_rows.specs.PriceTexts.{price_text, uncovered_text}
 use Rattle.feed_rows.proofs.BaseFeed.{base}
-use Rattle.feed_rows.proofs.WorkedRides.{frequent}
 use Rattle.feed_rows.proofs.WorkedEntries.{ride, change, entry, by_two_rides, by_one_ride, from_b2, with_walk, after_midnight, night_ride}
 
 -- 2025-06-02 and the day before, as text
@@ -78,7 +77,7 @@ unfolding journey_line walk_line ride_line ride_lines travel_lines leg_line chan
 midnight_lines = rw (day_is, day_before_is) refl
 
 -- a run of a frequency row prints its first departure
-start_lines : travel_lines frequent (entry 0 2 33300 1 (pos 250) (record (ride 2 0 1) { shift = pos 900 } ∷ []) [] []).journey ≡
+start_lines : travel_lines (record base { frequencies = record { trip = record { 0 = 2 }; start = 30000; end = 30001; headway = 1800 } ∷ [] }) (entry 0 2 33300 1 (pos 250) (record (ride 2 0 1) { shift = pos 900 } ∷ []) [] []).journey ≡
     (codes "ride" ++ 9 ∷ codes "T3" ++ 9 ∷ codes "2025-06-02" ++ 9 ∷ codes "08:20:00" ++ 9 ∷ codes "1" ++ 9 ∷ codes "2" ++ 9 ∷ codes "A" ++ 9 ∷ codes "2025-06-02 08:20:00" ++ 9 ∷ codes "C" ++ 9 ∷ codes "2025-06-02 09:15:00" ++ 10 ∷ []) ∷ []
 unfolding journey_line walk_line ride_line ride_lines travel_lines leg_line change_line leg_lines fare_lines entry_lines price_text money_text time_text digits is_ride ride_facts is_active shifts_of calls_of call_at link transfer_kind starts_chain is_charged amount_of
 start_lines = rw day_is refl

@@ -6,15 +6,20 @@ use Rattle.transit_base.specs.declared.numbers.TripId.{TripId}
 use Rattle.feed_rows.specs.declared.rows.FrequencyRow.{FrequencyRow}
 use Rattle.feed_rows.specs.FeedRows.{FeedRows}
 use Rattle.feed_rows.specs.Calls.{first_departure}
-use Rattle.feed_rows.specs.Words.{int_same, list_below}
+use Rattle.feed_rows.specs.Words.{int_same, picks_below}
 
--- how many runs a frequency row has: as many as x from 0 on with start + x * headway before the end
-abbrev pub run_count : FrequencyRow → ℕ
-run_count row = (row.end - row.start + row.headway - 1) / row.headway
+-- the departure of run x of a frequency row from the first stop, counted from run 0, in seconds of the service day
+abbrev pub run_departure : FrequencyRow → ℕ → ℕ
+run_departure row x = row.start + x * row.headway
 
--- the departures of a frequency row's runs from the first stop, in seconds of the service day
+-- the row has the run: it departs before the end, and a headway of no seconds, which no sound feed has, gives no run
+abbrev pub has_run : FrequencyRow → ℕ → Bool
+has_run row x = nat_lt 0 row.headway && nat_lt (run_departure row x) row.end
+
+-- the departures of the runs that a frequency row has; a run departs at least a second after the one before, so there
+-- are no more runs than seconds between start and end
 abbrev pub run_starts : FrequencyRow → List ℕ
-run_starts row = list_below (run_count row) (λ x. row.start + x * row.headway)
+run_starts row = picks_below (row.end - row.start) (has_run row) (run_departure row)
 
 -- the number put into an ascending list, where it doesn't stand yet
 abbrev pub with_number : ℤ → List ℤ → List ℤ
@@ -42,7 +47,12 @@ shifts_of feed trip =
     then ascending_of (map (λ start. pos start -ℤ pos (first_departure feed trip)) (flat_map run_starts (trip_frequencies feed trip)))
     else pos 0 ∷ []
 
--- a run of the frequency row departs from the first stop at this second of the service day
+-- how many runs a frequency row has, by one division; as the two tests below this is what a body computes, and no rule
+-- of its own: `ShiftLaws` proves that the three agree with the lists
+abbrev pub run_count : FrequencyRow → ℕ
+run_count row = (row.end - row.start + row.headway - 1) / row.headway
+
+-- whether a run of the frequency row departs from the first stop at this second of the service day
 unfoldable pub is_run_start : FrequencyRow → ℤ → Bool
 is_run_start row z =
     nat_lt 0 row.headway
@@ -50,7 +60,7 @@ is_run_start row z =
     && int_lt z (pos row.end)
     && (unsigned_abs z - row.start) % row.headway == 0
 
--- the number is a shift of the trip, told without making the list
+-- whether the number is a shift of the trip
 unfoldable pub is_shift : FeedRows → TripId → ℤ → Bool
 is_shift feed trip z =
     if has_frequencies feed trip
