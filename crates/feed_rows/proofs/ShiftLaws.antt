@@ -456,7 +456,7 @@ unfolding is_shift
 is_shift_none feed trip z bare e = same_told z (pos 0) (rw bare at e)
 
 -- a shift leads to a second of the service day that is no later than runs end and trips begin
-pub is_shift_leads : (feed : FeedRows) (trip : TripId) (z : ℤ) (most : ℕ) → DoRunsEndBy feed most → first_departure feed trip ≤ most → is_shift feed trip z ≡ true
+pub is_shift_leads : (feed : FeedRows) (trip : TripId) (z : ℤ) (most : ℕ) → DoRunsEndBy feed trip most → first_departure feed trip ≤ most → is_shift feed trip z ≡ true
     → (s : ℕ) × (z +ℤ pos (first_departure feed trip) ≡ pos s) × (s ≤ most)
 is_shift_leads feed trip z most ends begins e = step (cases_Bool (has_frequencies feed trip))
   where
@@ -468,12 +468,12 @@ is_shift_leads feed trip z most ends begins e = step (cases_Bool (has_frequencie
         let found = is_shift_run feed trip z frequent e in
         let run = found.1 in
         let until = run.start.until in
-        let by = All-contains (λ (f : FrequencyRow). f.end ≤ most) feed.frequencies run.row ends run.member in
+        let by = All-contains (λ (f : FrequencyRow). f.trip.0 ≡ trip.0 → f.end ≤ most) feed.frequencies run.row ends run.member run.of_trip in
         (found.0, run.leads, omega (arith, until, by))
     step (inr bare) = let none = is_shift_none feed trip z bare e in (first_departure feed trip, rw none (at_none (first_departure feed trip)), begins)
 
 -- so it lies within bounds
-pub is_shift_bounds : (feed : FeedRows) (trip : TripId) (z : ℤ) (most : ℕ) → 0 < most → DoRunsEndBy feed most → first_departure feed trip ≤ most → is_shift feed trip z ≡ true
+pub is_shift_bounds : (feed : FeedRows) (trip : TripId) (z : ℤ) (most : ℕ) → 0 < most → DoRunsEndBy feed trip most → first_departure feed trip ≤ most → is_shift feed trip z ≡ true
     → ((pos 0 -ℤ pos most) ≤ℤ z) × (z <ℤ pos most)
 is_shift_bounds feed trip z most some ends begins e = step (cases_Bool (has_frequencies feed trip))
   where
@@ -483,6 +483,6 @@ is_shift_bounds feed trip z most some ends begins e = step (cases_Bool (has_freq
         let run = found.1 in
         let until = run.start.until in
         let leads = run.leads in
-        let by = All-contains (λ (f : FrequencyRow). f.end ≤ most) feed.frequencies run.row ends run.member in
+        let by = All-contains (λ (f : FrequencyRow). f.trip.0 ≡ trip.0 → f.end ≤ most) feed.frequencies run.row ends run.member run.of_trip in
         (omega (arith, ints, leads, begins), omega (arith, ints, leads, until, by))
     step (inr bare) = let none = is_shift_none feed trip z bare e in (omega (arith, ints, none), omega (arith, ints, none))

@@ -200,5 +200,5 @@ sound_trip feed trip sound =
       ends = sound_ends feed trip sound.calls;
       rise = sound_rise feed trip sound.calls;
       times = trip_times_most feed trip 604_799 (sound_times feed sound.stop_times);
-      runs = sound.frequencies.ends;
+      runs = λ k d lt of_trip. sound.frequencies.ends k d lt;
     }

@@ -1,4 +1,6 @@
--- The platforms that each stop stands for, gathered row by row.
+-- The platforms that each stop stands for, gathered row by row: each row puts itself into its own set and into that of its
+-- station. This is what a body carries, and no rule of its own: the platforms that a stop stands for are defined in
+-- `StopLinks`, and `StopSetLaws` proves that the gathering gives them.
 use Rattle.std.specs.Prelude.{ℕ, ◌==◌, if◌then◌else◌, List, [], ◌∷◌, ◌++◌, length, Option, Some, None, slice_get}
 use Rattle.std.specs.Option.{option_map_or}
 use Rattle.transit_base.specs.declared.numbers.StopId.{StopId}
@@ -7,7 +9,7 @@ use Rattle.feed_rows.specs.FeedRows.{FeedRows}
 use Rattle.feed_rows.specs.StopLinks.{stop_set}
 use Rattle.feed_rows.specs.Words.{list_below}
 
--- the platforms that each stop stands for, in file order
+-- the platforms that each stop stands for, stop by stop in file order
 unfoldable pub stop_sets : FeedRows → List (List StopId)
 stop_sets feed = list_below (length feed.stops) (λ i. stop_set feed (record { 0 = i }))
 

@@ -1,4 +1,5 @@
--- What is asked of the times of a trip: its first and its last row have times, times don't fall, and none is too great.
+-- What laws ask of the times of a trip, and what each trip of a sound feed keeps: its first and its last row have times,
+-- times don't fall, and none is too great.
 use Rattle.std.specs.Prelude.{◌≡◌, ℕ, ◌-◌, ◌<◌, ◌≤◌, Bool, true, List, length, slice_get, Option, Some, option_and_then, IfSome, All}
 use Rattle.transit_base.specs.declared.numbers.TripId.{TripId}
 use Rattle.feed_rows.specs.declared.rows.StopTimeRow.{StopTimeRow}
@@ -37,13 +38,14 @@ pub record AreTimesAtMost (rows : List StopTimeRow) (most : ℕ) : Type 0 where
 abbrev pub DoTimesEndBy : FeedRows → ℕ → Type 0
 DoTimesEndBy feed most = All (λ (r : StopTimeRow). IfSome r.arrival (λ t. t ≤ most) × IfSome r.departure (λ t. t ≤ most)) feed.stop_times
 
--- the frequency rows end no later than this
-abbrev pub DoRunsEndBy : FeedRows → ℕ → Type 0
-DoRunsEndBy feed most = All (λ (f : FrequencyRow). f.end ≤ most) feed.frequencies
+-- the frequency rows of the trip end no later than this
+abbrev pub DoRunsEndBy : FeedRows → TripId → ℕ → Type 0
+DoRunsEndBy feed trip most = All (λ (f : FrequencyRow). f.trip.0 ≡ trip.0 → f.end ≤ most) feed.frequencies
 
--- a trip whose calls have times that don't fall, all no later than this, as its runs
+-- a trip that is timed by its first and its last stop time, and whose times don't fall and are no later than this, as the
+-- ends of its frequency rows
 pub record IsTimedTrip (feed : FeedRows) (trip : TripId) (most : ℕ) : Type 0 where
   pub ends : HasTimedEnds (trip_stop_times feed trip)
   pub rise : DoTimesRise (trip_stop_times feed trip)
   pub times : AreTimesAtMost (trip_stop_times feed trip) most
-  pub runs : DoRunsEndBy feed most
+  pub runs : DoRunsEndBy feed trip most
