@@ -24,6 +24,8 @@ pub mod FeedReadings
 pub mod BelowLaws
 pub mod PickLaws
 pub mod StrictLaws
+pub mod Decisions
+pub mod SoundTests
 pub mod SequenceLaws
 pub mod TimedLaws
 pub mod CallLaws
