@@ -33,6 +33,7 @@ pub mod CallTimes
 pub mod FullFeed
 pub mod BaseSound
 pub mod EdgeFeed
+pub mod UnsoundFeeds
 pub mod ShiftLaws
 pub mod RideLaws
 pub mod SoundTrips
