@@ -34,6 +34,7 @@ pub mod FullFeed
 pub mod BaseSound
 pub mod EdgeFeed
 pub mod UnsoundFeeds
+pub mod TravelChecks
 pub mod ShiftLaws
 pub mod RideLaws
 pub mod SoundTrips
