@@ -1,5 +1,5 @@
 -- Worked examples of calls, shifts, links and the ends of journeys, each at a place where a wrong reading gives another answer.
-use Rattle.std.proofs.Common.{◌≡◌, refl, ℕ, Bool, true, false, List, [], ◌∷◌, map, Option, Some, None}
+use Rattle.std.proofs.Common.{◌≡◌, refl, ℕ, Bool, true, false, List, [], ◌∷◌, ◌++◌, map, Option, Some, None}
 use Rattle.std.specs.Prelude.{codes, pos}
 use Rattle.feed_rows.specs.FeedRows.{FeedRows}
 use Rattle.feed_rows.specs.declared.rows.LinkRow.{LinkRow}
@@ -64,6 +64,29 @@ governing_rows : (walk (row 4 4 true 0 ∷ row 1 3 false 60 ∷ []) 1 3 ≡ Some
     × (walk (row 1 3 false 0 ∷ row 1 3 true 9 ∷ []) 1 3 ≡ Some 0)
 unfolding link
 governing_rows = (refl, refl, refl, refl, refl, refl, refl, refl, refl, refl)
+
+-- the same with D of the station Q
+abbrev two_stations : FeedRows
+two_stations =
+    record station {
+      stops = station.stops ++ record (platform (codes "D")) { parent = Some (record { 0 = 7 }) } ∷ record (platform (codes "Q")) { kind = 1 } ∷ [];
+    }
+
+-- the seconds between these stops without rows, or with these
+abbrev walk_apart : List LinkRow → ℕ → ℕ → Option ℕ
+walk_apart rows from to = link (record two_stations { links = rows }) (record { 0 = from }) (record { 0 = to })
+
+-- without a row one walks to the stop itself and within a station: not to or from another station, nor between two platforms
+-- that have none; and no row makes a station or an entrance an end of a walk
+apart_stations : (map (walk_apart [] 1) (0 ∷ 1 ∷ 2 ∷ 3 ∷ 4 ∷ 5 ∷ 6 ∷ 7 ∷ []) ≡ None ∷ Some 0 ∷ None ∷ Some 180 ∷ None ∷ None ∷ None ∷ None ∷ [])
+    × (map (walk_apart [] 0) (0 ∷ 1 ∷ 2 ∷ 3 ∷ 4 ∷ 6 ∷ []) ≡ Some 0 ∷ None ∷ None ∷ None ∷ None ∷ None ∷ [])
+    × (walk_apart [] 6 1 ≡ None) × (walk_apart [] 4 4 ≡ None) × (walk_apart [] 5 5 ≡ None) × (walk_apart [] 8 8 ≡ None)
+    × (walk_apart (row 4 0 false 5 ∷ row 0 4 false 6 ∷ row 5 0 false 7 ∷ []) 4 0 ≡ None)
+    × (walk_apart (row 4 0 false 5 ∷ row 0 4 false 6 ∷ row 5 0 false 7 ∷ []) 0 4 ≡ None)
+    × (walk_apart (row 4 0 false 5 ∷ row 0 4 false 6 ∷ row 5 0 false 7 ∷ []) 5 0 ≡ None)
+    × (walk_apart (row 4 7 false 5 ∷ []) 3 6 ≡ Some 5)
+unfolding link
+apart_stations = (refl, refl, refl, refl, refl, refl, refl, refl, refl, refl)
 
 -- a boarding stop of the origin is itself the first stop, also where a row forbids the change there, and no other platform of
 -- the station is; from a single platform one walks to its sister; and the like of the destination and of no rides
