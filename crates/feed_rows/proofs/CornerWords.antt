@@ -1,10 +1,11 @@
 -- Words of commands at their edges: names of options that words begin with, options as values, and the sign `=`.
-use Rattle.std.specs.Prelude.{◌≡◌, refl, ℕ, List, [], ◌∷◌, map, replicate, Some, None, Result, Ok, Err, pos, codes}
+use Rattle.std.specs.Prelude.{◌≡◌, refl, false, ℕ, List, [], ◌∷◌, map, replicate, Some, None, Result, Ok, Err, pos, codes}
 use Rattle.jiff_core.specs.Calendar.{days_from_civil, day_count, days_of_years, days_of_months}
 use Rattle.feed_rows.specs.Numerals.{number_value}
 use Rattle.feed_rows.specs.TimeGrammar.{time_value}
 use Rattle.feed_rows.specs.CommandWords.{joined_value, role_at, value_at, fits_form}
-use Rattle.feed_rows.specs.Requests.{Request, Plan, read_words}
+use Rattle.feed_rows.specs.Requests.{Request, Plan}
+use Rattle.feed_rows.specs.Commands.{read_words}
 use Rattle.feed_rows.specs.declared.usage.UsageFault.{UsageFault}
 use Rattle.feed_rows.specs.declared.usage.UsageFault.TheVariants as usage
 use Rattle.feed_rows.proofs.WordChecks.{asked, wrong}
@@ -28,7 +29,7 @@ wrong_plans = refl
 
 -- a plan at the first moment of 1970
 abbrev plan_of : List ℕ → List ℕ → List ℕ → Result Request UsageFault
-plan_of from to rider = Ok (Plan (record { from = from; to = to; departure = pos 0; rides = 4; rider = Some rider; window = 86_400 }))
+plan_of from to rider = Ok (Plan (record { from = from; to = to; departure = pos 0; rides = 4; rider = Some rider; window = 86_400; stats = false }))
 
 -- a value behind `=` may be any text, also a name or a dash; stops may be named like a command or begin with `=`; a second
 -- `=` belongs to the value

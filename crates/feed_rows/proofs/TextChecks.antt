@@ -93,7 +93,7 @@ wholes = refl
 
 -- a plan from one stop to another, for a rider
 abbrev between : List ℕ → List ℕ → Option (List ℕ) → PlanRequest
-between from to rider = record { from = from; to = to; departure = pos 1_748_851_200; rides = 4; rider = rider; window = 86_400 }
+between from to rider = record { from = from; to = to; departure = pos 1_748_851_200; rides = 4; rider = rider; window = 86_400; stats = false }
 
 -- the query from stop 0 to stop 2, for a rider category
 abbrev query_for : Option ℕ → Result Query UsageFault

@@ -6,7 +6,8 @@ use Rattle.feed_rows.specs.Numerals.{number_value}
 use Rattle.feed_rows.specs.TimeGrammar.{time_value}
 use Rattle.feed_rows.specs.WordValues.{word_number, word_date, word_time}
 use Rattle.feed_rows.specs.CommandWords.{CommandForm, role_at, value_at, fits_form, positional_words, has_flag}
-use Rattle.feed_rows.specs.Requests.{Request, Plan, Check, read_words}
+use Rattle.feed_rows.specs.Requests.{Request, Plan, Check}
+use Rattle.feed_rows.specs.Commands.{Command, plan, check, without, read_words}
 use Rattle.feed_rows.specs.declared.usage.UsageFault.{UsageFault}
 use Rattle.feed_rows.specs.declared.usage.UsageFault.TheVariants as usage
 
@@ -20,14 +21,18 @@ abbrev pub spaced : List ℕ → List (List ℕ)
 spaced [] = [] ∷ []
 spaced (byte ∷ bytes) = if byte == 32 then [] ∷ spaced bytes else onto_first byte (spaced bytes)
 
+-- the commands `plan`, without its flag, and `check`
+abbrev pub taken : List Command
+taken = without (codes "--stats" ∷ []) plan ∷ check ∷ []
+
 -- what the words of a text ask for
 abbrev pub asked : List ℕ → Result Request UsageFault
-asked text = read_words (spaced text)
+asked text = read_words taken (spaced text)
 
 -- a plan from A to C on 2025-06-02 at 08:00:00
 abbrev plan_with : ℕ → Option (List ℕ) → ℕ → Result Request UsageFault
 plan_with rides rider window =
-    Ok (Plan (record { from = codes "A"; to = codes "C"; departure = pos 1_748_851_200; rides = rides; rider = rider; window = window }))
+    Ok (Plan (record { from = codes "A"; to = codes "C"; departure = pos 1_748_851_200; rides = rides; rider = rider; window = window; stats = false }))
 
 abbrev pub wrong : Result Request UsageFault
 wrong = Err usage.WrongWords
@@ -88,7 +93,7 @@ unfolding read_words role_at value_at fits_form time_value number_value days_fro
 plans = refl
 
 -- no words at all
-pub no_words : read_words [] ≡ wrong
+pub no_words : read_words taken [] ≡ wrong
 unfolding read_words
 no_words = refl
 

@@ -1,4 +1,4 @@
--- The lines that tell of faults, and the text of the command `check`.
+-- The lines that tell of faults, the text of the command `check`, and the line of statistics.
 use Rattle.std.specs.Prelude.{ℕ, List, [], ◌∷◌, length, Option, Some, None, codes, decimal}
 use Rattle.feed_rows.specs.Lines.{line}
 use Rattle.feed_rows.specs.Names.{file_text, column_text}
@@ -30,3 +30,7 @@ check_text feed =
     line (codes "accepted")
     (decimal (length feed.stops) ∷ decimal (length feed.routes) ∷ decimal (length feed.trips) ∷ decimal (length feed.stop_times)
     ∷ decimal (length feed.leg_rules) ∷ decimal (length feed.transfer_rules) ∷ [])
+
+-- the last line of a plan with statistics: how many labels its table has
+abbrev pub stats_line : ℕ → List ℕ
+stats_line labels = line (codes "stats") (decimal labels ∷ [])

@@ -1,6 +1,6 @@
 -- The printed text of an answer. Each line ends with one line feed, and a tab stands between two fields. What speaks of
 -- a row that the feed lacks prints no line.
-use Rattle.std.specs.Prelude.{ℕ, zero, suc, ◌+◌, Bool, ◌==◌, if◌then◌else◌, List, [], ◌∷◌, ◌++◌, length, slice_get, Option, Some, None, ℤ, pos, negsuc, ◌+ℤ◌, unwrap_or, option_map, option_and_then, codes, decimal}
+use Rattle.std.specs.Prelude.{ℕ, zero, suc, ◌+◌, Bool, ◌==◌, if◌then◌else◌, List, [], ◌∷◌, ◌++◌, length, slice_get, Option, Some, None, ℤ, pos, negsuc, ◌+ℤ◌, unwrap_or, option_map, codes, decimal}
 use Rattle.std.specs.Option.{option_map_or, option_to_list}
 use Rattle.std.specs.List.{concat, flat_map}
 use Rattle.transit_base.specs.DateTexts.{date_text, moment_text, time_text}
@@ -25,10 +25,11 @@ use Rattle.feed_rows.specs.FareSums.{amount_of, is_charged, transfer_kind}
 use Rattle.feed_rows.specs.Lines.{line}
 use Rattle.feed_rows.specs.MoneyText.{money_text}
 use Rattle.feed_rows.specs.Words.{joined_below}
+use Rattle.feed_rows.specs.Given.{given, given_last, lines_given}
 
 -- the id of a stop
 abbrev pub stop_text : FeedRows → StopId → Option (List ℕ)
-stop_text feed stop = option_map (λ row. row.id) (slice_get feed.stops stop.0)
+stop_text feed stop = given_last (slice_get feed.stops stop.0) (λ row. row.id)
 
 -- an amount in the feed's currency
 abbrev pub amount_text : FeedRows → ℤ → List ℕ
@@ -46,16 +47,15 @@ journey_line feed triple =
 
 -- the line of a journey without rides that ends where it starts
 abbrev pub stay_line : FeedRows → StopId → Option (List ℕ)
-stay_line feed stop = option_map (λ id. line (codes "stay") (id ∷ [])) (stop_text feed stop)
+stay_line feed stop = given_last (stop_text feed stop) (λ id. line (codes "stay") (id ∷ []))
 
 -- the line of a walk from one stop to another
 unfoldable pub walk_line : FeedRows → StopId → StopId → Option (List ℕ)
 walk_line feed from to =
-    option_and_then
-    (λ start. option_and_then
-    (λ end. option_map (λ seconds. line (codes "walk") (start ∷ end ∷ decimal seconds ∷ [])) (link feed from to))
-    (stop_text feed to))
-    (stop_text feed from)
+    given (stop_text feed from) (λ start.
+    given (stop_text feed to) (λ end.
+    given_last (link feed from to) (λ seconds.
+    line (codes "walk") (start ∷ end ∷ decimal seconds ∷ []))))
 
 -- the lines between two stops on the way: a walk, where they differ
 abbrev pub walk_lines : FeedRows → StopId → StopId → List (List ℕ)
@@ -84,32 +84,24 @@ way_fields ride from to = from ∷ moment_text ride.departure.0 ∷ to ∷ momen
 -- the line of a ride with these facts
 unfoldable pub ride_line : FeedRows → Ride → RideFacts → Option (List ℕ)
 ride_line feed ride facts =
-    option_and_then
-    (λ trip. option_and_then
-    (λ boarding. option_and_then
-    (λ alighting. option_and_then
-    (λ from. option_map
-    (λ to. line (codes "ride") (run_fields feed ride trip.id boarding alighting ++ way_fields facts from to))
-    (stop_text feed facts.to))
-    (stop_text feed facts.from))
-    (slice_get (calls_of feed ride.trip) ride.to))
-    (slice_get (calls_of feed ride.trip) ride.from))
-    (slice_get feed.trips ride.trip.0)
+    given (slice_get feed.trips ride.trip.0) (λ trip.
+    given (slice_get (calls_of feed ride.trip) ride.from) (λ boarding.
+    given (slice_get (calls_of feed ride.trip) ride.to) (λ alighting.
+    given (stop_text feed facts.from) (λ from.
+    given_last (stop_text feed facts.to) (λ to.
+    line (codes "ride") (run_fields feed ride trip.id boarding alighting ++ way_fields facts from to))))))
 
 -- where the traveller stands before ride i
 abbrev pub stop_before : FeedRows → Journey → ℕ → Option StopId
 stop_before feed journey zero = Some journey.first
-stop_before feed journey (suc before) = option_map (λ ride. ride.to) (facts_at feed journey.rides before)
+stop_before feed journey (suc before) = given_last (facts_at feed journey.rides before) (λ ride. ride.to)
 
 -- the lines of ride i: the walk to it, if there is one, and the ride
 unfoldable pub ride_lines : FeedRows → Journey → ℕ → List (List ℕ)
 ride_lines feed journey i =
-    option_map_or
-    (λ facts.
-    option_map_or (λ stop. walk_lines feed stop facts.from) (stop_before feed journey i) []
-    ++ option_map_or (λ ride. option_to_list (ride_line feed ride facts)) (slice_get journey.rides i) [])
-    (facts_at feed journey.rides i)
-    []
+    lines_given (facts_at feed journey.rides i) (λ facts.
+    lines_given (stop_before feed journey i) (λ stop. walk_lines feed stop facts.from)
+    ++ lines_given (slice_get journey.rides i) (λ ride. option_to_list (ride_line feed ride facts)))
 
 -- the last lines of a journey with so many rides: the walk to its last stop, if there is one, or that it stays
 abbrev pub last_lines : FeedRows → Journey → ℕ → List (List ℕ)
@@ -117,7 +109,7 @@ last_lines feed journey zero =
     if journey.first.0 == journey.last.0 then option_to_list (stay_line feed journey.first)
     else walk_lines feed journey.first journey.last
 last_lines feed journey (suc before) =
-    option_map_or (λ ride. walk_lines feed ride.to journey.last) (facts_at feed journey.rides before) []
+    lines_given (facts_at feed journey.rides before) (λ ride. walk_lines feed ride.to journey.last)
 
 -- the lines of a journey's walks and rides, in order of travel
 unfoldable pub travel_lines : FeedRows → Journey → List (List ℕ)
@@ -135,21 +127,17 @@ medium_text feed row = option_map_or (λ m. option_map (λ r. r.id) (slice_get f
 -- a product row with its product, its medium and an amount, as they end a line
 abbrev pub ticket_fields : FeedRows → ProductRowId → ℤ → Option (List (List ℕ))
 ticket_fields feed id amount =
-    option_and_then
-    (λ row. option_and_then
-    (λ product. option_map
-    (λ medium. decimal (id.0 + 1) ∷ product ∷ medium ∷ amount_text feed amount ∷ [])
-    (medium_text feed row))
-    (product_text feed row))
-    (slice_get feed.products id.0)
+    given (slice_get feed.products id.0) (λ row.
+    given (product_text feed row) (λ product.
+    given_last (medium_text feed row) (λ medium.
+    decimal (id.0 + 1) ∷ product ∷ medium ∷ amount_text feed amount ∷ [])))
 
 -- the line of leg i: bought where it is charged, and otherwise included with the amount zero
 unfoldable pub leg_line : FeedRows → ℕ → Bool → LegChoice → Option (List ℕ)
 leg_line feed i charged pick =
-    option_map
-    (λ ticket. line (codes "leg")
+    given_last (ticket_fields feed pick.product (if charged then amount_of feed pick.product else pos 0)) (λ ticket.
+    line (codes "leg")
     (decimal (i + 1) ∷ (if charged then codes "buy" else codes "included") ∷ decimal (pick.rule.0 + 1) ∷ ticket))
-    (ticket_fields feed pick.product (if charged then amount_of feed pick.product else pos 0))
 
 -- the end of a change's line: its product row, or what stands for none
 abbrev pub change_fields : FeedRows → Option ProductRowId → Option (List (List ℕ))
@@ -159,23 +147,16 @@ change_fields feed None = Some (codes "-" ∷ [] ∷ [] ∷ amount_text feed (po
 -- the line of change i, where it is arranged
 unfoldable pub change_line : FeedRows → ℕ → ChangeChoice → Option (List ℕ)
 change_line feed i pick =
-    option_and_then
-    (λ row. option_map
-    (λ ticket. line (codes "change") (decimal (i + 1) ∷ decimal row.kind ∷ decimal (pick.rule.0 + 1) ∷ ticket))
-    (change_fields feed pick.product))
-    (slice_get feed.transfer_rules pick.rule.0)
+    given (slice_get feed.transfer_rules pick.rule.0) (λ row.
+    given_last (change_fields feed pick.product) (λ ticket.
+    line (codes "change") (decimal (i + 1) ∷ decimal row.kind ∷ decimal (pick.rule.0 + 1) ∷ ticket)))
 
 -- the line of leg i, and that of change i after it where it is arranged
 unfoldable pub leg_lines : FeedRows → Choice → ℕ → List (List ℕ)
 leg_lines feed choice i =
-    option_map_or
-    (λ pick. option_to_list (leg_line feed i (is_charged (transfer_kind feed choice) i) pick))
-    (slice_get choice.legs i)
-    []
-    ++ option_map_or
-    (λ place. option_map_or (λ pick. option_to_list (change_line feed i pick)) place [])
-    (slice_get choice.changes i)
-    []
+    lines_given (slice_get choice.legs i) (λ pick. option_to_list (leg_line feed i (is_charged (transfer_kind feed choice) i) pick))
+    ++ lines_given (slice_get choice.changes i) (λ place.
+    lines_given place (λ pick. option_to_list (change_line feed i pick)))
 
 -- the fare lines of a choice: leg 1, change 1 where it is arranged, leg 2, and so on
 unfoldable pub fare_lines : FeedRows → Choice → List (List ℕ)

@@ -2,6 +2,7 @@ pub mod Names
 pub mod Faults
 pub mod Ascending
 pub mod Words
+pub mod Given
 pub mod FeedRows
 pub mod ServiceDays
 pub mod Calls
@@ -28,13 +29,19 @@ pub mod Numerals
 pub mod TimeGrammar
 pub mod WordValues
 pub mod CommandWords
+pub mod NumberedItems
+pub mod RideWords
 pub mod Requests
+pub mod Commands
 pub mod Queries
+pub mod PriceQueries
 pub mod Lines
 pub mod MoneyText
 pub mod CommandTexts
 pub mod EntryText
 pub mod PriceTexts
+pub mod GeneratedFeed
+pub mod GeneratedTexts
 pub mod Items
 pub mod SoundNames
 pub mod SoundTimetable

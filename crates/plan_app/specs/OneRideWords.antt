@@ -1,5 +1,5 @@
 -- The words that are taken: those of a plan of at most one ride, plan FROM TO DATE TIME --rides 1, and check.
-use Rattle.std.specs.Prelude.{ℕ, ◌==◌, ◌&&◌, not, nat_lt, Bool, if◌then◌else◌, List, length, slice_index, Option, Some, None, option_map, option_and_then, ℤ, pos, codes, bytes_eq}
+use Rattle.std.specs.Prelude.{ℕ, ◌==◌, ◌&&◌, not, nat_lt, Bool, false, if◌then◌else◌, List, length, slice_index, Option, Some, None, option_map, option_and_then, ℤ, pos, codes, bytes_eq}
 use Rattle.transit_base.specs.Moments.{moment_at}
 use Rattle.feed_rows.specs.CommandWords.{word_at}
 use Rattle.feed_rows.specs.Requests.{PlanRequest, Request}
@@ -30,6 +30,7 @@ one_ride words departure =
       rides = 1;
       rider = None;
       window = 86_400;
+      stats = false;
     }
 
 -- the plan that the words ask for; none where they are not of this form

@@ -1,5 +1,5 @@
 -- What the words of a command ask for.
-use Rattle.std.specs.Prelude.{◌≤ℤ◌, ℤ, pos, negsuc, None}
+use Rattle.std.specs.Prelude.{◌≤ℤ◌, false, ℤ, pos, negsuc, None}
 use Rattle.feed_rows.specs.Requests.{PlanRequest, Request}
 use Rattle.plan_app.specs.declared.request.Asked.{Asked}
 use Rattle.plan_app.specs.declared.request.Asked.TheVariants as asked
@@ -15,6 +15,7 @@ request_of plan =
       rides = 1;
       rider = None;
       window = 86_400;
+      stats = false;
     }
 
 -- the request
