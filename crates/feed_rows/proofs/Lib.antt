@@ -19,6 +19,12 @@ pub mod LeastEdges
 pub mod CornerTexts
 pub mod CornerWords
 pub mod CornerPrinted
+pub mod PriceWords
+pub mod GeneratedChecks
+pub mod GeneratedStopTimes
+pub mod GeneratedAnswers
+pub mod PriceRides
+pub mod NameChecks
 pub mod CornerOutside
 pub mod FeedReadings
 pub mod BelowLaws

@@ -17,7 +17,7 @@ use Rattle.feed_rows.proofs.BaseFeed.{base}
 use Rattle.feed_rows.proofs.WorkedEntries.{ride, change, entry, by_two_rides, by_one_ride, from_b2, with_walk, after_midnight, night_ride}
 
 -- 2025-06-02 and the day before, as text
-day_is : date_text (pos 20241) ≡ codes "2025-06-02"
+pub day_is : date_text (pos 20241) ≡ codes "2025-06-02"
 unfolding date_text date_of date_from_year date_in_year
 day_is = refl
 
