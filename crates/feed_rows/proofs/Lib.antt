@@ -25,6 +25,8 @@ pub mod GeneratedStopTimes
 pub mod GeneratedAnswers
 pub mod PriceRides
 pub mod NameChecks
+pub mod PriceQueryLaws
+pub mod GeneratedLaws
 pub mod CornerOutside
 pub mod FeedReadings
 pub mod BelowLaws
