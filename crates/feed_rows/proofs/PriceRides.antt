@@ -76,6 +76,13 @@ late_starts : (map (named_ride late_run) (word (codes "T3") (Some 90_000) 5 9 �
 unfolding named_ride has_trip_id is_ride is_active shifts_of calls_of call_at
 late_starts = (refl, refl)
 
+-- a run at the trip's own departure must be named by its start too, though its shift is 0
+own_start : map (named_ride (record base { frequencies = frequency 2 29_100 29_101 60 ∷ [] }))
+    (t3 ∷ word (codes "T3") (Some 29_100) 1 2 ∷ [])
+    ≡ None ∷ Some (ride 2 0 1) ∷ []
+unfolding named_ride has_trip_id is_ride is_active shifts_of calls_of call_at
+own_start = refl
+
 -- a trip with frequency rows that make no run can't be named at all
 no_runs : map (named_ride (record base { frequencies = frequency 0 500 400 60 ∷ [] })) (t1
     ∷ word (codes "T1") (Some 500) 1 2 ∷ word (codes "T1") (Some 28_800) 1 2 ∷ [])

@@ -61,9 +61,9 @@ pub dates :
     (codes "1970-01-01" ∷ codes "2025-06-02" ∷ codes "2024-02-29" ∷ codes "1900-01-01" ∷ codes "2999-12-31"
     ∷ codes "1899-12-31" ∷ codes "3000-01-01" ∷ codes "2025-02-29" ∷ codes "1900-02-29" ∷ codes "2025-6-2" ∷ codes "20250602"
     ∷ codes "2025-00-10" ∷ codes "2025-13-01" ∷ codes "2025-06-00" ∷ codes "2025-06-31" ∷ codes "2025/06/02" ∷ codes "2025-06-0x"
-    ∷ codes "2025-06-02 " ∷ codes "" ∷ [])
+    ∷ codes "2025-06-02 " ∷ codes "" ∷ codes "2025-06/02" ∷ codes "2025/06-02" ∷ codes "2025-060-2" ∷ [])
     ≡ Some (pos 0) ∷ Some (pos 20_241) ∷ Some (pos 19_782) ∷ Some (negsuc 25_566) ∷ Some (pos 376_199)
-    ∷ None ∷ None ∷ None ∷ None ∷ None ∷ None ∷ None ∷ None ∷ None ∷ None ∷ None ∷ None ∷ None ∷ None ∷ []
+    ∷ None ∷ None ∷ None ∷ None ∷ None ∷ None ∷ None ∷ None ∷ None ∷ None ∷ None ∷ None ∷ None ∷ None ∷ None ∷ None ∷ None ∷ []
 unfolding time_value number_value days_from_civil day_count days_of_years days_of_months
 dates = refl
 
