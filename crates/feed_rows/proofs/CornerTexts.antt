@@ -45,6 +45,13 @@ walks_at_ends : lines_of_entries (with_links base (link_row 2 0 false 60 ∷ lin
 unfolding journey_line walk_line ride_line ride_lines travel_lines leg_line change_line leg_lines fare_lines entry_lines price_text money_text time_text digits is_ride ride_facts is_active shifts_of calls_of call_at link transfer_kind starts_chain is_charged amount_of
 walks_at_ends = rw day_is refl
 
+-- the walk to the first ride starts at the journey's first stop, which is not its last
+walk_to_first : travel_lines (with_links base (link_row 2 0 false 60 ∷ link_row 1 0 false 5 ∷ [])) (entry 2 1 29400 1 (pos 250) (ride 0 0 1 ∷ []) [] []).journey ≡
+    (codes "walk" ++ 9 ∷ codes "C" ++ 9 ∷ codes "A" ++ 9 ∷ codes "60" ++ 10 ∷ []) ∷
+    (codes "ride" ++ 9 ∷ codes "T1" ++ 9 ∷ codes "2025-06-02" ++ 9 ∷ codes "-" ++ 9 ∷ codes "1" ++ 9 ∷ codes "2" ++ 9 ∷ codes "A" ++ 9 ∷ codes "2025-06-02 08:00:00" ++ 9 ∷ codes "B" ++ 9 ∷ codes "2025-06-02 08:10:00" ++ 10 ∷ []) ∷ []
+unfolding walk_line ride_line ride_lines travel_lines time_text digits is_ride ride_facts is_active shifts_of calls_of call_at link
+walk_to_first = rw day_is refl
+
 -- the chain of three rides, with a bonus of 0.30 on a card for the second change, of type 2
 abbrev bonus_on_card : FeedRows
 bonus_on_card =

@@ -154,7 +154,8 @@ change_line feed i pick =
 -- the line of leg i, and that of change i after it where it is arranged
 unfoldable pub leg_lines : FeedRows → Choice → ℕ → List (List ℕ)
 leg_lines feed choice i =
-    lines_given (slice_get choice.legs i) (λ pick. option_to_list (leg_line feed i (is_charged (transfer_kind feed choice) i) pick))
+    lines_given (slice_get choice.legs i) (λ pick.
+    option_to_list (leg_line feed i (is_charged (transfer_kind feed choice) i) pick))
     ++ lines_given (slice_get choice.changes i) (λ place.
     lines_given place (λ pick. option_to_list (change_line feed i pick)))
 

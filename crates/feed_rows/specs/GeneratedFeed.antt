@@ -1,6 +1,6 @@
 -- The feed that the command `gen` makes: a square of stops, with a line along each row and each column, and the drawn
 -- numbers that tell when its trips depart and how long they take.
-use Rattle.std.specs.Prelude.{ℕ, zero, suc, ◌+◌, ◌-◌, ◌*◌, ◌%◌, ◌==◌, nat_lt, if◌then◌else◌, List, [], ◌∷◌, ◌++◌, map, None, false, pos, codes, decimal}
+use Rattle.std.specs.Prelude.{ℕ, zero, suc, ◌+◌, ◌-◌, ◌*◌, ◌%◌, ◌==◌, nat_lt, if◌then◌else◌, List, [], ◌∷◌, ◌++◌, map, replicate, None, false, pos, codes, decimal}
 use Rattle.std.specs.List.{flat_map}
 use Rattle.transit_base.specs.Dates.{day_number}
 use Rattle.transit_base.specs.Moments.{moment_at}
@@ -86,7 +86,8 @@ stops_file lines = file_of (column.StopId ∷ []) (joined_below lines (λ r. lis
 -- routes.txt
 unfoldable pub routes_file : ℕ → List ℕ
 routes_file lines =
-    file_of (column.RouteId ∷ column.NetworkId ∷ []) (list_below (2 * lines) (λ i. route_name lines i ∷ network_name i ∷ []))
+    file_of (column.RouteId ∷ column.NetworkId ∷ [])
+    (list_below (2 * lines) (λ i. route_name lines i ∷ network_name i ∷ []))
 
 -- trips.txt: 24 trips of each route, of one service
 unfoldable pub trips_file : ℕ → List ℕ
@@ -97,7 +98,8 @@ trips_file lines =
 -- the row of trip k of route i at position p, where it arrives and departs at once
 abbrev pub stop_time_row : ℕ → ℕ → ℕ → ℕ → ℕ → List (List ℕ)
 stop_time_row seed lines i k p =
-    trip_name lines i k ∷ route_stop lines i p ∷ decimal p ∷ time_text (trip_time seed i k p) ∷ time_text (trip_time seed i k p) ∷ []
+    let time = time_text (trip_time seed i k p) in
+    trip_name lines i k ∷ route_stop lines i p ∷ decimal p ∷ time ∷ time ∷ []
 
 -- stop_times.txt: trip by trip, and in a trip stop by stop
 unfoldable pub stop_times_file : ℕ → ℕ → List ℕ
@@ -109,9 +111,9 @@ stop_times_file seed lines =
 unfoldable pub calendar_file : List ℕ
 calendar_file =
     file_of
-    (column.ServiceId ∷ column.Monday ∷ column.Tuesday ∷ column.Wednesday ∷ column.Thursday ∷ column.Friday ∷ column.Saturday ∷ column.Sunday
-    ∷ column.StartDate ∷ column.EndDate ∷ [])
-    ((codes "W" ∷ codes "1" ∷ codes "1" ∷ codes "1" ∷ codes "1" ∷ codes "1" ∷ codes "1" ∷ codes "1" ∷ codes "20250101" ∷ codes "20251231" ∷ []) ∷ [])
+    (column.ServiceId ∷ column.Monday ∷ column.Tuesday ∷ column.Wednesday ∷ column.Thursday ∷ column.Friday
+    ∷ column.Saturday ∷ column.Sunday ∷ column.StartDate ∷ column.EndDate ∷ [])
+    ((codes "W" ∷ replicate 7 (codes "1") ++ codes "20250101" ∷ codes "20251231" ∷ []) ∷ [])
 
 -- areas.txt
 unfoldable pub areas_file : List ℕ
@@ -138,15 +140,21 @@ product_row product amount = product ∷ codes "EUR" ∷ amount ∷ []
 unfoldable pub fare_products_file : List ℕ
 fare_products_file =
     file_of (column.FareProductId ∷ column.Currency ∷ column.Amount ∷ [])
-    (product_row (codes "bus_peak") (codes "2.00") ∷ product_row (codes "bus_off") (codes "1.00") ∷ product_row (codes "tram") (codes "1.50")
-    ∷ product_row (codes "rail_far") (codes "3.00") ∷ product_row (codes "rail_near") (codes "2.00") ∷ product_row (codes "change") (codes "0.50")
-    ∷ product_row (codes "bonus") (codes "-0.30") ∷ product_row (codes "combi") (codes "2.20") ∷ [])
+    (product_row (codes "bus_peak") (codes "2.00")
+    ∷ product_row (codes "bus_off") (codes "1.00")
+    ∷ product_row (codes "tram") (codes "1.50")
+    ∷ product_row (codes "rail_far") (codes "3.00")
+    ∷ product_row (codes "rail_near") (codes "2.00")
+    ∷ product_row (codes "change") (codes "0.50")
+    ∷ product_row (codes "bonus") (codes "-0.30")
+    ∷ product_row (codes "combi") (codes "2.20") ∷ [])
 
 -- fare_leg_rules.txt: buses by the time of day, trams alike, and trains by where they arrive
 unfoldable pub fare_leg_rules_file : List ℕ
 fare_leg_rules_file =
     file_of
-    (column.LegGroupId ∷ column.NetworkId ∷ column.ToAreaId ∷ column.FromTimeframeGroupId ∷ column.FareProductId ∷ column.RulePriority ∷ [])
+    (column.LegGroupId ∷ column.NetworkId ∷ column.ToAreaId ∷ column.FromTimeframeGroupId ∷ column.FareProductId
+    ∷ column.RulePriority ∷ [])
     ((codes "g_bus" ∷ codes "bus" ∷ [] ∷ codes "peak" ∷ codes "bus_peak" ∷ codes "0" ∷ [])
     ∷ (codes "g_bus" ∷ codes "bus" ∷ [] ∷ codes "off" ∷ codes "bus_off" ∷ codes "0" ∷ [])
     ∷ (codes "g_tram" ∷ codes "tram" ∷ [] ∷ [] ∷ codes "tram" ∷ codes "0" ∷ [])

@@ -16,7 +16,8 @@ use Rattle.feed_rows.specs.declared.fares.Triple.{Triple}
 abbrev pub gen_line : FeedRows → List ℕ
 gen_line feed =
     line (codes "gen")
-    (decimal (length feed.stops) ∷ decimal (length feed.routes) ∷ decimal (length feed.trips) ∷ decimal (length feed.stop_times) ∷ [])
+    (decimal (length feed.stops) ∷ decimal (length feed.routes) ∷ decimal (length feed.trips)
+    ∷ decimal (length feed.stop_times) ∷ [])
 
 -- the line of a triple: its final arrival, rides and price
 unfoldable pub triple_line : FeedRows → Triple → List ℕ

@@ -58,4 +58,5 @@ ride_word word =
     given (start_value parts.start) (λ start.
     given (sequence_value parts.from) (λ from.
     given (sequence_value parts.to) (λ to.
-    when (nat_lt 0 (length parts.trip)) (record { trip = parts.trip; day = day; start = start; from = from; to = to }))))))
+    when (nat_lt 0 (length parts.trip))
+    (record { trip = parts.trip; day = day; start = start; from = from; to = to }))))))
