@@ -1,11 +1,11 @@
 -- What is read from words, and what is not, taken apart: the rides of a query of prices are rides of the feed, each caught
 -- from the one before, and the fault tells the first that isn't.
 use Rattle.std.proofs.Common.{◌≡◌, refl, sym, ◌∙◌, ap, subst, ℕ, ◌+◌, ◌-◌, ◌<◌, ◌⊎◌, inl, inr, Bool, true, false, not, List, length, get_or, arith}
-use Rattle.std.specs.Prelude.{Option, Some, None, Result, Ok, Err, slice_get, IsTrue, All, ℤ}
+use Rattle.std.specs.Prelude.{Option, Some, None, Result, Ok, Err, is_none, slice_get, IsTrue, All, ℤ}
 use Rattle.std.proofs.lemmas.Bool.{not-false}
 use Rattle.std.proofs.lemmas.Option.{same_Some, none-some, option_and_then_some, slice_get-get_or}
 use Rattle.transit_base.specs.declared.numbers.TripId.{TripId}
-use Rattle.feed_rows.specs.Words.{when, collect_below}
+use Rattle.feed_rows.specs.Words.{when, collect_below, find_below}
 use Rattle.feed_rows.specs.Given.{given}
 use Rattle.feed_rows.specs.NumberedItems.{read_at, first_unread, read_each}
 use Rattle.feed_rows.specs.UsageFaults.{unless_fault}
@@ -20,7 +20,7 @@ use Rattle.feed_rows.specs.Queries.{find_trip, chosen_rider}
 use Rattle.feed_rows.specs.Requests.{PriceRequest}
 use Rattle.feed_rows.specs.PriceQueries.{PriceQuery, named_shift, call_position, named_ride, named_rides, first_missed, unless_missed, price_query_of}
 use Rattle.feed_rows.specs.PriceTexts.{AreJoinedRides}
-use Rattle.feed_rows.proofs.BelowLaws.{collect_below_tells, IsCollected, find_below_cases, IsFirst, NonePass}
+use Rattle.feed_rows.proofs.BelowLaws.{collect_below_tells, collect_below_some, IsCollected, find_below_cases, IsFirst, NonePass}
 
 -- the ride that the parts of a word make
 abbrev ride_named : RideWord → TripId → ℤ → ℕ → ℕ → Ride
@@ -44,6 +44,32 @@ read_each_ok {Y = Y} read fault items ys e = step (collect_below (length items) 
         let are : zs ≡ ys = cc in
         collect_below_tells (length items) (read_at read items) ys (is ∙ ap Some are)
     step None is = let no : Err (fault (first_unread read items)) ≡ Ok ys = rw is at e in absurd (cc)
+
+-- a value that is not none
+not_none : {X : Type 0} (o : Option X) → is_none o ≡ false → (x : X) × (o ≡ Some x)
+not_none (Some x) e = (x, refl)
+not_none None e = absurd (cc)
+
+-- where an item can't be read, the fault tells the first such item, counted from 1
+pub read_each_err : {X Y : Type 0} (read : X → Option Y) (fault : ℕ → UsageFault) (items : List X) (told : UsageFault)
+    → read_each read fault items ≡ Err told
+    → (i : ℕ) × IsFirst (λ k. is_none (read_at read items k)) (length items) i × (told ≡ fault (i + 1))
+read_each_err {Y = Y} read fault items told e =
+    step (find_below_cases (λ k. is_none (read_at read items k)) (length items)) (collect_below (length items) (read_at read items)) refl
+  where
+    step : ((i : ℕ) × (find_below (length items) (λ k. is_none (read_at read items k)) ≡ Some i)
+        × IsFirst (λ k. is_none (read_at read items k)) (length items) i)
+        ⊎ ((find_below (length items) (λ k. is_none (read_at read items k)) ≡ None)
+        × NonePass (λ k. is_none (read_at read items k)) (length items))
+        → (o : Option (List Y)) → collect_below (length items) (read_at read items) ≡ o
+        → (i : ℕ) × IsFirst (λ k. is_none (read_at read items k)) (length items) i × (told ≡ fault (i + 1))
+    step _ (Some ys) is = let no : Ok ys ≡ Err told = rw is at e in absurd (cc)
+    step (inl found) None is =
+        let same : Err (fault (found.0 + 1)) ≡ Err told = rw (is, found.1) at e in
+        (found.0, found.2, cc)
+    step (inr none) None is =
+        let each = collect_below_some (length items) (read_at read items) (λ i lt. not_none (read_at read items i) (none.1 i lt)) in
+        absurd (none-some each.0 (sym is ∙ each.1))
 
 -- the same of a value that is left where a test holds
 when_holds : {X : Type 0} (test : X → Bool) (x y : X) → when (test x) x ≡ Some y → IsTrue (test y)
