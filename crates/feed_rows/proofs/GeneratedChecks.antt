@@ -5,7 +5,7 @@ use Rattle.std.specs.Fmt.{digits}
 use Rattle.jiff_core.specs.Calendar.{days_from_civil, day_count, days_of_years, days_of_months}
 use Rattle.transit_base.specs.DateTexts.{time_text}
 use Rattle.feed_rows.specs.HeldFiles.{HeldFile}
-use Rattle.feed_rows.specs.GeneratedFeed.{drawn, offset, hop, route_name, network_name, area_name, row_text, stop_time_row, stops_file, routes_file, trips_file, calendar_file, areas_file, stop_areas_file, timeframes_file, fare_products_file, fare_leg_rules_file, fare_transfer_rules_file, generated, generated_plan}
+use Rattle.feed_rows.specs.GeneratedFeed.{drawn, offset, hop, route_name, network_name, area_name, trip_time, row_text, stop_time_row, stops_file, routes_file, trips_file, calendar_file, areas_file, stop_areas_file, timeframes_file, fare_products_file, fare_leg_rules_file, fare_transfer_rules_file, generated, generated_plan}
 use Rattle.feed_rows.specs.declared.names.FileName.TheVariants as file
 
 -- a text with `;` for each line feed
@@ -30,6 +30,14 @@ offsets = refl
 
 hops : map (hop 7) (0 ∷ 1 ∷ 2 ∷ 3 ∷ []) ≡ 179 ∷ 165 ∷ 82 ∷ 162 ∷ []
 hops = refl
+
+-- V0 departs at 07:01:00, H1 at 07:12:00 to arrive at 07:14:45, H0 at 09:09:00, and V1 at 09:18:00 to arrive at 09:20:42
+known_trips :
+    map (λ (at : ℕ × ℕ × ℕ). time_text (trip_time 7 (at.0) (at.1) (at.2)))
+    ((2, 6, 0) ∷ (1, 7, 0) ∷ (1, 7, 1) ∷ (0, 18, 0) ∷ (3, 19, 0) ∷ (3, 19, 1) ∷ [])
+    ≡ codes "07:01:00" ∷ codes "07:12:00" ∷ codes "07:14:45" ∷ codes "09:09:00" ∷ codes "09:18:00" ∷ codes "09:20:42" ∷ []
+unfolding time_text
+known_trips = refl
 
 -- ---- the files of 2 lines
 

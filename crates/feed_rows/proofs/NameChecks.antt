@@ -121,6 +121,15 @@ first_rows :
 unfolding has_stop_id has_trip_id has_rider_id
 first_rows = (refl, refl, refl, refl, refl)
 
+-- each name is looked up in its own list, however long the others are
+own_lists :
+    (find_stop (record base { trips = []; riders = [] }) (codes "C") ≡ Some (record { 0 = 2 }))
+    × (find_trip (record base { stops = []; riders = [] }) (codes "T3") ≡ Some (record { 0 = 2 }))
+    × (find_rider (record base { stops = []; trips = []; riders = riders true true }) (codes "child") ≡ Some (record { 0 = 1 }))
+    × (chosen_rider (record base { stops = []; trips = []; riders = riders false true }) None ≡ Ok (Some (record { 0 = 1 })))
+unfolding has_stop_id has_trip_id has_rider_id is_default_rider
+own_lists = (refl, refl, refl, refl)
+
 -- moments before 1970
 moments :
     (civil_day (negsuc 0) ≡ negsuc 0) × (time_of_day (negsuc 0) ≡ 86_399) × (civil_day (negsuc 86_399) ≡ negsuc 0)
