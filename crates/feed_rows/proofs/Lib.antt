@@ -27,6 +27,7 @@ pub mod PriceRides
 pub mod NameChecks
 pub mod PriceQueryLaws
 pub mod GeneratedLaws
+pub mod PlainPlans
 pub mod CornerOutside
 pub mod FeedReadings
 pub mod BelowLaws
