@@ -1,5 +1,5 @@
 -- What the definitions make of the names that a plan gives, and of moments and times at their edges, by examples.
-use Rattle.std.specs.Prelude.{◌≡◌, refl, ℕ, Bool, true, false, List, [], ◌∷◌, map, Option, Some, None, Result, Ok, Err, pos, negsuc, codes}
+use Rattle.std.specs.Prelude.{◌≡◌, refl, ℕ, Bool, true, false, List, [], ◌∷◌, ◌++◌, map, Option, Some, None, Result, Ok, Err, pos, negsuc, codes}
 use Rattle.transit_base.specs.Moments.{moment_at, civil_day, time_of_day}
 use Rattle.transit_base.specs.DateTexts.{time_text}
 use Rattle.transit_base.specs.declared.RiderId.{RiderId}
@@ -116,7 +116,7 @@ first_rows :
       trips = trip (codes "A") 0 ∷ trip (codes "B") 0 ∷ trip (codes "B") 0
           ∷ [];
     }) (codes "B") ≡ Some (record { 0 = 1 }))
-    × (find_rider (record base { riders = riders true true }) (codes "child") ≡ Some (record { 0 = 1 }))
+    × (find_rider (record base { riders = riders true true ++ riders true true }) (codes "child") ≡ Some (record { 0 = 1 }))
     × (find_trip base (codes "T") ≡ None) × (find_stop base (codes "AB") ≡ None)
 unfolding has_stop_id has_trip_id has_rider_id
 first_rows = (refl, refl, refl, refl, refl)
