@@ -1,0 +1,136 @@
+//! A case: words, a feed, and what must come.
+
+use crate::archive::Archive;
+use crate::failing_call::FailingCall;
+use crate::feed_files::FeedFiles;
+use anyhow::{Result, bail};
+use bstr::ByteSlice;
+use plan_app::WordList;
+use std::alloc::Global;
+use std::str;
+
+// The sections of a case that are no files.
+const SECTIONS: [&str; 7] = [
+    "words",
+    "status",
+    "stdout",
+    "journey lines",
+    "lines among them",
+    "feed",
+    "failing calls",
+];
+
+/// The text that must come.
+#[derive(Debug, Drop)]
+pub(crate) enum Wanted {
+    /// This very text.
+    Text(Vec<u8>),
+    /// A text with journeys of these arrivals, rides and prices, a line for each and in order, and with these lines.
+    Journeys { triples: Vec<u8>, lines: Vec<u8> },
+}
+
+/// A case.
+#[derive(Drop)]
+pub(crate) struct Case {
+    pub(crate) words: WordList,
+    pub(crate) files: FeedFiles,
+    /// The calls that fail in turn, each in a run of its own; none where all go well, in one run.
+    pub(crate) failing_calls: Vec<FailingCall>,
+    pub(crate) status: u8,
+    pub(crate) wanted: Wanted,
+}
+
+impl Case {
+    /// The name of the feed whose files the case starts from, if it names one.
+    ///
+    /// # Errors
+    /// More than one line.
+    pub(crate) fn feed_name(archive: &Archive) -> Result<Option<&str>> {
+        match archive.text_of("feed") {
+            None => Ok(None),
+            Some(text) => Ok(Some(only_line(text)?)),
+        }
+    }
+
+    /// The case of these sections. The files are those of the feed that it starts from, and its own in their place.
+    ///
+    /// # Errors
+    /// Want of memory, or sections that are no case.
+    pub(crate) fn new(alloc: Global, archive: &Archive, mut files: FeedFiles) -> Result<Case> {
+        if let Some(name) = archive.doubled_name() {
+            bail!("there are two sections {name:?}");
+        }
+        files.add(alloc, archive, &SECTIONS)?;
+        let status = only_line(text_in(archive, "status")?)?;
+        let Ok(status) = status.parse::<u8>() else {
+            bail!("the status {status:?} is no number up to 255");
+        };
+        Ok(Case {
+            words: words_of(alloc, text_in(archive, "words")?)?,
+            files,
+            failing_calls: failing_calls_of(alloc, archive.text_of("failing calls"))?,
+            status,
+            wanted: wanted_of(alloc, archive)?,
+        })
+    }
+}
+
+// The text of the section that a case must have.
+fn text_in<'a>(archive: &'a Archive, name: &str) -> Result<&'a [u8]> {
+    match archive.text_of(name) {
+        Some(text) => Ok(text),
+        None => bail!("there is no section {name:?}"),
+    }
+}
+
+// The text as characters.
+fn str_of(text: &[u8]) -> Result<&str> {
+    match str::from_utf8(text) {
+        Ok(text) => Ok(text),
+        Err(_) => bail!("{:?} is not UTF-8", text.as_bstr()),
+    }
+}
+
+// The line that the text is.
+fn only_line(text: &[u8]) -> Result<&str> {
+    match str_of(text)?.strip_suffix('\n') {
+        Some(line) if !line.contains('\n') => Ok(line),
+        _ => bail!("{:?} is not one line", text.as_bstr()),
+    }
+}
+
+// The words, one a line.
+fn words_of(alloc: Global, text: &[u8]) -> Result<WordList> {
+    let mut words = WordList::empty(alloc);
+    for word in str_of(text)?.split_terminator('\n') {
+        words.push(word)?;
+    }
+    Ok(words)
+}
+
+// The calls that fail, one a line.
+fn failing_calls_of(alloc: Global, text: Option<&[u8]>) -> Result<Vec<FailingCall>> {
+    let mut calls = Vec::new(alloc);
+    if let Some(text) = text {
+        for line in str_of(text)?.split_terminator('\n') {
+            calls.push(FailingCall::parse(line)?)?;
+        }
+        if calls.is_empty() {
+            bail!("no call that fails is named");
+        }
+    }
+    Ok(calls)
+}
+
+// What must come.
+fn wanted_of(alloc: Global, archive: &Archive) -> Result<Wanted> {
+    let lines = archive.text_of("lines among them");
+    match (archive.text_of("stdout"), archive.text_of("journey lines")) {
+        (Some(text), None) if lines.is_none() => Ok(Wanted::Text(text.to_vec(alloc)?)),
+        (None, Some(triples)) => Ok(Wanted::Journeys {
+            triples: triples.to_vec(alloc)?,
+            lines: lines.unwrap_or(&[]).to_vec(alloc)?,
+        }),
+        _ => bail!("what must come is neither a text nor journey lines"),
+    }
+}

@@ -1,0 +1,91 @@
+//! The files of a feed, from sections.
+ghost use Rattle.std.specs.Prelude.{IfOk, IsTrue};
+ghost use Rattle.folder_io.specs.KeptFiles.{are_whole};
+
+use crate::archive::{Archive, Section};
+use anyhow::{Result, bail};
+use feed_rows::FileName;
+use folder_io::{ByteText, FileBytes, Files};
+use std::alloc::{AllocError, Global};
+
+// Files that a feed may have and that are never opened.
+const UNOPENED: [&str; 13] = [
+    "agency.txt",
+    "attributions.txt",
+    "booking_rules.txt",
+    "fare_attributes.txt",
+    "fare_rules.txt",
+    "feed_info.txt",
+    "levels.txt",
+    "location_group_stops.txt",
+    "location_groups.txt",
+    "locations.geojson",
+    "pathways.txt",
+    "shapes.txt",
+    "translations.txt",
+];
+
+// A file: its name, and its bytes.
+#[derive(Debug, Drop)]
+struct FeedFile {
+    name: FileName,
+    bytes: Vec<u8>,
+}
+
+/// Files of a feed. Of two of one name the later one counts.
+#[derive(Debug, Drop)]
+pub(crate) struct FeedFiles {
+    files: Vec<FeedFile>,
+}
+
+impl FeedFiles {
+    /// No files.
+    pub(crate) fn empty(alloc: Global) -> FeedFiles {
+        FeedFiles {
+            files: Vec::new(alloc),
+        }
+    }
+
+    /// Adds the files that the sections hold, where each but those of these names is one.
+    ///
+    /// # Errors
+    /// Want of memory, or a section that is no file.
+    pub(crate) fn add(&mut self, alloc: Global, archive: &Archive, others: &[&str]) -> Result<()> {
+        for section in archive.sections() {
+            let name = section.name();
+            let mut known = others.iter().chain(UNOPENED.iter());
+            if known.all(|other| *other != name) {
+                self.add_file(alloc, section)?;
+            }
+        }
+        Ok(())
+    }
+
+    // Adds the file that the section holds.
+    fn add_file(&mut self, alloc: Global, section: &Section) -> Result<()> {
+        let name = section.name();
+        let Some(file) = FileName::ALL.iter().find(|file| file.text() == name) else {
+            bail!("the section {name:?} is neither known nor a file");
+        };
+        self.files.push(FeedFile {
+            name: *file,
+            bytes: section.text().to_vec(alloc)?,
+        })?;
+        Ok(())
+    }
+
+    /// A folder's files.
+    ///
+    /// # Errors
+    /// Want of memory.
+    pub(crate) fn files(&self, alloc: Global) -> Result<Files, AllocError>
+        ensures { IfOk result (λ files. IsTrue (are_whole files)) }
+    {
+        let mut files = Files::empty();
+        for file in self.files.iter() {
+            let bytes = ByteText::copy_of(alloc, file.bytes.as_slice())?;
+            files.put(file.name, FileBytes::Bytes(bytes));
+        }
+        Ok(files)
+    }
+}

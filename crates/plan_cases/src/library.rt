@@ -1,0 +1,69 @@
+//! The folder of the cases and the feeds that they start from.
+
+use crate::archive::Archive;
+use crate::case::Case;
+use crate::feed_files::FeedFiles;
+use anyhow::{Context, Result, bail};
+use std::alloc::Global;
+use std::fs;
+use std::rt::Files;
+
+/// A folder with the folders `cases` and `feeds`, whose files are `NAME.txtar`.
+#[derive(Debug, Drop)]
+pub(crate) struct Library {
+    folder: String,
+}
+
+impl Library {
+    pub(crate) fn new(folder: String) -> Library {
+        Library { folder }
+    }
+
+    /// The names of all cases, in order.
+    ///
+    /// # Errors
+    /// Want of memory, a folder that can't be read, or a file in it that is no case.
+    pub(crate) fn case_names<R: Files + AllocGlobal + Clone + Drop>(
+        &self,
+        rt: &R,
+    ) -> Result<Vec<String>> {
+        let folder = self.folder.as_str();
+        let folder = format!(in rt.alloc(); "{folder}/cases")?;
+        let mut names = Vec::new(rt.alloc());
+        for entry in fs::read_dir(rt, folder.as_str()).context("reading the folder of the cases")? {
+            let entry = entry?;
+            let file = entry.file_name();
+            let Some(name) = file.strip_suffix(".txtar") else {
+                bail!("{file:?} in the folder of the cases is no case");
+            };
+            names.push(String::from_str(rt.alloc(), name)?)?;
+        }
+        names.sort()?;
+        Ok(names)
+    }
+
+    /// The case of that name.
+    ///
+    /// # Errors
+    /// Want of memory, or a file that can't be read or is no case.
+    pub(crate) fn case<R: Files + AllocGlobal>(&self, rt: &R, name: &str) -> Result<Case> {
+        let archive = self.archive(rt, "cases", name)?;
+        let mut files = FeedFiles::empty(rt.alloc());
+        if let Some(name) = Case::feed_name(&archive)? {
+            let feed = self.archive(rt, "feeds", name)?;
+            files.add(rt.alloc(), &feed, &[])?;
+        }
+        Case::new(rt.alloc(), &archive, files)
+    }
+
+    // The sections of the file of that name in that folder.
+    fn archive<R: Files + AllocGlobal>(&self, rt: &R, folder: &str, name: &str) -> Result<Archive> {
+        let library = self.folder.as_str();
+        let path = format!(in rt.alloc(); "{library}/{folder}/{name}.txtar")?;
+        let text = fs::read(rt, path.as_str()).context(format_args!("reading {path}"))?;
+        if !text.ends_with(b"\n") {
+            bail!("{path} does not end with a line feed");
+        }
+        Ok(Archive::parse(rt.alloc(), text.as_slice())?)
+    }
+}

@@ -1,0 +1,120 @@
+//! Running a case, and what differs.
+ghost use Rattle.std.specs.Prelude.{IsTrue};
+ghost use Rattle.folder_io.specs.KeptFiles.{are_whole};
+
+use crate::case::{Case, Wanted};
+use crate::failing_call::FailingCall;
+use anyhow::Result;
+use bstr::ByteSlice;
+use folder_io::{Files, MemFolder, MemSink};
+use plan_app::{WordList, run};
+use std::alloc::{AllocError, Global};
+use std::fmt;
+
+// More bytes than any case writes.
+const ROOM: u32 = 1_048_576;
+
+/// What a run came to.
+#[derive(Debug, Drop)]
+pub(crate) struct Outcome {
+    status: u8,
+    text: Vec<u8>,
+}
+
+/// A run that came to something else than its case says.
+#[derive(Debug, Drop)]
+pub(crate) struct Difference {
+    call: Option<FailingCall>,
+    came: Outcome,
+}
+
+impl fmt::Display for Difference {
+    fn fmt<W: fmt::Write>(&self, f: &mut fmt::Formatter<W>) -> fmt::Result {
+        if let Some(call) = self.call {
+            write!(f, "where {call} fails ")?;
+        }
+        let status = self.came.status;
+        let text = self.came.text.as_slice().as_bstr();
+        write!(f, "status {status} came, with {text:?}")
+    }
+}
+
+/// The first run of the case that came to something else than it says, if there is one.
+///
+/// # Errors
+/// Want of memory.
+pub(crate) fn first_difference(alloc: Global, case: &Case) -> Result<Option<Difference>> {
+    if case.failing_calls.is_empty() {
+        return Ok(difference_in(alloc, case, None)?);
+    }
+    for call in case.failing_calls.iter() {
+        let found = difference_in(alloc, case, Some(*call))?;
+        if found.is_some() {
+            return Ok(found);
+        }
+    }
+    Ok(None)
+}
+
+// What the run where that call fails came to, if it is something else than the case says.
+fn difference_in(
+    alloc: Global,
+    case: &Case,
+    call: Option<FailingCall>,
+) -> Result<Option<Difference>, AllocError> {
+    let came = outcome_of(alloc, &case.words, case.files.files(alloc)?, call)?;
+    let is_wanted = came.status == case.status && is_text(alloc, &came.text, &case.wanted)?;
+    Ok((!is_wanted).then_some(Difference { call, came }))
+}
+
+// What the words come to over these files, where that call fails.
+fn outcome_of(
+    alloc: Global,
+    words: &WordList,
+    files: Files,
+    call: Option<FailingCall>,
+) -> Result<Outcome, AllocError>
+    requires { IsTrue (are_whole files) }
+{
+    let mut opens = Vec::new(alloc);
+    let mut reads = Vec::new(alloc);
+    let mut writes = Vec::new(alloc);
+    match call {
+        None => {}
+        Some(FailingCall::Open(call)) => opens.push(call)?,
+        Some(FailingCall::Read(call)) => reads.push(call)?,
+        Some(FailingCall::Write(cut)) => writes.push(cut)?,
+    }
+    let mut folder = MemFolder::new(alloc, files, opens.as_slice(), reads.as_slice())?;
+    let mut sink = MemSink::new(alloc, ROOM, writes.as_slice())?;
+    let status = run(alloc, words, &mut folder, &mut sink).number();
+    let text = sink.bytes().to_vec(alloc)?;
+    Ok(Outcome { status, text })
+}
+
+// Whether the text is the wanted one.
+fn is_text(alloc: Global, text: &[u8], wanted: &Wanted) -> Result<bool, AllocError> {
+    match wanted {
+        Wanted::Text(wanted) => Ok(text == wanted.as_slice()),
+        Wanted::Journeys { triples, lines } => {
+            let has_lines = lines.as_slice().lines_with_terminator().all(|wanted| text
+                .lines_with_terminator()
+                .any(|line| line == wanted));
+            Ok(has_lines && triples_of(alloc, text)?.as_slice() == triples.as_slice())
+        }
+    }
+}
+
+// The arrival, the rides and the price of each line that starts a journey, a line for each.
+fn triples_of(alloc: Global, text: &[u8]) -> Result<Vec<u8>, AllocError> {
+    let mut triples = Vec::new(alloc);
+    for line in text.lines() {
+        if let Some(journey) = line.strip_prefix(b"journey\t")
+            && let Some((triple, _)) = journey.rsplit_once_str(b"\t")
+        {
+            triples.extend_from_slice(triple)?;
+            triples.push(b'\n')?;
+        }
+    }
+    Ok(triples)
+}
