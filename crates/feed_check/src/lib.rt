@@ -3,8 +3,6 @@
 
 mod files;
 mod folder;
-#[cfg(test)]
-mod tests;
 
 pub use files::{CheckError, check};
 pub use folder::{LoadError, load};
