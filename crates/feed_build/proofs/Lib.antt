@@ -2,3 +2,4 @@ pub mod NumberLaws
 pub mod ShortNames
 pub mod CurrencyLaws
 pub mod FeedLaws
+pub mod IdLaws

@@ -1,32 +1,12 @@
 -- Names by their places, as a set of them has them.
-use Rattle.std.proofs.Common.{◌≡◌, refl, sym, subst, ◌∙◌, ap, ℕ, ◌+◌, ◌<◌, List, [], ◌∷◌, ◌++◌, take, length, map, get_or, Bool, true, false, Option, Some, None, Bor, is_some, position, bytes_eq, arith}
+use Rattle.std.proofs.Common.{◌≡◌, refl, sym, subst, ◌∙◌, ap, ℕ, ◌+◌, ◌<◌, List, [], ◌∷◌, ◌++◌, take, length, map, get_or, Bool, true, false, Option, Some, None, Bor, is_some, position, bytes_eq}
 use Rattle.std.specs.List.{All, list_any}
 use Rattle.indexmap.specs.IndexSet.{insert_key}
-use Rattle.std.proofs.lemmas.Grind.{common_steps}
 use Rattle.std.proofs.lemmas.List.{length-map, get_or-map, map_push, take_more}
-use Rattle.std.proofs.lemmas.List.Folds.{list_any_at, list_any_none}
-use Rattle.std.proofs.lemmas.List.Quantifiers.{position-Some}
-use Rattle.std.proofs.lemmas.List.Sums.{fails_before_first}
-use Rattle.feed_rows.specs.Words.{find_below}
-use Rattle.feed_rows.proofs.BelowLaws.{find_below_same, find_below_hit, find_below_none}
+use Rattle.plain_laws.specs.Plain.{find_below}
+use Rattle.plain_laws.proofs.Laws.{find_below-same, position_below, any_placed}
 use Rattle.feed_faults.specs.Records.{is_filled}
 use Rattle.feed_faults.specs.AcceptedFeed.{place_of_name, with_name}
-
--- the first that passes, by its place
-position_below : {X : Type 0} (p : X → Bool) (xs : List X) (d : X) → position p xs ≡ find_below (length xs) (λ i. p (get_or xs i d))
-position_below p xs d = step (position p xs) refl
-  where
-    step : (found : Option ℕ) → position p xs ≡ found → position p xs ≡ find_below (length xs) (λ i. p (get_or xs i d))
-    step (Some i) e = let at = position-Some p xs i d e in e ∙ sym (find_below_hit (λ k. p (get_or xs k d)) (length xs) i (record { within = at.0; passes = at.1; earlier = at.2 }))
-    step None e = e ∙ sym (find_below_none (λ k. p (get_or xs k d)) (length xs) (λ k lt. fails_before_first p xs k d (grind (arith, common_steps))))
-
--- one passes where one has a place
-any_placed : {X : Type 0} (p : X → Bool) (xs : List X) (d : X) → list_any p xs ≡ is_some (position p xs)
-any_placed p xs d = step (position p xs) refl
-  where
-    step : (found : Option ℕ) → position p xs ≡ found → list_any p xs ≡ is_some (position p xs)
-    step (Some i) e = let at = position-Some p xs i d e in list_any_at p xs i d at.0 at.1 ∙ sym (ap is_some e)
-    step None e = list_any_none p xs (λ k d lt. fails_before_first p xs k d (grind (arith, common_steps))) ∙ sym (ap is_some e)
 
 -- the names of a set
 abbrev names_of : List (Bor (List ℕ)) → List (List ℕ)
@@ -37,7 +17,7 @@ pub place_is : (set : List (Bor (List ℕ))) (name : Bor (List ℕ)) → positio
 unfolding place_of_name
 place_is set name =
     position_below (λ k. bytes_eq name.now k.now) set name
-    ∙ find_below_same (λ i. bytes_eq name.now (get_or set i name).now) (λ i. bytes_eq name.now (get_or (names_of set) i [])) (length set) (λ i lt. ap (bytes_eq name.now) (sym (get_or-map (λ k. k.now) set i name [] lt)))
+    ∙ find_below-same (λ i. bytes_eq name.now (get_or set i name).now) (λ i. bytes_eq name.now (get_or (names_of set) i [])) (length set) (λ i lt. ap (bytes_eq name.now) (sym (get_or-map (λ k. k.now) set i name [] lt)))
     ∙ ap (λ n. find_below n (λ i. bytes_eq name.now (get_or (names_of set) i []))) (sym (length-map set (λ k. k.now)))
 
 -- the names with one more, where it is new

@@ -1,6 +1,6 @@
 -- The rows of a feed in two groups.
 use Rattle.std.specs.Prelude.{◌≡◌, not}
-use Rattle.feed_rows.specs.Words.{picks_below}
+use Rattle.plain_laws.specs.Plain.{picks_below}
 use Rattle.feed_faults.specs.Records.{row_count}
 use Rattle.feed_faults.specs.FormFaults.{is_passed_over}
 use Rattle.feed_faults.specs.FeedTables.{FeedTables}

@@ -2,13 +2,7 @@
 ghost use Rattle.std.specs.Prelude.{◌≡◌, ◌<◌, IfOk};
 ghost use Rattle.feed_rows.specs.declared.names.ColumnName.TheVariants as column;
 ghost use Rattle.feed_faults.specs.Records.{row_count};
-ghost use Rattle.feed_faults.specs.AcceptedFeed.{
-  if_filled,
-  row_number,
-  name_number,
-  leg_rule_row,
-  rows_of,
-};
+ghost use Rattle.feed_faults.specs.AcceptedFeed.{if_filled, row_number, name_number, leg_rule_row, rows_of};
 ghost use Rattle.feed_build.specs.FeedNames.{AreNamesOf};
 
 use crate::MOST_INT;

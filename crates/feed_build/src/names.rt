@@ -1,12 +1,6 @@
 //! The names of a feed that have no rows of their own.
 ghost use Rattle.std.specs.Prelude.{◌≡◌, IfOk};
-ghost use Rattle.feed_faults.specs.AcceptedFeed.{
-  service_names,
-  network_names,
-  frame_names,
-  product_names,
-  group_names,
-};
+ghost use Rattle.feed_faults.specs.AcceptedFeed.{service_names, network_names, frame_names, product_names, group_names};
 ghost use Rattle.feed_soundness.specs.AcceptedTables.{AreFormed};
 ghost use Rattle.feed_build.specs.FeedNames.{AreNamesOf};
 

@@ -15,11 +15,12 @@ use crate::services::{exception_rows, service_rows};
 use crate::stops::stop_rows;
 use crate::trips::trip_rows;
 use feed_rows::{
-    AreaRows, ExceptionRows, FrequencyRows, ItemList, LegRuleRows, LinkRows, MediumRows,
-    ProductRows, RiderRows, RouteRows, ServiceRows, StopAreaRows, StopRows, StopTimeRows,
-    TimeframeRows, TransferRuleRows, TripRows,
+    AreaRows, ExceptionRows, FrequencyRows, LegRuleRows, LinkRows, MediumRows, ProductRows,
+    RiderRows, RouteRows, ServiceRows, StopAreaRows, StopRows, StopTimeRows, TimeframeRows,
+    TransferRuleRows, TripRows,
 };
 use feed_tables::{TableIds, Tables};
+use plain_laws::ItemList;
 use std::alloc::{AllocError, Global};
 
 /// The rows of the files of the timetable and of footways.

@@ -2,15 +2,7 @@
 ghost use Rattle.std.specs.Prelude.{◌≡◌, ◌<◌, IfOk};
 ghost use Rattle.feed_rows.specs.declared.names.ColumnName.TheVariants as column;
 ghost use Rattle.feed_faults.specs.Records.{row_count};
-ghost use Rattle.feed_faults.specs.AcceptedFeed.{
-  if_filled,
-  row_number,
-  product_names,
-  product_row,
-  feed_currency,
-  feed_decimals,
-  rows_of,
-};
+ghost use Rattle.feed_faults.specs.AcceptedFeed.{if_filled, row_number, product_names, product_row, feed_currency, feed_decimals, rows_of};
 ghost use Rattle.feed_soundness.specs.AcceptedTables.{AreFormed};
 
 use crate::numbering::Numbering;

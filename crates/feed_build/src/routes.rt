@@ -2,14 +2,7 @@
 ghost use Rattle.std.specs.Prelude.{◌≡◌, ◌<◌, IfOk};
 ghost use Rattle.feed_rows.specs.declared.names.ColumnName.TheVariants as column;
 ghost use Rattle.feed_faults.specs.Records.{row_count};
-ghost use Rattle.feed_faults.specs.AcceptedFeed.{
-  if_filled,
-  name_number,
-  network_names,
-  network_of_route,
-  route_row,
-  rows_of,
-};
+ghost use Rattle.feed_faults.specs.AcceptedFeed.{if_filled, name_number, network_names, network_of_route, route_row, rows_of};
 ghost use Rattle.feed_soundness.specs.AcceptedTables.{AreFormed};
 
 use crate::numbering::Numbering;
@@ -48,7 +41,7 @@ fn network_of_route<'t>(tables: &'t Tables, members: &IdIndex, row: u32) -> &'t 
 }
 
 // A row of routes.txt.
-#[tactic(auto, unfolding(feed_faults::specs::AcceptedFeed::route_row), using(feed_soundness::proofs::IdColumns::route_id))]
+#[tactic(auto, unfolding(feed_faults::specs::AcceptedFeed::route_row), using(crate::proofs::IdLaws::route_ids))]
 fn route_row(
     alloc: Global,
     tables: &Tables,

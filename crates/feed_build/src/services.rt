@@ -1,13 +1,7 @@
 //! The rows of calendar.txt and calendar_dates.txt.
 ghost use Rattle.std.specs.Prelude.{◌≡◌, ◌<◌, IfOk};
 ghost use Rattle.feed_faults.specs.Records.{row_count};
-ghost use Rattle.feed_faults.specs.AcceptedFeed.{
-  service_names,
-  runs_on,
-  service_row,
-  exception_row,
-  rows_of,
-};
+ghost use Rattle.feed_faults.specs.AcceptedFeed.{service_names, runs_on, service_row, exception_row, rows_of};
 
 use crate::numbering::Numbering;
 use feed_rows::{ColumnName, ExceptionRow, ExceptionRows, ServiceRow, ServiceRows};

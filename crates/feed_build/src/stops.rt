@@ -30,7 +30,7 @@ fn parent_of(table: &NamedTable, stops: &IdIndex, kind: u32, row: u32) -> Option
 }
 
 // A row of stops.txt.
-#[tactic(auto, unfolding(feed_faults::specs::AcceptedFeed::stop_row), using(feed_soundness::proofs::IdColumns::stop_id))]
+#[tactic(auto, unfolding(feed_faults::specs::AcceptedFeed::stop_row), using(crate::proofs::IdLaws::stop_ids))]
 fn stop_row(
     alloc: Global,
     tables: &Tables,

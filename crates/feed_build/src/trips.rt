@@ -13,7 +13,7 @@ use std::alloc::{AllocError, Global};
 use transit_base::{RouteId, ServiceId};
 
 // A row of trips.txt.
-#[tactic(auto, unfolding(feed_faults::specs::AcceptedFeed::trip_row), using(feed_soundness::proofs::IdColumns::trip_id))]
+#[tactic(auto, unfolding(feed_faults::specs::AcceptedFeed::trip_row), using(crate::proofs::IdLaws::trip_ids))]
 fn trip_row(
     alloc: Global,
     tables: &Tables,

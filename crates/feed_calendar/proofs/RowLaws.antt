@@ -1,5 +1,5 @@
 -- The rows of the calendar files, in groups and in order.
-use Rattle.std.proofs.Common.{◌≡◌, refl, sym, ◌∙◌, ap, subst, ℕ, ◌<◌, ◌≤◌, ◌⊎◌, inl, inr, ⊎_elim, Bool, true, false, ◌==◌, ◌&&◌, not, List, [], ◌∷◌, length, get_or, map, filter, Some, ℤ, arith}
+use Rattle.std.proofs.Common.{◌≡◌, refl, sym, ◌∙◌, ap, subst, ℕ, ◌<◌, ◌≤◌, ◌⊎◌, inl, inr, ⊎_elim, Bool, true, false, ◌==◌, ◌&&◌, not, List, length, get_or, map, filter, Some, ℤ, arith}
 use Rattle.std.specs.Prelude.{Contains, slice_get}
 use Rattle.std.specs.List.{list_any}
 use Rattle.std.specs.List.Sorted.{IsPermutation}
@@ -12,19 +12,17 @@ use Rattle.std.proofs.lemmas.Cmp.{nat_cmp_total, int_cmp_total, on_total, then_t
 use Rattle.std.proofs.lemmas.Int.{ints}
 use Rattle.std.proofs.lemmas.Option.{same_Some, slice_get-get_or}
 use Rattle.std.proofs.lemmas.List.Elements.{Contains-get_or}
-use Rattle.std.proofs.lemmas.List.Folds.{list_any_none, list_any_at}
+use Rattle.std.proofs.lemmas.List.Folds.{list_any_none}
 use Rattle.transit_base.specs.declared.numbers.ServiceId.{ServiceId}
 use Rattle.feed_rows.specs.declared.rows.ServiceRow.{ServiceRow}
 use Rattle.feed_rows.specs.declared.rows.ExceptionRow.{ExceptionRow}
-use Rattle.feed_rows.specs.declared.groups.Grouped.{Grouped}
+use Rattle.plain_laws.specs.declared.groups.Grouped.{Grouped}
 use Rattle.feed_rows.specs.FeedRows.{FeedRows}
-use Rattle.feed_rows.specs.Groups.{group_of, groups_below}
-use Rattle.feed_rows.specs.Words.{int_same}
+use Rattle.plain_laws.specs.Plain.{group_of, groups_below, int_same}
 use Rattle.feed_rows.specs.ServiceDays.{covers, is_covered, is_added, is_removed, is_active}
 use Rattle.feed_rows.specs.SoundTimetable.{AreSoundServices, AreSoundExceptions}
-use Rattle.feed_rows.proofs.FeedReadings.{same_exception}
-use Rattle.feed_rows.proofs.JoinLaws.{groups_below-at, groups_below-past}
-use Rattle.feed_rows.proofs.ShiftLaws.{list_any-map, list_any-filter, list_any_tells, same_told}
+use Rattle.feed_laws.proofs.FeedReadings.{same_exception}
+use Rattle.plain_laws.proofs.Laws.{groups_below-at, groups_below-past, list_any-map, list_any-filter, list_any_tells, int_same-true, any_passes, none_of_both}
 use Rattle.feed_rows.specs.SoundFeed.{IsSoundFeed}
 use Rattle.feed_calendar.specs.declared.Calendar.{Calendar}
 use Rattle.feed_calendar.specs.BuiltCalendar.{IsCalendarOf}
@@ -90,20 +88,7 @@ none_on service day rows place before after = list_any_none (is_on service day) 
 
 -- what it is to be of a service, on a day
 on_tells : (service : ServiceId) (day : ℤ) (row : ExceptionRow) → is_on service day row ≡ true → (row.service.0 ≡ service.0) × (row.day.0 ≡ day)
-on_tells service day row e = let parts = and_parts (row.service.0 == service.0) (int_same row.day.0 day) e in (grind (arith, nat_tests, parts.0), same_told row.day.0 day parts.1)
-
--- a row with an item that passes is found
-found_in : {X : Type 0} (p : X → Bool) (xs : List X) (x : X) → Contains xs x → p x ≡ true → list_any p xs ≡ true
-found_in p xs x at e = list_any_at p xs at.0 x at.1 (rw at.2 e)
-
--- where no item passes a test, none passes it and another
-none_of_both : {X : Type 0} (p q : X → Bool) (xs : List X) → list_any p xs ≡ false → list_any (λ x. p x && q x) xs ≡ false
-none_of_both p q [] none = refl
-none_of_both p q (x ∷ xs) none = step (p x) refl (none_of_both p q xs)
-  where
-    step : (b : Bool) → p x ≡ b → (list_any p xs ≡ false → list_any (λ y. p y && q y) xs ≡ false) → list_any (λ y. p y && q y) (x ∷ xs) ≡ false
-    step true e rest = absurd (let wrong : true ≡ false = rw e at none in cc)
-    step false e rest = rw (e, rest (rw e at none)) refl
+on_tells service day row e = let parts = and_parts (row.service.0 == service.0) (int_same row.day.0 day) e in (grind (arith, nat_tests, parts.0), int_same-true row.day.0 day parts.1)
 
 -- the place of an exception
 place_of : (rows : List ExceptionRow) (row : ExceptionRow) (at : Contains rows row) → slice_get rows at.0 ≡ Some row
@@ -123,10 +108,10 @@ unfolding is_active
 active_by_exception feed service day row sound at on = step row.added refl
   where
     added_true : row.added ≡ true → is_added feed service day ≡ true
-    added_true e = found_in (λ x. is_on service day x && x.added) feed.exceptions row at (and_from _ _ on e)
+    added_true e = any_passes (λ x. is_on service day x && x.added) feed.exceptions row at (and_from _ _ on e)
 
     removed_true : row.added ≡ false → is_removed feed service day ≡ true
-    removed_true e = found_in (λ x. is_on service day x && not x.added) feed.exceptions row at (and_from _ _ on (ap not e))
+    removed_true e = any_passes (λ x. is_on service day x && not x.added) feed.exceptions row at (and_from _ _ on (ap not e))
 
     added_false : row.added ≡ false → (b : Bool) → is_added feed service day ≡ b → b ≡ false
     added_false e false is = refl

@@ -1,6 +1,6 @@
 -- What empty tables give.
 use Rattle.std.proofs.Common.{ap, [], not}
-use Rattle.feed_rows.specs.Words.{list_below, picks_below}
+use Rattle.plain_laws.specs.Plain.{list_below, picks_below}
 use Rattle.feed_rows.specs.declared.names.ColumnName.TheVariants as column
 use Rattle.feed_faults.specs.Records.{FileTable, row_count}
 use Rattle.feed_faults.specs.FormFaults.{is_passed_over}

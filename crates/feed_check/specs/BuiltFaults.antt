@@ -3,7 +3,7 @@ use Rattle.std.specs.Prelude.{[], ◌∷◌, Option}
 use Rattle.feed_rows.specs.declared.names.FileName.{FileName}
 use Rattle.feed_rows.specs.declared.faults.FeedFault.{FeedFault}
 use Rattle.feed_rows.specs.HeldFiles.{HeldFile}
-use Rattle.feed_rows.specs.Words.{first_of}
+use Rattle.plain_laws.specs.Plain.{first_of}
 use Rattle.feed_faults.specs.FeedTables.{tables_of}
 use Rattle.feed_faults.specs.FirstFault.{first_link_fault}
 use Rattle.feed_tables.specs.FirstPass.{first_pass_fault}

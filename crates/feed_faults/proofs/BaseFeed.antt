@@ -6,7 +6,7 @@ use Rattle.feed_rows.specs.FeedRows.{FeedRows}
 use Rattle.feed_faults.specs.FirstFault.{first_fault}
 use Rattle.feed_faults.specs.AcceptedFeed.{feed_of}
 use Rattle.feed_faults.proofs.Folders.{Folder, files_in, without_file}
-use Rattle.feed_faults.proofs.OnLiterals.{feeds_on_literals}
+use Rattle.feed_faults.specs.OnLiterals.{feeds_on_literals}
 
 -- its files
 abbrev pub base : Folder

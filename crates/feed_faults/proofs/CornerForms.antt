@@ -10,7 +10,7 @@ use Rattle.feed_rows.specs.declared.faults.FeedFault.{FeedFault}
 use Rattle.feed_rows.specs.HeldFiles.{HeldFile}
 use Rattle.feed_faults.specs.Records.{table_of_bytes}
 use Rattle.feed_faults.specs.FormFaults.{form_fault_of_held, form_fault_of_bytes, form_fault_of_rows, first_form_fault}
-use Rattle.feed_faults.proofs.OnLiterals.{feeds_on_literals}
+use Rattle.feed_faults.specs.OnLiterals.{feeds_on_literals}
 use Rattle.feed_faults.proofs.Folders.{Folder, files_in, with_file}
 use Rattle.feed_faults.proofs.BaseFeed.{base}
 use Rattle.feed_faults.proofs.FullFeed.{full}

@@ -4,7 +4,7 @@ use Rattle.std.proofs.Common.{◌≡◌, ℕ, Bool, true, false, [], ◌∷◌, 
 use Rattle.std.specs.Prelude.{codes, map}
 use Rattle.jiff_core.specs.Calendar.{days_from_civil, day_count, days_of_years, days_of_months}
 use Rattle.feed_faults.specs.AcceptedFeed.{feed_of}
-use Rattle.feed_faults.proofs.OnLiterals.{feeds_on_literals}
+use Rattle.feed_faults.specs.OnLiterals.{feeds_on_literals}
 use Rattle.feed_faults.proofs.Folders.{Folder, files_in, with_file}
 use Rattle.feed_faults.proofs.BaseFeed.{base}
 use Rattle.feed_faults.proofs.Expected.{fault_of}

@@ -11,7 +11,7 @@ use Rattle.feed_rows.specs.declared.faults.FaultKind.TheVariants as kind
 use Rattle.feed_faults.specs.Records.{FileTable}
 use Rattle.feed_faults.specs.FeedTables.{FeedTables}
 use Rattle.feed_faults.specs.FirstFault.{first_link_fault}
-use Rattle.feed_faults.proofs.OnLiterals.{links_on_literals}
+use Rattle.feed_faults.specs.OnLiterals.{links_on_literals}
 use Rattle.feed_faults.proofs.Expected.{fault}
 
 -- the days of some dates

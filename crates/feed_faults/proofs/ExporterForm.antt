@@ -2,7 +2,7 @@
 use Rattle.std.proofs.Common.{◌≡◌, ℕ, List, [], ◌∷◌, None, refl}
 use Rattle.std.specs.Prelude.{codes}
 use Rattle.feed_faults.specs.AcceptedFeed.{feed_of}
-use Rattle.feed_faults.proofs.OnLiterals.{feeds_on_literals}
+use Rattle.feed_faults.specs.OnLiterals.{feeds_on_literals}
 use Rattle.feed_faults.proofs.Folders.{Folder, files_in}
 use Rattle.feed_faults.proofs.BaseFeed.{base_rows}
 use Rattle.feed_faults.proofs.Expected.{fault_of}

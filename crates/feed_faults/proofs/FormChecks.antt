@@ -10,7 +10,7 @@ use Rattle.feed_rows.specs.HeldFiles.{HeldFile, held_within}
 use Rattle.feed_faults.specs.FormFaults.{form_fault_of_bytes}
 use Rattle.feed_faults.specs.FirstFault.{first_fault}
 use Rattle.feed_faults.specs.AcceptedFeed.{feed_of}
-use Rattle.feed_faults.proofs.OnLiterals.{feeds_on_literals}
+use Rattle.feed_faults.specs.OnLiterals.{feeds_on_literals}
 use Rattle.feed_faults.proofs.Folders.{files_in, with_file, without_file}
 use Rattle.feed_faults.proofs.BaseFeed.{base, base_rows}
 use Rattle.feed_faults.proofs.ExporterForm.{marked}

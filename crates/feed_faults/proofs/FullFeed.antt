@@ -4,7 +4,7 @@ use Rattle.std.specs.Prelude.{codes, pos, negsuc}
 use Rattle.transit_base.specs.Dates.{day_number}
 use Rattle.feed_faults.specs.FormFaults.{first_form_fault}
 use Rattle.feed_faults.specs.AcceptedFeed.{feed_of}
-use Rattle.feed_faults.proofs.OnLiterals.{feeds_on_literals}
+use Rattle.feed_faults.specs.OnLiterals.{feeds_on_literals}
 use Rattle.feed_faults.proofs.Folders.{Folder, files_in, with_file, without_file}
 use Rattle.feed_faults.proofs.BaseFeed.{base, base_rows}
 use Rattle.feed_faults.proofs.Expected.{fault_of}

@@ -4,7 +4,7 @@ use Rattle.std.specs.Prelude.{codes, map, replicate, ◌++◌, pos, negsuc}
 use Rattle.transit_base.specs.Dates.{day_number}
 use Rattle.feed_rows.specs.TimeGrammar.{time_value}
 use Rattle.feed_faults.specs.FieldGrammars.{is_id, int_value, count_value, date_value, currency_decimals, amount_value, amount_in}
-use Rattle.feed_faults.proofs.OnLiterals.{grammars_on_literals}
+use Rattle.feed_faults.specs.OnLiterals.{grammars_on_literals}
 
 -- each text is read as the value beside it
 abbrev AreRead : {V : Type 0} → (List ℕ → V) → List (List ℕ × V) → Type 0

@@ -1,4 +1,3 @@
-pub mod OnLiterals
 pub mod Folders
 pub mod GrammarChecks
 pub mod BaseFeed

@@ -5,7 +5,7 @@ use Rattle.feed_rows.specs.declared.names.FileName.TheVariants as file
 use Rattle.feed_rows.specs.declared.names.ColumnName.TheVariants as column
 use Rattle.feed_rows.specs.declared.faults.FaultKind.TheVariants as kind
 use Rattle.feed_faults.specs.AcceptedFeed.{feed_of}
-use Rattle.feed_faults.proofs.OnLiterals.{feeds_on_literals}
+use Rattle.feed_faults.specs.OnLiterals.{feeds_on_literals}
 use Rattle.feed_faults.proofs.Folders.{Folder, files_in, with_file, without_file}
 use Rattle.feed_faults.proofs.BaseFeed.{base, base_rows}
 use Rattle.feed_faults.proofs.Expected.{Answers, fault, plain_fault, fault_of}

@@ -27,7 +27,7 @@ use Rattle.feed_rows.specs.declared.rows.Limit.{Limit}
 use Rattle.feed_rows.specs.declared.rows.TransferRuleRow.{TransferRuleRow}
 use Rattle.feed_rows.specs.FeedRows.{FeedRows}
 use Rattle.feed_rows.specs.HeldFiles.{HeldFile}
-use Rattle.feed_rows.specs.Words.{when, find_below, list_below, picks_below}
+use Rattle.plain_laws.specs.Plain.{when, find_below, list_below, picks_below}
 use Rattle.feed_faults.specs.Records.{FileTable, row_count, column_of, field, is_filled}
 use Rattle.feed_rows.specs.TimeGrammar.{time_value}
 use Rattle.feed_faults.specs.FieldGrammars.{most_int, most_time, count_value, currency_decimals}

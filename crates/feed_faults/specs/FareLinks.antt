@@ -4,7 +4,7 @@ use Rattle.feed_rows.specs.declared.names.FileName.TheVariants as file
 use Rattle.feed_rows.specs.declared.names.ColumnName.TheVariants.{ServiceId, TimeframeGroupId, StartTime, EndTime, RiderCategoryId, FareMediaId, FareProductId, Currency, NetworkId, AreaId, FromAreaId, ToAreaId, FromTimeframeGroupId, ToTimeframeGroupId, LegGroupId, FromLegGroupId, ToLegGroupId, TransferCount, DurationLimit, DurationLimitType}
 use Rattle.feed_rows.specs.declared.faults.FaultKind.TheVariants.{UnknownReference, TimeframeFault, DoubledKey, MixedCurrency, TransferFields}
 use Rattle.feed_rows.specs.declared.faults.FeedFault.{FeedFault}
-use Rattle.feed_rows.specs.Words.{when, first_of}
+use Rattle.plain_laws.specs.Plain.{when, first_of}
 use Rattle.feed_faults.specs.Records.{FileTable, field, is_filled}
 use Rattle.feed_faults.specs.FaultPlaces.{field_fault}
 use Rattle.feed_faults.specs.FeedTables.{FeedTables}

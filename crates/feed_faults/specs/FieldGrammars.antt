@@ -6,7 +6,7 @@ use Rattle.std.specs.Str.{all_ascii_digits}
 use Rattle.std.specs.Str.Parse.{digits_value}
 use Rattle.transit_base.specs.Dates.{is_date, day_number}
 use Rattle.feed_rows.specs.Numerals.{number_value}
-use Rattle.feed_rows.specs.Words.{when, find_below, int_same}
+use Rattle.plain_laws.specs.Plain.{when, find_below, int_same}
 
 -- a tab, a line feed or a carriage return
 abbrev pub is_break : ℕ → Bool

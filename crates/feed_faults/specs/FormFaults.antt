@@ -11,7 +11,7 @@ use Rattle.feed_rows.specs.declared.faults.FaultKind.{FaultKind}
 use Rattle.feed_rows.specs.declared.faults.FaultKind.TheVariants as kind
 use Rattle.feed_rows.specs.declared.faults.FeedFault.{FeedFault}
 use Rattle.feed_rows.specs.Names.{column_text}
-use Rattle.feed_rows.specs.Words.{when, any_below, first_below, first_in, first_of}
+use Rattle.plain_laws.specs.Plain.{when, any_below, first_below, first_in, first_of}
 use Rattle.feed_rows.specs.HeldFiles.{HeldFile}
 use Rattle.feed_faults.specs.declared.columns.EmptyField.{EmptyField}
 use Rattle.feed_faults.specs.declared.columns.EmptyField.TheVariants as empty

@@ -12,3 +12,4 @@ pub mod NetworkLinks
 pub mod FareLinks
 pub mod FirstFault
 pub mod AcceptedFeed
+pub mod OnLiterals

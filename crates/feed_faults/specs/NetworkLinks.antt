@@ -5,7 +5,7 @@ use Rattle.feed_rows.specs.declared.names.FileName.TheVariants as file
 use Rattle.feed_rows.specs.declared.names.ColumnName.TheVariants.{TripId, StartTime, StopId, FromStopId, ToStopId, AreaId, NetworkId, RouteId}
 use Rattle.feed_rows.specs.declared.faults.FaultKind.TheVariants.{UnknownReference, DoubledKey, ForbiddenTogether}
 use Rattle.feed_rows.specs.declared.faults.FeedFault.{FeedFault}
-use Rattle.feed_rows.specs.Words.{when, any_below, first_of}
+use Rattle.plain_laws.specs.Plain.{when, any_below, first_of}
 use Rattle.feed_faults.specs.Records.{FileTable, row_count, field, is_filled}
 use Rattle.feed_faults.specs.FieldGrammars.{most_time}
 use Rattle.feed_faults.specs.FormFaults.{is_passed_over}

@@ -6,7 +6,7 @@ use Rattle.feed_rows.specs.declared.names.FileName.TheVariants as file
 use Rattle.feed_rows.specs.declared.names.ColumnName.TheVariants.{TripId, StopId, StopSequence, ArrivalTime, DepartureTime}
 use Rattle.feed_rows.specs.declared.faults.FaultKind.TheVariants.{UnknownReference, WrongStopKind, DoubledKey, EndTimeMissing, TimesDecrease}
 use Rattle.feed_rows.specs.declared.faults.FeedFault.{FeedFault}
-use Rattle.feed_rows.specs.Words.{when, filled_and, at_and, any_below, list_below, first_of}
+use Rattle.plain_laws.specs.Plain.{when, filled_and, at_and, any_below, list_below, first_of}
 use Rattle.feed_faults.specs.Records.{FileTable, row_count, field}
 use Rattle.feed_rows.specs.TimeGrammar.{time_value}
 use Rattle.feed_faults.specs.FieldGrammars.{most_int, most_time}

@@ -5,7 +5,7 @@ use Rattle.feed_rows.specs.declared.names.FileName.TheVariants as file
 use Rattle.feed_rows.specs.declared.names.ColumnName.TheVariants.{StopId, ParentStation, RouteId, TripId, ServiceId, StartDate, EndDate, Date}
 use Rattle.feed_rows.specs.declared.faults.FaultKind.TheVariants.{DoubledKey, UnknownReference, BadParent, DatesReversed}
 use Rattle.feed_rows.specs.declared.faults.FeedFault.{FeedFault}
-use Rattle.feed_rows.specs.Words.{when, filled_and, first_of, int_same}
+use Rattle.plain_laws.specs.Plain.{when, filled_and, first_of, int_same}
 use Rattle.feed_faults.specs.Records.{FileTable, field, is_filled}
 use Rattle.feed_faults.specs.FaultPlaces.{field_fault}
 use Rattle.feed_faults.specs.FeedTables.{FeedTables}

@@ -1,37 +1,25 @@
 -- Keys of numbers in place of texts: rows have one key exactly where they are the same.
-use Rattle.std.proofs.Common.{◌≡◌, refl, sym, ◌∙◌, ap, ℕ, zero, suc, ◌+◌, ◌<◌, Bool, true, false, cond, arith}
+use Rattle.std.proofs.Common.{◌≡◌, refl, sym, ◌∙◌, ap, ℕ, suc, ◌+◌, ◌<◌, Bool, true, false, cond, arith}
 use Rattle.std.specs.Prelude.{◌==◌, ◌&&◌, ◌||◌, bytes_eq, ℤ}
 use Rattle.std.specs.List.{list_any}
 use Rattle.std.specs.BTreeSet.{BTreeSet}
-use Rattle.std.specs.Ordering.{nat_cmp, int_cmp, int_eq, ordering_then, is_eq}
-use Rattle.std.specs.declared.cmp.Ordering.{Ordering}
-use Rattle.std.specs.declared.cmp.Ordering.TheVariants.{Less, Equal, Greater}
-use Rattle.std.proofs.lemmas.Bool.Decides.{nat_tests, Decides-int_eq}
+use Rattle.std.specs.Ordering.{nat_cmp, int_cmp, int_eq, ordering_then}
+use Rattle.std.proofs.lemmas.Bool.Decides.{Decides-int_eq}
 use Rattle.std.proofs.lemmas.Slice.Eq.{bytes_eq-Decides}
 use Rattle.feed_rows.specs.declared.names.ColumnName.{ColumnName}
 use Rattle.feed_rows.specs.declared.names.ColumnName.TheVariants.{ServiceId, Date, FareProductId, RiderCategoryId, FareMediaId}
-use Rattle.feed_rows.specs.Words.{any_below, int_same}
-use Rattle.feed_rows.proofs.BelowLaws.{find_below_some}
-use Rattle.feed_rows.proofs.ShiftLaws.{same_told, same_here}
+use Rattle.plain_laws.specs.Plain.{any_below}
+use Rattle.plain_laws.proofs.Laws.{find_below_some, same_test, eqb_turn, int_eq-int_same, any_below-same, then_equal, number_equal}
 use Rattle.feed_faults.specs.Records.{FileTable, row_count, field}
 use Rattle.feed_faults.specs.FieldValues.{day_or_past}
 use Rattle.feed_faults.specs.RowKeys.{row_of, same_field, is_repeated}
 use Rattle.feed_faults.specs.TimetableLinks.{same_exception}
 use Rattle.feed_faults.specs.FareLinks.{same_product}
-use Rattle.stop_order.proofs.PlaceLaws.{same_test}
 use Rattle.feed_links.specs.declared.exceptions.ExceptionKey.{ExceptionKey}
 use Rattle.feed_links.specs.declared.products.ProductKey.{ProductKey}
 use Rattle.feed_links.specs.RowNumbers.{first_row, exception_key, product_key}
 use Rattle.feed_links.specs.SeenKeys.{AreSeen, same_exception_key, same_product_key}
-
-told : (a b : ℕ) → (a == b) ≡ true → a ≡ b
-told a b e = grind (arith, nat_tests)
-
-hit : (a b : ℕ) → a ≡ b → (a == b) ≡ true
-hit a b e = grind (arith, nat_tests)
-
-turn : (a b : ℕ) → (a == b) ≡ (b == a)
-turn a b = grind (arith, nat_tests)
+use Rattle.std.proofs.lemmas.Bool.{eqb-true, eq-eqb}
 
 -- the first row with the field of a row has its field
 first_has : (table : FileTable) (name : ColumnName) (row : ℕ) → row < row_count table → field table row name ≡ field table (first_row table name row) name
@@ -49,26 +37,8 @@ at_field table name a b e = rw e refl
 pub first_row_same : (table : FileTable) (name : ColumnName) (a b : ℕ) → a < row_count table → b < row_count table → (first_row table name a == first_row table name b) ≡ same_field table name a b
 first_row_same table name a b la lb =
     same_test (first_row table name a == first_row table name b) (same_field table name a b)
-    (λ one. (bytes_eq-Decides (field table a name) (field table b name)).1 (first_has table name a la ∙ ap (λ r. field table r name) (told (first_row table name a) (first_row table name b) one) ∙ sym (first_has table name b lb)))
-    (λ same. hit (first_row table name a) (first_row table name b) (at_field table name a b ((bytes_eq-Decides (field table a name) (field table b name)).0 same)))
-
--- equal days
-day_same : (a b : ℤ) → int_eq a b ≡ int_same a b
-day_same a b = same_test (int_eq a b) (int_same a b) (λ e. same_here a b ((Decides-int_eq a b).0 e)) (λ e. (Decides-int_eq a b).1 (same_told a b e))
-
--- tests that agree below a number
-pub any_below_same : (test other : ℕ → Bool) (n : ℕ) → ((k : ℕ) → k < n → test k ≡ other k) → any_below n test ≡ any_below n other
-any_below_same test other zero same = refl
-any_below_same test other (suc n) same = rw (any_below_same test other n (λ k lt. same k (omega arith)), same n (omega arith)) refl
-
--- what is compared part by part is equal where each part is
-then_equal : (o p : Ordering) → is_eq (ordering_then o p) ≡ (is_eq o && is_eq p)
-then_equal Less p = refl
-then_equal Equal p = refl
-then_equal Greater p = refl
-
-number_equal : (a b : ℕ) → is_eq (nat_cmp a b) ≡ (a == b)
-number_equal a b = grind (arith, nat_tests)
+    (λ one. (bytes_eq-Decides (field table a name) (field table b name)).1 (first_has table name a la ∙ ap (λ r. field table r name) (eqb-true (first_row table name a) (first_row table name b) one) ∙ sym (first_has table name b lb)))
+    (λ same. eq-eqb (first_row table name a) (first_row table name b) (at_field table name a b ((bytes_eq-Decides (field table a name) (field table b name)).0 same)))
 
 exception_parts : (a b : ExceptionKey) → same_exception_key a b ≡ ((a.service == b.service) && int_eq a.day b.day)
 exception_parts a b = then_equal (nat_cmp a.service b.service) (int_cmp a.day b.day) ∙ rw (number_equal a.service b.service) refl
@@ -82,8 +52,8 @@ product_parts a b =
 pub exception_repeated : (dates : FileTable) (row : ℕ) → row < row_count dates → any_below row (λ r. same_exception_key (exception_key dates row) (exception_key dates r)) ≡ is_repeated (same_exception dates) row
 unfolding exception_key same_exception
 exception_repeated dates row lt =
-    any_below_same (λ r. same_exception_key (exception_key dates row) (exception_key dates r)) (same_exception dates row) row (λ r small.
-    exception_parts (exception_key dates row) (exception_key dates r) ∙ rw (first_row_same dates ServiceId row r lt (omega arith), day_same (day_or_past (field dates row Date)) (day_or_past (field dates r Date))) refl)
+    any_below-same (λ r. same_exception_key (exception_key dates row) (exception_key dates r)) (same_exception dates row) row (λ r small.
+    exception_parts (exception_key dates row) (exception_key dates r) ∙ rw (first_row_same dates ServiceId row r lt (omega arith), int_eq-int_same (day_or_past (field dates row Date)) (day_or_past (field dates r Date))) refl)
 
 grouped : (a b c : Bool) → a && (b && c) ≡ a && b && c
 grouped true b c = refl
@@ -92,7 +62,7 @@ grouped false b c = refl
 pub product_repeated : (products : FileTable) (row : ℕ) → row < row_count products → any_below row (λ r. same_product_key (product_key products row) (product_key products r)) ≡ is_repeated (same_product products) row
 unfolding product_key same_product
 product_repeated products row lt =
-    any_below_same (λ r. same_product_key (product_key products row) (product_key products r)) (same_product products row) row (λ r small.
+    any_below-same (λ r. same_product_key (product_key products row) (product_key products r)) (same_product products row) row (λ r small.
     let within : r < row_count products = omega arith in
     product_parts (product_key products row) (product_key products r) ∙ rw (first_row_same products FareProductId row r lt within, first_row_same products RiderCategoryId row r lt within, first_row_same products FareMediaId row r lt within) (grouped (same_field products FareProductId row r) (same_field products RiderCategoryId row r) (same_field products FareMediaId row r)))
 
@@ -101,10 +71,10 @@ day_turn : (a b : ℤ) → int_eq a b ≡ int_eq b a
 day_turn a b = same_test (int_eq a b) (int_eq b a) (λ e. (Decides-int_eq b a).1 (sym ((Decides-int_eq a b).0 e))) (λ e. (Decides-int_eq a b).1 (sym ((Decides-int_eq b a).0 e)))
 
 pub exception_turn : (a b : ExceptionKey) → same_exception_key a b ≡ same_exception_key b a
-exception_turn a b = exception_parts a b ∙ rw (turn a.service b.service, day_turn a.day b.day) refl ∙ sym (exception_parts b a)
+exception_turn a b = exception_parts a b ∙ rw (eqb_turn a.service b.service, day_turn a.day b.day) refl ∙ sym (exception_parts b a)
 
 pub product_turn : (a b : ProductKey) → same_product_key a b ≡ same_product_key b a
-product_turn a b = product_parts a b ∙ rw (turn a.product b.product, turn a.rider b.rider, turn a.medium b.medium) refl ∙ sym (product_parts b a)
+product_turn a b = product_parts a b ∙ rw (eqb_turn a.product b.product, eqb_turn a.rider b.rider, eqb_turn a.medium b.medium) refl ∙ sym (product_parts b a)
 
 either : (a b : Bool) → cond a true b ≡ (b || a)
 either true true = refl

@@ -1,4 +1,3 @@
-pub mod LinkLaws
 pub mod KeyLaws
 pub mod TripNumberLaws
 pub mod PassLaws

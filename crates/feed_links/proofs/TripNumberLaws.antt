@@ -6,9 +6,8 @@ use Rattle.std.proofs.lemmas.Slice.Eq.{bytes_eq-Decides}
 use Rattle.feed_rows.specs.declared.rows.StopTimeRow.{StopTimeRow}
 use Rattle.feed_rows.specs.declared.names.ColumnName.{ColumnName}
 use Rattle.feed_rows.specs.declared.names.ColumnName.TheVariants.{TripId, StopId}
-use Rattle.feed_rows.specs.Words.{list_below, filled_and}
-use Rattle.feed_rows.proofs.BelowLaws.{find_below_tells}
-use Rattle.feed_rows.proofs.GroupLaws.{length-list_below, list_below-same}
+use Rattle.plain_laws.specs.Plain.{list_below, filled_and}
+use Rattle.plain_laws.proofs.Laws.{find_below_tells, length-list_below, list_below-same, get_or-list_below, same_test}
 use Rattle.feed_faults.specs.Records.{FileTable, row_count, field, is_filled}
 use Rattle.feed_faults.specs.FeedTables.{FeedTables}
 use Rattle.feed_faults.specs.FieldValues.{stop_kind}
@@ -17,21 +16,11 @@ use Rattle.feed_faults.specs.StopTimeLinks.{stop_time_of, stop_times_of, is_at_p
 use Rattle.feed_faults.specs.AcceptedFeed.{row_number, rows_of, stop_time_row}
 use Rattle.stop_order.specs.declared.times.OrderFaults.{OrderFaults}
 use Rattle.stop_order.specs.Numbered.{no_time, numbered_at, named_time, named_times, IsOneTrip, no_faults, faults_at}
-use Rattle.trip_order.proofs.SortLaws.{get_or-list_below}
-use Rattle.stop_order.proofs.PlaceLaws.{same_test}
 use Rattle.feed_links.specs.JudgedBy.{AreCallsNamed, are_platforms}
-
-told : (a b : ℕ) → (a == b) ≡ true → a ≡ b
-told a b e = grind (arith, nat_tests)
-
-hit : (a b : ℕ) → a ≡ b → (a == b) ≡ true
-hit a b e = grind (arith, nat_tests)
+use Rattle.std.proofs.lemmas.Bool.{eqb-true, eq-eqb, lt-ltb}
 
 differ : (a b : ℕ) → a < b → (a == b) ≡ false
 differ a b lt = grind (arith, nat_tests)
-
-less : (a b : ℕ) → a < b → nat_lt a b ≡ true
-less a b lt = grind (arith, nat_tests)
 
 itself : (a : ℕ) → nat_lt a a ≡ false
 itself a = grind (arith, nat_tests)
@@ -49,7 +38,7 @@ unknown_by_number table name id filled = step (row_of table name id) refl
   where
     step : (o : Option ℕ) → row_of table name id ≡ o → (row_number table name id == row_count table) ≡ is_unknown table name id
     step (Some row) e = let lt = (row_tells table name id row e).0 in rw (filled, e) (differ row (row_count table) lt)
-    step None e = rw (filled, e) (hit (row_count table) (row_count table) refl)
+    step None e = rw (filled, e) (eq-eqb (row_count table) (row_count table) refl)
 
 -- ids of one number, of which one is there, are one
 one_text : (table : FileTable) (name : ColumnName) (a b : List ℕ) → is_filled b ≡ true → is_unknown table name b ≡ false → row_number table name a ≡ row_number table name b → a ≡ b
@@ -90,7 +79,7 @@ platform_by_number t row platforms e = step (row_of t.stops StopId id) refl
     step : (o : Option ℕ) → row_of t.stops StopId id ≡ o → (nat_lt (row_number t.stops StopId id) (length platforms) && get_or platforms (row_number t.stops StopId id) false) ≡ filled_and (row_of t.stops StopId id) kinds
     step (Some stop) is =
         let lt = (row_tells t.stops StopId id stop is).0 in
-        rw (is, long, less stop (row_count t.stops) lt) (ap (λ xs. get_or xs stop false) e ∙ get_or-list_below (row_count t.stops) kinds stop false lt)
+        rw (is, long, lt-ltb stop (row_count t.stops) lt) (ap (λ xs. get_or xs stop false) e ∙ get_or-list_below (row_count t.stops) kinds stop false lt)
     step None is = rw (is, long, itself (row_count t.stops)) refl
 
 module _ (t : FeedTables) (named : AreCallsNamed t) where
@@ -109,10 +98,10 @@ module _ (t : FeedTables) (named : AreCallsNamed t) where
   one_trip row lt known other below =
       let within : other < row_count t.stop_times = let long = length-list_below (row_count t.stop_times) (stop_time_row t) in omega arith in
       same_test (bytes_eq (text other) (text row)) ((numbered_at rows other).trip.0 == (numbered_at rows row).trip.0)
-      (λ e. hit (numbered_at rows other).trip.0 (numbered_at rows row).trip.0
+      (λ e. eq-eqb (numbered_at rows other).trip.0 (numbered_at rows row).trip.0
       (trip_is other within ∙ ap (row_number t.trips TripId) ((bytes_eq-Decides (text other) (text row)).0 e) ∙ sym (trip_is row lt)))
       (λ e. (bytes_eq-Decides (text other) (text row)).1 (one_text t.trips TripId (text other) (text row) (named.trips row lt) known
-      (sym (trip_is other within) ∙ told (numbered_at rows other).trip.0 (numbered_at rows row).trip.0 e ∙ trip_is row lt)))
+      (sym (trip_is other within) ∙ eqb-true (numbered_at rows other).trip.0 (numbered_at rows row).trip.0 e ∙ trip_is row lt)))
 
   -- the stop times with the texts of their trips are those of the file
   named_is : named_times rows text ≡ stop_times_of t.stop_times

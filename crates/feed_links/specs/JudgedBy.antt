@@ -5,7 +5,7 @@ use Rattle.feed_faults.specs.FeedTables.{FeedTables}
 use Rattle.feed_rows.specs.declared.names.FileName.TheVariants as file
 use Rattle.feed_rows.specs.declared.faults.FaultKind.TheVariants.{DoubledKey, EndTimeMissing, TimesDecrease}
 use Rattle.feed_rows.specs.declared.faults.FeedFault.{FeedFault}
-use Rattle.feed_rows.specs.Words.{when, first_of, list_below}
+use Rattle.plain_laws.specs.Plain.{when, first_of, list_below}
 use Rattle.feed_faults.specs.Records.{FileTable, row_count, field, is_filled}
 use Rattle.feed_faults.specs.FaultPlaces.{field_fault}
 use Rattle.feed_faults.specs.FieldValues.{stop_kind}

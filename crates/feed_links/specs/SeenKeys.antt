@@ -3,7 +3,7 @@ use Rattle.std.specs.Prelude.{◌≡◌, ℕ, Bool}
 use Rattle.std.specs.Ordering.{nat_cmp, int_cmp, ordering_then, is_eq}
 use Rattle.std.specs.BTreeSet.{BTreeSet}
 use Rattle.std.specs.List.{list_any}
-use Rattle.feed_rows.specs.Words.{any_below}
+use Rattle.plain_laws.specs.Plain.{any_below}
 use Rattle.feed_links.specs.declared.exceptions.ExceptionKey.{ExceptionKey}
 use Rattle.feed_links.specs.declared.products.ProductKey.{ProductKey}
 

@@ -53,7 +53,7 @@ fn put_exception(
 }
 
 // The first fault of the rows of calendar_dates.txt.
-#[tactic(auto, unfolding(feed_faults::specs::TimetableLinks::exception_fault), using(feed_rows::proofs::FirstLaws::first_below_found, crate::proofs::LinkLaws::first_below_next))]
+#[tactic(auto, unfolding(feed_faults::specs::TimetableLinks::exception_fault), using(plain_laws::proofs::Laws::firsts))]
 pub fn exceptions_fault(alloc: Global, tables: &Tables) -> Result<Option<FeedFault>, AllocError>
     ensures { IfOk result (λ fault. fault ≡ first_in_rows tables.now.calendar_dates (exception_fault tables.now)) }
 {

@@ -137,7 +137,7 @@ fn put_product(
 }
 
 // The first fault of the rows of fare_products.txt.
-#[tactic(auto, using(feed_rows::proofs::FirstLaws::first_below_found, crate::proofs::LinkLaws::first_below_next))]
+#[tactic(auto, using(plain_laws::proofs::Laws::firsts))]
 pub fn products_fault(alloc: Global, tables: &Tables) -> Result<Option<FeedFault>, AllocError>
     ensures { IfOk result (λ fault. fault ≡ first_in_rows tables.now.fare_products (product_fault tables.now)) }
 {

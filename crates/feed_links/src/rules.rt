@@ -100,7 +100,7 @@ fn rule_ids<'t>(alloc: Global, tables: &'t Tables) -> Result<RuleIds<'t>, AllocE
 }
 
 // The first fault of the rows of fare_leg_rules.txt.
-#[tactic(auto, using(feed_rows::proofs::FirstLaws::first_below_found, crate::proofs::LinkLaws::first_below_next))]
+#[tactic(auto, using(plain_laws::proofs::Laws::firsts))]
 pub fn leg_rules_fault(alloc: Global, tables: &Tables) -> Result<Option<FeedFault>, AllocError>
     ensures { IfOk result (λ fault. fault ≡ first_in_rows tables.now.fare_leg_rules (leg_rule_fault tables.now)) }
 {

@@ -152,7 +152,7 @@ fn stop_time_fault(tables: &Tables, calls: &JudgedCalls, row: u32) -> Option<Fee
 }
 
 // The first fault of the rows of stop_times.txt, each of which names a trip and a stop.
-#[tactic(auto, using(feed_rows::proofs::FirstLaws::first_below_found, crate::proofs::LinkLaws::first_below_next))]
+#[tactic(auto, using(plain_laws::proofs::Laws::firsts))]
 pub fn stop_times_fault(
     alloc: Global,
     tables: &Tables,

@@ -62,7 +62,7 @@ fn stop_fault(tables: &Tables, ids: &IdIndex, row: u32) -> Option<FeedFault>
 }
 
 // The first fault of the rows of stops.txt.
-#[tactic(auto, using(feed_rows::proofs::FirstLaws::first_below_found, crate::proofs::LinkLaws::first_below_next))]
+#[tactic(auto, using(plain_laws::proofs::Laws::firsts))]
 pub fn stops_fault(tables: &Tables, ids: &TableIds) -> Option<FeedFault>
     requires { AreIdsOf tables.now ids.now }
     ensures { result ≡ first_in_rows tables.now.stops (stop_fault tables.now) }
@@ -96,7 +96,7 @@ fn route_fault(tables: &Tables, ids: &IdIndex, row: u32) -> Option<FeedFault>
 }
 
 // The first fault of the rows of routes.txt.
-#[tactic(auto, using(feed_rows::proofs::FirstLaws::first_below_found, crate::proofs::LinkLaws::first_below_next))]
+#[tactic(auto, using(plain_laws::proofs::Laws::firsts))]
 pub fn routes_fault(tables: &Tables, ids: &TableIds) -> Option<FeedFault>
     requires { AreIdsOf tables.now ids.now }
     ensures { result ≡ first_in_rows tables.now.routes (route_fault tables.now) }
@@ -161,7 +161,7 @@ fn service_ids<'t>(alloc: Global, tables: &'t Tables) -> Result<ServiceIds<'t>, 
 }
 
 // The first fault of the rows of trips.txt.
-#[tactic(auto, using(feed_rows::proofs::FirstLaws::first_below_found, crate::proofs::LinkLaws::first_below_next))]
+#[tactic(auto, using(plain_laws::proofs::Laws::firsts))]
 pub fn trips_fault(
     alloc: Global,
     tables: &Tables,
@@ -208,7 +208,7 @@ fn service_fault(tables: &Tables, ids: &IdIndex, row: u32) -> Option<FeedFault>
 }
 
 // The first fault of the rows of calendar.txt.
-#[tactic(auto, using(feed_rows::proofs::FirstLaws::first_below_found, crate::proofs::LinkLaws::first_below_next))]
+#[tactic(auto, using(plain_laws::proofs::Laws::firsts))]
 pub fn services_fault(alloc: Global, tables: &Tables) -> Result<Option<FeedFault>, AllocError>
     ensures { IfOk result (λ fault. fault ≡ first_in_rows tables.now.calendar (service_fault tables.now)) }
 {

@@ -7,7 +7,7 @@ use Rattle.std.specs.Option.{option_map_or}
 use Rattle.feed_rows.specs.declared.rows.StopTimeRow.{StopTimeRow}
 use Rattle.feed_rows.specs.declared.journeys.Call.{Call}
 use Rattle.feed_rows.specs.Calls.{first_time, last_time, is_timed, timed_after, time_between}
-use Rattle.feed_rows.specs.Words.{at_and}
+use Rattle.plain_laws.specs.Plain.{at_and}
 
 -- two timed positions with none between them: the one is left and the other reached at these times
 pub record TimedGap : Type 0 where

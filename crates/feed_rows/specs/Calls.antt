@@ -6,7 +6,7 @@ use Rattle.transit_base.specs.declared.numbers.TripId.{TripId}
 use Rattle.feed_rows.specs.declared.rows.StopTimeRow.{StopTimeRow}
 use Rattle.feed_rows.specs.declared.journeys.Call.{Call}
 use Rattle.feed_rows.specs.FeedRows.{FeedRows}
-use Rattle.feed_rows.specs.Words.{at_and, collect_below, find_below, last_below}
+use Rattle.plain_laws.specs.Plain.{at_and, collect_below, find_below, last_below}
 
 -- the row put before the first one whose sequence is not less
 abbrev pub in_its_place : StopTimeRow → List StopTimeRow → List StopTimeRow

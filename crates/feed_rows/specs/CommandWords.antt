@@ -1,7 +1,7 @@
 -- The grammar of the words behind a command: options with values, flags and positional words, in any order.
 use Rattle.std.specs.Prelude.{ℕ, ◌+◌, ◌-◌, ◌==◌, Bool, true, false, ◌&&◌, nat_lt, nat_le, if◌then◌else◌, List, [], ◌∷◌, length, take, drop, slice_get, slice_index, slice_index_or, Option, is_some, codes, bytes_eq}
 use Rattle.std.specs.List.{list_any, list_all}
-use Rattle.feed_rows.specs.Words.{when, all_below, any_below, count_below, picks_below, first_below}
+use Rattle.plain_laws.specs.Plain.{when, all_below, any_below, count_below, picks_below, first_below}
 use Rattle.feed_rows.specs.declared.usage.WordRole.{WordRole}
 use Rattle.feed_rows.specs.declared.usage.WordRole.TheVariants as role
 

@@ -24,8 +24,7 @@ use Rattle.feed_rows.specs.Journeys.{facts_at}
 use Rattle.feed_rows.specs.FareSums.{amount_of, is_charged, transfer_kind}
 use Rattle.feed_rows.specs.Lines.{line}
 use Rattle.feed_rows.specs.MoneyText.{money_text}
-use Rattle.feed_rows.specs.Words.{joined_below}
-use Rattle.feed_rows.specs.Given.{given, given_last, lines_given}
+use Rattle.plain_laws.specs.Plain.{joined_below, given, given_last, lines_given}
 
 -- the id of a stop
 abbrev pub stop_text : FeedRows → StopId → Option (List ℕ)

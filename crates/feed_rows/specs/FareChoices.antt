@@ -14,7 +14,7 @@ use Rattle.feed_rows.specs.declared.rows.ProductRow.{ProductRow}
 use Rattle.feed_rows.specs.FeedRows.{FeedRows}
 use Rattle.feed_rows.specs.LegRules.{is_selected_rule}
 use Rattle.feed_rows.specs.TransferRules.{FareLeg, change_at, is_arranged, is_selected_transfer}
-use Rattle.feed_rows.specs.Words.{all_below, at_and, empty_or, filled_and, ids_where}
+use Rattle.plain_laws.specs.Plain.{all_below, at_and, empty_or, filled_and, ids_where}
 
 -- the row is of the product, and open to the rider: its category is empty or the rider's
 unfoldable pub is_open : ProductId → Option RiderId → ProductRow → Bool

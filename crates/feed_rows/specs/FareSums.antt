@@ -9,7 +9,7 @@ use Rattle.feed_rows.specs.declared.fares.Choice.{Choice}
 use Rattle.feed_rows.specs.declared.journeys.LegFacts.{LegFacts}
 use Rattle.feed_rows.specs.FeedRows.{FeedRows}
 use Rattle.feed_rows.specs.FareChoices.{is_fare_choice}
-use Rattle.feed_rows.specs.Words.{filled_and, sum_below, when}
+use Rattle.plain_laws.specs.Plain.{filled_and, sum_below, when}
 
 -- the type of the row that is chosen for change i; none where none is chosen
 unfoldable pub transfer_kind : FeedRows → Choice → ℕ → Option ℕ

@@ -13,7 +13,7 @@ use Rattle.feed_rows.specs.FeedRows.{FeedRows}
 use Rattle.feed_rows.specs.TransferRules.{FareLeg, change_between, same_group, is_arranged, run_start}
 use Rattle.feed_rows.specs.FareChoices.{chosen_leg, fare_leg, is_leg_choice, is_change_choice}
 use Rattle.feed_rows.specs.FareSums.{starts_chain, transfer_kind, leg_amount, amount_of, pick_amount, fare_sum}
-use Rattle.feed_rows.specs.Words.{filled_and, when}
+use Rattle.plain_laws.specs.Plain.{filled_and, when}
 
 -- ---- runs
 

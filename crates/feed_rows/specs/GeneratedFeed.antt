@@ -5,7 +5,7 @@ use Rattle.std.specs.List.{flat_map}
 use Rattle.transit_base.specs.Dates.{day_number}
 use Rattle.transit_base.specs.Moments.{moment_at}
 use Rattle.transit_base.specs.DateTexts.{time_text}
-use Rattle.feed_rows.specs.Words.{list_below, joined_below}
+use Rattle.plain_laws.specs.Plain.{list_below, joined_below}
 use Rattle.feed_rows.specs.Names.{column_text}
 use Rattle.feed_rows.specs.HeldFiles.{HeldFile}
 use Rattle.feed_rows.specs.Requests.{PlanRequest}

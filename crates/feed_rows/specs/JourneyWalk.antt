@@ -9,8 +9,7 @@ use Rattle.feed_rows.specs.FeedRows.{FeedRows}
 use Rattle.feed_rows.specs.Rides.{ride_facts}
 use Rattle.feed_rows.specs.StopLinks.{link}
 use Rattle.feed_rows.specs.Journeys.{access, egress, direct, is_caught}
-use Rattle.feed_rows.specs.Walks.{after_first}
-use Rattle.feed_rows.specs.Words.{when}
+use Rattle.plain_laws.specs.Plain.{after_first, when}
 
 -- where a traveller stands, since when, and whether no ride was taken yet
 pub record Stand : Type 0 where

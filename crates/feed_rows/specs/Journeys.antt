@@ -9,7 +9,7 @@ use Rattle.feed_rows.specs.declared.journeys.Journey.{Journey}
 use Rattle.feed_rows.specs.FeedRows.{FeedRows}
 use Rattle.feed_rows.specs.Rides.{is_ride, ride_facts}
 use Rattle.feed_rows.specs.StopLinks.{link, stop_set}
-use Rattle.feed_rows.specs.Words.{filled_and, when}
+use Rattle.plain_laws.specs.Plain.{filled_and, when}
 
 -- the stop is one of those that this stop stands for
 abbrev pub stands_for : FeedRows → StopId → StopId → Bool

@@ -8,7 +8,7 @@ use Rattle.transit_base.specs.declared.numbers.RuleId.{RuleId}
 use Rattle.feed_rows.specs.declared.journeys.LegFacts.{LegFacts}
 use Rattle.feed_rows.specs.declared.rows.LegRuleRow.{LegRuleRow}
 use Rattle.feed_rows.specs.FeedRows.{FeedRows}
-use Rattle.feed_rows.specs.Words.{empty_or, filled_and, ids_where}
+use Rattle.plain_laws.specs.Plain.{empty_or, filled_and, ids_where}
 
 -- some rule names the network
 abbrev pub is_listed_network : FeedRows → NetworkId → Bool

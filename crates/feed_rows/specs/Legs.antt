@@ -16,7 +16,7 @@ use Rattle.feed_rows.specs.FeedRows.{FeedRows}
 use Rattle.feed_rows.specs.ServiceDays.{is_active}
 use Rattle.feed_rows.specs.StopLinks.{is_platform, is_station, parent_of}
 use Rattle.feed_rows.specs.Journeys.{facts_at}
-use Rattle.feed_rows.specs.Words.{collect_below, picks_below}
+use Rattle.plain_laws.specs.Plain.{collect_below, picks_below}
 
 -- a row puts the stop into the area
 abbrev pub is_in_area : FeedRows → StopId → ℕ → Bool

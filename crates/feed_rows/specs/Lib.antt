@@ -1,8 +1,5 @@
 pub mod Names
 pub mod Faults
-pub mod Ascending
-pub mod Words
-pub mod Given
 pub mod FeedRows
 pub mod ServiceDays
 pub mod Calls
@@ -12,7 +9,6 @@ pub mod Shifts
 pub mod Rides
 pub mod StopLinks
 pub mod Journeys
-pub mod Walks
 pub mod JourneyWalk
 pub mod Legs
 pub mod LegRules
@@ -42,7 +38,6 @@ pub mod EntryText
 pub mod PriceTexts
 pub mod GeneratedFeed
 pub mod GeneratedTexts
-pub mod Items
 pub mod SoundNames
 pub mod SoundTimetable
 pub mod SoundFares
@@ -50,6 +45,4 @@ pub mod SoundFeed
 pub mod Feed
 pub mod HeldFiles
 pub mod FaultCounts
-pub mod Pieces
-pub mod Groups
 pub mod StopSets

@@ -1,7 +1,7 @@
 -- Items that are read one by one, where the first that can't be read is a fault that tells its number.
 use Rattle.std.specs.Prelude.{ℕ, ◌+◌, List, length, slice_get, Option, is_none, ok_or, option_and_then, Result}
 use Rattle.std.specs.Option.{option_map_or}
-use Rattle.feed_rows.specs.Words.{collect_below, find_below}
+use Rattle.plain_laws.specs.Plain.{collect_below, find_below}
 use Rattle.feed_rows.specs.declared.usage.UsageFault.{UsageFault}
 
 -- what the reading gives of item i, if there is one

@@ -7,7 +7,7 @@ use Rattle.transit_base.specs.declared.numbers.RiderId.{RiderId}
 use Rattle.feed_rows.specs.declared.rows.ProductRow.{ProductRow}
 use Rattle.feed_rows.specs.FeedRows.{FeedRows}
 use Rattle.feed_rows.specs.FareChoices.{is_open}
-use Rattle.feed_rows.specs.Words.{at_and, find_below}
+use Rattle.plain_laws.specs.Plain.{at_and, find_below}
 
 -- the row is of the product and open to the rider, and no such row has a lesser amount
 unfoldable pub is_least_open : FeedRows → ProductId → Option RiderId → ProductRow → Bool

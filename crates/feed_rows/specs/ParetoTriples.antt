@@ -1,7 +1,7 @@
 -- Which triples of arrival, rides and price are better than others, and in which order they stand.
 use Rattle.std.specs.Prelude.{Bool, ◌&&◌, ◌||◌, ◌==◌, nat_le, nat_lt, int_le, int_lt}
 use Rattle.feed_rows.specs.declared.fares.Triple.{Triple}
-use Rattle.feed_rows.specs.Words.{int_same}
+use Rattle.plain_laws.specs.Plain.{int_same}
 
 -- each part of the one is at most the other's
 abbrev pub at_most : Triple → Triple → Bool

@@ -2,8 +2,7 @@
 use Rattle.std.specs.Prelude.{ℕ, ◌+◌, ◌-◌, ◌==◌, not, List, length, Option, Some, None, Result, Ok, Err, ℤ, pos, ◌-ℤ◌}
 use Rattle.transit_base.specs.declared.numbers.TripId.{TripId}
 use Rattle.transit_base.specs.declared.numbers.RiderId.{RiderId}
-use Rattle.feed_rows.specs.Words.{when, at_and, find_below}
-use Rattle.feed_rows.specs.Given.{given}
+use Rattle.plain_laws.specs.Plain.{when, at_and, find_below, given}
 use Rattle.feed_rows.specs.NumberedItems.{read_each}
 use Rattle.feed_rows.specs.FeedRows.{FeedRows}
 use Rattle.feed_rows.specs.Calls.{calls_of, first_departure}

@@ -3,7 +3,7 @@ use Rattle.std.specs.Prelude.{ℕ, Bool, ◌||◌, nat_lt, if◌then◌else◌, 
 use Rattle.transit_base.specs.declared.StopId.{StopId}
 use Rattle.transit_base.specs.declared.RiderId.{RiderId}
 use Rattle.transit_base.specs.declared.TripId.{TripId}
-use Rattle.feed_rows.specs.Words.{at_and, find_below, count_below}
+use Rattle.plain_laws.specs.Plain.{at_and, find_below, count_below}
 use Rattle.feed_rows.specs.FeedRows.{FeedRows}
 use Rattle.feed_rows.specs.StopLinks.{is_platform, is_station}
 use Rattle.feed_rows.specs.UsageFaults.{unless_fault}

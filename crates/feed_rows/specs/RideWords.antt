@@ -1,10 +1,9 @@
 -- The words that name the rides of the command `price`.
 use Rattle.std.specs.Prelude.{ℕ, ◌+◌, ◌==◌, nat_lt, if◌then◌else◌, List, length, take, drop, slice_index, slice_range, Option, Some, None, option_map, ℤ, codes, bytes_eq}
-use Rattle.feed_rows.specs.Given.{given, given_last}
+use Rattle.plain_laws.specs.Plain.{given, given_last, when, last_below}
 use Rattle.feed_rows.specs.Numerals.{within}
 use Rattle.feed_rows.specs.TimeGrammar.{time_value}
 use Rattle.feed_rows.specs.WordValues.{word_number, word_date}
-use Rattle.feed_rows.specs.Words.{when, last_below}
 
 -- a ride as a word names it: the id of its trip, its service day, the first departure of its run, in seconds of the service
 -- day, where the word gives one, and the stop_sequence values of its boarding and its alighting

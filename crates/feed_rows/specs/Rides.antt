@@ -12,7 +12,7 @@ use Rattle.feed_rows.specs.FeedRows.{FeedRows}
 use Rattle.feed_rows.specs.ServiceDays.{is_active}
 use Rattle.feed_rows.specs.Calls.{calls_of}
 use Rattle.feed_rows.specs.Shifts.{shifts_of}
-use Rattle.feed_rows.specs.Words.{at_and, int_same}
+use Rattle.plain_laws.specs.Plain.{at_and, int_same}
 
 -- the trip's service is active on the day
 abbrev pub runs_on : FeedRows → TripId → ℤ → Bool

@@ -5,7 +5,7 @@ use Rattle.std.specs.List.{list_any}
 use Rattle.transit_base.specs.declared.numbers.ServiceId.{ServiceId}
 use Rattle.feed_rows.specs.declared.rows.ServiceRow.{ServiceRow}
 use Rattle.feed_rows.specs.FeedRows.{FeedRows}
-use Rattle.feed_rows.specs.Words.{at_and, int_same}
+use Rattle.plain_laws.specs.Plain.{at_and, int_same}
 
 -- the weekday of a day, from 0 for Monday to 6 for Sunday; 1970-01-01 was a Thursday
 abbrev pub weekday : ℤ → ℕ

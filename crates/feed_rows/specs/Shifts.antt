@@ -6,7 +6,7 @@ use Rattle.transit_base.specs.declared.numbers.TripId.{TripId}
 use Rattle.feed_rows.specs.declared.rows.FrequencyRow.{FrequencyRow}
 use Rattle.feed_rows.specs.FeedRows.{FeedRows}
 use Rattle.feed_rows.specs.Calls.{first_departure}
-use Rattle.feed_rows.specs.Words.{int_same, picks_below}
+use Rattle.plain_laws.specs.Plain.{int_same, picks_below}
 
 -- the departure of run x of a frequency row from the first stop, counted from run 0, in seconds of the service day
 abbrev pub run_departure : FrequencyRow → ℕ → ℕ

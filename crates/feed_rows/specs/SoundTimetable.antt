@@ -6,7 +6,7 @@ use Rattle.transit_base.specs.declared.calendar.Day.{Day}
 use Rattle.feed_rows.specs.declared.rows.StopTimeRow.{StopTimeRow}
 use Rattle.feed_rows.specs.FeedRows.{FeedRows}
 use Rattle.feed_rows.specs.Calls.{first_time, last_time}
-use Rattle.feed_rows.specs.Items.{ForItem}
+use Rattle.plain_laws.specs.Plain.{ForItem}
 use Rattle.feed_rows.specs.SoundNames.{IsIdText}
 
 -- a day of the years 1 to 9999

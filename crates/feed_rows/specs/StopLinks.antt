@@ -6,7 +6,7 @@ use Rattle.transit_base.specs.declared.numbers.StopId.{StopId}
 use Rattle.feed_rows.specs.declared.rows.StopRow.{StopRow}
 use Rattle.feed_rows.specs.declared.rows.LinkRow.{LinkRow}
 use Rattle.feed_rows.specs.FeedRows.{FeedRows}
-use Rattle.feed_rows.specs.Words.{at_and, filled_and, ids_where}
+use Rattle.plain_laws.specs.Plain.{at_and, filled_and, ids_where}
 
 -- the stop is a platform
 abbrev pub is_platform : FeedRows → StopId → Bool

@@ -7,7 +7,7 @@ use Rattle.transit_base.specs.declared.numbers.StopId.{StopId}
 use Rattle.feed_rows.specs.declared.rows.StopRow.{StopRow}
 use Rattle.feed_rows.specs.FeedRows.{FeedRows}
 use Rattle.feed_rows.specs.StopLinks.{stop_set}
-use Rattle.feed_rows.specs.Words.{list_below}
+use Rattle.plain_laws.specs.Plain.{list_below}
 
 -- the platforms that each stop stands for, stop by stop in file order
 unfoldable pub stop_sets : FeedRows → List (List StopId)

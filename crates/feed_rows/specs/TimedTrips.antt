@@ -5,7 +5,7 @@ use Rattle.transit_base.specs.declared.numbers.TripId.{TripId}
 use Rattle.feed_rows.specs.declared.rows.StopTimeRow.{StopTimeRow}
 use Rattle.feed_rows.specs.declared.rows.FrequencyRow.{FrequencyRow}
 use Rattle.feed_rows.specs.FeedRows.{FeedRows}
-use Rattle.feed_rows.specs.Words.{at_and}
+use Rattle.plain_laws.specs.Plain.{at_and}
 use Rattle.feed_rows.specs.Calls.{first_time, last_time, is_timed, trip_stop_times}
 
 -- the times of the row at a position

@@ -13,7 +13,7 @@ use Rattle.feed_rows.specs.declared.rows.TransferRuleRow.{TransferRuleRow}
 use Rattle.feed_rows.specs.declared.rows.Limit.{Limit}
 use Rattle.feed_rows.specs.declared.fares.TransferFacts.{TransferFacts}
 use Rattle.feed_rows.specs.FeedRows.{FeedRows}
-use Rattle.feed_rows.specs.Words.{empty_or, filled_and, ids_where}
+use Rattle.plain_laws.specs.Plain.{empty_or, filled_and, ids_where}
 
 -- a leg as changes see it: the leg group of its rule, and its moments
 pub record FareLeg : Type 0 where

@@ -1,7 +1,7 @@
 -- What the words of a command say of numbers, dates and times.
 use Rattle.std.specs.Prelude.{ℕ, ◌==◌, Bool, ◌&&◌, nat_le, if◌then◌else◌, List, length, slice_index, slice_range, Option, Some, None, ℤ, pos, negsuc, int_le}
 use Rattle.transit_base.specs.Dates.{is_date, day_number}
-use Rattle.feed_rows.specs.Words.{when}
+use Rattle.plain_laws.specs.Plain.{when}
 use Rattle.feed_rows.specs.Numerals.{number_value, within}
 use Rattle.feed_rows.specs.TimeGrammar.{time_value}
 

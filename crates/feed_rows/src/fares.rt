@@ -1,6 +1,6 @@
 //! The fares of journeys as plain data: rules chosen for legs and changes, prices, and entries of an answer.
 use crate::journeys::Journey;
-use crate::lists::ItemList;
+use plain_laws::ItemList;
 use transit_base::{LegGroupId, Moment, Money, ProductRowId, RuleId, XferId};
 
 /// Rows of `fare_products.txt`, in file order.

@@ -1,11 +1,11 @@
 //! A feed: the rows of its files, with what holds of them.
 use crate::ids::Id;
-use crate::lists::ItemList;
 use crate::rows::{
     AreaRow, ExceptionRow, FrequencyRow, LegRuleRow, LinkRow, MediumRow, ProductRow, RiderRow,
     RouteRow, ServiceRow, StopAreaRow, StopRow, StopTimeRow, TimeframeRow, TransferRuleRow,
     TripRow,
 };
+use plain_laws::ItemList;
 use std::marker::Model;
 
 /// The rows of `stops.txt`.

@@ -1,5 +1,5 @@
 //! Queries, rides and journeys as plain data.
-use crate::lists::{AscendingList, ItemList};
+use plain_laws::{AscendingList, ItemList};
 use transit_base::{AreaId, Day, FrameId, Moment, NetworkId, RiderId, StopId, TripId};
 
 /// What a traveller asks: the journeys from a stop to a stop from a moment on.

@@ -4,13 +4,10 @@
 mod fares;
 mod faults;
 mod feed;
-mod groups;
 mod ids;
 mod journeys;
-mod lists;
 mod names;
 mod rows;
-mod sets;
 #[cfg(test)]
 mod tests;
 mod usage;
@@ -25,17 +22,14 @@ pub use feed::{
     ProductRows, RiderRows, RouteRows, ServiceRows, StopAreaRows, StopRows, StopTimeRows,
     TimeframeRows, TransferRuleRows, TripRows,
 };
-pub use groups::{Grouped, Groups};
 pub use ids::Id;
 pub use journeys::{
     AreaList, Call, FrameList, Journey, LegFacts, LegList, Query, Ride, RideFacts, RideList, Shifts,
 };
-pub use lists::{AscendingList, ItemList};
 pub use names::{ColumnName, FileName};
 pub use rows::{
     AreaRow, ExceptionRow, FrequencyRow, LegRuleRow, Limit, LinkRow, MediumRow, ProductRow,
     RiderRow, RouteRow, ServiceRow, StopAreaRow, StopRow, StopTimeRow, TimeframeRow,
     TransferRuleRow, TripRow,
 };
-pub use sets::stop_sets;
 pub use usage::{StopWord, UsageFault, WordRole};

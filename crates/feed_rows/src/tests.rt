@@ -1,10 +1,6 @@
-// Names, numbers and lists, as files and texts have them.
-use crate::{
-    AreaList, ColumnName, FaultKind, FileName, FrameList, Grouped, Groups, Id, ItemList, RideList,
-    Shifts, StopWord, UsageFault,
-};
+// Names and numbers, as files and texts have them.
+use crate::{ColumnName, FaultKind, FileName, Id, StopWord, UsageFault};
 use std::alloc::AllocError;
-use transit_base::{AreaId, FrameId};
 
 #[test]
 fn file_names(rt: HostRuntime) {
@@ -113,51 +109,5 @@ fn faults(rt: HostRuntime) {
 fn ids(rt: HostRuntime) -> Result<(), AllocError> {
     let id = Id::copy_of(rt.alloc(), b"A")?;
     assert_eq!(rt; id.bytes(), b"A".as_slice());
-    Ok(())
-}
-
-#[test]
-fn item_lists(rt: HostRuntime) -> Result<(), AllocError> {
-    let mut numbers: ItemList<u32> = ItemList::empty(rt.alloc());
-    numbers.push(7)?;
-    numbers.push(5)?;
-    assert_eq!(rt; numbers.items(), [7, 5].as_slice());
-    let rides = RideList::empty(rt.alloc());
-    assert_eq!(rt; rides.items().len(), 0);
-    Ok(())
-}
-
-#[test]
-fn ascending_lists(rt: HostRuntime) -> Result<(), AllocError> {
-    let mut shifts = Shifts::empty(rt.alloc());
-    shifts.push(-900)?;
-    shifts.push(0)?;
-    assert_eq!(rt; shifts.items(), [-900, 0].as_slice());
-    let mut areas = AreaList::empty(rt.alloc());
-    areas.push(AreaId(3))?;
-    assert_eq!(rt; areas.items(), [AreaId(3)].as_slice());
-    let mut frames = FrameList::empty(rt.alloc());
-    frames.push(FrameId(1))?;
-    assert_eq!(rt; frames.items(), [FrameId(1)].as_slice());
-    Ok(())
-}
-
-#[test]
-fn groups(rt: HostRuntime) -> Result<(), AllocError> {
-    let alloc = rt.alloc();
-    let mut members: Vec<Grouped<u32>> = Vec::new(alloc);
-    members.push(Grouped { group: 2, item: 7 })?;
-    members.push(Grouped { group: 0, item: 5 })?;
-    members.push(Grouped { group: 2, item: 6 })?;
-    members.push(Grouped { group: 3, item: 8 })?;
-    let groups = Groups::of(alloc, members, 3)?;
-    assert_eq!(rt; groups.count(), 3);
-    assert_eq!(rt; groups.get(0), [5].as_slice());
-    assert_eq!(rt; groups.get(1), [].as_slice());
-    assert_eq!(rt; groups.get(2), [7, 6].as_slice());
-    assert_eq!(rt; groups.get(3), [].as_slice());
-    if groups.count() > 2 {
-        assert_eq!(rt; groups.group(2), [7, 6].as_slice());
-    }
     Ok(())
 }

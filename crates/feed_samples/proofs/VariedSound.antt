@@ -1,7 +1,7 @@
 -- The varied feed has no fault.
 use Rattle.std.proofs.Common.{refl}
 use Rattle.feed_rows.specs.SoundFeed.{IsSoundFeed}
-use Rattle.feed_rows.proofs.SoundTests.{sound_from_test}
+use Rattle.feed_laws.proofs.SoundTests.{sound_from_test}
 use Rattle.feed_samples.specs.VariedRows.{varied_rows}
 
 pub varied_is_sound : IsSoundFeed varied_rows

@@ -1,7 +1,7 @@
 -- The rows of the base feed.
 use Rattle.std.specs.Prelude.{◌≡◌}
 use Rattle.feed_rows.specs.FeedRows.{FeedRows}
-use Rattle.feed_rows.proofs.BaseFeed.{base}
+use Rattle.feed_examples.specs.BaseFeed.{base}
 use Rattle.feed_samples.specs.declared.base.Tariff.{Tariff}
 
 -- the base feed of the worked examples

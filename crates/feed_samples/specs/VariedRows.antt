@@ -7,7 +7,7 @@ use Rattle.feed_rows.specs.declared.rows.ExceptionRow.{ExceptionRow}
 use Rattle.feed_rows.specs.declared.rows.FrequencyRow.{FrequencyRow}
 use Rattle.feed_rows.specs.declared.rows.LinkRow.{LinkRow}
 use Rattle.feed_rows.specs.FeedRows.{FeedRows}
-use Rattle.feed_rows.proofs.BaseFeed.{base}
+use Rattle.feed_examples.specs.BaseFeed.{base}
 use Rattle.feed_samples.specs.SampleRows.{stop_row, call_row}
 
 -- A, B, C; the station P with the platforms P1 and P2; the station Q with Q1 and Q2

@@ -1,14 +1,15 @@
 //! The base feed: two bus trips and a rail trip on one day, with their tariff.
 ghost use Rattle.std.specs.Prelude.{◌≡◌, IfOk};
-ghost use Rattle.feed_rows.proofs.BaseFeed.{base, ticket, network_rule};
+ghost use Rattle.feed_examples.specs.BaseFeed.{base, ticket, network_rule};
 ghost use Rattle.feed_samples.specs.BaseRows.{base_rows, IsBaseTariff};
 
 use crate::lists::{call, list_of, push_name, push_stop, push_trip};
 use feed_rows::{
-    ExceptionRow, ExceptionRows, Feed, Id, ItemList, LegRuleRow, LegRuleRows, NameList, ProductRow,
+    ExceptionRow, ExceptionRows, Feed, Id, LegRuleRow, LegRuleRows, NameList, ProductRow,
     ProductRows, RouteRow, RouteRows, StopRows, StopTimeRows, TransferRuleRow, TransferRuleRows,
     TripRows,
 };
+use plain_laws::ItemList;
 use std::alloc::{AllocError, Global};
 use transit_base::{Day, LegGroupId, Money, NetworkId, ProductId, RouteId, ServiceId};
 

@@ -2,7 +2,8 @@
 ghost use Rattle.std.specs.Prelude.{◌≡◌, ◌≤◌, ◌++◌, ◌∷◌, [], true, length, IfOk, OnOk, None, Some};
 ghost use Rattle.feed_samples.specs.SampleRows.{stop_row, trip_row, call_row};
 
-use feed_rows::{Id, ItemList, NameList, StopRow, StopRows, StopTimeRow, TripRow, TripRows};
+use feed_rows::{Id, NameList, StopRow, StopRows, StopTimeRow, TripRow, TripRows};
+use plain_laws::ItemList;
 use std::alloc::{AllocError, Global};
 use transit_base::{RouteId, ServiceId, StopId, TripId};
 

@@ -4,8 +4,8 @@ ghost use Rattle.feed_calendar.specs.BuiltCalendar.{IsCalendarOf};
 
 use crate::{base_feed, varied_feed};
 use feed_calendar::Calendar;
-use feed_rows::{Feed, Ride, RideFacts, Shifts, stop_sets};
-use feed_stops::Stops;
+use feed_rows::{Feed, Ride, RideFacts, Shifts};
+use feed_stops::{Stops, stop_sets};
 use feed_trips::Trips;
 use feed_walks::{Step, Walks};
 use std::alloc::{AllocError, Global};

@@ -1,22 +1,14 @@
 //! A feed with stations, rows of transfers, a calendar row, frequency rows and a call without a time.
 ghost use Rattle.std.specs.Prelude.{◌≡◌, ◌∷◌, [], codes, IfOk};
-ghost use Rattle.feed_samples.specs.VariedRows.{
-  varied_rows,
-  varied_stops,
-  varied_stop_times,
-  varied_services,
-  varied_exceptions,
-  varied_frequencies,
-  varied_links,
-  link_row,
-};
+ghost use Rattle.feed_samples.specs.VariedRows.{varied_rows, varied_stops, varied_stop_times, varied_services, varied_exceptions, varied_frequencies, varied_links, link_row};
 
 use crate::base::{routes, stops, tariff_rows, trips};
 use crate::lists::{call, list_of, push_name, push_stop};
 use feed_rows::{
-    ExceptionRow, ExceptionRows, Feed, FrequencyRow, FrequencyRows, ItemList, LinkRow, LinkRows,
-    NameList, ServiceRow, ServiceRows, StopRows, StopTimeRow, StopTimeRows,
+    ExceptionRow, ExceptionRows, Feed, FrequencyRow, FrequencyRows, LinkRow, LinkRows, NameList,
+    ServiceRow, ServiceRows, StopRows, StopTimeRow, StopTimeRows,
 };
+use plain_laws::ItemList;
 use std::alloc::{AllocError, Global};
 use transit_base::{Day, ServiceId, StopId, TripId};
 

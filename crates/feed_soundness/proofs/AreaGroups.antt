@@ -18,11 +18,10 @@ use Rattle.feed_faults.specs.NetworkLinks.{area_fault, stop_area_fault}
 use Rattle.feed_faults.specs.FareLinks.{is_one_filled, do_frames_overlap, is_bad_frame, timeframe_fault, rider_fault, medium_fault}
 use Rattle.feed_faults.specs.AcceptedFeed.{name_number, service_names, frame_names, area_row, stop_area_row, timeframe_row, rider_row, medium_row, rows_of_tables}
 use Rattle.feed_soundness.specs.AcceptedTables.{AreFormed, AreLinked}
-use Rattle.feed_soundness.proofs.NoneLaws.{none_when, none_first}
-use Rattle.feed_soundness.proofs.RowLaws.{rows_length, rows_all, rows_pairs}
+use Rattle.plain_laws.proofs.Laws.{none_when, none_first, length-list_below, All-list_below, AllPairs-list_below, eq-bytes_eq}
 use Rattle.feed_soundness.proofs.FieldLaws.{may_at}
 use Rattle.feed_soundness.proofs.ValueLaws.{time_past_good}
-use Rattle.feed_soundness.proofs.KeyLaws.{IsKnown, known, ids_apart, apart, bytes_same}
+use Rattle.feed_soundness.proofs.KeyLaws.{IsKnown, known, ids_apart, apart}
 use Rattle.feed_soundness.proofs.NameLaws.{IsNamed, same_name}
 use Rattle.feed_soundness.proofs.StopGroups.{stops_length}
 use Rattle.feed_soundness.proofs.IdColumns as ids
@@ -32,15 +31,15 @@ use Rattle.feed_soundness.proofs.NameGroups as names
 module _ (t : FeedTables) where
   pub areas_length : length (rows_of_tables t).areas ≡ row_count t.areas
   unfolding rows_of_tables
-  areas_length = rows_length (row_count t.areas) (area_row t)
+  areas_length = length-list_below (row_count t.areas) (area_row t)
 
   pub riders_length : length (rows_of_tables t).riders ≡ row_count t.rider_categories
   unfolding rows_of_tables
-  riders_length = rows_length (row_count t.rider_categories) (rider_row t)
+  riders_length = length-list_below (row_count t.rider_categories) (rider_row t)
 
   pub media_length : length (rows_of_tables t).media ≡ row_count t.fare_media
   unfolding rows_of_tables
-  media_length = rows_length (row_count t.fare_media) (medium_row t)
+  media_length = length-list_below (row_count t.fare_media) (medium_row t)
 
 -- one of two times that overlap neither way ends by the start of the other
 times_apart : (same : Bool) (start end later_start later_end : ℕ) → (same && nat_lt later_start end && nat_lt start later_end) ≡ false → same ≡ true → (end ≤ later_start) ⊎ (later_end ≤ start)
@@ -103,9 +102,9 @@ module _ (t : FeedTables) (formed : AreFormed t) (linked : AreLinked t) where
   unfolding rows_of_tables area_row
   areas_sound =
       record {
-        few = rw (rows_length (row_count t.areas) (area_row t)) formed.areas.few;
-        ids = rows_all (λ a. IsIdText a.id) (row_count t.areas) (area_row t) (λ i lt. (ids.area_id t formed i lt).3);
-        no_doubles = rows_pairs (λ a b. a.id ≡ b.id → ⊥) (row_count t.areas) (area_row t) (λ i j lt within. ids_apart t.areas column.AreaId i j (area_new t linked j within) lt);
+        few = rw (length-list_below (row_count t.areas) (area_row t)) formed.areas.few;
+        ids = All-list_below (λ a. IsIdText a.id) (row_count t.areas) (area_row t) (λ i lt. (ids.area_id t formed i lt).3);
+        no_doubles = AllPairs-list_below (λ a b. a.id ≡ b.id → ⊥) (row_count t.areas) (area_row t) (λ i j lt within. ids_apart t.areas column.AreaId i j (area_new t linked j within) lt);
       }
 
   -- the area and the stop of a stop's area are known
@@ -127,9 +126,9 @@ module _ (t : FeedTables) (formed : AreFormed t) (linked : AreLinked t) where
   unfolding rows_of_tables stop_area_row
   stop_areas_sound =
       record {
-        few = rw (rows_length (row_count t.stop_areas) (stop_area_row t)) formed.stop_areas.few;
-        areas = rows_all (λ s. s.area.0 < length (rows_of_tables t).areas) (row_count t.stop_areas) (stop_area_row t) (λ i lt. rw (areas_length t) (area_known i lt).within);
-        stops = rows_all (λ s. s.stop.0 < length (rows_of_tables t).stops) (row_count t.stop_areas) (stop_area_row t) (λ i lt. rw (stops_length t) (area_stop_known i lt).within);
+        few = rw (length-list_below (row_count t.stop_areas) (stop_area_row t)) formed.stop_areas.few;
+        areas = All-list_below (λ s. s.area.0 < length (rows_of_tables t).areas) (row_count t.stop_areas) (stop_area_row t) (λ i lt. rw (areas_length t) (area_known i lt).within);
+        stops = All-list_below (λ s. s.stop.0 < length (rows_of_tables t).stops) (row_count t.stop_areas) (stop_area_row t) (λ i lt. rw (stops_length t) (area_stop_known i lt).within);
       }
 
   frame_named : (row : ℕ) → row < row_count t.timeframes → IsNamed (frame_names t) (field t.timeframes row column.TimeframeGroupId)
@@ -148,7 +147,7 @@ module _ (t : FeedTables) (formed : AreFormed t) (linked : AreLinked t) where
       let first : i < row_count t.timeframes = omega arith in
       let groups = same_name (frame_names t) (field frames i column.TimeframeGroupId) (field frames j column.TimeframeGroupId) (frame_named i first) (frame_named j within) group in
       let services = same_name (service_names t) (field frames i column.ServiceId) (field frames j column.ServiceId) (frame_service i first) (frame_service j within) service in
-      let both = and_from (same_field frames column.TimeframeGroupId j i) (same_field frames column.ServiceId j i) (bytes_same _ _ (sym groups)) (bytes_same _ _ (sym services)) in
+      let both = and_from (same_field frames column.TimeframeGroupId j i) (same_field frames column.ServiceId j i) (eq-bytes_eq _ _ (sym groups)) (eq-bytes_eq _ _ (sym services)) in
       let apart = apart (do_frames_overlap frames) i j (frame_new t linked j within) lt in
       times_apart (same_field frames column.TimeframeGroupId j i && same_field frames column.ServiceId j i) (frame_start frames i) (frame_end frames i) (frame_start frames j) (frame_end frames j) apart both
 
@@ -157,13 +156,13 @@ module _ (t : FeedTables) (formed : AreFormed t) (linked : AreLinked t) where
   unfolding rows_of_tables timeframe_row
   timeframes_sound =
       record {
-        few = rw (rows_length (row_count t.timeframes) (timeframe_row t)) formed.timeframes.few;
-        frames = rows_all (λ f. f.frame.0 < length (frame_names t)) (row_count t.timeframes) (timeframe_row t) (λ i lt. (frame_named i lt).within);
-        services = rows_all (λ f. f.service.0 < length (service_names t)) (row_count t.timeframes) (timeframe_row t) (λ i lt. (frame_service i lt).within);
-        ordered = rows_all (λ f. f.start < f.end) (row_count t.timeframes) (timeframe_row t) (frame_ordered t linked);
-        ends = rows_all (λ f. f.end ≤ 86_400) (row_count t.timeframes) (timeframe_row t)
+        few = rw (length-list_below (row_count t.timeframes) (timeframe_row t)) formed.timeframes.few;
+        frames = All-list_below (λ f. f.frame.0 < length (frame_names t)) (row_count t.timeframes) (timeframe_row t) (λ i lt. (frame_named i lt).within);
+        services = All-list_below (λ f. f.service.0 < length (service_names t)) (row_count t.timeframes) (timeframe_row t) (λ i lt. (frame_service i lt).within);
+        ordered = All-list_below (λ f. f.start < f.end) (row_count t.timeframes) (timeframe_row t) (frame_ordered t linked);
+        ends = All-list_below (λ f. f.end ≤ 86_400) (row_count t.timeframes) (timeframe_row t)
             (λ i lt. end_small t.timeframes i (may_at file.Timeframes t.timeframes i 2 column.EndTime time_of_day formed.timeframes lt refl));
-        apart = rows_pairs (λ f g. f.frame.0 ≡ g.frame.0 → f.service.0 ≡ g.service.0 → (f.end ≤ g.start) ⊎ (g.end ≤ f.start)) (row_count t.timeframes) (timeframe_row t) frames_apart;
+        apart = AllPairs-list_below (λ f g. f.frame.0 ≡ g.frame.0 → f.service.0 ≡ g.service.0 → (f.end ≤ g.start) ⊎ (g.end ≤ f.start)) (row_count t.timeframes) (timeframe_row t) frames_apart;
       }
 
   -- rider_categories.txt
@@ -171,9 +170,9 @@ module _ (t : FeedTables) (formed : AreFormed t) (linked : AreLinked t) where
   unfolding rows_of_tables rider_row
   riders_sound =
       record {
-        few = rw (rows_length (row_count t.rider_categories) (rider_row t)) formed.rider_categories.few;
-        ids = rows_all (λ r. IsIdText r.id) (row_count t.rider_categories) (rider_row t) (λ i lt. (ids.rider_id t formed i lt).3);
-        no_doubles = rows_pairs (λ r s. r.id ≡ s.id → ⊥) (row_count t.rider_categories) (rider_row t)
+        few = rw (length-list_below (row_count t.rider_categories) (rider_row t)) formed.rider_categories.few;
+        ids = All-list_below (λ r. IsIdText r.id) (row_count t.rider_categories) (rider_row t) (λ i lt. (ids.rider_id t formed i lt).3);
+        no_doubles = AllPairs-list_below (λ r s. r.id ≡ s.id → ⊥) (row_count t.rider_categories) (rider_row t)
             (λ i j lt within. ids_apart t.rider_categories column.RiderCategoryId i j (rider_new t linked j within) lt);
       }
 
@@ -182,8 +181,8 @@ module _ (t : FeedTables) (formed : AreFormed t) (linked : AreLinked t) where
   unfolding rows_of_tables medium_row
   media_sound =
       record {
-        few = rw (rows_length (row_count t.fare_media) (medium_row t)) formed.fare_media.few;
-        ids = rows_all (λ m. IsIdText m.id) (row_count t.fare_media) (medium_row t) (λ i lt. (ids.medium_id t formed i lt).3);
-        no_doubles = rows_pairs (λ m n. m.id ≡ n.id → ⊥) (row_count t.fare_media) (medium_row t)
+        few = rw (length-list_below (row_count t.fare_media) (medium_row t)) formed.fare_media.few;
+        ids = All-list_below (λ m. IsIdText m.id) (row_count t.fare_media) (medium_row t) (λ i lt. (ids.medium_id t formed i lt).3);
+        no_doubles = AllPairs-list_below (λ m n. m.id ≡ n.id → ⊥) (row_count t.fare_media) (medium_row t)
             (λ i j lt within. ids_apart t.fare_media column.FareMediaId i j (medium_new t linked j within) lt);
       }

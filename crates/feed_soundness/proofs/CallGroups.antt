@@ -5,7 +5,7 @@ use Rattle.std.specs.Option.{ForSome}
 use Rattle.std.proofs.lemmas.Bool.{eqb-true, not-false}
 use Rattle.feed_rows.specs.declared.names.FileName.TheVariants as file
 use Rattle.feed_rows.specs.declared.names.ColumnName.TheVariants as column
-use Rattle.feed_rows.specs.Items.{ForItem}
+use Rattle.plain_laws.specs.Plain.{ForItem}
 use Rattle.feed_rows.specs.SoundTimetable.{AreSoundStopTimes}
 use Rattle.feed_faults.specs.Records.{row_count, field}
 use Rattle.feed_faults.specs.FieldGrammars.{most_int, most_time}
@@ -16,8 +16,7 @@ use Rattle.feed_faults.specs.RowKeys.{is_unknown, is_repeated}
 use Rattle.feed_faults.specs.StopTimeLinks.{stop_times_of, same_place, is_end_time_missing, do_times_decrease, is_at_platform, stop_time_fault}
 use Rattle.feed_faults.specs.AcceptedFeed.{row_number, stop_row, stop_time_row, rows_of_tables}
 use Rattle.feed_soundness.specs.AcceptedTables.{AreFormed, AreLinked}
-use Rattle.feed_soundness.proofs.NoneLaws.{none_first}
-use Rattle.feed_soundness.proofs.RowLaws.{rows_length, rows_all, rows_at}
+use Rattle.plain_laws.proofs.Laws.{none_first, length-list_below, All-list_below, get_or-list_below}
 use Rattle.feed_soundness.proofs.FieldLaws.{must_at}
 use Rattle.feed_soundness.proofs.ValueLaws.{int_good, time_good}
 use Rattle.feed_soundness.proofs.KeyLaws.{IsKnown, known}
@@ -69,13 +68,13 @@ module _ (t : FeedTables) (formed : AreFormed t) (linked : AreLinked t) where
       let rows = row_count t.stop_times in
       let at = field t.stop_times in
       record {
-        few = rw (rows_length rows (stop_time_row t)) formed.stop_times.few;
-        trips = rows_all (λ c. c.trip.0 < length (rows_of_tables t).trips) rows (stop_time_row t) (λ i lt. rw (trips_length t) (call_trip_known i lt).within);
-        stops = rows_all (λ c. c.stop.0 < length (rows_of_tables t).stops) rows (stop_time_row t) (λ i lt. rw (stops_length t) (call_stop_known i lt).within);
-        platforms = rows_all (λ c. ForItem (rows_of_tables t).stops c.stop.0 (λ s. s.kind ≡ 0)) rows (stop_time_row t)
-            (λ i lt d within. rw (rows_at (row_count t.stops) (stop_row t) (row_number t.stops column.StopId (at i column.StopId)) d (call_stop_known i lt).within) (call_platform i lt));
-        sequences = rows_all (λ c. c.sequence ≤ 2_147_483_647) rows (stop_time_row t)
+        few = rw (length-list_below rows (stop_time_row t)) formed.stop_times.few;
+        trips = All-list_below (λ c. c.trip.0 < length (rows_of_tables t).trips) rows (stop_time_row t) (λ i lt. rw (trips_length t) (call_trip_known i lt).within);
+        stops = All-list_below (λ c. c.stop.0 < length (rows_of_tables t).stops) rows (stop_time_row t) (λ i lt. rw (stops_length t) (call_stop_known i lt).within);
+        platforms = All-list_below (λ c. ForItem (rows_of_tables t).stops c.stop.0 (λ s. s.kind ≡ 0)) rows (stop_time_row t)
+            (λ i lt d within. rw (get_or-list_below (row_count t.stops) (stop_row t) (row_number t.stops column.StopId (at i column.StopId)) d (call_stop_known i lt).within) (call_platform i lt));
+        sequences = All-list_below (λ c. c.sequence ≤ 2_147_483_647) rows (stop_time_row t)
             (λ i lt. (int_good 0 most_int (at i column.StopSequence) (must_at file.StopTimes t.stop_times i 2 column.StopSequence (int 0 most_int) formed.stop_times lt refl).fit).high);
-        arrivals = rows_all (λ c. ForSome c.arrival (λ s. s ≤ 604_799)) rows (stop_time_row t) (λ i lt. time_good most_time (at i column.ArrivalTime));
-        departures = rows_all (λ c. ForSome c.departure (λ s. s ≤ 604_799)) rows (stop_time_row t) (λ i lt. time_good most_time (at i column.DepartureTime));
+        arrivals = All-list_below (λ c. ForSome c.arrival (λ s. s ≤ 604_799)) rows (stop_time_row t) (λ i lt. time_good most_time (at i column.ArrivalTime));
+        departures = All-list_below (λ c. ForSome c.departure (λ s. s ≤ 604_799)) rows (stop_time_row t) (λ i lt. time_good most_time (at i column.DepartureTime));
       }

@@ -3,8 +3,8 @@ use Rattle.std.proofs.Common.{◌≡◌, refl, ℕ, zero, suc, ◌+◌, ◌*◌,
 use Rattle.std.specs.Prelude.{Option, Some, None, is_some}
 use Rattle.std.specs.Option.{ForSome}
 use Rattle.std.proofs.lemmas.Bool.{and_parts}
-use Rattle.feed_rows.specs.Words.{any_below}
-use Rattle.feed_rows.proofs.BelowLaws.{any_below_tells}
+use Rattle.plain_laws.specs.Plain.{any_below}
+use Rattle.plain_laws.proofs.Laws.{any_below_tells}
 
 -- where both times are there, the one is at most the other
 abbrev pub AtMost : Option ℕ → Option ℕ → Type 0

@@ -4,15 +4,12 @@ use Rattle.std.specs.Prelude.{Option, Some, None, is_some, slice_get, ◌&&◌, 
 use Rattle.std.specs.Option.{option_or}
 use Rattle.std.proofs.lemmas.Bool.{and_parts, and_cases, and_from, or_parts, or_cases, ltb-true, ltb-false, lt-ltb, eqb-true, not-false, not_from_false, false_from_ne_true}
 use Rattle.feed_rows.specs.declared.names.ColumnName.TheVariants as column
-use Rattle.feed_rows.specs.Words.{any_below, at_and}
-use Rattle.feed_rows.proofs.BelowLaws.{any_below_tells}
+use Rattle.plain_laws.specs.Plain.{any_below, at_and}
+use Rattle.plain_laws.proofs.Laws.{any_below_tells, none_any, rest_fails, length-list_below, slice_get-list_below, bytes_eq-true, eq-bytes_eq}
 use Rattle.feed_faults.specs.Records.{FileTable, row_count, field}
 use Rattle.feed_faults.specs.FieldGrammars.{most_int}
 use Rattle.feed_faults.specs.FieldValues.{int_or_past}
 use Rattle.feed_faults.specs.StopTimeLinks.{StopTime, stop_time_of, stop_times_of, is_timed, first_time, last_time, is_earlier, same_place, comes_before, is_first, is_last, is_end_time_missing, is_nearest_before, do_times_decrease}
-use Rattle.feed_soundness.proofs.NoneLaws.{none_any, rest_fails}
-use Rattle.feed_soundness.proofs.RowLaws.{rows_length, rows_get}
-use Rattle.feed_soundness.proofs.KeyLaws.{same_bytes, bytes_same}
 use Rattle.feed_soundness.proofs.CallOrder.{AtMost, AreRows, never_falls, rank_rises}
 
 -- a time that isn't earlier
@@ -61,16 +58,16 @@ module _ (table : FileTable) where
   -- what is compared
   pub same_place_told : (i j : ℕ) → i < row_count table → j < row_count table → same_place (stop_times_of table) i j ≡ (bytes_eq (trip_text i) (trip_text j) && (sequence_at i == sequence_at j))
   unfolding same_place stop_times_of stop_time_of
-  same_place_told i j lt within = rw (rows_get (row_count table) (stop_time_of table) i lt, rows_get (row_count table) (stop_time_of table) j within) refl
+  same_place_told i j lt within = rw (slice_get-list_below (row_count table) (stop_time_of table) i lt, slice_get-list_below (row_count table) (stop_time_of table) j within) refl
 
   pub comes_before_told : (i j : ℕ) → i < row_count table → j < row_count table → comes_before (stop_times_of table) i j ≡ (bytes_eq (trip_text i) (trip_text j) && (nat_lt (sequence_at i) (sequence_at j) || ((sequence_at i == sequence_at j) && nat_lt i j)))
   unfolding comes_before stop_times_of stop_time_of
-  comes_before_told i j lt within = rw (rows_get (row_count table) (stop_time_of table) i lt, rows_get (row_count table) (stop_time_of table) j within) refl
+  comes_before_told i j lt within = rw (slice_get-list_below (row_count table) (stop_time_of table) i lt, slice_get-list_below (row_count table) (stop_time_of table) j within) refl
 
   -- a row of the same trip with a lesser sequence comes before
   pub before_from_less : (i j : ℕ) → i < row_count table → j < row_count table → trip_text i ≡ trip_text j → sequence_at i < sequence_at j → comes_before (stop_times_of table) i j ≡ true
   before_from_less i j lt within same less =
-      rw (comes_before_told i j lt within, bytes_same (trip_text i) (trip_text j) same, lt-ltb (sequence_at i) (sequence_at j) less) refl
+      rw (comes_before_told i j lt within, eq-bytes_eq (trip_text i) (trip_text j) same, lt-ltb (sequence_at i) (sequence_at j) less) refl
 
   -- a row that comes before has the same trip, and a lesser sequence or the same one
   pub record IsBefore (i j : ℕ) : Type 0 where
@@ -81,7 +78,7 @@ module _ (table : FileTable) where
   before_told i j lt within e =
       let both = and_parts (bytes_eq (trip_text i) (trip_text j)) (nat_lt (sequence_at i) (sequence_at j) || ((sequence_at i == sequence_at j) && nat_lt i j)) (sym (comes_before_told i j lt within) ∙ e) in
       record {
-        trip = same_bytes (trip_text i) (trip_text j) both.0;
+        trip = bytes_eq-true (trip_text i) (trip_text j) both.0;
         order = step (or_cases (nat_lt (sequence_at i) (sequence_at j)) ((sequence_at i == sequence_at j) && nat_lt i j) both.1);
       }
     where
@@ -105,11 +102,11 @@ module _ (table : FileTable) where
   -- the stop times as they are looked up
   times_length : length (stop_times_of table) ≡ row_count table
   unfolding stop_times_of
-  times_length = rows_length (row_count table) (stop_time_of table)
+  times_length = length-list_below (row_count table) (stop_time_of table)
 
   times_get : (i : ℕ) → i < row_count table → slice_get (stop_times_of table) i ≡ Some (stop_time_of table i)
   unfolding stop_times_of
-  times_get i lt = rows_get (row_count table) (stop_time_of table) i lt
+  times_get i lt = slice_get-list_below (row_count table) (stop_time_of table) i lt
 
   timed_at : (i : ℕ) → i < row_count table → at_and (stop_times_of table) i is_timed ≡ is_timed (stop_time_of table i)
   timed_at i lt = rw (times_get i lt) refl

@@ -10,7 +10,7 @@ use Rattle.feed_faults.specs.Records.{FileTable, row_count, field, is_filled}
 use Rattle.feed_faults.specs.FileColumns.{must, must_or_flex, may, fits, misfit}
 use Rattle.feed_faults.specs.FormFaults.{field_misfit, judged_columns}
 use Rattle.feed_soundness.specs.AcceptedTables.{IsFormed}
-use Rattle.feed_soundness.proofs.NoneLaws.{none_when}
+use Rattle.plain_laws.proofs.Laws.{none_when}
 
 -- the field is of the grammar
 abbrev pub FieldFits : FileTable → ℕ → ColumnName → Grammar → Type 0

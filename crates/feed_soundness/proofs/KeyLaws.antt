@@ -1,21 +1,12 @@
 -- Ids: what it says that a reference is known, and that no row repeats an earlier one.
 use Rattle.std.proofs.Common.{◌≡◌, refl, sym, ◌∙◌, ap, ℕ, ◌<◌, ◌⊎◌, inl, inr, Bool, true, false, List}
 use Rattle.std.specs.Prelude.{◌≢◌, Some, None, bytes_eq}
-use Rattle.std.proofs.lemmas.Slice.Eq.{bytes_eq-Decides}
 use Rattle.feed_rows.specs.declared.names.ColumnName.{ColumnName}
-use Rattle.feed_rows.specs.Words.{find_below}
-use Rattle.feed_rows.proofs.BelowLaws.{IsFirst, NonePass, find_below_cases, find_below_tells}
+use Rattle.plain_laws.specs.Plain.{find_below}
+use Rattle.plain_laws.proofs.Laws.{IsFirst, NonePass, find_below_cases, find_below_tells, none_any, bytes_eq-true, eq-bytes_eq}
 use Rattle.feed_faults.specs.Records.{FileTable, row_count, field, is_filled}
 use Rattle.feed_faults.specs.RowKeys.{row_of, is_unknown, same_field, is_repeated, is_doubled}
 use Rattle.feed_faults.specs.AcceptedFeed.{row_number}
-use Rattle.feed_soundness.proofs.NoneLaws.{none_any}
-
--- equal texts
-pub same_bytes : (a b : List ℕ) → bytes_eq a b ≡ true → a ≡ b
-same_bytes a b e = (bytes_eq-Decides a b).0 e
-
-pub bytes_same : (a b : List ℕ) → a ≡ b → bytes_eq a b ≡ true
-bytes_same a b e = (bytes_eq-Decides a b).1 e
 
 -- some row has this id, and its number is that of the earliest
 pub record IsKnown (table : FileTable) (name : ColumnName) (id : List ℕ) : Type 0 where
@@ -38,7 +29,7 @@ known table name id filled e = step (find_below_cases (λ row. bytes_eq id (fiel
         let first = hit.2 in
         record {
           within = rw hit.1 first.within;
-          has = rw hit.1 (sym (same_bytes id (field table hit.0 name) first.passes));
+          has = rw hit.1 (sym (bytes_eq-true id (field table hit.0 name) first.passes));
           found = rw hit.1 refl;
         }
     step (inr none) = absurd (let no = rw (filled, none.0) at e in cc)
@@ -55,7 +46,7 @@ apart same i j e lt = none_any (same j) j i e lt
 pub ids_apart : (table : FileTable) (name : ColumnName) (i j : ℕ) → is_doubled table name j ≡ false → i < j → field table i name ≢ field table j name
 unfolding is_doubled
 ids_apart table name i j e lt same =
-    let yes = bytes_same (field table j name) (field table i name) (sym same) in
+    let yes = eq-bytes_eq (field table j name) (field table i name) (sym same) in
     let no = apart (same_field table name) i j e lt in
     let both : true ≡ false = sym yes ∙ no in
     absurd (cc)

@@ -1,5 +1,3 @@
-pub mod NoneLaws
-pub mod RowLaws
 pub mod FormedFiles
 pub mod FieldLaws
 pub mod ValueLaws

@@ -3,7 +3,7 @@ use Rattle.std.proofs.Common.{◌≡◌, ℕ, List, [], ◌∷◌}
 use Rattle.std.specs.Prelude.{Option, None}
 use Rattle.feed_rows.specs.declared.names.FileName.TheVariants as file
 use Rattle.feed_rows.specs.declared.faults.FeedFault.{FeedFault}
-use Rattle.feed_rows.specs.Words.{first_of}
+use Rattle.plain_laws.specs.Plain.{first_of}
 use Rattle.feed_faults.specs.Records.{FileTable, row_count}
 use Rattle.feed_faults.specs.FeedTables.{FeedTables}
 use Rattle.feed_faults.specs.TimetableLinks.{stop_fault, route_fault, trip_fault, service_fault, exception_fault}
@@ -12,7 +12,7 @@ use Rattle.feed_faults.specs.NetworkLinks.{frequency_fault, transfer_fault, area
 use Rattle.feed_faults.specs.FareLinks.{timeframe_fault, rider_fault, medium_fault, product_fault, leg_rule_fault, transfer_rule_fault}
 use Rattle.feed_faults.specs.FirstFault.{first_in_rows, timetable_link_fault, network_link_fault, fare_link_fault, first_link_fault}
 use Rattle.feed_soundness.specs.AcceptedTables.{NoFault, AreLinked}
-use Rattle.feed_soundness.proofs.NoneLaws.{none_either, none_below}
+use Rattle.plain_laws.proofs.Laws.{none_either, none_below}
 
 -- none of these is a fault
 abbrev AllNone : List (Option FeedFault) → Type 0

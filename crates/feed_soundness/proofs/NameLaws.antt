@@ -9,10 +9,9 @@ use Rattle.std.proofs.Math.ListN.{get_or-append}
 use Rattle.std.proofs.Math.Seq.{get_or-append_seam}
 use Rattle.feed_rows.specs.declared.names.ColumnName.{ColumnName}
 use Rattle.feed_rows.specs.SoundNames.{IsIdText, IsNameList}
-use Rattle.feed_rows.proofs.BelowLaws.{find_below_some, find_below_tells}
+use Rattle.plain_laws.proofs.Laws.{find_below_some, find_below_tells, bytes_eq-true, eq-bytes_eq}
 use Rattle.feed_faults.specs.Records.{FileTable, field, is_filled}
 use Rattle.feed_faults.specs.AcceptedFeed.{place_of_name, name_number, with_name, with_names}
-use Rattle.feed_soundness.proofs.KeyLaws.{same_bytes, bytes_same}
 
 -- the name stands among the names, at its number
 pub record IsNamed (names : List (List ℕ)) (name : List ℕ) : Type 0 where
@@ -32,20 +31,20 @@ named_at : (names : List (List ℕ)) (name : List ℕ) (i : ℕ) → place_of_na
 unfolding place_of_name
 named_at names name i e =
     let first = find_below_tells (λ k. bytes_eq name (get_or names k [])) (length names) i e in
-    record { within = rw e first.within; has = rw e (sym (same_bytes name (get_or names i []) first.passes)); found = rw e refl }
+    record { within = rw e first.within; has = rw e (sym (bytes_eq-true name (get_or names i []) first.passes)); found = rw e refl }
 
 -- a name that stands at some place
 named_here : (names : List (List ℕ)) (name : List ℕ) (k : ℕ) → k < length names → get_or names k [] ≡ name → IsNamed names name
 unfolding place_of_name
 named_here names name k lt is =
-    let hit = find_below_some (λ i. bytes_eq name (get_or names i [])) (length names) k lt (bytes_same name (get_or names k []) (sym is)) in
+    let hit = find_below_some (λ i. bytes_eq name (get_or names i [])) (length names) k lt (eq-bytes_eq name (get_or names k []) (sym is)) in
     named_at names name hit.0 hit.1
 
 -- a name that has no place
 no_place : (names : List (List ℕ)) (name : List ℕ) → place_of_name names name ≡ None → (k : ℕ) → k < length names → get_or names k [] ≢ name
 unfolding place_of_name
 no_place names name none k lt is =
-    let hit = find_below_some (λ i. bytes_eq name (get_or names i [])) (length names) k lt (bytes_same name (get_or names k []) (sym is)) in
+    let hit = find_below_some (λ i. bytes_eq name (get_or names i [])) (length names) k lt (eq-bytes_eq name (get_or names k []) (sym is)) in
     let no : None ≡ Some hit.0 = sym none ∙ hit.1 in
     absurd (cc)
 

@@ -11,8 +11,8 @@ use Rattle.feed_faults.specs.FeedTables.{FeedTables}
 use Rattle.feed_faults.specs.StopTimeLinks.{stop_time_of, stop_times_of, same_place, is_first, is_last, do_times_decrease}
 use Rattle.feed_faults.specs.AcceptedFeed.{row_number, stop_time_row, rows_of_tables}
 use Rattle.feed_soundness.specs.AcceptedTables.{AreFormed, AreLinked}
-use Rattle.feed_soundness.proofs.RowLaws.{rows_all, rows_pairs, rows_tell}
-use Rattle.feed_soundness.proofs.KeyLaws.{same_number, apart, bytes_same}
+use Rattle.plain_laws.proofs.Laws.{All-list_below, AllPairs-list_below, list_below-each, eq-bytes_eq}
+use Rattle.feed_soundness.proofs.KeyLaws.{same_number, apart}
 use Rattle.feed_soundness.proofs.CallGroups.{IsLinkedCall, linked_call, call_trip_known}
 use Rattle.feed_soundness.proofs.CallTables.{trip_text, sequence_at, same_place_told, times_within, times_between, first_row, last_row, end_times}
 
@@ -37,7 +37,7 @@ module _ (t : FeedTables) (formed : AreFormed t) (linked : AreLinked t) where
   sequences_apart i j lt within trips sequences =
       let first : i < row_count t.stop_times = omega arith in
       let no = apart (same_place (stop_times_of t.stop_times)) i j (call_linked j within).new lt in
-      let yes = and_from (bytes_eq (trip_text t.stop_times j) (trip_text t.stop_times i)) (sequence_at t.stop_times j == sequence_at t.stop_times i) (bytes_same _ _ (sym trips)) (eq-eqb _ _ (sym sequences)) in
+      let yes = and_from (bytes_eq (trip_text t.stop_times j) (trip_text t.stop_times i)) (sequence_at t.stop_times j == sequence_at t.stop_times i) (eq-bytes_eq _ _ (sym trips)) (eq-eqb _ _ (sym sequences)) in
       let both : true ≡ false = sym yes ∙ sym (same_place_told t.stop_times j i within first) ∙ no in
       absurd (cc)
 
@@ -50,7 +50,7 @@ module _ (t : FeedTables) (formed : AreFormed t) (linked : AreLinked t) where
   unfolding rows_of_tables stop_time_row stop_time_of
   first_told i lt is =
       let table = t.stop_times in
-      let told = rows_tell (λ other. other.trip.0 ≡ (stop_time_row t i).trip.0 → (stop_time_row t i).sequence ≤ other.sequence) (row_count table) (stop_time_row t) is in
+      let told = list_below-each (λ other. other.trip.0 ≡ (stop_time_row t i).trip.0 → (stop_time_row t i).sequence ≤ other.sequence) (row_count table) (stop_time_row t) is in
       let first = first_row table i lt (λ k within same. told k within (same_trip_number k i same)) (λ k less same sequences. sequences_apart k i less lt same sequences) in
       (end_times table i lt (call_linked i lt).ended (or_left (is_first (stop_times_of table) i) (is_last (stop_times_of table) i) first)).0
 
@@ -58,7 +58,7 @@ module _ (t : FeedTables) (formed : AreFormed t) (linked : AreLinked t) where
   unfolding rows_of_tables stop_time_row stop_time_of
   last_told i lt is =
       let table = t.stop_times in
-      let told = rows_tell (λ other. other.trip.0 ≡ (stop_time_row t i).trip.0 → other.sequence ≤ (stop_time_row t i).sequence) (row_count table) (stop_time_row t) is in
+      let told = list_below-each (λ other. other.trip.0 ≡ (stop_time_row t i).trip.0 → other.sequence ≤ (stop_time_row t i).sequence) (row_count table) (stop_time_row t) is in
       let last = last_row table i lt (λ k within same. told k within (same_trip_number k i same)) (λ k less within same sequences. sequences_apart i k less within (sym same) (sym sequences)) in
       (end_times table i lt (call_linked i lt).ended (or_right (is_first (stop_times_of table) i) (is_last (stop_times_of table) i) last)).1
 
@@ -78,10 +78,10 @@ module _ (t : FeedTables) (formed : AreFormed t) (linked : AreLinked t) where
       let rows = row_count t.stop_times in
       let row = stop_time_row t in
       record {
-        no_doubles = rows_pairs (λ c d. c.trip.0 ≡ d.trip.0 → c.sequence ≡ d.sequence → ⊥) rows row calls_apart;
-        firsts = rows_all (λ c. IsFirstCall (rows_of_tables t) c → IsSome (first_time c)) rows row first_told;
-        lasts = rows_all (λ c. IsLastCall (rows_of_tables t) c → IsSome (last_time c)) rows row last_told;
-        within_rows = rows_all (λ c. ForSome (first_time c) (λ a. ForSome (last_time c) (λ b. a ≤ b))) rows row within_told;
-        between_rows = rows_all (λ c. All (λ d. c.trip.0 ≡ d.trip.0 → c.sequence < d.sequence → EndsBy c d) (rows_of_tables t).stop_times) rows row
-            (λ i lt. rows_all (λ d. (row i).trip.0 ≡ d.trip.0 → (row i).sequence < d.sequence → EndsBy (row i) d) rows row (λ j within. between_told i j lt within));
+        no_doubles = AllPairs-list_below (λ c d. c.trip.0 ≡ d.trip.0 → c.sequence ≡ d.sequence → ⊥) rows row calls_apart;
+        firsts = All-list_below (λ c. IsFirstCall (rows_of_tables t) c → IsSome (first_time c)) rows row first_told;
+        lasts = All-list_below (λ c. IsLastCall (rows_of_tables t) c → IsSome (last_time c)) rows row last_told;
+        within_rows = All-list_below (λ c. ForSome (first_time c) (λ a. ForSome (last_time c) (λ b. a ≤ b))) rows row within_told;
+        between_rows = All-list_below (λ c. All (λ d. c.trip.0 ≡ d.trip.0 → c.sequence < d.sequence → EndsBy c d) (rows_of_tables t).stop_times) rows row
+            (λ i lt. All-list_below (λ d. (row i).trip.0 ≡ d.trip.0 → (row i).sequence < d.sequence → EndsBy (row i) d) rows row (λ j within. between_told i j lt within));
       }

@@ -3,13 +3,13 @@ use Rattle.std.proofs.Common.{◌≡◌, refl, sym, ◌∙◌, ap, ℕ, ◌<◌,
 use Rattle.std.specs.Prelude.{Option, Some, None, ◌&&◌, nat_lt, nat_abs, IsSome, IsNone, ◌↔◌}
 use Rattle.std.specs.Option.{ForSome}
 use Rattle.std.proofs.lemmas.Bool.{and_from, lt-ltb, ltb-true}
-use Rattle.std.proofs.lemmas.Option.{none-some, same_Some}
+use Rattle.std.proofs.lemmas.Option.{none-some, same_Some, cond_some}
 use Rattle.transit_base.specs.declared.numbers.RiderId.{RiderId}
 use Rattle.transit_base.specs.declared.numbers.MediumId.{MediumId}
 use Rattle.feed_rows.specs.declared.names.FileName.TheVariants as file
 use Rattle.feed_rows.specs.declared.names.ColumnName.{ColumnName}
 use Rattle.feed_rows.specs.declared.names.ColumnName.TheVariants as column
-use Rattle.feed_rows.specs.Words.{when}
+use Rattle.plain_laws.specs.Plain.{when}
 use Rattle.feed_rows.specs.SoundFares.{AreSoundProducts, IsSoundCurrency}
 use Rattle.feed_faults.specs.Records.{FileTable, row_count, field, is_filled}
 use Rattle.feed_faults.specs.FileColumns.{amount, currency}
@@ -18,11 +18,10 @@ use Rattle.feed_faults.specs.RowKeys.{is_unknown, is_repeated, same_field}
 use Rattle.feed_faults.specs.FareLinks.{same_product, product_fault}
 use Rattle.feed_faults.specs.AcceptedFeed.{if_filled, row_number, product_names, product_row, feed_currency, feed_decimals, rows_of_tables}
 use Rattle.feed_soundness.specs.AcceptedTables.{AreFormed, AreLinked}
-use Rattle.feed_soundness.proofs.NoneLaws.{none_first}
-use Rattle.feed_soundness.proofs.RowLaws.{rows_length, rows_all, rows_pairs}
+use Rattle.plain_laws.proofs.Laws.{none_first, length-list_below, All-list_below, AllPairs-list_below, eq-bytes_eq}
 use Rattle.feed_soundness.proofs.FieldLaws.{must_at}
-use Rattle.feed_soundness.proofs.ValueLaws.{when_some, amount_good, IsCurrencyText, currency_good}
-use Rattle.feed_soundness.proofs.KeyLaws.{MayBeKnown, known, same_number, apart, bytes_same}
+use Rattle.feed_soundness.proofs.ValueLaws.{amount_good, IsCurrencyText, currency_good}
+use Rattle.feed_soundness.proofs.KeyLaws.{MayBeKnown, known, same_number, apart}
 use Rattle.feed_soundness.proofs.NameLaws.{IsNamed, same_name}
 use Rattle.feed_soundness.proofs.AreaGroups.{riders_length, media_length}
 use Rattle.feed_soundness.proofs.IdColumns as ids
@@ -66,13 +65,13 @@ module _ (t : FeedTables) (formed : AreFormed t) (linked : AreLinked t) where
   rider_told : (row : ℕ) → row < row_count t.fare_products → ForSome (product_row t row).rider (λ r. r.0 < length (rows_of_tables t).riders)
   unfolding product_row
   rider_told row lt r e =
-      let is = when_some (is_filled (field t.fare_products row column.RiderCategoryId)) _ r e in
+      let is = cond_some (is_filled (field t.fare_products row column.RiderCategoryId)) _ r e in
       rw (← is.1, riders_length t) (product_rider_known row lt is.0).within
 
   medium_told : (row : ℕ) → row < row_count t.fare_products → ForSome (product_row t row).medium (λ m. m.0 < length (rows_of_tables t).media)
   unfolding product_row
   medium_told row lt m e =
-      let is = when_some (is_filled (field t.fare_products row column.FareMediaId)) _ m e in
+      let is = cond_some (is_filled (field t.fare_products row column.FareMediaId)) _ m e in
       rw (← is.1, media_length t) (product_medium_known row lt is.0).within
 
   -- no two products are of one name, rider category and medium
@@ -86,8 +85,8 @@ module _ (t : FeedTables) (formed : AreFormed t) (linked : AreLinked t) where
       let make_medium : ℕ → MediumId = λ n. record { 0 = n } in
       let rider_ids = same_reference make_rider (λ r. r.0) (λ n. refl) t.rider_categories column.RiderCategoryId (field table i column.RiderCategoryId) (field table j column.RiderCategoryId) (product_rider_known i first) (product_rider_known j within) rider in
       let medium_ids = same_reference make_medium (λ m. m.0) (λ n. refl) t.fare_media column.FareMediaId (field table i column.FareMediaId) (field table j column.FareMediaId) (product_medium_known i first) (product_medium_known j within) medium in
-      let two = and_from (same_field table column.FareProductId j i) (same_field table column.RiderCategoryId j i) (bytes_same _ _ (sym product_ids)) (bytes_same _ _ (sym rider_ids)) in
-      let three = and_from (same_field table column.FareProductId j i && same_field table column.RiderCategoryId j i) (same_field table column.FareMediaId j i) two (bytes_same _ _ (sym medium_ids)) in
+      let two = and_from (same_field table column.FareProductId j i) (same_field table column.RiderCategoryId j i) (eq-bytes_eq _ _ (sym product_ids)) (eq-bytes_eq _ _ (sym rider_ids)) in
+      let three = and_from (same_field table column.FareProductId j i && same_field table column.RiderCategoryId j i) (same_field table column.FareMediaId j i) two (eq-bytes_eq _ _ (sym medium_ids)) in
       let both : true ≡ false = sym three ∙ apart (same_product table) i j (linked_product t j (linked.fare_products j within)).new lt in
       absurd (cc)
 
@@ -105,12 +104,12 @@ module _ (t : FeedTables) (formed : AreFormed t) (linked : AreLinked t) where
   unfolding rows_of_tables
   products_sound =
       record {
-        few = rw (rows_length (row_count t.fare_products) (product_row t)) formed.fare_products.few;
-        names = rows_all (λ p. p.product.0 < length (product_names t)) (row_count t.fare_products) (product_row t) name_told;
-        riders = rows_all (λ p. ForSome p.rider (λ r. r.0 < length (rows_of_tables t).riders)) (row_count t.fare_products) (product_row t) rider_told;
-        media = rows_all (λ p. ForSome p.medium (λ m. m.0 < length (rows_of_tables t).media)) (row_count t.fare_products) (product_row t) medium_told;
-        no_doubles = rows_pairs (λ p q. p.product.0 ≡ q.product.0 → p.rider ≡ q.rider → p.medium ≡ q.medium → ⊥) (row_count t.fare_products) (product_row t) products_apart;
-        amounts = rows_all (λ p. nat_abs p.amount.0 ≤ 10 ^ 12) (row_count t.fare_products) (product_row t) amount_told;
+        few = rw (length-list_below (row_count t.fare_products) (product_row t)) formed.fare_products.few;
+        names = All-list_below (λ p. p.product.0 < length (product_names t)) (row_count t.fare_products) (product_row t) name_told;
+        riders = All-list_below (λ p. ForSome p.rider (λ r. r.0 < length (rows_of_tables t).riders)) (row_count t.fare_products) (product_row t) rider_told;
+        media = All-list_below (λ p. ForSome p.medium (λ m. m.0 < length (rows_of_tables t).media)) (row_count t.fare_products) (product_row t) medium_told;
+        no_doubles = AllPairs-list_below (λ p q. p.product.0 ≡ q.product.0 → p.rider ≡ q.rider → p.medium ≡ q.medium → ⊥) (row_count t.fare_products) (product_row t) products_apart;
+        amounts = All-list_below (λ p. nat_abs p.amount.0 ≤ 10 ^ 12) (row_count t.fare_products) (product_row t) amount_told;
       }
 
 -- the currency of the first product
@@ -118,7 +117,7 @@ module _ (t : FeedTables) (formed : AreFormed t) where
   currency_told : ForSome (feed_currency t.fare_products) IsCurrencyText
   unfolding feed_currency
   currency_told text e =
-      let is = when_some (nat_lt 0 (row_count t.fare_products)) (field t.fare_products 0 column.Currency) text e in
+      let is = cond_some (nat_lt 0 (row_count t.fare_products)) (field t.fare_products 0 column.Currency) text e in
       let within = ltb-true 0 (row_count t.fare_products) is.0 in
       rw (← is.1) (currency_good (field t.fare_products 0 column.Currency) (must_at file.FareProducts t.fare_products 0 3 column.Currency currency formed.fare_products within refl).fit)
 
@@ -150,7 +149,7 @@ module _ (t : FeedTables) (formed : AreFormed t) where
   unfolding rows_of_tables
   currency_sound =
       record {
-        known = rw (rows_length (row_count t.fare_products) (product_row t)) currency_known;
+        known = rw (length-list_below (row_count t.fare_products) (product_row t)) currency_known;
         code = λ text e. (currency_told text e).code;
         letters = λ text e. (currency_told text e).letters;
         decimals = currency_decimals_told;

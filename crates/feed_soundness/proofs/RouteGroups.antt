@@ -12,9 +12,8 @@ use Rattle.feed_faults.specs.TimetableLinks.{route_fault, trip_fault}
 use Rattle.feed_faults.specs.NetworkLinks.{route_network_fault}
 use Rattle.feed_faults.specs.AcceptedFeed.{row_number, network_names, network_of_route, route_row, trip_row, rows_of_tables}
 use Rattle.feed_soundness.specs.AcceptedTables.{AreFormed, AreLinked}
-use Rattle.feed_soundness.proofs.NoneLaws.{none_when, none_first}
-use Rattle.feed_soundness.proofs.RowLaws.{rows_length, rows_all, rows_pairs}
-use Rattle.feed_soundness.proofs.ValueLaws.{when_some}
+use Rattle.plain_laws.proofs.Laws.{none_when, none_first, length-list_below, All-list_below, AllPairs-list_below}
+use Rattle.std.proofs.lemmas.Option.{cond_some}
 use Rattle.feed_soundness.proofs.KeyLaws.{IsKnown, known, ids_apart, row_within}
 use Rattle.feed_soundness.proofs.NameLaws.{IsNamed}
 use Rattle.feed_soundness.proofs.IdColumns as ids
@@ -75,7 +74,7 @@ module _ (t : FeedTables) (formed : AreFormed t) (linked : AreLinked t) where
   route_network_told : (row : ℕ) → row < row_count t.routes → ForSome (route_row t row).network (λ n. n.0 < length (network_names t))
   unfolding route_row
   route_network_told row lt n e =
-      let is = when_some (is_filled (network_of_route t row)) _ n e in
+      let is = cond_some (is_filled (network_of_route t row)) _ n e in
       rw (← is.1) (route_network_good row lt is.0).within
 
   -- routes.txt
@@ -83,10 +82,10 @@ module _ (t : FeedTables) (formed : AreFormed t) (linked : AreLinked t) where
   unfolding rows_of_tables route_row
   routes_sound =
       record {
-        few = rw (rows_length (row_count t.routes) (route_row t)) formed.routes.few;
-        ids = rows_all (λ r. IsIdText r.id) (row_count t.routes) (route_row t) (λ i lt. (ids.route_id t formed i lt).3);
-        no_doubles = rows_pairs (λ r s. r.id ≡ s.id → ⊥) (row_count t.routes) (route_row t) (route_ids_apart t linked);
-        networks = rows_all (λ r. ForSome r.network (λ n. n.0 < length (network_names t))) (row_count t.routes) (route_row t) route_network_told;
+        few = rw (length-list_below (row_count t.routes) (route_row t)) formed.routes.few;
+        ids = All-list_below (λ r. IsIdText r.id) (row_count t.routes) (route_row t) (λ i lt. (ids.route_id t formed i lt).3);
+        no_doubles = AllPairs-list_below (λ r s. r.id ≡ s.id → ⊥) (row_count t.routes) (route_row t) (route_ids_apart t linked);
+        networks = All-list_below (λ r. ForSome r.network (λ n. n.0 < length (network_names t))) (row_count t.routes) (route_row t) route_network_told;
       }
 
   -- trips.txt
@@ -94,16 +93,16 @@ module _ (t : FeedTables) (formed : AreFormed t) (linked : AreLinked t) where
   unfolding rows_of_tables trip_row
   trips_sound =
       record {
-        few = rw (rows_length (row_count t.trips) (trip_row t)) formed.trips.few;
-        ids = rows_all (λ u. IsIdText u.id) (row_count t.trips) (trip_row t) (λ i lt. (ids.trip_id t formed i lt).3);
-        no_doubles = rows_pairs (λ u v. u.id ≡ v.id → ⊥) (row_count t.trips) (trip_row t) (trip_ids_apart t linked);
-        routes = rows_all (λ u. u.route.0 < length (rows_of_tables t).routes) (row_count t.trips) (trip_row t)
-            (λ i lt. rw (rows_length (row_count t.routes) (route_row t)) (trip_route_known t formed linked i lt).within);
-        services = rows_all (λ u. u.service.0 < length (rows_of_tables t).service_names) (row_count t.trips) (trip_row t)
+        few = rw (length-list_below (row_count t.trips) (trip_row t)) formed.trips.few;
+        ids = All-list_below (λ u. IsIdText u.id) (row_count t.trips) (trip_row t) (λ i lt. (ids.trip_id t formed i lt).3);
+        no_doubles = AllPairs-list_below (λ u v. u.id ≡ v.id → ⊥) (row_count t.trips) (trip_row t) (trip_ids_apart t linked);
+        routes = All-list_below (λ u. u.route.0 < length (rows_of_tables t).routes) (row_count t.trips) (trip_row t)
+            (λ i lt. rw (length-list_below (row_count t.routes) (route_row t)) (trip_route_known t formed linked i lt).within);
+        services = All-list_below (λ u. u.service.0 < length (rows_of_tables t).service_names) (row_count t.trips) (trip_row t)
             (λ i lt. (names.trip_service_named t i lt (ids.service_of_trip t formed i lt).2).within);
       }
 
 -- there are as many trips as rows
 pub trips_length : (t : FeedTables) → length (rows_of_tables t).trips ≡ row_count t.trips
 unfolding rows_of_tables
-trips_length t = rows_length (row_count t.trips) (trip_row t)
+trips_length t = length-list_below (row_count t.trips) (trip_row t)

@@ -9,7 +9,7 @@ use Rattle.feed_faults.specs.RowKeys.{is_unknown}
 use Rattle.feed_faults.specs.FareLinks.{is_network_unknown, leg_rule_fault, is_count_misplaced, is_limit_half, transfer_rule_fault}
 use Rattle.feed_faults.specs.AcceptedFeed.{row_number, network_names, frame_names, product_names, group_names}
 use Rattle.feed_soundness.specs.AcceptedTables.{AreFormed, AreLinked}
-use Rattle.feed_soundness.proofs.NoneLaws.{none_first}
+use Rattle.plain_laws.proofs.Laws.{none_first}
 use Rattle.feed_soundness.proofs.KeyLaws.{IsKnown, MayBeKnown, known}
 use Rattle.feed_soundness.proofs.NameLaws.{IsNamed, MayBeNamed}
 use Rattle.feed_soundness.proofs.IdColumns as ids

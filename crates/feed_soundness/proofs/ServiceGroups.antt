@@ -1,11 +1,11 @@
 -- The calendars, the frequencies and the links of accepted tables are sound.
 use Rattle.std.proofs.Common.{◌≡◌, refl, sym, ◌∙◌, ℕ, ◌<◌, ◌≤◌, true, false, length, arith}
-use Rattle.std.specs.Prelude.{◌==◌, not, ℤ, int_lt, int_le, ◌≤ℤ◌}
+use Rattle.std.specs.Prelude.{◌==◌, not, ℤ, int_lt, ◌≤ℤ◌}
 use Rattle.std.proofs.lemmas.Bool.{and_from, eq-eqb, not-true}
 use Rattle.std.proofs.lemmas.Int.{ints}
 use Rattle.feed_rows.specs.declared.names.FileName.TheVariants as file
 use Rattle.feed_rows.specs.declared.names.ColumnName.TheVariants as column
-use Rattle.feed_rows.specs.Words.{int_same}
+use Rattle.plain_laws.specs.Plain.{int_same}
 use Rattle.feed_rows.specs.SoundTimetable.{IsCalendarDay, AreSoundServices, AreSoundExceptions, AreSoundFrequencies, AreSoundLinks}
 use Rattle.feed_faults.specs.Records.{row_count, field}
 use Rattle.feed_faults.specs.FieldGrammars.{most_int, most_time}
@@ -18,11 +18,10 @@ use Rattle.feed_faults.specs.TimetableLinks.{are_dates_reversed, service_fault, 
 use Rattle.feed_faults.specs.NetworkLinks.{same_start, frequency_fault, is_transfer_stop_unknown, transfer_fault}
 use Rattle.feed_faults.specs.AcceptedFeed.{row_number, name_number, service_names, service_row, exception_row, frequency_row, link_row, rows_of_tables}
 use Rattle.feed_soundness.specs.AcceptedTables.{AreFormed, AreLinked}
-use Rattle.feed_soundness.proofs.NoneLaws.{none_when, none_first}
-use Rattle.feed_soundness.proofs.RowLaws.{rows_length, rows_all, rows_pairs, picks_all, picks_length}
+use Rattle.plain_laws.proofs.Laws.{none_when, none_first, length-list_below, All-list_below, AllPairs-list_below, All-picks_below, length-picks_below, eq-bytes_eq, eq-int_same}
 use Rattle.feed_soundness.proofs.FieldLaws.{must_at, may_at}
 use Rattle.feed_soundness.proofs.ValueLaws.{int_good, optional_good, time_past_good, day_good}
-use Rattle.feed_soundness.proofs.KeyLaws.{IsKnown, known, same_number, ids_apart, apart, bytes_same}
+use Rattle.feed_soundness.proofs.KeyLaws.{IsKnown, known, same_number, ids_apart, apart}
 use Rattle.feed_soundness.proofs.NameLaws.{IsNamed, same_name}
 use Rattle.feed_soundness.proofs.StopGroups.{stops_length}
 use Rattle.feed_soundness.proofs.RouteGroups.{trips_length}
@@ -32,9 +31,6 @@ use Rattle.feed_soundness.proofs.NameGroups as names
 -- days in order
 not_reversed : (first last : ℤ) → int_lt last first ≡ false → first ≤ℤ last
 not_reversed first last e = grind (arith, ints)
-
-same_days : (a b : ℤ) → a ≡ b → int_same a b ≡ true
-same_days a b e = let same : int_le a a ≡ true = grind (arith, ints) in rw (← e) (and_from (int_le a a) (int_le a a) same same)
 
 module _ (t : FeedTables) (formed : AreFormed t) (linked : AreLinked t) where
   service_named : (row : ℕ) → row < row_count t.calendar → IsNamed (service_names t) (field t.calendar row column.ServiceId)
@@ -65,15 +61,15 @@ module _ (t : FeedTables) (formed : AreFormed t) (linked : AreLinked t) where
   unfolding rows_of_tables service_row
   services_sound =
       record {
-        few = rw (rows_length (row_count t.calendar) (service_row t)) formed.calendar.few;
-        names = rows_all (λ s. s.service.0 < length (service_names t)) (row_count t.calendar) (service_row t) (λ i lt. (service_named i lt).within);
-        no_doubles = rows_pairs (λ s u. s.service.0 ≡ u.service.0 → ⊥) (row_count t.calendar) (service_row t) services_apart;
-        weekdays = rows_all (λ s. length s.days ≡ 7) (row_count t.calendar) (service_row t) (λ i lt. refl);
-        firsts = rows_all (λ s. IsCalendarDay s.first) (row_count t.calendar) (service_row t)
+        few = rw (length-list_below (row_count t.calendar) (service_row t)) formed.calendar.few;
+        names = All-list_below (λ s. s.service.0 < length (service_names t)) (row_count t.calendar) (service_row t) (λ i lt. (service_named i lt).within);
+        no_doubles = AllPairs-list_below (λ s u. s.service.0 ≡ u.service.0 → ⊥) (row_count t.calendar) (service_row t) services_apart;
+        weekdays = All-list_below (λ s. length s.days ≡ 7) (row_count t.calendar) (service_row t) (λ i lt. refl);
+        firsts = All-list_below (λ s. IsCalendarDay s.first) (row_count t.calendar) (service_row t)
             (λ i lt. day_good (field t.calendar i column.StartDate) (must_at file.Calendar t.calendar i 8 column.StartDate date formed.calendar lt refl).fit);
-        lasts = rows_all (λ s. IsCalendarDay s.last) (row_count t.calendar) (service_row t)
+        lasts = All-list_below (λ s. IsCalendarDay s.last) (row_count t.calendar) (service_row t)
             (λ i lt. day_good (field t.calendar i column.EndDate) (must_at file.Calendar t.calendar i 9 column.EndDate date formed.calendar lt refl).fit);
-        ordered = rows_all (λ s. s.first.0 ≤ℤ s.last.0) (row_count t.calendar) (service_row t) service_dates;
+        ordered = All-list_below (λ s. s.first.0 ≤ℤ s.last.0) (row_count t.calendar) (service_row t) service_dates;
       }
 
   exception_new : (row : ℕ) → row < row_count t.calendar_dates → is_repeated (same_exception t.calendar_dates) row ≡ false
@@ -87,7 +83,7 @@ module _ (t : FeedTables) (formed : AreFormed t) (linked : AreLinked t) where
       let dates = t.calendar_dates in
       let id = same_name (service_names t) (field dates i column.ServiceId) (field dates j column.ServiceId) (exception_named i (omega arith)) (exception_named j within) same in
       let no = apart (same_exception dates) i j (exception_new j within) lt in
-      let yes = and_from (same_field dates column.ServiceId j i) (int_same (day_or_past (field dates j column.Date)) (day_or_past (field dates i column.Date))) (bytes_same (field dates j column.ServiceId) (field dates i column.ServiceId) (sym id)) (same_days _ _ (sym days)) in
+      let yes = and_from (same_field dates column.ServiceId j i) (int_same (day_or_past (field dates j column.Date)) (day_or_past (field dates i column.Date))) (eq-bytes_eq (field dates j column.ServiceId) (field dates i column.ServiceId) (sym id)) (eq-int_same _ _ (sym days)) in
       let both : true ≡ false = sym yes ∙ no in
       absurd (cc)
 
@@ -96,10 +92,10 @@ module _ (t : FeedTables) (formed : AreFormed t) (linked : AreLinked t) where
   unfolding rows_of_tables exception_row
   exceptions_sound =
       record {
-        few = rw (rows_length (row_count t.calendar_dates) (exception_row t)) formed.calendar_dates.few;
-        services = rows_all (λ e. e.service.0 < length (service_names t)) (row_count t.calendar_dates) (exception_row t) (λ i lt. (exception_named i lt).within);
-        no_doubles = rows_pairs (λ e f. e.service.0 ≡ f.service.0 → e.day.0 ≡ f.day.0 → ⊥) (row_count t.calendar_dates) (exception_row t) exceptions_apart;
-        days = rows_all (λ e. IsCalendarDay e.day) (row_count t.calendar_dates) (exception_row t)
+        few = rw (length-list_below (row_count t.calendar_dates) (exception_row t)) formed.calendar_dates.few;
+        services = All-list_below (λ e. e.service.0 < length (service_names t)) (row_count t.calendar_dates) (exception_row t) (λ i lt. (exception_named i lt).within);
+        no_doubles = AllPairs-list_below (λ e f. e.service.0 ≡ f.service.0 → e.day.0 ≡ f.day.0 → ⊥) (row_count t.calendar_dates) (exception_row t) exceptions_apart;
+        days = All-list_below (λ e. IsCalendarDay e.day) (row_count t.calendar_dates) (exception_row t)
             (λ i lt. day_good (field t.calendar_dates i column.Date) (must_at file.CalendarDates t.calendar_dates i 1 column.Date date formed.calendar_dates lt refl).fit);
       }
 
@@ -123,7 +119,7 @@ module _ (t : FeedTables) (formed : AreFormed t) (linked : AreLinked t) where
       let table = t.frequencies in
       let id = same_number t.trips column.TripId (field table i column.TripId) (field table j column.TripId) (frequency_trip_known i (omega arith)) (frequency_trip_known j within) same in
       let no = apart (same_start table) i j (frequency_new j within) lt in
-      let yes = and_from (same_field table column.TripId j i) (time_or_past most_time (field table j column.StartTime) == time_or_past most_time (field table i column.StartTime)) (bytes_same (field table j column.TripId) (field table i column.TripId) (sym id)) (eq-eqb _ _ (sym starts)) in
+      let yes = and_from (same_field table column.TripId j i) (time_or_past most_time (field table j column.StartTime) == time_or_past most_time (field table i column.StartTime)) (eq-bytes_eq (field table j column.TripId) (field table i column.TripId) (sym id)) (eq-eqb _ _ (sym starts)) in
       let both : true ≡ false = sym yes ∙ no in
       absurd (cc)
 
@@ -137,15 +133,15 @@ module _ (t : FeedTables) (formed : AreFormed t) (linked : AreLinked t) where
   unfolding rows_of_tables frequency_row
   frequencies_sound =
       record {
-        few = rw (rows_length (row_count t.frequencies) (frequency_row t)) formed.frequencies.few;
-        trips = rows_all (λ f. f.trip.0 < length (rows_of_tables t).trips) (row_count t.frequencies) (frequency_row t)
+        few = rw (length-list_below (row_count t.frequencies) (frequency_row t)) formed.frequencies.few;
+        trips = All-list_below (λ f. f.trip.0 < length (rows_of_tables t).trips) (row_count t.frequencies) (frequency_row t)
             (λ i lt. rw (trips_length t) (frequency_trip_known i lt).within);
-        no_doubles = rows_pairs (λ f g. f.trip.0 ≡ g.trip.0 → f.start ≡ g.start → ⊥) (row_count t.frequencies) (frequency_row t) frequencies_apart;
-        starts = rows_all (λ f. f.start ≤ 604_799) (row_count t.frequencies) (frequency_row t)
+        no_doubles = AllPairs-list_below (λ f g. f.trip.0 ≡ g.trip.0 → f.start ≡ g.start → ⊥) (row_count t.frequencies) (frequency_row t) frequencies_apart;
+        starts = All-list_below (λ f. f.start ≤ 604_799) (row_count t.frequencies) (frequency_row t)
             (λ i lt. time_past_good most_time (field t.frequencies i column.StartTime) (must_at file.Frequencies t.frequencies i 1 column.StartTime any_time formed.frequencies lt refl).fit);
-        ends = rows_all (λ f. f.end ≤ 604_799) (row_count t.frequencies) (frequency_row t)
+        ends = All-list_below (λ f. f.end ≤ 604_799) (row_count t.frequencies) (frequency_row t)
             (λ i lt. time_past_good most_time (field t.frequencies i column.EndTime) (must_at file.Frequencies t.frequencies i 2 column.EndTime any_time formed.frequencies lt refl).fit);
-        headways = rows_all (λ f. (1 ≤ f.headway) × (f.headway ≤ 2_147_483_647)) (row_count t.frequencies) (frequency_row t) frequency_headway;
+        headways = All-list_below (λ f. (1 ≤ f.headway) × (f.headway ≤ 2_147_483_647)) (row_count t.frequencies) (frequency_row t) frequency_headway;
       }
 
   -- the stops of a transfer that isn't passed over are known
@@ -169,11 +165,11 @@ module _ (t : FeedTables) (formed : AreFormed t) (linked : AreLinked t) where
       let kept = λ (row : ℕ). not (is_passed_over t.transfers row) in
       let rows = row_count t.transfers in
       record {
-        few = let long = picks_length rows kept (link_row t) in let few = formed.transfers.few in omega arith;
-        froms = picks_all (λ l. l.from.0 < length (rows_of_tables t).stops) rows kept (link_row t)
+        few = let long = length-picks_below rows kept (link_row t) in let few = formed.transfers.few in omega arith;
+        froms = All-picks_below (λ l. l.from.0 < length (rows_of_tables t).stops) rows kept (link_row t)
             (λ i lt is. rw (stops_length t) (transfer_from_known i lt (not-true (is_passed_over t.transfers i) is)).within);
-        tos = picks_all (λ l. l.to.0 < length (rows_of_tables t).stops) rows kept (link_row t)
+        tos = All-picks_below (λ l. l.to.0 < length (rows_of_tables t).stops) rows kept (link_row t)
             (λ i lt is. rw (stops_length t) (transfer_to_known i lt (not-true (is_passed_over t.transfers i) is)).within);
-        seconds = picks_all (λ l. l.seconds ≤ 2_147_483_647) rows kept (link_row t)
+        seconds = All-picks_below (λ l. l.seconds ≤ 2_147_483_647) rows kept (link_row t)
             (λ i lt is. optional_good most_int (field t.transfers i column.MinTransferTime) (may_at file.Transfers t.transfers i 3 column.MinTransferTime (int 0 most_int) formed.transfers lt (rw (not-true (is_passed_over t.transfers i) is) refl)));
       }

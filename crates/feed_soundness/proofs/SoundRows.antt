@@ -3,14 +3,14 @@ use Rattle.std.proofs.Common.{◌≡◌, [], ◌∷◌}
 use Rattle.std.specs.Prelude.{None}
 use Rattle.feed_rows.specs.declared.names.FileName.{FileName}
 use Rattle.feed_rows.specs.HeldFiles.{HeldFile}
-use Rattle.feed_rows.specs.Words.{first_of}
+use Rattle.plain_laws.specs.Plain.{first_of}
 use Rattle.feed_rows.specs.SoundFeed.{IsSoundFeed}
 use Rattle.feed_faults.specs.FeedTables.{FeedTables, tables_of}
 use Rattle.feed_faults.specs.FormFaults.{first_form_fault}
 use Rattle.feed_faults.specs.FirstFault.{first_link_fault, first_fault}
 use Rattle.feed_faults.specs.AcceptedFeed.{rows_of_tables, feed_of}
 use Rattle.feed_soundness.specs.AcceptedTables.{AreFormed, AreLinked}
-use Rattle.feed_soundness.proofs.NoneLaws.{none_either}
+use Rattle.plain_laws.proofs.Laws.{none_either}
 use Rattle.feed_soundness.proofs.FormedFiles.{formed}
 use Rattle.feed_soundness.proofs.LinkedFiles.{linked}
 use Rattle.feed_soundness.proofs.NameGroups as names

@@ -3,11 +3,11 @@ use Rattle.std.proofs.Common.{◌≡◌, refl, ℕ, ◌<◌, ◌≤◌, Bool, tr
 use Rattle.std.specs.Prelude.{None, ◌&&◌, ◌==◌, not, nat_lt}
 use Rattle.std.specs.Option.{ForSome}
 use Rattle.std.proofs.lemmas.Bool.{eqb-true, not-false, and_from, and_parts, lt-ltb}
-use Rattle.std.proofs.lemmas.Option.{none-some}
+use Rattle.std.proofs.lemmas.Option.{none-some, cond_some}
 use Rattle.transit_base.specs.declared.numbers.StopId.{StopId}
 use Rattle.feed_rows.specs.declared.names.FileName.TheVariants as file
 use Rattle.feed_rows.specs.declared.names.ColumnName.TheVariants as column
-use Rattle.feed_rows.specs.Items.{ForItem}
+use Rattle.plain_laws.specs.Plain.{ForItem}
 use Rattle.feed_rows.specs.SoundNames.{IsIdText}
 use Rattle.feed_rows.specs.SoundTimetable.{AreSoundStops}
 use Rattle.feed_faults.specs.Records.{FileTable, row_count, field, is_filled}
@@ -18,11 +18,10 @@ use Rattle.feed_faults.specs.RowKeys.{is_unknown, is_doubled}
 use Rattle.feed_faults.specs.TimetableLinks.{has_parent, is_at_station, is_parent_good, stop_fault}
 use Rattle.feed_faults.specs.AcceptedFeed.{row_number, parent_of, stop_row, rows_of_tables}
 use Rattle.feed_soundness.specs.AcceptedTables.{AreFormed, AreLinked}
-use Rattle.feed_soundness.proofs.RowLaws.{rows_length, rows_all, rows_pairs, rows_at}
+use Rattle.plain_laws.proofs.Laws.{length-list_below, All-list_below, AllPairs-list_below, get_or-list_below, rest_fails, none_first}
 use Rattle.feed_soundness.proofs.FieldLaws.{may_at}
-use Rattle.feed_soundness.proofs.ValueLaws.{optional_good, when_some}
+use Rattle.feed_soundness.proofs.ValueLaws.{optional_good}
 use Rattle.feed_soundness.proofs.KeyLaws.{IsKnown, MayBeKnown, known, ids_apart}
-use Rattle.feed_soundness.proofs.NoneLaws.{rest_fails, none_first}
 use Rattle.feed_soundness.proofs.IdColumns.{stop_id}
 
 -- what the checks of a stop say
@@ -76,7 +75,7 @@ parent_told t row linked lt parent e = step (stop_kind t.stops row == 0) refl
     step false other = absurd (none-some parent (rw other at e))
     step true platform =
         let kind = eqb-true (stop_kind t.stops row) 0 platform in
-        let is = when_some (is_filled (field t.stops row column.ParentStation)) _ parent (rw platform at e) in
+        let is = cond_some (is_filled (field t.stops row column.ParentStation)) _ parent (rw platform at e) in
         let place = parent_known t row linked lt kind is.0 in
         let good = not-false (is_parent_good t.stops row) (rest_fails (has_parent t.stops row) (not (is_parent_good t.stops row)) (linked_stop t row (linked.stops row lt)).good (names_parent t row kind is.0)) in
         let station = at_station t.stops row place (and_parts (stop_kind t.stops row == 0) (is_at_station t.stops row) good).1 in
@@ -87,18 +86,18 @@ pub stops_sound : (t : FeedTables) → AreFormed t → AreLinked t → AreSoundS
 unfolding rows_of_tables stop_row
 stops_sound t formed linked =
     record {
-      few = rw (rows_length (row_count t.stops) (stop_row t)) formed.stops.few;
-      ids = rows_all (λ s. IsIdText s.id) (row_count t.stops) (stop_row t) (λ i lt. (stop_id t formed i lt).3);
-      no_doubles = rows_pairs (λ s u. s.id ≡ u.id → ⊥) (row_count t.stops) (stop_row t) (λ i j lt within. stop_ids_apart t i j linked lt within);
-      kinds = rows_all (λ s. s.kind ≤ 4) (row_count t.stops) (stop_row t) (λ i lt. kind_small t i formed lt);
-      parents = rows_all (λ s. ForSome s.parent (λ p. p.0 < length (rows_of_tables t).stops)) (row_count t.stops) (stop_row t)
-          (λ i lt p e. rw (rows_length (row_count t.stops) (stop_row t)) (parent_told t i linked lt p e).within);
-      stations = rows_all (λ s. ForSome s.parent (λ p. ForItem (rows_of_tables t).stops p.0 (λ u. u.kind ≡ 1))) (row_count t.stops) (stop_row t)
-          (λ i lt p e d within. let told = parent_told t i linked lt p e in rw (rows_at (row_count t.stops) (stop_row t) p.0 d told.within) told.station);
-      platforms = rows_all (λ s. ForSome s.parent (λ p. s.kind ≡ 0)) (row_count t.stops) (stop_row t) (λ i lt p e. (parent_told t i linked lt p e).platform);
+      few = rw (length-list_below (row_count t.stops) (stop_row t)) formed.stops.few;
+      ids = All-list_below (λ s. IsIdText s.id) (row_count t.stops) (stop_row t) (λ i lt. (stop_id t formed i lt).3);
+      no_doubles = AllPairs-list_below (λ s u. s.id ≡ u.id → ⊥) (row_count t.stops) (stop_row t) (λ i j lt within. stop_ids_apart t i j linked lt within);
+      kinds = All-list_below (λ s. s.kind ≤ 4) (row_count t.stops) (stop_row t) (λ i lt. kind_small t i formed lt);
+      parents = All-list_below (λ s. ForSome s.parent (λ p. p.0 < length (rows_of_tables t).stops)) (row_count t.stops) (stop_row t)
+          (λ i lt p e. rw (length-list_below (row_count t.stops) (stop_row t)) (parent_told t i linked lt p e).within);
+      stations = All-list_below (λ s. ForSome s.parent (λ p. ForItem (rows_of_tables t).stops p.0 (λ u. u.kind ≡ 1))) (row_count t.stops) (stop_row t)
+          (λ i lt p e d within. let told = parent_told t i linked lt p e in rw (get_or-list_below (row_count t.stops) (stop_row t) p.0 d told.within) told.station);
+      platforms = All-list_below (λ s. ForSome s.parent (λ p. s.kind ≡ 0)) (row_count t.stops) (stop_row t) (λ i lt p e. (parent_told t i linked lt p e).platform);
     }
 
 -- there are as many stops as rows
 pub stops_length : (t : FeedTables) → length (rows_of_tables t).stops ≡ row_count t.stops
 unfolding rows_of_tables
-stops_length t = rows_length (row_count t.stops) (stop_row t)
+stops_length t = length-list_below (row_count t.stops) (stop_row t)

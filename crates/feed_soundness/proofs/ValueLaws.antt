@@ -9,28 +9,19 @@ use Rattle.std.proofs.lemmas.Bool.{and_parts, or_parts, not-true, leb-true, leb-
 use Rattle.std.proofs.lemmas.Bool.Decides.{nat_tests}
 use Rattle.std.proofs.lemmas.Int.{ints}
 use Rattle.std.proofs.lemmas.List.Elements.{All-nil, All-cons}
-use Rattle.std.proofs.lemmas.Option.{none-some, same_Some}
+use Rattle.std.proofs.lemmas.Option.{none-some, same_Some, cond_some}
 use Rattle.transit_base.specs.Dates.{is_date, is_dated, day_number}
-use Rattle.transit_base.proofs.DateLemmas.{is_dated-day_number}
+use Rattle.feed_laws.proofs.DateLaws.{is_dated-day_number}
 use Rattle.feed_rows.specs.Numerals.{number_value, at_most}
 use Rattle.feed_rows.specs.TimeGrammar.{time_at, time_value, clock_seconds}
-use Rattle.feed_rows.specs.Words.{when, int_same}
+use Rattle.plain_laws.specs.Plain.{when, int_same}
 use Rattle.feed_rows.specs.SoundNames.{IsIdText}
 use Rattle.feed_rows.specs.SoundTimetable.{IsCalendarDay}
 use Rattle.feed_faults.specs.Records.{is_filled}
 use Rattle.feed_faults.specs.FieldGrammars.{is_break, is_id, if_between, signed_value, int_value, most_int, count_value, date_value, is_capital, is_currency, is_among, unit_codes, whole_currencies, three_decimal_currencies, currency_decimals, amount_in, amount_value, unsigned_amount, most_amount}
 use Rattle.feed_faults.specs.FieldValues.{nat_or, int_or_past, optional_int, time_or_past, day_or_past, amount_or_past}
 use Rattle.feed_faults.specs.AcceptedFeed.{finite_count}
-
--- a value that is there
-pub some_value : {X : Type 0} (o : Option X) → is_some o ≡ true → (x : X) × (o ≡ Some x)
-some_value None e = absurd (cc)
-some_value (Some x) e = (x, refl)
-
--- a test that holds for a value that is there
-pub when_some : {X : Type 0} (b : Bool) (x y : X) → when b x ≡ Some y → (b ≡ true) × (x ≡ y)
-when_some true x y e = (refl, same_Some x y e)
-when_some false x y e = absurd (none-some y e)
+use Rattle.plain_laws.proofs.Laws.{some_value}
 
 no_break : (c : ℕ) → is_break c ≡ false → (c ≢ 9) × (c ≢ 10) × (c ≢ 13)
 no_break c e = (λ is. absurd (grind (arith, nat_tests)), λ is. absurd (grind (arith, nat_tests)), λ is. absurd (grind (arith, nat_tests)))
@@ -112,7 +103,7 @@ count_filled (c ∷ cs) n e = refl
 
 at_most_good : (most : ℕ) (o : Option ℕ) → ForSome (at_most most o) (λ n. n ≤ most)
 at_most_good most None n e = absurd (none-some n e)
-at_most_good most (Some k) n e = let both = when_some (nat_le k most) k n e in let le = leb-true k most both.0 in let is = both.1 in omega arith
+at_most_good most (Some k) n e = let both = cond_some (nat_le k most) k n e in let le = leb-true k most both.0 in let is = both.1 in omega arith
 
 -- what a test lets through
 if_good : (b : Bool) (o : Option ℕ) (most : ℕ) → ForSome o (λ n. n ≤ most) → ForSome (if b then o else None) (λ n. n ≤ most)
@@ -149,7 +140,7 @@ date_good text day e =
     let year = digits_value 10 (take 4 text) in
     let month = digits_value 10 (slice_range text 4 6) in
     let number = digits_value 10 (drop 6 text) in
-    let both = when_some ((length text == 8) && all_ascii_digits text && is_date year month number) (day_number year month number) day e in
+    let both = cond_some ((length text == 8) && all_ascii_digits text && is_date year month number) (day_number year month number) day e in
     let dated = is_dated-day_number year month number (and_parts ((length text == 8) && all_ascii_digits text) (is_date year month number) both.0).1 in
     calendar_day day (subst (λ d. is_dated d ≡ true) both.1 dated)
 
@@ -163,11 +154,11 @@ day_good text e =
 amount_between : (o : Option ℤ) → ForSome (if_between (neg_ℤ most_amount) most_amount o) (λ z. nat_abs z ≤ 10 ^ 12)
 amount_between None z e = absurd (none-some z e)
 amount_between (Some (pos n)) z e =
-    let both = when_some (int_le (neg_ℤ most_amount) (pos n) && int_le (pos n) most_amount) (pos n) z e in
+    let both = cond_some (int_le (neg_ℤ most_amount) (pos n) && int_le (pos n) most_amount) (pos n) z e in
     let high = leb-true n 1000000000000 (and_parts (int_le (neg_ℤ most_amount) (pos n)) (int_le (pos n) most_amount) both.0).1 in
     rw (← both.1) high
 amount_between (Some (negsuc n)) z e =
-    let both = when_some (int_le (neg_ℤ most_amount) (negsuc n) && int_le (negsuc n) most_amount) (negsuc n) z e in
+    let both = cond_some (int_le (neg_ℤ most_amount) (negsuc n) && int_le (negsuc n) most_amount) (negsuc n) z e in
     let high = leb-true n 999999999999 (and_parts (int_le (neg_ℤ most_amount) (negsuc n)) (int_le (negsuc n) most_amount) both.0).0 in
     let size : suc n ≤ 1000000000000 = omega arith in
     rw (← both.1) size

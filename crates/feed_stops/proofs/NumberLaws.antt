@@ -8,15 +8,15 @@ use Rattle.std.specs.Cmp.Lexicographic.{bytes_decides}
 use Rattle.transit_base.specs.declared.numbers.StopId.{StopId}
 use Rattle.feed_rows.specs.declared.rows.StopRow.{StopRow}
 use Rattle.feed_rows.specs.FeedRows.{FeedRows}
-use Rattle.feed_rows.specs.Words.{at_and, find_below}
+use Rattle.plain_laws.specs.Plain.{at_and, find_below}
 use Rattle.feed_rows.specs.Queries.{find_stop, has_stop_id}
-use Rattle.feed_rows.proofs.BelowLaws.{find_below_none, find_below_same}
+use Rattle.plain_laws.proofs.Laws.{find_below_none, find_below-same}
 use Rattle.feed_stops.specs.StopNumbers.{row_with}
 
 -- the first row of a feed with an id
 pub row_with-stops : (feed : FeedRows) (stops : List StopRow) (id : List ℕ) → stops ≡ feed.stops → row_with stops (length stops) id ≡ find_stop feed id
 unfolding has_stop_id
-row_with-stops feed stops id same = rw same (ap (option_map (λ i. record { 0 = i })) (find_below_same (λ i. at_and feed.stops i (λ row. bytes_eq row.id id)) (has_stop_id feed id) (length feed.stops) (λ k lt. refl)))
+row_with-stops feed stops id same = rw same (ap (option_map (λ i. record { 0 = i })) (find_below-same (λ i. at_and feed.stops i (λ row. bytes_eq row.id id)) (has_stop_id feed id) (length feed.stops) (λ k lt. refl)))
 
 abbrev number_of : ℕ → StopId
 number_of i = record { 0 = i }

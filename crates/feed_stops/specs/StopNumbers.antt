@@ -6,7 +6,7 @@ use Rattle.std.specs.Cmp.Lexicographic.{slice_cmp}
 use Rattle.std.specs.BTreeMap.{BTreeMap, get_by}
 use Rattle.transit_base.specs.declared.numbers.StopId.{StopId}
 use Rattle.feed_rows.specs.declared.rows.StopRow.{StopRow}
-use Rattle.feed_rows.specs.Words.{at_and, find_below}
+use Rattle.plain_laws.specs.Plain.{at_and, find_below}
 
 -- the stop that a map has at these bytes
 abbrev pub number_at : BTreeMap (Vec ℕ Global) StopId → List ℕ → Option StopId

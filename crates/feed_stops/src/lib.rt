@@ -8,7 +8,11 @@ ghost use Rattle.feed_rows.specs.StopLinks.{stop_set};
 ghost use Rattle.feed_stops.specs.StopNumbers.{number_at, row_with};
 ghost use Rattle.feed_stops.specs.BuiltStops.{AreStopsOf};
 
-use feed_rows::{Feed, Groups, StopRow, stop_sets};
+mod sets;
+
+use feed_rows::{Feed, StopRow};
+use plain_laws::Groups;
+pub use sets::stop_sets;
 use std::alloc::{AllocError, Global};
 use std::collections::BTreeMap;
 use transit_base::StopId;

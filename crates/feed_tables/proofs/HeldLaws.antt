@@ -8,12 +8,12 @@ use Rattle.std.proofs.lemmas.Option.{none-some}
 use Rattle.feed_rows.specs.declared.names.FileName.{FileName}
 use Rattle.feed_rows.specs.declared.faults.FaultKind.TheVariants as kind
 use Rattle.feed_rows.specs.HeldFiles.{HeldFile}
-use Rattle.feed_rows.specs.Words.{when}
+use Rattle.plain_laws.specs.Plain.{when}
 use Rattle.feed_faults.specs.Records.{row_count, table_of_bytes}
 use Rattle.feed_faults.specs.FeedTables.{table_of}
 use Rattle.feed_faults.specs.FaultPlaces.{file_fault}
 use Rattle.feed_faults.specs.FormFaults.{header_fault, form_fault_of_bytes, form_fault_of_table, is_always_needed}
-use Rattle.feed_faults.proofs.OnLiterals.{bytes_on_literals}
+use Rattle.feed_faults.specs.OnLiterals.{bytes_on_literals}
 use Rattle.feed_text.specs.declared.errors.TextError.{TextError}
 use Rattle.feed_text.specs.declared.errors.TextError.TheVariants as error
 use Rattle.feed_text.specs.TextErrors.{IsErrorOf}

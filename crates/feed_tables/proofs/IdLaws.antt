@@ -7,7 +7,7 @@ use Rattle.std.specs.Cmp.Lexicographic.{slice_cmp}
 use Rattle.std.specs.Ordering.{nat_cmp, ordering_then, ordering_reverse, is_lt, is_eq}
 use Rattle.std.specs.declared.cmp.Ordering.{Ordering}
 use Rattle.std.specs.declared.cmp.Ordering.TheVariants.{Less, Equal, Greater}
-use Rattle.std.proofs.lemmas.Bool.{cases_eq, cases_lt, cases_Bool}
+use Rattle.std.proofs.lemmas.Bool.{cases_eq, cases_lt, cases_Bool, eqb-true, eq-eqb, lt-ltb}
 use Rattle.std.proofs.lemmas.Bool.Decides.{nat_tests}
 use Rattle.std.proofs.lemmas.Cmp.{nat_cmp_total, nat_list_cmp_total, tied_itself, on_total, then_total}
 use Rattle.std.proofs.lemmas.Map.Text.{is_eq-slice_cmp}
@@ -18,20 +18,13 @@ use Rattle.std.proofs.lemmas.List.Elements.{All-push, All-contains}
 use Rattle.std.proofs.lemmas.List.Folds.{list_any-append}
 use Rattle.std.proofs.lemmas.List.Sorted.{All-permutation, list_any-IsPermutation, sorted_far, ranks_by}
 use Rattle.feed_rows.specs.declared.names.ColumnName.{ColumnName}
-use Rattle.feed_rows.specs.Words.{any_below, find_below}
-use Rattle.feed_rows.proofs.BelowLaws.{IsFirst, find_below_hit, find_below_none, find_below_some, find_below_tells, NonePass, any_below_hit, any_below_tells}
-use Rattle.feed_rows.proofs.ShiftLaws.{list_any_tells}
+use Rattle.plain_laws.specs.Plain.{any_below, find_below}
+use Rattle.plain_laws.proofs.Laws.{IsFirst, find_below_hit, find_below_none, find_below_some, find_below_tells, NonePass, any_below_hit, any_below_tells, list_any_tells, same_test}
 use Rattle.feed_faults.specs.Records.{FileTable, row_count, field}
 use Rattle.feed_faults.specs.RowKeys.{row_of, is_doubled}
 use Rattle.feed_tables.specs.declared.id_rows.IdRow.{IdRow}
 use Rattle.feed_tables.proofs.PrefixLaws.{prefix_of_rises}
 use Rattle.feed_tables.specs.OrderedRows.{prefix_of, IsPrefixed, AreIdRows, IsNotAfter, AreOrderedRows, IsPlaceOf, row_at}
-
-same_number : (a b : ℕ) → (a == b) ≡ true → a ≡ b
-same_number a b e = grind (arith, nat_tests)
-
-number_itself : (a b : ℕ) → a ≡ b → (a == b) ≡ true
-number_itself a b e = grind (arith, nat_tests)
 
 -- no row is listed at first
 pub none_listed : (table : FileTable) (name : ColumnName) → AreIdRows table name 0 []
@@ -53,7 +46,7 @@ listed_more table name n rows entry listed lt here same prefixed =
     last false false e = e
 
     each : (i : ℕ) → (i ≡ n) ⊎ (i ≡ n → ⊥) → i < n + 1 → (list_any (λ (x : IdRow). x.row == i) rows || ((entry.row == i) || false)) ≡ true
-    each i (inl at) below = last (list_any (λ (x : IdRow). x.row == i) rows) (entry.row == i) (number_itself entry.row i (here ∙ sym at))
+    each i (inl at) below = last (list_any (λ (x : IdRow). x.row == i) rows) (entry.row == i) (eq-eqb entry.row i (here ∙ sym at))
     each i (inr apart) below = rw (listed.all i (omega arith)) refl
 
 -- by what the rows are sorted
@@ -152,7 +145,7 @@ has_id table name rows id row listed lt e =
     let found = list_any_tells (λ (x : IdRow). x.row == row) rows (listed.all row lt) in
     let entry = found.0 in
     let at = found.1 in
-    let here : entry.row ≡ row = same_number entry.row row found.2 in
+    let here : entry.row ≡ row = eqb-true entry.row row found.2 in
     let own : entry.id.now ≡ field table entry.row name = All-contains (λ (x : IdRow). x.id.now ≡ field table x.row name) rows entry listed.right at in
     let asked : id ≡ field table row name = (bytes_eq-Decides id (field table row name)).0 e in
     record { at = at.0; entry = entry; within = at.1; is = at.2; row_is = here; id_is = own ∙ ap (λ r. field table r name) here ∙ sym asked }
@@ -303,17 +296,6 @@ abbrev pub is_before : Option ℕ → ℕ → Bool
 is_before None row = false
 is_before (Some first) row = nat_lt first row
 
-less_true : (a b : ℕ) → a < b → nat_lt a b ≡ true
-less_true a b lt = grind (arith, nat_tests)
-
-less_false : (a b : ℕ) → b ≤ a → nat_lt a b ≡ false
-less_false a b le = grind (arith, nat_tests)
-
-bool_same : (a b : Bool) → (a ≡ true → b ≡ true) → (b ≡ true → a ≡ true) → a ≡ b
-bool_same true b f g = sym (f refl)
-bool_same false true f g = g refl
-bool_same false false f g = refl
-
 -- a row's id stands in an earlier row exactly where the earliest row with it is another
 pub is_doubled_by_first : (table : FileTable) (name : ColumnName) (row : ℕ) → row < row_count table → is_doubled table name row ≡ is_before (row_of table name (field table row name)) row
 unfolding row_of is_doubled
@@ -323,13 +305,13 @@ is_doubled_by_first table name row lt = step (find_below_some test (row_count ta
     test r = bytes_eq (field table row name) (field table r name)
 
     step : ((i : ℕ) × (find_below (row_count table) test ≡ Some i) × IsFirst test (row_count table) i) → any_below row test ≡ is_before (find_below (row_count table) test) row
-    step found = rw found.1 (bool_same (any_below row test) (nat_lt found.0 row) there back)
+    step found = rw found.1 (same_test (any_below row test) (nat_lt found.0 row) there back)
       where
         there : any_below row test ≡ true → nat_lt found.0 row ≡ true
         there some =
             let hit = any_below_tells test row some in
             let below = hit.1 in
-            less_true found.0 row (⊎_elim (λ (early : hit.0 < found.0). absurd (let no : true ≡ false = sym hit.2 ∙ found.2.earlier hit.0 early in cc)) (λ (late : found.0 ≤ hit.0). omega arith) (cases_lt hit.0 found.0))
+            lt-ltb found.0 row (⊎_elim (λ (early : hit.0 < found.0). absurd (let no : true ≡ false = sym hit.2 ∙ found.2.earlier hit.0 early in cc)) (λ (late : found.0 ≤ hit.0). omega arith) (cases_lt hit.0 found.0))
 
         back : nat_lt found.0 row ≡ true → any_below row test ≡ true
         back e = let below : found.0 < row = grind (arith, nat_tests) in any_below_hit test row found.0 below found.2.passes

@@ -1,27 +1,11 @@
 -- The first fault of several, item by item and one after another.
-use Rattle.std.proofs.Common.{◌≡◌, ℕ, ◌+◌, ◌<◌, List, length, get_or, Option, None, Some, [], ◌∷◌, refl, ap, ◌∙◌}
-use Rattle.std.specs.Prelude.{option_and_then, slice_get}
+use Rattle.std.proofs.Common.{◌≡◌, Option, None, Some, [], ◌∷◌, refl, ap, ◌∙◌}
 use Rattle.std.specs.Option.{option_or}
-use Rattle.std.proofs.lemmas.Option.{slice_get-get_or}
-use Rattle.feed_rows.specs.Words.{first_below, first_in, first_of}
+use Rattle.plain_laws.specs.Plain.{first_of}
 use Rattle.feed_rows.specs.declared.faults.FeedFault.{FeedFault}
-use Rattle.feed_rows.proofs.FirstLaws.{first_below_found}
 use Rattle.feed_text.specs.declared.errors.TextError.{TextError}
 use Rattle.feed_text.specs.declared.errors.TextError.TheVariants as error
 use Rattle.feed_text.specs.TextErrors.{IsErrorOf}
-use Rattle.feed_text.proofs.HeaderLaws.{first_below_next}
-
--- what f gives at an item of a list
-abbrev pub at_item : {X Y : Type 0} → List Y → (Y → Option X) → ℕ → Option X
-at_item ys f k = option_and_then f (slice_get ys k)
-
--- what f gives at an item is the first, where it gives nothing at the items before
-pub first_in_found : {X Y : Type 0} (ys : List Y) (f : Y → Option X) (i : ℕ) (d : Y) (x : X) → i < length ys → first_below i (at_item ys f) ≡ None → f (get_or ys i d) ≡ Some x → first_in ys f ≡ Some x
-first_in_found ys f i d x lt before here = first_below_found (at_item ys f) (length ys) i x lt before (ap (λ o. option_and_then f o) (slice_get-get_or ys i d lt) ∙ here)
-
--- nothing at the items before the next, where nothing before this one, nor at it
-pub first_in_next : {X Y : Type 0} (ys : List Y) (f : Y → Option X) (i : ℕ) (d : Y) → i < length ys → first_below i (at_item ys f) ≡ None → f (get_or ys i d) ≡ None → first_below (i + 1) (at_item ys f) ≡ None
-first_in_next ys f i d lt before here = first_below_next (at_item ys f) i before (ap (λ o. option_and_then f o) (slice_get-get_or ys i d lt) ∙ here)
 
 -- an error of the first is one of the first of two
 pub error_first : (first later : Option FeedFault) (e : TextError) → IsErrorOf first e → IsErrorOf (option_or first later) e

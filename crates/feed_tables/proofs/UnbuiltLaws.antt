@@ -6,12 +6,12 @@ use Rattle.feed_rows.specs.declared.names.FileName.{FileName}
 use Rattle.feed_rows.specs.declared.names.FileName.TheVariants as file
 use Rattle.feed_rows.specs.declared.faults.FaultKind.TheVariants as kind
 use Rattle.feed_rows.specs.HeldFiles.{HeldFile, held}
-use Rattle.feed_rows.specs.Words.{first_of}
+use Rattle.plain_laws.specs.Plain.{first_of}
 use Rattle.feed_faults.specs.Records.{table_of_bytes}
 use Rattle.feed_faults.specs.FaultPlaces.{file_fault}
 use Rattle.feed_faults.specs.FeedTables.{FeedTables, table_of, tables_of}
 use Rattle.feed_faults.specs.FormFaults.{form_fault_of_held, form_fault_of_bytes, form_fault_of_rows, most_rows, form_fault, timetable_form_fault, network_form_fault, fare_form_fault, first_form_fault}
-use Rattle.feed_faults.proofs.OnLiterals.{bytes_on_literals, forms_on_literals}
+use Rattle.feed_faults.specs.OnLiterals.{bytes_on_literals, forms_on_literals}
 use Rattle.folder_io.specs.declared.files.FileBytes.{FileBytes}
 use Rattle.folder_io.specs.FolderCalls.{Contents}
 use Rattle.folder_io.specs.KeptFiles.{held_in}
@@ -165,8 +165,12 @@ fare_form_none files e =
     })
 
 -- where the first pass finds no fault, no file has a fault by itself
-pub no_form_fault : (files : FileName → HeldFile) → first_pass_fault files ≡ None → first_form_fault files ≡ None
+no_form_fault : (files : FileName → HeldFile) → first_pass_fault files ≡ None → first_form_fault files ≡ None
 no_form_fault files e = rw (timetable_form_none files e, network_form_none files e, fare_form_none files e) refl
+
+-- the same, where no group of files has a fault
+pub no_form_fault_of_groups : (files : FileName → HeldFile) → timetable_pass_fault files ≡ None → network_pass_fault files ≡ None → fare_pass_fault files ≡ None → first_form_fault files ≡ None
+no_form_fault_of_groups files no_timetable no_network no_fare = no_form_fault files (rw (no_timetable, no_network, no_fare) refl)
 
 -- and the tables of the files whose rows aren't read have no record
 pub unbuilt_empty : (files : FileName → HeldFile) → first_pass_fault files ≡ None → AreUnbuiltEmpty (tables_of files)

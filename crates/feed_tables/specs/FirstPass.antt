@@ -5,7 +5,7 @@ use Rattle.feed_rows.specs.declared.names.FileName.TheVariants as file
 use Rattle.feed_rows.specs.declared.faults.FaultKind.TheVariants as kind
 use Rattle.feed_rows.specs.declared.faults.FeedFault.{FeedFault}
 use Rattle.feed_rows.specs.HeldFiles.{HeldFile}
-use Rattle.feed_rows.specs.Words.{when, first_of}
+use Rattle.plain_laws.specs.Plain.{when, first_of}
 use Rattle.feed_faults.specs.Records.{is_filled}
 use Rattle.feed_faults.specs.FaultPlaces.{file_fault}
 use Rattle.feed_faults.specs.FormFaults.{form_fault}

@@ -4,7 +4,7 @@ use Rattle.std.specs.List.{list_any}
 use Rattle.std.specs.Cmp.Lexicographic.{slice_cmp}
 use Rattle.std.specs.Ordering.{nat_cmp, ordering_then, is_lt}
 use Rattle.feed_rows.specs.declared.names.ColumnName.{ColumnName}
-use Rattle.feed_rows.specs.Words.{when}
+use Rattle.plain_laws.specs.Plain.{when}
 use Rattle.feed_faults.specs.Records.{FileTable, row_count, field}
 use Rattle.feed_tables.specs.declared.id_rows.IdRow.{IdRow}
 

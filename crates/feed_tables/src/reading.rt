@@ -1,6 +1,7 @@
 //! The tables of a feed, read and judged file by file.
 ghost use Rattle.std.specs.Prelude.{◌≡◌, IfOk, IfErr, OnOk, None};
 ghost use Rattle.feed_faults.specs.FeedTables.{tables_of};
+ghost use Rattle.feed_faults.specs.FormFaults.{first_form_fault};
 ghost use Rattle.feed_text.specs.TextErrors.{IsErrorOf};
 ghost use Rattle.folder_io.specs.KeptFiles.{held_in, AreWithin};
 ghost use Rattle.feed_tables.specs.FirstPass.{first_pass_fault};
@@ -24,6 +25,7 @@ impl Tables {
         requires { AreWithin files.now }
         ensures fault { IfErr result (IsErrorOf (first_pass_fault (held_in files.now))) }
         ensures sound { OnOk result (first_pass_fault (held_in files.now) ≡ None) }
+        ensures formed { OnOk result (first_form_fault (held_in files.now) ≡ None) }
         ensures tables { IfOk result (λ tables. tables ≡ tables_of (held_in files.now)) }
         ensures unbuilt { IfOk result AreUnbuiltEmpty }
     {

@@ -1,6 +1,6 @@
 //! The first fault of a table's rows by themselves.
 ghost use Rattle.std.specs.Prelude.{◌≡◌, ◌<◌};
-ghost use Rattle.feed_rows.specs.Words.{first_in};
+ghost use Rattle.plain_laws.specs.Plain.{first_in};
 ghost use Rattle.feed_faults.specs.Records.{row_count};
 ghost use Rattle.feed_faults.specs.FormFaults.{is_passed_over, judged_columns, form_fault_of_row, form_fault_of_rows};
 ghost use Rattle.feed_tables.specs.FieldFaults.{fault_of_field};
@@ -95,7 +95,7 @@ fn fault_of_row(file: FileName, table: &NamedTable, row: u32) -> Option<FeedFaul
 }
 
 /// The first fault of a table's rows.
-#[tactic(auto, using(feed_rows::proofs::FirstLaws::first_below_found, feed_text::proofs::HeaderLaws::first_below_next), unfolding(feed_faults::specs::FormFaults::form_fault_of_rows))]
+#[tactic(auto, using(plain_laws::proofs::Laws::firsts), unfolding(feed_faults::specs::FormFaults::form_fault_of_rows))]
 pub fn fault_of_rows(file: FileName, table: &NamedTable) -> Option<FeedFault>
     ensures { result ≡ form_fault_of_rows file table.now }
 {

@@ -8,7 +8,7 @@ use Rattle.std.proofs.lemmas.Bool.Decides.{nat_tests}
 use Rattle.jiff_core.specs.Calendar.{days_in_month}
 use Rattle.jiff_core.proofs.CalendarLemmas.{days_in_month_bounds}
 use Rattle.transit_base.specs.Dates.{is_date, day_number}
-use Rattle.feed_rows.specs.Words.{when}
+use Rattle.plain_laws.specs.Plain.{when}
 use Rattle.feed_rows.specs.Numerals.{number_value, at_most}
 use Rattle.feed_rows.specs.WordValues.{day_value}
 use Rattle.feed_faults.specs.FieldGrammars.{date_value}

@@ -7,34 +7,24 @@ use Rattle.std.specs.Str.Parse.{digits_value}
 use Rattle.std.proofs.lemmas.Bool.Decides.{nat_tests}
 use Rattle.std.proofs.lemmas.Int.Digits.{digits_value_more}
 use Rattle.std.proofs.lemmas.Str.Parse.{digits_value-take-le}
-use Rattle.feed_rows.specs.Words.{when}
+use Rattle.plain_laws.specs.Plain.{when}
 use Rattle.feed_rows.specs.Numerals.{number_value, at_most}
-
-both : (x y : Bool) → (x && y) ≡ true → (x ≡ true) × (y ≡ true)
-both true y e = (refl, e)
-both false y e = absurd (cc)
-
-joined : (x y : Bool) → x ≡ true → y ≡ true → (x && y) ≡ true
-joined x y a b = rw (a, b) refl
-
-second_fails : (x y : Bool) → y ≡ false → (x && y) ≡ false
-second_fails true y e = e
-second_fails false y e = refl
+use Rattle.std.proofs.lemmas.Bool.{and_parts, and_from, and_right}
 
 -- digits, and one more
 pub all_more : (bs : List ℕ) (i : ℕ) → i < length bs → all_ascii_digits (take i bs) ≡ true → is_ascii_digit (get_or bs i 0) ≡ true
     → all_ascii_digits (take (i + 1) bs) ≡ true
 all_more [] i lt a d = absurd (omega arith)
-all_more (b ∷ bs) zero lt a d = joined (is_ascii_digit b) true d refl
+all_more (b ∷ bs) zero lt a d = and_from (is_ascii_digit b) true d refl
 all_more (b ∷ bs) (suc i) lt a d =
-    let parts = both (is_ascii_digit b) (all_ascii_digits (take i bs)) a in
+    let parts = and_parts (is_ascii_digit b) (all_ascii_digits (take i bs)) a in
     let later = rw (add-one i) at (all_more bs i (omega arith) parts.1 d) in
-    rw (add-one (suc i)) (joined (is_ascii_digit b) (all_ascii_digits (take (suc i) bs)) parts.0 later)
+    rw (add-one (suc i)) (and_from (is_ascii_digit b) (all_ascii_digits (take (suc i) bs)) parts.0 later)
 
 not_all : (bs : List ℕ) (i : ℕ) → i < length bs → is_ascii_digit (get_or bs i 0) ≡ false → all_ascii_digits bs ≡ false
 not_all [] i lt d = absurd (omega arith)
 not_all (b ∷ bs) zero lt d = ap (λ (x : Bool). x && all_ascii_digits bs) d
-not_all (b ∷ bs) (suc i) lt d = second_fails (is_ascii_digit b) (all_ascii_digits bs) (not_all bs i (omega arith) d)
+not_all (b ∷ bs) (suc i) lt d = and_right (is_ascii_digit b) (all_ascii_digits bs) (not_all bs i (omega arith) d)
 
 -- a text with another byte is no number
 pub no_number : (bs : List ℕ) (n i : ℕ) → i < length bs → is_ascii_digit (get_or bs i 0) ≡ false → None ≡ at_most n (number_value bs)

@@ -1,10 +1,10 @@
 -- Headers, and the columns that are found in them.
-use Rattle.std.proofs.Common.{◌≡◌, ℕ, zero, suc, ◌+◌, ◌<◌, ◌≤◌, Bool, true, false, [], ◌∷◌, length, refl, arith, Option, None, Some, nat_lt}
+use Rattle.std.proofs.Common.{◌≡◌, ℕ, zero, suc, ◌<◌, ◌≤◌, Bool, true, false, [], ◌∷◌, length, refl, arith, None, Some, nat_lt}
 use Rattle.std.specs.Prelude.{nat_le, ◌&&◌}
 use Rattle.std.proofs.lemmas.Bool.Decides.{nat_tests}
 use Rattle.feed_rows.specs.declared.names.FileName.{FileName}
 use Rattle.feed_rows.specs.declared.faults.FaultKind.TheVariants as kind
-use Rattle.feed_rows.specs.Words.{when, any_below, first_below}
+use Rattle.plain_laws.specs.Plain.{when, any_below}
 use Rattle.feed_faults.specs.Records.{FileTable, header, row_count}
 use Rattle.feed_faults.specs.FaultPlaces.{file_fault}
 use Rattle.feed_faults.specs.FormFaults.{form_fault_of_table}
@@ -14,20 +14,12 @@ pub no_header : (table : FileTable) → length table ≡ 0 → length (header ta
 no_header [] e = refl
 no_header (r ∷ rs) e = absurd (omega (arith, e))
 
--- none below the next number passes the test, where none below this one does, nor this one
-pub any_below_next : (test : ℕ → Bool) (i : ℕ) → any_below i test ≡ false → test i ≡ false → any_below (i + 1) test ≡ false
-any_below_next test i none here = let e : i + 1 ≡ suc i = omega arith in rw (e, none, here) refl
-
 -- no number below the first that may pass does
 pub none_before : (past : ℕ) (test : ℕ → Bool) (n : ℕ) → n ≤ past → any_below n (λ c. nat_le past c && test c) ≡ false
 none_before past test zero le = refl
 none_before past test (suc n) le =
     let no : nat_le past n ≡ false = grind (arith, nat_tests, le) in
     rw (none_before past test n (omega (arith, le)), no) refl
-
--- the first below the next number, where there is none below this one, nor at this one
-pub first_below_next : {X : Type 0} (f : ℕ → Option X) (i : ℕ) → first_below i f ≡ None → f i ≡ None → first_below (i + 1) f ≡ None
-first_below_next f i none here = let e : i + 1 ≡ suc i = omega arith in rw (e, none, here) refl
 
 -- a table with too many rows
 pub too_many : (needed : Bool) (most : ℕ) (file : FileName) (table : FileTable) → None ≡ when (nat_le (row_count table) most) table

@@ -7,7 +7,7 @@ use Rattle.csv.specs.declared.parser.State.TheVariants as st
 use Rattle.csv.specs.Reading.{default_config, strip_bom, ReadRecord, Reached, records, source_of, reader_config, reader_trim, reader_state, reader_headers, names_headers, took_first, builder_config, builder_names_headers, builder_trim, with_names_headers, with_flexible}
 use Rattle.std.specs.Prelude.{map, nat_le}
 use Rattle.std.proofs.lemmas.Bool.Decides.{nat_tests}
-use Rattle.feed_rows.specs.Words.{when}
+use Rattle.plain_laws.specs.Plain.{when}
 use Rattle.std.proofs.lemmas.List.{map-append, length-map}
 use Rattle.csv.proofs.ReadFacts.{rows-more, rows-end}
 use Rattle.feed_text.specs.Reader.{StandsBehind}

@@ -10,7 +10,7 @@ use crate::numbers::{number_of, small_number_of};
 use transit_base::Money;
 
 // Where the first point stands.
-#[tactic(auto, using(feed_rows::proofs::FirstLaws::find_below_found, feed_rows::proofs::FirstLaws::find_below_next))]
+#[tactic(auto, using(plain_laws::proofs::Laws::found_firsts))]
 fn point_of(text: &[u8]) -> Option<usize>
     ensures value { result ≡ point_place text.now }
     ensures within { IfSome result (λ i. i < length text.now) }

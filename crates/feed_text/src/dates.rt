@@ -3,7 +3,7 @@ ghost use Rattle.std.specs.Prelude.{◌≡◌, ◌≤◌, option_map, length, ta
 ghost use Rattle.transit_base.specs.Dates.{is_date, day_number};
 ghost use Rattle.feed_rows.specs.Numerals.{number_value};
 ghost use Rattle.feed_rows.specs.WordValues.{day_value};
-ghost use Rattle.feed_rows.specs.Words.{when};
+ghost use Rattle.plain_laws.specs.Plain.{when};
 ghost use Rattle.feed_faults.specs.FieldGrammars.{date_value};
 
 use crate::numbers::small_number_of;

@@ -1,7 +1,7 @@
 //! The first faults of a file: as a whole, and of its header.
 ghost use Rattle.std.specs.Prelude.{◌≡◌, ◌≤◌, length, IfOk, IfErr, OnOk, None};
 ghost use Rattle.std.specs.Str.{is_utf8};
-ghost use Rattle.feed_rows.specs.Words.{first_in};
+ghost use Rattle.plain_laws.specs.Plain.{first_in};
 ghost use Rattle.feed_rows.specs.HeldFiles.{most_bytes};
 ghost use Rattle.feed_faults.specs.Records.{table_of_bytes};
 ghost use Rattle.feed_faults.specs.FaultPlaces.{file_fault, column_fault};
@@ -98,7 +98,7 @@ fn missing_column(file: FileName, table: &Table, rule: ColumnRule) -> Option<Fee
 }
 
 // The fault of the first listed column that stands twice.
-#[tactic(auto, using(feed_rows::proofs::FirstLaws::first_below_found, crate::proofs::HeaderLaws::first_below_next))]
+#[tactic(auto, using(plain_laws::proofs::Laws::firsts))]
 fn first_doubled(file: FileName, table: &Table) -> Option<FeedFault>
     ensures { result ≡ first_in (columns_of file) (doubled_column file table.now) }
 {
@@ -112,7 +112,7 @@ fn first_doubled(file: FileName, table: &Table) -> Option<FeedFault>
 }
 
 // The fault of the first listed column that must be there and isn't.
-#[tactic(auto, using(feed_rows::proofs::FirstLaws::first_below_found, crate::proofs::HeaderLaws::first_below_next))]
+#[tactic(auto, using(plain_laws::proofs::Laws::firsts))]
 fn first_missing(file: FileName, table: &Table) -> Option<FeedFault>
     ensures { result ≡ first_in (columns_of file) (missing_column file table.now) }
 {

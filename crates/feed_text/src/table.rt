@@ -1,7 +1,7 @@
 //! A file as a table, kept flat.
 ghost use Rattle.std.specs.Prelude.{◌≡◌, ◌≤◌, ◌<◌, ◌+◌, ◌-◌, ◌^◌, ◌++◌, ◌∷◌, [], List, ℕ, length, map, get_or, slice_index, IfOk, OnOk, IfSome, Some, bytes_eq, nat_le, nat_lt, not};
 ghost use Rattle.csv.specs.Records.{fields_of};
-ghost use Rattle.feed_rows.specs.Words.{when, any_below};
+ghost use Rattle.plain_laws.specs.Plain.{when, any_below};
 ghost use Rattle.feed_rows.specs.Names.{column_text};
 ghost use Rattle.feed_faults.specs.Records.{FileTable, table_of_bytes, cut, header, row_count, data_row, column_of, field, is_filled, is_long};
 ghost use Rattle.feed_faults.specs.FormFaults.{is_twice};
@@ -161,7 +161,7 @@ impl Table {
     }
 
     /// The place of the first column of this name. None exactly where the header lacks it.
-    #[tactic(auto, using(feed_rows::proofs::FirstLaws::find_below_found, feed_rows::proofs::FirstLaws::find_below_next), unfolding(feed_faults::specs::Records::column_of))]
+    #[tactic(auto, using(plain_laws::proofs::Laws::found_firsts), unfolding(feed_faults::specs::Records::column_of))]
     pub fn column(&self, name: ColumnName) -> Option<u32>
         ensures place { result ≡ column_of self.now name }
         ensures within { IfSome result (λ column. column < length (header self.now)) }
@@ -196,7 +196,7 @@ impl Table {
     }
 
     /// Whether a data row has a field past the header that isn't empty.
-    #[tactic(auto, using(crate::proofs::HeaderLaws::any_below_next, crate::proofs::HeaderLaws::none_before), unfolding(feed_faults::specs::Records::is_long))]
+    #[tactic(auto, using(plain_laws::proofs::Laws::any_below_next, crate::proofs::HeaderLaws::none_before), unfolding(feed_faults::specs::Records::is_long))]
     pub fn extra(&self, row: u32) -> bool
         requires { row < row_count self.now }
         ensures { result ≡ is_long self.now row }

@@ -1,12 +1,7 @@
 //! The values of fields. One that is no value of its column gives the one after the greatest.
 ghost use Rattle.std.specs.Prelude.{◌≡◌, ◌≤◌, ◌<◌, ◌+◌, ◌^◌};
 ghost use Rattle.feed_faults.specs.Records.{is_filled};
-ghost use Rattle.feed_faults.specs.FieldValues.{
-  int_or_past,
-  optional_int,
-  day_or_past,
-  amount_or_past,
-};
+ghost use Rattle.feed_faults.specs.FieldValues.{int_or_past, optional_int, day_or_past, amount_or_past};
 
 use crate::amounts::amount_of;
 use crate::dates::date_of;

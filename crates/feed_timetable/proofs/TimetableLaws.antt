@@ -1,10 +1,10 @@
 -- Bounds that a feed without faults keeps, and on which days its trips run.
-use Rattle.std.proofs.Common.{◌≡◌, sym, ◌∙◌, ap, subst, get_or, filter, ℕ, ◌+◌, ◌^◌, ◌<◌, Bool, List, [], ◌∷◌, ◌++◌, length, true, arith, ℤ, pos, negsuc, ◌≤ℤ◌, ◌<ℤ◌, ◌-ℤ◌, add-one}
+use Rattle.std.proofs.Common.{◌≡◌, sym, ◌∙◌, ap, subst, get_or, filter, ℕ, ◌^◌, ◌<◌, Bool, List, length, true, arith, ℤ, pos, negsuc, ◌≤ℤ◌, ◌<ℤ◌, ◌-ℤ◌}
 use Rattle.std.specs.Prelude.{◌==◌, Some, slice_get}
 use Rattle.std.proofs.lemmas.Option.{get_or_from_slice_get, slice_get-get_or}
 use Rattle.std.proofs.lemmas.List.Sums.{length-filter, count_by-le-length}
 use Rattle.feed_rows.specs.declared.rows.StopTimeRow.{StopTimeRow}
-use Rattle.feed_rows.proofs.SequenceLaws.{length-in_sequence}
+use Rattle.feed_laws.proofs.SequenceLaws.{length-in_sequence}
 use Rattle.std.proofs.lemmas.Int.{ints}
 use Rattle.std.proofs.lemmas.List.Elements.{Contains-get_or}
 use Rattle.transit_base.specs.declared.numbers.TripId.{TripId}
@@ -15,12 +15,12 @@ use Rattle.feed_rows.specs.Calls.{calls_of}
 use Rattle.feed_rows.specs.Shifts.{is_shift, shifts_of}
 use Rattle.feed_rows.specs.Rides.{runs_on}
 use Rattle.feed_rows.specs.ServiceDays.{is_active}
-use Rattle.feed_rows.specs.Words.{list_below}
-use Rattle.feed_rows.proofs.GroupLaws.{length-list_below, slice_get-list_below}
-use Rattle.feed_rows.proofs.CallLaws.{length-calls_of}
-use Rattle.feed_rows.proofs.CallTimes.{first_departure_most}
-use Rattle.feed_rows.proofs.ShiftLaws.{found_from_Contains, list_any-shifts_of, is_shift_bounds}
-use Rattle.feed_rows.proofs.SoundTrips.{sound_trip}
+use Rattle.plain_laws.specs.Plain.{list_below}
+use Rattle.plain_laws.proofs.Laws.{length-list_below, slice_get-list_below}
+use Rattle.feed_laws.proofs.CallLaws.{length-calls_of}
+use Rattle.feed_laws.proofs.CallTimes.{first_departure_most}
+use Rattle.feed_laws.proofs.ShiftLaws.{found_from_Contains, list_any-shifts_of, is_shift_bounds}
+use Rattle.feed_laws.proofs.SoundTrips.{sound_trip}
 use Rattle.feed_timetable.specs.Standings.{AreShifts}
 
 -- a trip has no more calls than there are stop times
@@ -46,10 +46,6 @@ shift_bounds feed trip sound k d lt =
   where
     within : (z : ℤ) → (pos 0 -ℤ pos 604_799) ≤ℤ z → z <ℤ pos 604_799 → (negsuc 699_999 ≤ℤ z) × (z ≤ℤ pos 700_000)
     within z low high = (omega (arith, ints), omega (arith, ints))
-
--- one item more of a list that is made number by number
-pub list_below_more : {X : Type 0} (n : ℕ) (f : ℕ → X) (xs ys : List X) (x : X) → xs ≡ list_below n f → ys ≡ xs ++ x ∷ [] → x ≡ f n → ys ≡ list_below (n + 1) f
-list_below_more n f xs ys x before push is = rw add-one (push ∙ ap (λ zs. zs ++ x ∷ []) before ∙ ap (λ z. list_below n f ++ z ∷ []) is)
 
 -- the service of a trip has a name
 pub trip_service : (feed : FeedRows) (i : ℕ) (row : TripRow) → IsSoundFeed feed → row ≡ get_or feed.trips i row → i < length feed.trips → row.service.0 < length feed.service_names

@@ -8,7 +8,7 @@ ghost use Rattle.feed_rows.specs.Calls.{calls_of, first_departure};
 ghost use Rattle.feed_rows.specs.Shifts.{has_frequencies, shifts_of};
 ghost use Rattle.feed_rows.specs.Rides.{runs_on, ride_facts};
 ghost use Rattle.feed_rows.specs.ServiceDays.{is_active};
-ghost use Rattle.feed_rows.specs.Words.{list_below};
+ghost use Rattle.plain_laws.specs.Plain.{list_below};
 ghost use Rattle.feed_rows.specs.Queries.{find_stop};
 ghost use Rattle.feed_rows.specs.StopLinks.{link, stop_set};
 ghost use Rattle.feed_rows.specs.Journeys.{stands_for, access, egress, direct, is_caught};

@@ -2,37 +2,30 @@
 use Rattle.std.proofs.Common.{◌≡◌, refl, sym, ap, ℕ, zero, suc, ◌+◌, ◌-◌, ◌<◌, ◌≤◌, ◌⊎◌, inl, inr, Bool, true, false, ◌==◌, nat_lt, List, [], ◌∷◌, ◌++◌, length, get_or, take, drop, map, filter, arith}
 use Rattle.std.specs.Prelude.{slice_range}
 use Rattle.std.specs.List.Sorted.{IsNonDecreasing, IsNonDecreasingBy}
-use Rattle.std.proofs.lemmas.Bool.{cases_lt, cases_eq}
+use Rattle.std.proofs.lemmas.Bool.{cases_lt, cases_eq, lt-ltb, le-ltb}
 use Rattle.std.proofs.lemmas.Bool.Decides.{nat_tests}
 use Rattle.std.proofs.lemmas.List.{length-map, length-append, length-take, length-drop, take-append-le, drop-append-le, take_all, drop_at}
-use Rattle.feed_rows.specs.Words.{list_below, joined_below}
-use Rattle.feed_rows.proofs.GroupLaws.{length-list_below}
-use Rattle.trip_order.proofs.SortLaws.{get_or-list_below}
+use Rattle.plain_laws.specs.Plain.{list_below, joined_below}
+use Rattle.plain_laws.proofs.Laws.{length-list_below, get_or-list_below}
 use Rattle.feed_trips.specs.Groups.{count_less, IsGroup, group, IsGroupOf}
 
 -- a list that ascends does so without its first item
 up_tail : {X : Type 0} (key : X → ℕ) (x : X) (xs : List X) → IsNonDecreasingBy key (x ∷ xs) → IsNonDecreasingBy key xs
 up_tail key x xs up i j d le lt = up (suc i) (suc j) d (omega arith) (omega arith)
 
-less : (a b : ℕ) → a < b → nat_lt a b ≡ true
-less a b lt = grind (arith, nat_tests)
-
-not_less : (a b : ℕ) → b ≤ a → nat_lt a b ≡ false
-not_less a b le = grind (arith, nat_tests)
-
--- the numbers less than n are those before a place, where those before it are less and that at it isn't
+-- the numbers lt-ltb than n are those before a place, where those before it are lt-ltb and that at it isn't
 pub count_less_is : (numbers : List ℕ) (n at : ℕ) → IsNonDecreasing numbers → at ≤ length numbers → ((k : ℕ) → k < at → get_or numbers k 0 < n) → (at < length numbers → n ≤ get_or numbers at 0) → count_less numbers n ≡ at
 count_less_is [] n at up le before after = omega arith
 count_less_is (x ∷ xs) n zero up le before after =
     let here : n ≤ x = after (omega arith) in
     let rest : count_less xs n ≡ 0 = count_less_is xs n 0 (up_tail (λ y. y) x xs up) (omega arith) (λ k lt. absurd (omega arith)) (λ some. let rise : x ≤ get_or xs 0 0 = up 0 1 0 (omega arith) (omega arith) in omega arith) in
-    rw (not_less x n here) rest
+    rw (le-ltb x n here) rest
 count_less_is (x ∷ xs) n (suc at) up le before after =
     let here : x < n = before 0 (omega arith) in
     let rest : count_less xs n ≡ at = count_less_is xs n at (up_tail (λ y. y) x xs up) (omega arith) (λ k lt. before (suc k) (omega arith)) (λ some. after (omega arith)) in
-    rw (less x n here, rest) refl
+    rw (lt-ltb x n here, rest) refl
 
--- one more number is less
+-- one more number is lt-ltb
 pub less_more : (numbers : List ℕ) (n at : ℕ) → ((k : ℕ) → k < at → get_or numbers k 0 < n) → get_or numbers at 0 < n → (k : ℕ) → k < at + 1 → get_or numbers k 0 < n
 less_more numbers n at before here k lt = step (cases_eq k at)
   where
@@ -40,12 +33,12 @@ less_more numbers n at before here k lt = step (cases_eq k at)
     step (inl same) = rw same here
     step (inr apart) = before k (omega arith)
 
--- none is less than 0
+-- none is lt-ltb than 0
 pub count_less_zero : (numbers : List ℕ) → count_less numbers 0 ≡ 0
 count_less_zero [] = refl
-count_less_zero (x ∷ xs) = let no = not_less x 0 (omega arith) in rw (no, count_less_zero xs) refl
+count_less_zero (x ∷ xs) = let no = le-ltb x 0 (omega arith) in rw (no, count_less_zero xs) refl
 
--- as many or more are less than a greater number, and no more than there are
+-- as many or more are lt-ltb than a greater number, and no more than there are
 pub count_less_rises : (numbers : List ℕ) (n : ℕ) → count_less numbers n ≤ count_less numbers (n + 1)
 count_less_rises [] n = omega arith
 count_less_rises (x ∷ xs) n = step (count_less_rises xs n) (nat_lt x n) refl (nat_lt x (n + 1)) refl
@@ -68,12 +61,12 @@ count_less_most (x ∷ xs) n = step (count_less_most xs n) (nat_lt x n) refl
     step rest false e = rw e (omega arith)
 
 module _ {X : Type 0} (key : X → ℕ) where
-  -- where the first item isn't less, none is
+  -- where the first item isn't lt-ltb, none is
   none_less : (x : X) (xs : List X) (n : ℕ) → IsNonDecreasingBy key (x ∷ xs) → n ≤ key x → count_less (map key xs) n ≡ 0
   none_less x [] n up le = refl
   none_less x (y ∷ ys) n up le =
       let rise : key x ≤ key y = up 0 1 x (omega arith) (omega arith) in
-      rw (not_less (key y) n (omega arith)) (none_less y ys n (up_tail key x (y ∷ ys) up) (omega arith))
+      rw (le-ltb (key y) n (omega arith)) (none_less y ys n (up_tail key x (y ∷ ys) up) (omega arith))
 
   -- and where it is greater, none is equal
   none_equal : (x : X) (xs : List X) (n : ℕ) → IsNonDecreasingBy key (x ∷ xs) → n < key x → filter (λ y. key y == n) xs ≡ []
@@ -91,21 +84,21 @@ module _ {X : Type 0} (key : X → ℕ) where
       step : slice_range xs (count_less (map key xs) n) (count_less (map key xs) (n + 1)) ≡ filter (λ y. key y == n) xs → (key x < n) ⊎ (n ≤ key x) → (n < key x) ⊎ (key x ≤ n)
           → slice_range (x ∷ xs) (count_less (map key (x ∷ xs)) n) (count_less (map key (x ∷ xs)) (n + 1)) ≡ filter (λ y. key y == n) (x ∷ xs)
       step rest (inl lt) _ =
-          let a = less (key x) n lt in
-          let b = less (key x) (n + 1) (omega arith) in
+          let a = lt-ltb (key x) n lt in
+          let b = lt-ltb (key x) (n + 1) (omega arith) in
           let other : (key x == n) ≡ false = grind (arith, nat_tests) in
           let same : suc (count_less (map key xs) (n + 1)) - suc (count_less (map key xs) n) ≡ count_less (map key xs) (n + 1) - count_less (map key xs) n = omega arith in
           rw (a, b, other, same) rest
       step rest (inr ge) (inl gt) =
-          let a = not_less (key x) n ge in
-          let b = not_less (key x) (n + 1) (omega arith) in
+          let a = le-ltb (key x) n ge in
+          let b = le-ltb (key x) (n + 1) (omega arith) in
           let other : (key x == n) ≡ false = grind (arith, nat_tests) in
           let none = none_less x xs n up ge in
           let none_next = none_less x xs (n + 1) up (omega arith) in
           rw (a, b, other, none, none_next, none_equal x xs n up gt) refl
       step rest (inr ge) (inr le) =
-          let a = not_less (key x) n ge in
-          let b = less (key x) (n + 1) (omega arith) in
+          let a = le-ltb (key x) n ge in
+          let b = lt-ltb (key x) (n + 1) (omega arith) in
           let here : (key x == n) ≡ true = grind (arith, nat_tests) in
           let none = none_less x xs n up ge in
           let whole : count_less (map key xs) (n + 1) - 0 ≡ count_less (map key xs) (n + 1) = omega arith in

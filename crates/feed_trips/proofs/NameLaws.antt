@@ -6,8 +6,7 @@ use Rattle.std.specs.List.Sorted.{IsSortedByKey}
 use Rattle.std.specs.Cmp.Lexicographic.{slice_cmp}
 use Rattle.std.specs.Ordering.{nat_cmp, is_eq}
 use Rattle.std.specs.declared.cmp.Ordering.TheVariants.{Equal}
-use Rattle.std.proofs.lemmas.Bool.{cases_eq, cases_Bool}
-use Rattle.std.proofs.lemmas.Bool.Decides.{nat_tests}
+use Rattle.std.proofs.lemmas.Bool.{cases_eq, cases_Bool, eqb-true, eq-eqb}
 use Rattle.std.proofs.lemmas.Cmp.{nat_list_cmp_total, tied_itself}
 use Rattle.std.proofs.lemmas.Map.Text.{is_eq-slice_cmp}
 use Rattle.std.proofs.lemmas.Slice.Eq.{bytes_eq-Decides}
@@ -17,20 +16,13 @@ use Rattle.std.proofs.lemmas.List.Folds.{list_any-append}
 use Rattle.std.proofs.lemmas.List.Sorted.{All-permutation, list_any-IsPermutation}
 use Rattle.feed_rows.specs.declared.rows.TripRow.{TripRow}
 use Rattle.feed_rows.specs.FeedRows.{FeedRows}
-use Rattle.feed_rows.specs.Words.{find_below}
+use Rattle.plain_laws.specs.Plain.{find_below}
 use Rattle.feed_rows.specs.Queries.{has_trip_id, find_trip}
 use Rattle.feed_rows.specs.SoundTimetable.{AreSoundTrips}
-use Rattle.feed_rows.proofs.BelowLaws.{find_below_hit, find_below_none}
-use Rattle.feed_rows.proofs.FeedReadings.{same_trip}
-use Rattle.feed_rows.proofs.ShiftLaws.{list_any_tells}
+use Rattle.plain_laws.proofs.Laws.{find_below_hit, find_below_none, list_any_tells}
+use Rattle.feed_laws.proofs.FeedReadings.{same_trip}
 use Rattle.feed_trips.specs.declared.ids.NamedTrip.{NamedTrip}
 use Rattle.feed_trips.specs.NamedTrips.{AreNamed, AreNamedInOrder}
-
-same_number : (a b : ℕ) → (a == b) ≡ true → a ≡ b
-same_number a b e = grind (arith, nat_tests)
-
-number_itself : (a b : ℕ) → a ≡ b → (a == b) ≡ true
-number_itself a b e = grind (arith, nat_tests)
 
 -- a trip that has the id, by its row
 pub has_id_tells : (feed : FeedRows) (id : List ℕ) (i : ℕ) → has_trip_id feed id i ≡ true → (row : TripRow) × (slice_get feed.trips i ≡ Some row) × (row.id ≡ id)
@@ -64,7 +56,7 @@ named_more feed n names name d named lt here same =
     last false false e = e
 
     each : (i : ℕ) → (i ≡ n) ⊎ (i ≡ n → ⊥) → i < n + 1 → (list_any (λ (x : NamedTrip). x.trip.0 == i) names || ((name.trip.0 == i) || false)) ≡ true
-    each i (inl at) below = last (list_any (λ (x : NamedTrip). x.trip.0 == i) names) (name.trip.0 == i) (number_itself name.trip.0 i (here ∙ sym at))
+    each i (inl at) below = last (list_any (λ (x : NamedTrip). x.trip.0 == i) names) (name.trip.0 == i) (eq-eqb name.trip.0 i (here ∙ sym at))
     each i (inr apart) below = rw (named.all i (omega arith)) refl
 
 -- in another order the trips are named too
@@ -120,7 +112,7 @@ find_trip_none feed names id named apart = rw none refl
         step (inl too) =
             let found = list_any_tells (λ (x : NamedTrip). x.trip.0 == k) names (named.named.all k below) in
             let name = found.0 in
-            let here : name.trip.0 ≡ k = same_number name.trip.0 k found.2 in
+            let here : name.trip.0 ≡ k = eqb-true name.trip.0 k found.2 in
             let own = has_id_tells feed name.id.now name.trip.0 (All-contains (λ (x : NamedTrip). has_trip_id feed x.id.now x.trip.0 ≡ true) names name named.named.right found.1) in
             let row = has_id_tells feed id k too in
             let one : own.0 ≡ row.0 = same_Some own.0 row.0 (sym own.1 ∙ ap (λ i. slice_get feed.trips i) here ∙ row.1) in

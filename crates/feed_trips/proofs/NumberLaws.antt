@@ -11,9 +11,9 @@ use Rattle.std.proofs.lemmas.List.{length-take-le, get_or-take, get_or_default}
 use Rattle.std.proofs.lemmas.List.Kept.{IsStrictlySortedBy-dedup, Contains-dedup, Contains-from_dedup}
 use Rattle.std.proofs.lemmas.List.Sorted.{Contains-permutation, IsPermutation-sym}
 use Rattle.std.proofs.lemmas.Map.Keys.{Less-from_sorted}
-use Rattle.feed_rows.specs.Ascending.{IsAscending, IsPastLast}
+use Rattle.plain_laws.specs.Plain.{IsAscending, IsPastLast}
 use Rattle.feed_rows.specs.Shifts.{ascending_of}
-use Rattle.feed_rows.proofs.ShiftLaws.{ascending_of_only}
+use Rattle.feed_laws.proofs.ShiftLaws.{ascending_of_only}
 
 -- numbers that are sorted and from which doubles are taken are those in ascending order
 pub ascending_of_sorted : (numbers sorted : List ℤ) → IsPermutation numbers sorted → IsSorted int_cmp sorted → dedup int_eq sorted ≡ ascending_of numbers

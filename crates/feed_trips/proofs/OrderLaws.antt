@@ -5,12 +5,11 @@ use Rattle.std.proofs.lemmas.Bool.{cases_eq}
 use Rattle.std.proofs.lemmas.List.{length-map, get_or-map, map-append, take_more}
 use Rattle.std.proofs.lemmas.List.Sorted.{IsPermutation-map}
 use Rattle.std.proofs.Math.Seq.{take-length}
-use Rattle.feed_rows.specs.Words.{list_below}
+use Rattle.plain_laws.specs.Plain.{list_below}
 use Rattle.feed_rows.specs.declared.rows.StopTimeRow.{StopTimeRow}
-use Rattle.feed_rows.proofs.TripLaws.{IsInOrder}
+use Rattle.feed_laws.proofs.TripLaws.{IsInOrder}
 use Rattle.trip_order.specs.declared.keys.PlaceKey.{PlaceKey}
-use Rattle.trip_order.specs.Order.{no_time, numbered_at, key_of, no_key, key_at, AreSorted}
-use Rattle.trip_order.proofs.SortLaws.{Precedes, key_is, in_order}
+use Rattle.trip_order.specs.Order.{no_time, numbered_at, key_of, no_key, key_at, AreSorted, Precedes}
 
 -- the row of a key
 abbrev pub row_of : List StopTimeRow → PlaceKey → StopTimeRow
@@ -34,9 +33,9 @@ moved_by_keys rows keys are =
 pub in_order_by_keys : (rows : List StopTimeRow) (keys : List PlaceKey) → AreSorted rows keys → AllPairs IsInOrder (map (row_of rows) keys)
 in_order_by_keys rows keys are i j d lt within =
     let below : j < length keys = rw length-map at within in
-    let first = (key_is rows keys are i (omega arith)).0 in
-    let second = (key_is rows keys are j below).0 in
-    rw (get_or-map (row_of rows) keys i no_key d (omega arith), get_or-map (row_of rows) keys j no_key d below) (told (key_at keys i) (key_at keys j) first second (in_order rows keys are i j lt below))
+    let first = (are.own i (omega arith)).0 in
+    let second = (are.own j below).0 in
+    rw (get_or-map (row_of rows) keys i no_key d (omega arith), get_or-map (row_of rows) keys j no_key d below) (told (key_at keys i) (key_at keys j) first second (are.in_order i j lt below))
   where
     rise : (a b : PlaceKey) (x y : StopTimeRow) → a.trip ≡ x.trip.0 → a.sequence ≡ x.sequence → b.trip ≡ y.trip.0 → b.sequence ≡ y.sequence → Precedes a b → IsInOrder x y
     rise a b x y at aq bt bq is = grind (arith, is, at, aq, bt, bq)

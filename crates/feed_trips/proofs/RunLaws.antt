@@ -4,11 +4,13 @@ use Rattle.std.specs.List.{list_any}
 use Rattle.transit_base.specs.declared.numbers.TripId.{TripId}
 use Rattle.feed_rows.specs.declared.rows.FrequencyRow.{FrequencyRow}
 use Rattle.feed_rows.specs.FeedRows.{FeedRows}
-use Rattle.feed_rows.specs.Words.{int_same}
+use Rattle.plain_laws.specs.Plain.{int_same}
 use Rattle.feed_rows.specs.Calls.{first_departure}
 use Rattle.feed_rows.specs.Shifts.{run_starts, ascending_of, has_frequencies, shifts_of, is_run_start, is_shift}
-use Rattle.feed_rows.proofs.ShiftLaws.{ascending_of_ascending, list_any-ascending_of, list_any-map, list_any-flat_map, list_any_same, list_any-run_starts, shifts_of_only}
+use Rattle.feed_laws.proofs.ShiftLaws.{ascending_of_ascending, list_any-ascending_of, list_any-run_starts, shifts_of_only}
+use Rattle.plain_laws.proofs.Laws.{list_any-map, list_any-flat_map, list_any_same}
 use Rattle.feed_trips.specs.Runs.{AreRunsOf, shifts_against}
+use Rattle.feed_laws.proofs.RideLaws.{is_ride_by_shift}
 
 true_right : (b : Bool) → (b && true) ≡ b
 true_right true = refl
@@ -66,3 +68,9 @@ shifts_of_rows feed trip rows are some =
     ∙ list_any-flat_map (λ start. int_same z (pos start -ℤ pos first)) run_starts rows
     ∙ list_any_same (λ (f : FrequencyRow). list_any (λ start. int_same z (pos start -ℤ pos first)) (run_starts f)) (λ (f : FrequencyRow). is_run_start f (z +ℤ pos first)) rows (λ f. list_any-run_starts f z first)
     ∙ sym (is_shift_rows feed trip rows z are some)))
+
+-- what the numbers of a trip's runs are put in order by
+pub ruleset ascending_runs = (ascending_of_ascending)
+
+-- what a ride is judged by, once its shift is
+pub ruleset rides_by_shift = (is_ride_by_shift)

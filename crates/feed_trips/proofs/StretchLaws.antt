@@ -1,8 +1,7 @@
 -- Trips whose rows stand together in the file.
-use Rattle.std.proofs.Common.{◌≡◌, ◌≢◌, refl, sym, ◌∙◌, ap, subst, ℕ, zero, suc, ◌+◌, ◌-◌, ◌<◌, ◌≤◌, ◌⊎◌, inl, inr, Bool, true, false, ◌==◌, List, [], ◌∷◌, ◌++◌, length, get_or, take, drop, filter, arith, slice_set, get_or-set_other, get_or-set_same}
-use Rattle.std.specs.Prelude.{slice_range, nat_le}
-use Rattle.std.proofs.lemmas.Bool.{cases_eq}
-use Rattle.std.proofs.lemmas.Bool.Decides.{nat_tests}
+use Rattle.std.proofs.Common.{◌≡◌, ◌≢◌, refl, sym, ◌∙◌, ap, subst, ℕ, zero, suc, ◌+◌, ◌-◌, ◌<◌, ◌≤◌, ◌⊎◌, inl, inr, Bool, ◌==◌, List, [], ◌∷◌, ◌++◌, length, get_or, take, drop, filter, arith, slice_set, get_or-set_other, get_or-set_same}
+use Rattle.std.specs.Prelude.{slice_range}
+use Rattle.std.proofs.lemmas.Bool.{cases_eq, eq-eqb, ne_eqb, le-leb}
 use Rattle.std.proofs.lemmas.List.{get_or-take, get_or-drop, length-take, length-drop, length-append, take_all, append-nil, get_or-replicate, length-replicate}
 use Rattle.std.proofs.lemmas.List.Elements.{filter-append}
 use Rattle.std.proofs.Math.Seq.{take-suc}
@@ -14,24 +13,15 @@ use Rattle.feed_rows.specs.Calls.{in_its_place, in_sequence, trip_stop_times}
 use Rattle.feed_rows.specs.CallWalk.{walk}
 use Rattle.feed_rows.specs.SoundFeed.{IsSoundFeed}
 use Rattle.feed_rows.specs.TimedTrips.{HasTimedEnds, DoTimesRise}
-use Rattle.feed_rows.specs.Words.{list_below, joined_below}
-use Rattle.feed_rows.proofs.GroupLaws.{length-list_below}
-use Rattle.feed_rows.proofs.CallLaws.{calls_of-walk}
-use Rattle.feed_rows.proofs.SoundTrips.{sound_ends, sound_rise}
-use Rattle.trip_order.proofs.SortLaws.{get_or-list_below}
+use Rattle.plain_laws.specs.Plain.{list_below, joined_below}
+use Rattle.plain_laws.proofs.Laws.{length-list_below, get_or-list_below}
+use Rattle.feed_laws.proofs.CallLaws.{calls_of-walk}
+use Rattle.feed_laws.proofs.SoundTrips.{sound_ends, sound_rise}
 use Rattle.feed_trips.specs.declared.together.Stretch.{Stretch}
 use Rattle.feed_trips.specs.Tables.{AreCallsOf}
 use Rattle.feed_trips.proofs.GroupLaws.{groups_joined}
 use Rattle.feed_trips.specs.Stretches.{no_stretch, rows_of, rows_at, IsStretch, AreStretches, AreTimed}
-
-hit : (a b : ℕ) → a ≡ b → (a == b) ≡ true
-hit a b e = grind (arith, nat_tests)
-
-differ : (a b : ℕ) → (a ≡ b → ⊥) → (a == b) ≡ false
-differ a b e = grind (arith, nat_tests)
-
-at_most : (a b : ℕ) → a ≤ b → nat_le a b ≡ true
-at_most a b le = grind (arith, nat_tests)
+use Rattle.feed_laws.proofs.TimedLaws.{next_timed_hit, next_timed_end, untimed_more, is_timed_at_row}
 
 -- no row stands anywhere at first
 pub none_yet : (rows : List StopTimeRow) (trips : ℕ) → AreStretches rows 0 trips (replicate trips no_stretch)
@@ -45,13 +35,13 @@ filter_here : (rows : List StopTimeRow) (n trip : ℕ) (d : StopTimeRow) → n <
 filter_here rows n trip d lt same =
     let test : StopTimeRow → Bool = λ (r : StopTimeRow). r.trip.0 == trip in
     let next : n + 1 ≡ suc n = omega arith in
-    rw (next, take-suc rows n d lt, filter-append test (take n rows) (get_or rows n d ∷ []), hit (get_or rows n d).trip.0 trip same) refl
+    rw (next, take-suc rows n d lt, filter-append test (take n rows) (get_or rows n d ∷ []), eq-eqb (get_or rows n d).trip.0 trip same) refl
 
 filter_other : (rows : List StopTimeRow) (n trip : ℕ) (d : StopTimeRow) → n < length rows → ((get_or rows n d).trip.0 ≡ trip → ⊥) → filter (λ r. r.trip.0 == trip) (take (n + 1) rows) ≡ filter (λ r. r.trip.0 == trip) (take n rows)
 filter_other rows n trip d lt other =
     let test : StopTimeRow → Bool = λ (r : StopTimeRow). r.trip.0 == trip in
     let next : n + 1 ≡ suc n = omega arith in
-    rw (next, take-suc rows n d lt, filter-append test (take n rows) (get_or rows n d ∷ []), differ (get_or rows n d).trip.0 trip other) (append-nil (filter test (take n rows)))
+    rw (next, take-suc rows n d lt, filter-append test (take n rows) (get_or rows n d ∷ []), ne_eqb (get_or rows n d).trip.0 trip other) (append-nil (filter test (take n rows)))
 
 -- a stretch that is longer by a row
 range_more : (rows : List StopTimeRow) (from to : ℕ) (d : StopTimeRow) → from ≤ to → to < length rows → slice_range rows from (to + 1) ≡ slice_range rows from to ++ get_or rows to d ∷ []
@@ -131,7 +121,7 @@ in_order_already (x ∷ []) up = refl
 in_order_already (x ∷ (y ∷ ys)) up =
     let rest : in_sequence (y ∷ ys) ≡ y ∷ ys = in_order_already (y ∷ ys) (λ k d lt. later k d lt) in
     let first : x.sequence ≤ y.sequence = up 0 x (omega arith) in
-    ap (in_its_place x) rest ∙ rw (at_most x.sequence y.sequence first) refl
+    ap (in_its_place x) rest ∙ rw (le-leb x.sequence y.sequence first) refl
   where
     later : (k : ℕ) (d : StopTimeRow) → k + 1 < length (y ∷ ys) → (get_or (y ∷ ys) k d).sequence ≤ (get_or (y ∷ ys) (k + 1) d).sequence
     later k d lt = let next : k + 1 ≡ suc k = omega arith in let is = up (suc k) d (omega arith) in let far : suc k + 1 ≡ suc (suc k) = omega arith in rw next (rw far at is)
@@ -195,3 +185,6 @@ stretch_calls feed stretches sound are t lt =
       where
         here_after : get_or starts s 0 ≡ size s → get_or starts (s + 1) 0 ≡ size (s + 1) → size (s + 1) ≡ size s + length (f s) → get_or starts s 0 + length (f s) ≡ get_or starts (s + 1) 0
         here_after a b c = omega arith
+
+-- the steps of a scan for the next timed row
+pub ruleset timed_scan = (next_timed_hit, next_timed_end, untimed_more, is_timed_at_row)

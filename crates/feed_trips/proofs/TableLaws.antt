@@ -10,23 +10,20 @@ use Rattle.feed_rows.specs.declared.rows.StopTimeRow.{StopTimeRow}
 use Rattle.feed_rows.specs.declared.rows.FrequencyRow.{FrequencyRow}
 use Rattle.feed_rows.specs.declared.journeys.Call.{Call}
 use Rattle.feed_rows.specs.FeedRows.{FeedRows}
-use Rattle.feed_rows.specs.Words.{list_below, joined_below}
+use Rattle.plain_laws.specs.Plain.{list_below, joined_below}
 use Rattle.feed_rows.specs.Calls.{call_at, calls_of, trip_stop_times}
 use Rattle.feed_rows.specs.CallWalk.{walk}
 use Rattle.feed_rows.specs.TimedTrips.{HasTimedEnds, DoTimesRise}
 use Rattle.feed_rows.specs.SoundFeed.{IsSoundFeed}
 use Rattle.feed_rows.specs.SoundTimetable.{AreSoundFrequencies}
-use Rattle.feed_rows.proofs.BelowLaws.{collect_below_tells}
-use Rattle.feed_rows.proofs.CallLaws.{walk_calls, calls_of-walk}
-use Rattle.feed_rows.proofs.CallTimes.{calls_of_most}
-use Rattle.feed_rows.proofs.ShiftLaws.{list_any-filter}
-use Rattle.feed_rows.proofs.SoundTrips.{sound_ends, sound_rise, calls_apart, sound_trip}
-use Rattle.feed_rows.proofs.TripLaws.{IsInOrder, trip_stop_times_of_sorted}
+use Rattle.plain_laws.proofs.Laws.{collect_below_tells, list_any-filter, length-list_below, get_or-list_below}
+use Rattle.feed_laws.proofs.CallLaws.{walk_calls, calls_of-walk}
+use Rattle.feed_laws.proofs.CallTimes.{calls_of_most}
+use Rattle.feed_laws.proofs.SoundTrips.{sound_ends, sound_rise, calls_apart, sound_trip}
+use Rattle.feed_laws.proofs.TripLaws.{IsInOrder, trip_stop_times_of_sorted}
 use Rattle.feed_trips.specs.Groups.{count_less, IsGroup, group, IsGroupOf}
 use Rattle.feed_trips.specs.Runs.{IsSoundRun}
 use Rattle.feed_trips.specs.Tables.{AreCallsOf, AreRunTables}
-use Rattle.feed_rows.proofs.GroupLaws.{length-list_below}
-use Rattle.trip_order.proofs.SortLaws.{get_or-list_below}
 use Rattle.feed_trips.proofs.GroupLaws.{count_less_zero, groups_of_keys, length-group, groups_joined}
 use Rattle.feed_trips.proofs.OrderLaws.{trips_rise}
 

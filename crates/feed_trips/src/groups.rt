@@ -1,7 +1,7 @@
 //! Items in groups that lie one after another in a list, and where each of these begins.
 ghost use Rattle.std.specs.Prelude.{◌≡◌, ◌<◌, ◌≤◌, ◌+◌, ◌^◌, ℕ, get_or, length, IfOk};
 ghost use Rattle.std.specs.List.Sorted.{IsNonDecreasing};
-ghost use Rattle.feed_rows.specs.Words.{list_below};
+ghost use Rattle.plain_laws.specs.Plain.{list_below};
 ghost use Rattle.feed_trips.specs.Groups.{count_less, IsGroup, group};
 
 use std::alloc::{AllocError, Global};

@@ -5,9 +5,9 @@ ghost use Rattle.transit_base.specs.declared.numbers.TripId.{TripId};
 ghost use Rattle.feed_rows.specs.declared.rows.StopTimeRow.{StopTimeRow};
 ghost use Rattle.feed_rows.specs.declared.rows.FrequencyRow.{FrequencyRow};
 ghost use Rattle.feed_rows.specs.CallWalk.{walk};
-ghost use Rattle.feed_rows.specs.Words.{joined_below};
+ghost use Rattle.plain_laws.specs.Plain.{joined_below};
 ghost use Rattle.feed_rows.specs.TimedTrips.{HasTimedEnds, DoTimesRise};
-ghost use Rattle.feed_rows.proofs.TripLaws.{IsInOrder};
+ghost use Rattle.feed_laws.proofs.TripLaws.{IsInOrder};
 ghost use Rattle.feed_trips.specs.Groups.{IsGroup, group};
 ghost use Rattle.feed_trips.specs.Tables.{AreCallsOf, AreRunTables};
 ghost use Rattle.feed_trips.specs.Stretches.{AreStretches};
@@ -23,7 +23,7 @@ use trip_order::sorted_keys;
 ///
 /// # Errors
 /// Want of memory.
-#[tactic(auto, using(trip_order::proofs::SortLaws::row_within))]
+#[tactic(auto, using(trip_order::specs::Order::row_within))]
 pub fn sorted_stop_times(
     alloc: Global,
     rows: &[StopTimeRow],

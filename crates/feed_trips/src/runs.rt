@@ -2,7 +2,7 @@
 ghost use Rattle.std.specs.Prelude.{◌≡◌, ◌≤◌, ◌++◌, map, pos, ◌-ℤ◌, ◌+ℤ◌, All, IfOk, OnOk};
 ghost use Rattle.std.specs.List.{list_any};
 ghost use Rattle.std.specs.Ordering.{int_cmp};
-ghost use Rattle.feed_rows.specs.Ascending.{IsAscending};
+ghost use Rattle.plain_laws.specs.Plain.{IsAscending};
 ghost use Rattle.feed_rows.specs.Shifts.{is_run_start, run_starts, run_count, ascending_of};
 ghost use Rattle.feed_trips.specs.Runs.{IsSoundRun, shifts_against};
 
@@ -36,7 +36,7 @@ fn runs_in(row: &FrequencyRow) -> u32
 }
 
 // Appends the shifts of a row's runs against the first departure, in seconds.
-#[tactic(auto, using(feed_rows::proofs::ShiftLaws::run_starts_counted))]
+#[tactic(auto, using(feed_laws::proofs::ShiftLaws::run_starts_counted))]
 fn push_shifts(shifts: &mut Vec<i64>, row: &FrequencyRow, first: u32) -> Result<(), AllocError>
     requires { IsSoundRun row.now }
     ensures { OnOk result (shifts.new.items ≡ shifts.old.items ++ map (λ start. pos start -ℤ pos first) (run_starts row.now)) }
@@ -83,7 +83,7 @@ fn kept(alloc: Global, numbers: &[i64]) -> Result<Shifts, AllocError>
 ///
 /// # Errors
 /// Want of memory.
-#[tactic(auto, using(feed_rows::proofs::ShiftLaws::ascending_of_ascending))]
+#[tactic(auto, using(crate::proofs::RunLaws::ascending_runs))]
 pub fn shifts_of_runs(
     alloc: Global,
     rows: &[FrequencyRow],

@@ -7,7 +7,7 @@ use feed_rows::StopTimeRow;
 use trip_order::{first_time, is_timed};
 
 // The next position after a position that has a time; the number of rows where there is none.
-#[tactic(auto, using(feed_rows::proofs::TimedLaws::next_timed_hit, feed_rows::proofs::TimedLaws::next_timed_end, feed_rows::proofs::TimedLaws::untimed_more, feed_rows::proofs::TimedLaws::is_timed_at_row))]
+#[tactic(auto, using(crate::proofs::StretchLaws::timed_scan))]
 pub fn next_position(rows: &[StopTimeRow], position: usize) -> usize
     requires inside { position < length rows.now }
     ensures value { result ≡ next_timed rows.now position }

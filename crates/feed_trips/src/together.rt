@@ -4,7 +4,7 @@ ghost use Rattle.std.specs.Prelude.{◌≡◌, ℕ, ◌+◌, ◌<◌, ◌≤◌,
 ghost use Rattle.std.specs.Bool.{OnFalse, OnTrue};
 ghost use Rattle.feed_rows.specs.declared.rows.StopTimeRow.{StopTimeRow};
 ghost use Rattle.feed_rows.specs.CallWalk.{walk};
-ghost use Rattle.feed_rows.specs.Words.{joined_below, list_below};
+ghost use Rattle.plain_laws.specs.Plain.{joined_below, list_below};
 ghost use Rattle.feed_trips.specs.Stretches.{AreStretches, AreTimed, IsApart, IsScattered, rows_at};
 
 use crate::walks::push_calls;

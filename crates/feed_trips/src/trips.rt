@@ -1,30 +1,11 @@
 //! The trips of a feed.
-ghost use Rattle.std.specs.Prelude.{
-  ◌≡◌,
-  ◌<◌,
-  ◌≤◌,
-  ◌≤ℤ◌,
-  ◌+ℤ◌,
-  pos,
-  negsuc,
-  ℤ,
-  length,
-  All,
-  IfOk,
-};
+ghost use Rattle.std.specs.Prelude.{◌≡◌, ◌<◌, ◌≤◌, ◌≤ℤ◌, ◌+ℤ◌, pos, negsuc, ℤ, length, All, IfOk};
 ghost use Rattle.feed_rows.specs.declared.journeys.Call.{Call};
 ghost use Rattle.feed_rows.specs.Calls.{calls_of, first_departure};
 ghost use Rattle.feed_rows.specs.Shifts.{has_frequencies, is_shift, shifts_of};
-ghost use Rattle.feed_rows.specs.Rides.{
-  runs_on,
-  is_ride,
-  ride_facts,
-  facts_between,
-  moment_of,
-  trip_network,
-};
+ghost use Rattle.feed_rows.specs.Rides.{runs_on, is_ride, ride_facts, facts_between, moment_of, trip_network};
 ghost use Rattle.feed_rows.specs.Queries.{find_trip};
-ghost use Rattle.feed_rows.specs.Words.{at_and};
+ghost use Rattle.plain_laws.specs.Plain.{at_and};
 ghost use Rattle.feed_trips.specs.Runs.{AreRunsOf, IsSoundRun};
 
 use crate::groups::group_at;
@@ -180,7 +161,7 @@ impl<'f> Trips<'f> {
     }
 
     // Whether a ride is one of the feed, where its trip's service is active on its day or isn't, as told.
-    #[tactic(auto, using(feed_rows::proofs::RideLaws::is_ride_by_shift))]
+    #[tactic(auto, using(crate::proofs::RunLaws::rides_by_shift))]
     fn is_ride(&self, active: bool, ride: &Ride) -> bool
         requires trip { ride.now.trip.0 < length self.now.trips }
         requires active { active ≡ runs_on self.now ride.now.trip ride.now.day.0 }

@@ -8,16 +8,14 @@ use Rattle.std.proofs.lemmas.List.Elements.{Contains-append_left, Contains-appen
 use Rattle.std.proofs.lemmas.Option.{same_Some, none-some, slice_get_within}
 use Rattle.transit_base.specs.declared.numbers.StopId.{StopId}
 use Rattle.feed_rows.specs.declared.rows.LinkRow.{LinkRow}
-use Rattle.feed_rows.specs.declared.groups.Grouped.{Grouped}
+use Rattle.plain_laws.specs.declared.groups.Grouped.{Grouped}
 use Rattle.feed_rows.specs.FeedRows.{FeedRows}
 use Rattle.feed_rows.specs.SoundTimetable.{AreSoundStops}
-use Rattle.feed_rows.specs.Words.{joined_below, filled_and}
-use Rattle.feed_rows.specs.Groups.{groups_below}
+use Rattle.plain_laws.specs.Plain.{joined_below, filled_and, groups_below}
 use Rattle.feed_rows.specs.StopLinks.{is_platform, parent_of, row_between, governing_row, unruled_link, link_by}
 use Rattle.feed_rows.specs.StopSets.{stop_sets}
-use Rattle.feed_rows.proofs.StopSetLaws.{stop_sets-at}
-use Rattle.feed_rows.proofs.JoinLaws.{Contains-joined_below, joined_below-tells}
-use Rattle.feed_rows.proofs.StrictLaws.{Contains-cons_first}
+use Rattle.feed_laws.proofs.StopSetLaws.{stop_sets-at}
+use Rattle.plain_laws.proofs.Laws.{Contains-joined_below, joined_below-tells, Contains-cons_first, option_or-cases, none_either}
 use Rattle.feed_walks.specs.Places.{is_anew}
 use Rattle.feed_walks.specs.Rules.{rows_from, AreRules}
 use Rattle.feed_walks.specs.Pairs.{pair, product, set_at, pairs_by, pairs_at, own_pairs, pairs_from, platform_pairs_below}
@@ -44,15 +42,6 @@ own_pair feed rules are a within platform none =
     (Contains-joined_below (length feed.stops) (λ stop. pairs_from feed (stop_sets feed) (record { 0 = stop }) (rows_from rules stop)) a.0 (pair a a) within
     (rw platform (Contains-append_right (joined_below (length (rows_from rules a.0)) (pairs_at (stop_sets feed) a.0 (rows_from rules a.0))) (own_pairs (stop_sets feed) a.0 (rows_from rules a.0)) (pair a a)
     (rw (are.first a.0 a.0, none) (Contains-product (set_at (stop_sets feed) a.0) (set_at (stop_sets feed) a.0) a a (in_own_set feed a platform) (in_own_set feed a platform))))))
-
--- where a choice of two gives a row, the first does, or it gives none and the second does
-option_or-cases : {X : Type 0} (o p : Option X) (x : X) → option_or o p ≡ Some x → (o ≡ Some x) ⊎ ((o ≡ None) × (p ≡ Some x))
-option_or-cases None p x e = inr (refl, e)
-option_or-cases (Some y) p x e = inl e
-
-option_or-none : {X : Type 0} (o p : Option X) → option_or o p ≡ None → (o ≡ None) × (p ≡ None)
-option_or-none None p e = (refl, e)
-option_or-none (Some y) p e = absurd (cc)
 
 -- a walk is among the pairs
 pub walk_pair : (feed : FeedRows) (rules : List (List LinkRow)) → AreSoundStops feed → AreRules feed.links rules → (a b : StopId) (seconds : ℕ) → is_platform feed a ≡ true → is_platform feed b ≡ true → link_by feed a b (governing_row feed a b) ≡ Some seconds → Contains (pairs_below feed (stop_sets feed) rules (length feed.stops)) (pair a b)
@@ -130,9 +119,9 @@ walk_pair feed rules sound are a b seconds pa pb linked = governed (governing_ro
 
     unruled : governing_row feed a b ≡ None → unruled_link feed a b ≡ Some seconds → Contains (pairs_below feed (stop_sets feed) rules (length feed.stops)) (pair a b)
     unruled none e =
-        let first = option_or-none (row_between feed (Some a) (Some b)) (option_or (row_between feed (Some a) (parent_of feed b)) (option_or (row_between feed (parent_of feed a) (Some b)) (row_between feed (parent_of feed a) (parent_of feed b)))) none in
-        let second = option_or-none (row_between feed (Some a) (parent_of feed b)) (option_or (row_between feed (parent_of feed a) (Some b)) (row_between feed (parent_of feed a) (parent_of feed b))) first.1 in
-        let third = option_or-none (row_between feed (parent_of feed a) (Some b)) (row_between feed (parent_of feed a) (parent_of feed b)) second.1 in
+        let first = none_either (row_between feed (Some a) (Some b)) (option_or (row_between feed (Some a) (parent_of feed b)) (option_or (row_between feed (parent_of feed a) (Some b)) (row_between feed (parent_of feed a) (parent_of feed b)))) none in
+        let second = none_either (row_between feed (Some a) (parent_of feed b)) (option_or (row_between feed (parent_of feed a) (Some b)) (row_between feed (parent_of feed a) (parent_of feed b))) first.1 in
+        let third = none_either (row_between feed (parent_of feed a) (Some b)) (row_between feed (parent_of feed a) (parent_of feed b)) second.1 in
         ⊎_elim
         (λ (hit : (a.0 == b.0) ≡ true).
         let one : b ≡ a = sym (same a b hit) in

@@ -1,7 +1,6 @@
 -- Laws of the pairs of platforms between which there may be a walk.
-use Rattle.std.proofs.Common.{◌≡◌, refl, sym, ◌∙◌, ap, subst, ℕ, ◌<◌, ◌≤◌, ⊎_elim, Bool, true, false, List, [], ◌∷◌, length, Contains, Option, Some, None, arith}
-use Rattle.std.specs.Prelude.{◌==◌, ◌&&◌, ◌||◌, if◌then◌else◌, slice_get, map, flat_map, filter}
-use Rattle.std.specs.List.{list_any}
+use Rattle.std.proofs.Common.{◌≡◌, refl, sym, ap, subst, ℕ, ◌<◌, ◌≤◌, ⊎_elim, Bool, true, false, List, [], ◌∷◌, length, Contains, Option, Some, None, arith}
+use Rattle.std.specs.Prelude.{◌==◌, ◌&&◌, if◌then◌else◌, slice_get, map, flat_map}
 use Rattle.std.specs.Option.{ForSome}
 use Rattle.std.proofs.lemmas.Bool.{cases_lt}
 use Rattle.std.proofs.lemmas.Bool.Decides.{nat_tests}
@@ -10,74 +9,16 @@ use Rattle.std.proofs.lemmas.List.Sorted.{Contains-permutation, IsPermutation-sy
 use Rattle.std.proofs.lemmas.Option.{slice_get-get_or, slice_get_within}
 use Rattle.transit_base.specs.declared.numbers.StopId.{StopId}
 use Rattle.feed_rows.specs.declared.rows.StopRow.{StopRow}
-use Rattle.feed_rows.specs.declared.groups.Grouped.{Grouped}
+use Rattle.plain_laws.specs.declared.groups.Grouped.{Grouped}
 use Rattle.feed_rows.specs.FeedRows.{FeedRows}
 use Rattle.feed_rows.specs.SoundTimetable.{AreSoundStops}
-use Rattle.feed_rows.specs.Words.{at_and, filled_and, ids_where}
-use Rattle.feed_rows.specs.Groups.{group_of, groups_below}
+use Rattle.plain_laws.specs.Plain.{at_and, filled_and, ids_where, group_of, groups_below}
 use Rattle.feed_rows.specs.StopLinks.{is_platform, is_station, is_member, parent_of, stop_set}
 use Rattle.feed_rows.specs.StopSets.{stop_sets}
-use Rattle.feed_rows.proofs.FeedReadings.{All-slice_get, parent_kind}
-use Rattle.feed_rows.proofs.StrictLaws.{Contains-cons_first, Contains-cons_later, Contains-cons_cases}
-use Rattle.feed_rows.proofs.StopSetLaws.{one_where, joined_below-picks, stop_sets-at}
-use Rattle.feed_rows.proofs.JoinLaws.{Contains-joined_below, joined_below-tells, group_rises, Contains-group_of, group_of-tells, groups_below-at, groups_below-past}
+use Rattle.plain_laws.proofs.Laws.{All-slice_get, Contains-cons_first, Contains-cons_later, Contains-cons_cases, one_where, joined_below-picks, Contains-joined_below, joined_below-tells, group_rises, Contains-group_of, group_of-tells, groups_below-at, groups_below-past, Contains-map, map-tells}
+use Rattle.feed_laws.proofs.FeedReadings.{parent_kind}
+use Rattle.feed_laws.proofs.StopSetLaws.{stop_sets-at}
 use Rattle.feed_walks.specs.Pairs.{pair, product, set_at, AreNear, AreByItem}
-
-module _ {X Y : Type 0} where
-  -- the members of what is mapped
-  pub Contains-map : (f : X → Y) (xs : List X) (x : X) → Contains xs x → Contains (map f xs) (f x)
-  Contains-map f [] x at = let lt = at.1 in absurd (omega arith)
-  Contains-map f (y ∷ ys) x at = ⊎_elim
-      (λ (same : y ≡ x). subst (λ z. Contains (map f (y ∷ ys)) (f z)) same (Contains-cons_first (f y) (map f ys)))
-      (λ (there : Contains ys x). Contains-cons_later (f y) (map f ys) (f x) (Contains-map f ys x there))
-      (Contains-cons_cases y ys x at)
-
-  pub map-tells : (f : X → Y) (xs : List X) (y : Y) → Contains (map f xs) y → (x : X) × Contains xs x × (f x ≡ y)
-  map-tells f [] y at = let lt = at.1 in absurd (omega arith)
-  map-tells f (x ∷ xs) y at = ⊎_elim
-      (λ (same : f x ≡ y). (x, Contains-cons_first x xs, same))
-      (λ (there : Contains (map f xs) y). let found = map-tells f xs y there in (found.0, Contains-cons_later x xs found.0 found.1, found.2))
-      (Contains-cons_cases (f x) (map f xs) y at)
-
-  -- the members of the lists that are mapped to
-  pub Contains-flat_map : (f : X → List Y) (xs : List X) (x : X) (y : Y) → Contains xs x → Contains (f x) y → Contains (flat_map f xs) y
-  Contains-flat_map f [] x y at also = let lt = at.1 in absurd (omega arith)
-  Contains-flat_map f (z ∷ zs) x y at also = ⊎_elim
-      (λ (same : z ≡ x). Contains-append_left (f z) (flat_map f zs) y (subst (λ w. Contains (f w) y) (sym same) also))
-      (λ (there : Contains zs x). Contains-append_right (f z) (flat_map f zs) y (Contains-flat_map f zs x y there also))
-      (Contains-cons_cases z zs x at)
-
-  pub flat_map-tells : (f : X → List Y) (xs : List X) (y : Y) → Contains (flat_map f xs) y → (x : X) × Contains xs x × Contains (f x) y
-  flat_map-tells f [] y at = let lt = at.1 in absurd (omega arith)
-  flat_map-tells f (x ∷ xs) y at = ⊎_elim
-      (λ (here : Contains (f x) y). (x, Contains-cons_first x xs, here))
-      (λ (there : Contains (flat_map f xs) y). let found = flat_map-tells f xs y there in (found.0, Contains-cons_later x xs found.0 found.1, found.2))
-      (Contains-append_cases (f x) (flat_map f xs) y at)
-
-module _ {X : Type 0} where
-  -- what a filter keeps was there
-  pub filter-tells : (p : X → Bool) (xs : List X) (x : X) → Contains (filter p xs) x → Contains xs x
-  filter-tells p [] x at = at
-  filter-tells p (y ∷ ys) x at = step (p y) at (filter-tells p ys x)
-    where
-      step : (b : Bool) → Contains (if b then y ∷ filter p ys else filter p ys) x → (Contains (filter p ys) x → Contains ys x) → Contains (y ∷ ys) x
-      step true here later = ⊎_elim
-          (λ (same : y ≡ x). subst (Contains (y ∷ ys)) same (Contains-cons_first y ys))
-          (λ (there : Contains (filter p ys) x). Contains-cons_later y ys x (later there))
-          (Contains-cons_cases y (filter p ys) x here)
-      step false there later = Contains-cons_later y ys x (later there)
-
-  -- one passes
-  pub any_passes : (p : X → Bool) (xs : List X) (x : X) → Contains xs x → p x ≡ true → list_any p xs ≡ true
-  any_passes p [] x at hit = let lt = at.1 in absurd (omega arith)
-  any_passes p (y ∷ ys) x at hit = ⊎_elim
-      (λ (same : y ≡ x). rw (ap p same ∙ hit) refl)
-      (λ (there : Contains ys x). later (p y) (any_passes p ys x there hit))
-      (Contains-cons_cases y ys x at)
-    where
-      later : (b : Bool) → list_any p ys ≡ true → (b || list_any p ys) ≡ true
-      later true rest = refl
-      later false rest = rest
 
 -- each of these with each of those
 pub Contains-product : (xs ys : List StopId) (a b : StopId) → Contains xs a → Contains ys b → Contains (product xs ys) (pair a b)

@@ -8,21 +8,18 @@ use Rattle.std.proofs.lemmas.List.Elements.{Contains-append_left, Contains-appen
 use Rattle.std.proofs.lemmas.Option.{slice_get_within}
 use Rattle.transit_base.specs.declared.numbers.StopId.{StopId}
 use Rattle.feed_rows.specs.declared.rows.LinkRow.{LinkRow}
-use Rattle.feed_rows.specs.declared.groups.Grouped.{Grouped}
+use Rattle.plain_laws.specs.declared.groups.Grouped.{Grouped}
 use Rattle.feed_rows.specs.FeedRows.{FeedRows}
-use Rattle.feed_rows.specs.Words.{joined_below, at_and, filled_and}
-use Rattle.feed_rows.specs.Groups.{group_of, groups_below}
+use Rattle.plain_laws.specs.Plain.{joined_below, at_and, filled_and, group_of, groups_below}
 use Rattle.feed_rows.specs.StopLinks.{is_platform, row_between}
 use Rattle.feed_rows.specs.StopSets.{stop_sets}
-use Rattle.feed_rows.proofs.StrictLaws.{Contains-cons_first, Contains-cons_cases}
-use Rattle.feed_rows.proofs.StopSetLaws.{stop_sets-at}
-use Rattle.feed_rows.proofs.JoinLaws.{Contains-joined_below, joined_below-tells, IsFound, find-tells, Contains-group_of, group_of-tells, groups_below-at}
-use Rattle.feed_rows.proofs.SoundTrips.{Contains-filter}
+use Rattle.plain_laws.proofs.Laws.{Contains-cons_first, Contains-cons_cases, Contains-joined_below, joined_below-tells, IsFound, find-tells, Contains-group_of, group_of-tells, groups_below-at, Contains-filter, Contains-map, map-tells, Contains-flat_map, flat_map-tells, filter-tells, any_passes}
+use Rattle.feed_laws.proofs.StopSetLaws.{stop_sets-at}
 use Rattle.feed_walks.specs.Places.{is_anew}
 use Rattle.feed_walks.specs.Rules.{rows_from, AreRules}
 use Rattle.feed_walks.specs.Pairs.{pair, set_at, platform_pairs_below}
 use Rattle.feed_walks.specs.Reaches.{is_unruled, home_of, reach, free_reach, station_reaches, reaches_by, reaches_at, own_reaches, reaches_from, reaches_below, free_from, pairs_to, pairs_into, station_pairs_below, pairs_below}
-use Rattle.feed_walks.proofs.PairLaws.{Contains-map, map-tells, Contains-flat_map, flat_map-tells, filter-tells, any_passes, set_platform}
+use Rattle.feed_walks.proofs.PairLaws.{set_platform}
 
 -- the first row to a stop stands where the rows to it begin
 pub record IsFirstRow (rows : List LinkRow) (to : StopId) (row : LinkRow) : Type 0 where

@@ -7,12 +7,10 @@ use Rattle.std.proofs.lemmas.Bool.{cases_lt}
 use Rattle.std.proofs.lemmas.Bool.Decides.{nat_tests}
 use Rattle.std.proofs.lemmas.List.Elements.{filter_agree}
 use Rattle.feed_rows.specs.declared.rows.LinkRow.{LinkRow}
-use Rattle.feed_rows.specs.declared.groups.Grouped.{Grouped}
-use Rattle.feed_rows.specs.Groups.{group_of, groups_below}
-use Rattle.feed_rows.proofs.GroupLaws.{same_ties}
-use Rattle.feed_rows.proofs.JoinLaws.{group_rises, groups_below-at, groups_below-past}
+use Rattle.plain_laws.specs.declared.groups.Grouped.{Grouped}
+use Rattle.plain_laws.specs.Plain.{group_of, groups_below}
+use Rattle.plain_laws.proofs.Laws.{same_ties, group_rises, groups_below-at, groups_below-past, find_none, find-filter, filter-filter, filter-map}
 use Rattle.feed_walks.specs.Rules.{grouped_row, AreByTarget, rows_from, AreRules}
-use Rattle.feed_walks.proofs.PlaceLaws.{find_none, find-filter, filter-filter, filter-map}
 
 -- what a stable sort by the rows' targets gives
 pub by_target : (old new : List (Grouped LinkRow)) → IsNonDecreasingBy (λ (m : Grouped LinkRow). m.item.to.0) new → IsPermutation old new → IsStableByKey (λ (m : Grouped LinkRow). m.item.to.0) nat_cmp old new → AreByTarget old new

@@ -1,5 +1,5 @@
 -- The steps that are gathered are the walks out of each platform.
-use Rattle.std.proofs.Common.{◌≡◌, refl, sym, ◌∙◌, ap, subst, ℕ, zero, suc, ◌<◌, ◌≤◌, ◌⊎◌, inl, inr, ⊎_elim, Bool, true, false, List, [], ◌∷◌, length, get_or, Contains, AllPairs, Option, Some, None, arith}
+use Rattle.std.proofs.Common.{◌≡◌, refl, sym, ◌∙◌, ap, subst, ℕ, zero, suc, ◌<◌, ◌≤◌, ⊎_elim, Bool, true, false, List, [], ◌∷◌, length, get_or, Contains, AllPairs, Option, Some, None, arith}
 use Rattle.std.specs.Prelude.{◌==◌, ◌&&◌, if◌then◌else◌, not, slice_get, unwrap_or, find, map, option_map}
 use Rattle.std.specs.Option.{option_map_or}
 use Rattle.std.specs.List.Sorted.{IsNonDecreasingBy}
@@ -9,17 +9,13 @@ use Rattle.std.proofs.lemmas.Option.{none-some, slice_get_within, slice_get_past
 use Rattle.transit_base.specs.declared.numbers.StopId.{StopId}
 use Rattle.feed_rows.specs.declared.rows.StopRow.{StopRow}
 use Rattle.feed_rows.specs.declared.rows.LinkRow.{LinkRow}
-use Rattle.feed_rows.specs.declared.groups.Grouped.{Grouped}
+use Rattle.plain_laws.specs.declared.groups.Grouped.{Grouped}
 use Rattle.feed_rows.specs.FeedRows.{FeedRows}
 use Rattle.feed_rows.specs.SoundTimetable.{AreSoundStops}
-use Rattle.feed_rows.specs.Words.{joined_below, list_below}
-use Rattle.feed_rows.specs.Groups.{group_of, groups_below}
+use Rattle.plain_laws.specs.Plain.{joined_below, list_below, group_of, groups_below}
 use Rattle.feed_rows.specs.StopLinks.{is_platform, link_by, governing_row, link}
 use Rattle.feed_rows.specs.StopSets.{stop_sets}
-use Rattle.feed_rows.proofs.StrictLaws.{IsStrictOrder, same_from_members, Contains-cons_first, Contains-cons_cases}
-use Rattle.feed_rows.proofs.GroupLaws.{list_below-same, length-list_below, slice_get-list_below}
-use Rattle.feed_rows.proofs.StopSetLaws.{joined_below-same, joined_below-none, joined_below-one}
-use Rattle.feed_rows.proofs.JoinLaws.{Contains-joined_below, joined_below-tells, AllPairs-joined_below, Contains-slice_get, slice_get-Contains, find-tells, group_of-joined_below, group_of-own, group_of-other}
+use Rattle.plain_laws.proofs.Laws.{IsStrictOrder, same_from_members, Contains-cons_first, Contains-cons_cases, list_below-same, length-list_below, slice_get-list_below, joined_below-same, joined_below-none, joined_below-one, Contains-joined_below, joined_below-tells, AllPairs-joined_below, Contains-slice_get, slice_get-Contains, find-tells, group_of-joined_below, group_of-own, group_of-other, find-some}
 use Rattle.feed_walks.specs.declared.steps.Step.{Step}
 use Rattle.feed_walks.specs.Places.{is_anew}
 use Rattle.feed_walks.specs.Rules.{AreRules}
@@ -224,16 +220,6 @@ walk_steps-from_groups feed rules near n long sound are is =
         ∙ joined_below-one (length feed.stops) i (λ k. group_of (grouped_steps feed k (set_at near k)) i) lt (λ k kn apart. group_of-others feed (set_at near k) k i apart)
         ∙ group_of-steps feed (set_at near i) i
         ∙ steps_exact feed rules near i sound are are_near lt
-
--- where an item passes, one is found
-find-some : {X : Type 0} (p : X → Bool) (xs : List X) (x : X) → Contains xs x → p x ≡ true → find p xs ≡ None → ⊥
-find-some p [] x at hit none = let lt = at.1 in omega arith
-find-some p (y ∷ ys) x at hit none = step (p y) refl (λ there. find-some p ys x there hit) (Contains-cons_cases y ys x at) none
-  where
-    step : (b : Bool) → p y ≡ b → (Contains ys x → find p ys ≡ None → ⊥) → (y ≡ x) ⊎ Contains ys x → find p (y ∷ ys) ≡ None → ⊥
-    step true here later in_list e = none-some y (sym (rw here at e))
-    step false miss later (inl same) e = let no : true ≡ false = sym hit ∙ ap p (sym same) ∙ miss in cc
-    step false miss later (inr there) e = later there (rw miss at e)
 
 -- the walk to a stop is found among the walks out of the platform
 pub find-out_of : (feed : FeedRows) (a b : StopId) → option_map (λ (s : Step). s.seconds.0) (find (λ s. s.to.0 == b.0) (out_of feed a)) ≡ link feed a b

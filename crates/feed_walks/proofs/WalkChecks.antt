@@ -5,7 +5,7 @@ use Rattle.feed_rows.specs.declared.rows.StopRow.{StopRow}
 use Rattle.feed_rows.specs.declared.rows.LinkRow.{LinkRow}
 use Rattle.feed_rows.specs.FeedRows.{FeedRows}
 use Rattle.feed_rows.specs.StopLinks.{link}
-use Rattle.feed_rows.proofs.BaseFeed.{base}
+use Rattle.feed_examples.specs.BaseFeed.{base}
 use Rattle.feed_walks.specs.declared.steps.Step.{Step}
 use Rattle.feed_walks.specs.OutOf.{out_of}
 

@@ -2,10 +2,10 @@
 use Rattle.std.specs.Prelude.{ℕ, if◌then◌else◌, List, [], ◌∷◌, length, map, Option, Some, None, slice_get}
 use Rattle.std.specs.Option.{option_map_or}
 use Rattle.transit_base.specs.declared.numbers.StopId.{StopId}
-use Rattle.feed_rows.specs.declared.groups.Grouped.{Grouped}
+use Rattle.plain_laws.specs.declared.groups.Grouped.{Grouped}
 use Rattle.feed_rows.specs.FeedRows.{FeedRows}
 use Rattle.feed_rows.specs.StopLinks.{link, link_by, governing_row}
-use Rattle.feed_rows.specs.Words.{joined_below, list_below}
+use Rattle.plain_laws.specs.Plain.{joined_below, list_below}
 use Rattle.feed_walks.specs.declared.steps.Step.{Step}
 use Rattle.feed_walks.specs.Places.{is_anew}
 use Rattle.feed_walks.specs.Pairs.{set_at}

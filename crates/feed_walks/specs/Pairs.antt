@@ -4,10 +4,10 @@ use Rattle.std.specs.List.Sorted.{IsNonDecreasingBy, IsPermutation}
 use Rattle.std.specs.Option.{option_map_or}
 use Rattle.transit_base.specs.declared.numbers.StopId.{StopId}
 use Rattle.feed_rows.specs.declared.rows.LinkRow.{LinkRow}
-use Rattle.feed_rows.specs.declared.groups.Grouped.{Grouped}
+use Rattle.plain_laws.specs.declared.groups.Grouped.{Grouped}
 use Rattle.feed_rows.specs.FeedRows.{FeedRows}
 use Rattle.feed_rows.specs.StopLinks.{is_platform}
-use Rattle.feed_rows.specs.Words.{joined_below}
+use Rattle.plain_laws.specs.Plain.{joined_below}
 use Rattle.feed_walks.specs.Places.{is_anew}
 use Rattle.feed_walks.specs.Rules.{rows_from}
 

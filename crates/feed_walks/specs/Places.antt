@@ -1,7 +1,7 @@
 -- Where a number stands in a list by numbers.
 use Rattle.std.specs.Prelude.{ℕ, zero, suc, ◌<◌, ◌≤◌, ◌==◌, Bool, true, not, List, length}
 use Rattle.std.specs.List.{AllWithin}
-use Rattle.feed_rows.specs.Words.{at_and}
+use Rattle.plain_laws.specs.Plain.{at_and}
 
 -- the first items are those of lesser numbers
 pub record IsPlace {X : Type 0} (number : X → ℕ) (xs : List X) (n place : ℕ) : Type 0 where

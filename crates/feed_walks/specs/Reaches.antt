@@ -5,11 +5,10 @@ use Rattle.std.specs.List.{list_any}
 use Rattle.std.specs.Option.{option_map_or}
 use Rattle.transit_base.specs.declared.numbers.StopId.{StopId}
 use Rattle.feed_rows.specs.declared.rows.LinkRow.{LinkRow}
-use Rattle.feed_rows.specs.declared.groups.Grouped.{Grouped}
+use Rattle.plain_laws.specs.declared.groups.Grouped.{Grouped}
 use Rattle.feed_rows.specs.FeedRows.{FeedRows}
 use Rattle.feed_rows.specs.StopLinks.{is_platform, parent_of, row_between}
-use Rattle.feed_rows.specs.Groups.{groups_below}
-use Rattle.feed_rows.specs.Words.{joined_below}
+use Rattle.plain_laws.specs.Plain.{groups_below, joined_below}
 use Rattle.feed_walks.specs.Places.{is_anew}
 use Rattle.feed_walks.specs.Rules.{rows_from}
 use Rattle.feed_walks.specs.Pairs.{pair, set_at, platform_pairs_below}

@@ -2,7 +2,7 @@
 use Rattle.std.specs.Prelude.{◌≡◌, ℕ, ◌==◌, ◌&&◌, List, [], slice_get, unwrap_or, filter, find}
 use Rattle.std.specs.List.Sorted.{IsNonDecreasingBy}
 use Rattle.feed_rows.specs.declared.rows.LinkRow.{LinkRow}
-use Rattle.feed_rows.specs.declared.groups.Grouped.{Grouped}
+use Rattle.plain_laws.specs.declared.groups.Grouped.{Grouped}
 
 -- a row with the stop that it leads from
 abbrev pub grouped_row : LinkRow → Grouped LinkRow

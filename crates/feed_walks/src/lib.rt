@@ -13,8 +13,10 @@ mod rules;
 mod station_pairs;
 mod steps;
 
-use feed_rows::{Feed, Groups, stop_sets};
+use feed_rows::Feed;
+use feed_stops::stop_sets;
 use pairs::{near_of, pairs_of};
+use plain_laws::Groups;
 use rules::rules_of;
 use std::alloc::{AllocError, Global};
 pub use steps::Step;

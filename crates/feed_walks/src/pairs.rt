@@ -4,12 +4,13 @@ ghost use Rattle.std.specs.List.Sorted.{IsNonDecreasingBy};
 ghost use Rattle.feed_walks.specs.Rules.{AreRules};
 ghost use Rattle.feed_walks.specs.Pairs.{pair, product, AreNear, AreByItem, pairs_by, pairs_at, own_pairs, pairs_from, platform_pairs_below};
 ghost use Rattle.feed_walks.specs.Reaches.{pairs_below};
-ghost use Rattle.feed_rows.specs.Words.{joined_below};
+ghost use Rattle.plain_laws.specs.Plain.{joined_below};
 
 use crate::reaches::reaches_of;
 use crate::rules::{is_platform, leads_anew, row_to};
 use crate::station_pairs::push_station_pairs;
-use feed_rows::{Feed, Grouped, Groups, LinkRow};
+use feed_rows::{Feed, LinkRow};
+use plain_laws::{Grouped, Groups};
 use std::alloc::{AllocError, Global};
 use transit_base::StopId;
 

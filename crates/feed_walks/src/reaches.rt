@@ -2,12 +2,13 @@
 ghost use Rattle.std.specs.Prelude.{◌≡◌, ℕ, ◌<◌, ◌++◌, if◌then◌else◌, [], ◌∷◌, length, flat_map, IfOk, OnOk};
 ghost use Rattle.std.specs.List.{list_any};
 ghost use Rattle.feed_rows.specs.FeedRows.{FeedRows};
-ghost use Rattle.feed_rows.specs.Words.{joined_below};
+ghost use Rattle.plain_laws.specs.Plain.{joined_below};
 ghost use Rattle.feed_walks.specs.Rules.{AreRules};
 ghost use Rattle.feed_walks.specs.Reaches.{is_unruled, home_of, reach, free_reach, station_reaches, reaches_by, reaches_at, own_reaches, reaches_from, reaches_below};
 
 use crate::rules::{is_platform, leads_anew, row_between, station_of};
-use feed_rows::{Feed, Grouped, Groups, LinkRow};
+use feed_rows::{Feed, LinkRow};
+use plain_laws::{Grouped, Groups};
 use std::alloc::{AllocError, Global};
 use transit_base::StopId;
 

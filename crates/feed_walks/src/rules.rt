@@ -3,11 +3,12 @@ ghost use Rattle.std.specs.Prelude.{◌≡◌, ℕ, ◌<◌, ◌≤◌, ◌==◌
 ghost use Rattle.std.specs.List.Sorted.{IsNonDecreasingBy};
 ghost use Rattle.feed_rows.specs.FeedRows.{FeedRows};
 ghost use Rattle.feed_rows.specs.StopLinks as linked;
-ghost use Rattle.feed_rows.specs.Words.{filled_and, when};
+ghost use Rattle.plain_laws.specs.Plain.{filled_and, when};
 ghost use Rattle.feed_walks.specs.Places.{IsPlace, is_anew};
 ghost use Rattle.feed_walks.specs.Rules.{grouped_row, AreByTarget, AreRules};
 
-use feed_rows::{Feed, Grouped, Groups, LinkRow};
+use feed_rows::{Feed, LinkRow};
+use plain_laws::{Grouped, Groups};
 use std::alloc::{AllocError, Global};
 use transit_base::{Secs, StopId};
 

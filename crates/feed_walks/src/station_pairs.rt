@@ -6,7 +6,8 @@ ghost use Rattle.feed_walks.specs.Reaches.{free_from, pairs_to, pairs_into, stat
 ghost use Rattle.feed_walks.specs.AtHand.{AreAtHand};
 
 use crate::reaches::is_unruled;
-use feed_rows::{Feed, Grouped, Groups, LinkRow};
+use feed_rows::{Feed, LinkRow};
+use plain_laws::{Grouped, Groups};
 use std::alloc::{AllocError, Global};
 use transit_base::StopId;
 

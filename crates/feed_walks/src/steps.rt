@@ -2,14 +2,15 @@
 ghost use Rattle.std.specs.Prelude.{◌≡◌, ℕ, ◌+◌, ◌<◌, ◌++◌, ◌==◌, length, map, IfOk, OnOk, find, option_and_then, slice_get};
 ghost use Rattle.std.specs.List.Sorted.{IsNonDecreasingBy};
 ghost use Rattle.feed_rows.specs.StopLinks.{link_by, governing_row};
-ghost use Rattle.feed_rows.specs.Groups.{groups_below};
-ghost use Rattle.feed_rows.specs.Words.{when};
+ghost use Rattle.plain_laws.specs.Plain.{groups_below};
+ghost use Rattle.plain_laws.specs.Plain.{when};
 ghost use Rattle.feed_walks.specs.Places.{IsPlace, is_anew};
 ghost use Rattle.feed_walks.specs.Rules.{AreRules};
 ghost use Rattle.feed_walks.specs.OutOf.{step_list, step_at, grouped_step, grouped_steps, grouped_steps_below};
 
 use crate::rules::link_between;
-use feed_rows::{Feed, Grouped, Groups, LinkRow};
+use feed_rows::{Feed, LinkRow};
+use plain_laws::{Grouped, Groups};
 use std::alloc::{AllocError, Global};
 use transit_base::{Secs, StopId};
 

@@ -1,7 +1,7 @@
 -- The orders of triples order entries.
 use Rattle.feed_rows.specs.declared.fares.Entry.{Entry}
 use Rattle.feed_rows.specs.ParetoTriples.{at_most, is_before}
-use Rattle.feed_rows.proofs.ParetoLaws.{at_most-refl, at_most-trans, at_most-of_level, is_before-trans, is_before-of_at_most}
+use Rattle.feed_laws.proofs.ParetoLaws.{at_most-refl, at_most-trans, at_most-of_level, is_before-trans, is_before-of_at_most}
 use Rattle.pareto_front.specs.Ranks.{RankLaws}
 
 -- entries by their triples

@@ -1,14 +1,14 @@
 -- A feed of which nothing is left unplanned has plain fares.
-use Rattle.std.proofs.Common.{◌≡◌, ℕ, zero, suc, ◌<◌, length, Bool, true, false, List, [], ◌∷◌, slice_index_or, Option, None, Some, refl}
+use Rattle.std.proofs.Common.{◌≡◌, Bool, true, false, [], ◌∷◌, slice_index_or, Option, None, Some, refl}
 use Rattle.std.specs.Prelude.{◌||◌, IsSome, is_none}
-use Rattle.std.proofs.Common.{arith}
 use Rattle.std.specs.List.{list_any}
 use Rattle.feed_rows.specs.FeedRows.{FeedRows}
-use Rattle.feed_rows.specs.Words.{when, first_of}
+use Rattle.plain_laws.specs.Plain.{when, first_of}
 use Rattle.transit_base.specs.declared.numbers.NetworkId.{NetworkId}
 use Rattle.feed_check.specs.BuiltRows.{HasBuiltRows}
 use Rattle.plan_plain.specs.Prices.{HasPlainFares}
 use Rattle.plan_app.specs.Unplanned.{is_unplanned_stop, is_unplanned_stop_time, is_unplanned_rule, unplanned_fault}
+use Rattle.plain_laws.proofs.Laws.{or_false, none_holds}
 
 -- the last of three tests fails where none of their faults is the first
 third_fails : {X : Type 0} (a b c : Bool) (x y z : X) → first_of (when a x ∷ when b y ∷ when c z ∷ []) ≡ None → c ≡ false
@@ -17,21 +17,11 @@ third_fails false true c x y z e = absurd (cc)
 third_fails false false true x y z e = absurd (cc)
 third_fails false false false x y z e = refl
 
-neither : (a b : Bool) → (a || b) ≡ false → (a ≡ false) × (b ≡ false)
-neither true b e = absurd (cc)
-neither false b e = (refl, e)
-
--- the test fails at each element where it holds of none
-none_holds : {X : Type 0} (test : X → Bool) (xs : List X) (k : ℕ) (d : X) → list_any test xs ≡ false → k < length xs → test (slice_index_or xs k d) ≡ false
-none_holds test [] k d e lt = absurd (omega (arith, lt))
-none_holds test (x ∷ xs) zero d e lt = (neither (test x) (list_any test xs) e).0
-none_holds test (x ∷ xs) (suc k) d e lt = none_holds test xs k d (neither (test x) (list_any test xs) e).1 (omega (arith, lt))
-
 names_one : (network : Option NetworkId) → is_none network ≡ false → IsSome network
 names_one None e = absurd (cc)
 names_one (Some network) e = refl
 
--- what is planned with has neither priorities nor rules without network
+-- what is planned with has or_false priorities nor rules without network
 last_planned : (feed : FeedRows) → unplanned_fault feed ≡ None → (feed.has_priority || list_any is_unplanned_rule feed.leg_rules) ≡ false
 unfolding unplanned_fault
 last_planned feed planned =
@@ -39,7 +29,7 @@ last_planned feed planned =
 
 pub plain_fares : (feed : FeedRows) → HasBuiltRows feed → unplanned_fault feed ≡ None → HasPlainFares feed
 plain_fares feed built planned =
-    let last = neither feed.has_priority (list_any is_unplanned_rule feed.leg_rules) (last_planned feed planned) in
+    let last = or_false feed.has_priority (list_any is_unplanned_rule feed.leg_rules) (last_planned feed planned) in
     record {
       areas = built.areas;
       stop_areas = built.stop_areas;

@@ -1,5 +1,5 @@
 -- What a feed holds that isn't planned with yet: each is a fault of its file.
-use Rattle.std.specs.Prelude.{Bool, ◌&&◌, ◌||◌, ◌==◌, not, is_none, is_some, [], ◌∷◌, Option}
+use Rattle.std.specs.Prelude.{Bool, ◌||◌, ◌==◌, not, is_none, is_some, [], ◌∷◌, Option}
 use Rattle.std.specs.List.{list_any}
 use Rattle.feed_rows.specs.declared.names.FileName.TheVariants as file
 use Rattle.feed_rows.specs.declared.faults.FaultKind.TheVariants as kind
@@ -8,7 +8,7 @@ use Rattle.feed_rows.specs.declared.rows.StopRow.{StopRow}
 use Rattle.feed_rows.specs.declared.rows.StopTimeRow.{StopTimeRow}
 use Rattle.feed_rows.specs.declared.rows.LegRuleRow.{LegRuleRow}
 use Rattle.feed_rows.specs.FeedRows.{FeedRows}
-use Rattle.feed_rows.specs.Words.{when, first_of}
+use Rattle.plain_laws.specs.Plain.{when, first_of}
 use Rattle.feed_faults.specs.FaultPlaces.{file_fault}
 
 -- a stop is no platform, or has a parent

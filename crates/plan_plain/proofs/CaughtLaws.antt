@@ -2,12 +2,12 @@
 use Rattle.std.proofs.Common.{◌≡◌, refl, sym, ◌∙◌, ap, subst, ℕ, ◌+◌, ◌*◌, ◌<◌, ◌≤◌, ◌⊎◌, inl, inr, ⊎_elim, Bool, true, false, List, [], ◌∷◌, ◌++◌, length, get_or, arith, ℤ, pos, ◌+ℤ◌, ◌-ℤ◌, ◌*ℤ◌, ◌≤ℤ◌, ◌<ℤ◌}
 use Rattle.std.specs.Prelude.{Option, Some, None, slice_get, option_and_then, All, Contains, int_le}
 use Rattle.std.proofs.lemmas.Int.{ints}
-use Rattle.std.proofs.lemmas.Option.{same_Some, slice_get_within, slice_get-get_or, get_or_from_slice_get}
+use Rattle.std.proofs.lemmas.Option.{same_Some, slice_get_within, slice_get-get_or, get_or_from_slice_get, cond_some}
 use Rattle.std.proofs.lemmas.List.{get_or_default}
 use Rattle.std.proofs.lemmas.Bool.{cases_lt}
 use mathlib.Core.Bool.{true≢false}
 use Rattle.std.proofs.lemmas.List.Elements.{All-append, All-cons, All-nil, Contains-append_left, Contains-push}
-use Rattle.transit_base.proofs.MomentLemmas.{time_of_day_bound, moment_at-parts}
+use Rattle.feed_laws.proofs.MomentLaws.{time_of_day_bound, moment_at-parts}
 use Rattle.transit_base.specs.Moments.{moment_at, civil_day}
 use Rattle.transit_base.specs.declared.numbers.TripId.{TripId}
 use Rattle.transit_base.specs.declared.numbers.StopId.{StopId}
@@ -21,15 +21,13 @@ use Rattle.feed_rows.specs.SoundFeed.{IsSoundFeed}
 use Rattle.feed_rows.specs.Calls.{calls_of}
 use Rattle.feed_rows.specs.Rides.{runs_on, ride_facts}
 use Rattle.feed_rows.specs.Shifts.{shifts_of}
-use Rattle.feed_rows.proofs.ShiftLaws.{Contains_from_found, list_any-shifts_of}
+use Rattle.feed_laws.proofs.ShiftLaws.{Contains_from_found, list_any-shifts_of}
 use Rattle.feed_rows.specs.Journeys.{is_caught}
 use Rattle.feed_rows.specs.JourneyWalk.{Stand, stand_at_end, way_to, stand_by, next_stand}
-use Rattle.feed_rows.specs.Words.{filled_and, list_below}
-use Rattle.feed_rows.proofs.GroupLaws.{slice_get-list_below}
-use Rattle.feed_rows.proofs.RideLaws.{ride_facts_tells, ride_facts_timed}
-use Rattle.feed_rows.proofs.SoundTrips.{sound_trip}
-use Rattle.feed_rows.proofs.WordLaws.{filled_and-true, when_some}
-use Rattle.feed_rows.proofs.WalkLaws.{chain_gives}
+use Rattle.plain_laws.specs.Plain.{filled_and, list_below}
+use Rattle.plain_laws.proofs.Laws.{slice_get-list_below, filled_and-true, chain_gives, int_le-true, le-int_le}
+use Rattle.feed_laws.proofs.RideLaws.{ride_facts_tells, ride_facts_timed}
+use Rattle.feed_laws.proofs.SoundTrips.{sound_trip}
 use Rattle.plan_plain.specs.declared.caught.Run.{Run}
 use Rattle.plan_plain.specs.declared.caught.CaughtRide.{CaughtRide}
 use Rattle.plan_plain.specs.InTime.{next_in_time, if_in_time, deadline, IsUsualQuery, IsWithin, AddsCaught, HasCaught, HasRide, IsRight, IsOfRun, IsRideOf, IsFrom, IsAt, IsBefore, HasShift, IsOnTrip, IsOnDay, IsOnDays, gets_there, may_board, first_day, day_after}
@@ -44,28 +42,22 @@ pub record IsCaughtRide (feed : FeedRows) (query : Query) (stand : Stand) (ride 
   pub ends : stand_at_end facts ≡ next
   pub in_time : next.at ≤ℤ deadline query
 
-from_test : (x y : ℤ) → int_le x y ≡ true → x ≤ℤ y
-from_test x y h = grind (arith, ints)
-
-to_test : (x y : ℤ) → x ≤ℤ y → int_le x y ≡ true
-to_test x y h = grind (arith, ints)
-
 pub caught_ride : (feed : FeedRows) (query : Query) (stand : Stand) (ride : Ride) (next : Stand) → next_in_time feed query stand ride ≡ Some next → IsCaughtRide feed query stand ride next
 unfolding next_in_time next_stand
 caught_ride feed query stand ride next e =
     let timed = chain_gives (if_in_time query) (option_and_then (stand_by feed query stand) (ride_facts feed ride)) next e in
-    let late = when_some (int_le timed.value.at (deadline query)) timed.value next timed.gives in
+    let late = cond_some (int_le timed.value.at (deadline query)) timed.value next timed.gives in
     let by = chain_gives (stand_by feed query stand) (ride_facts feed ride) timed.value timed.is in
-    let caught = when_some (is_caught stand.at (way_to feed query stand by.value.from) by.value) (stand_at_end by.value) timed.value by.gives in
+    let caught = cond_some (is_caught stand.at (way_to feed query stand by.value.from) by.value) (stand_at_end by.value) timed.value by.gives in
     let way = filled_and-true (way_to feed query stand by.value.from) _ caught.0 in
     record {
       facts = by.value;
       is = by.is;
       way = way.value;
       way_is = way.is;
-      catches = from_test _ _ way.passes;
+      catches = int_le-true _ _ way.passes;
       ends = caught.1 ∙ late.1;
-      in_time = subst (λ (s : Stand). s.at ≤ℤ deadline query) late.1 (from_test _ _ late.0);
+      in_time = subst (λ (s : Stand). s.at ≤ℤ deadline query) late.1 (int_le-true _ _ late.0);
     }
 
 -- one part after another
@@ -143,7 +135,7 @@ caught_boards feed query stand run ride next call e of at =
     let way : way_to feed query stand call.stop ≡ Some c.way = ap (way_to feed query stand) (sym stop) ∙ c.way_is in
     let pickup : call.pickup ≡ true = ap (λ (x : Call). x.pickup) (sym same) ∙ r.pickup in
     let caught : int_le (stand.at +ℤ pos c.way) (moment_at run.day.0 (run.shift +ℤ pos call.departure)) ≡ true =
-    to_test _ _ (subst (λ z. (stand.at +ℤ pos c.way) ≤ℤ z) when_is c.catches) in
+    le-int_le _ _ (subst (λ z. (stand.at +ℤ pos c.way) ≤ℤ z) when_is c.catches) in
     rw (pickup, way, caught) refl
 
 past_moment : (at by : ℤ) (s : ℕ) → by <ℤ at → int_le (at +ℤ pos s) by ≡ false
@@ -322,7 +314,7 @@ adds_day feed query stand first day old mid new since before adds =
     between d day high ge = omega (arith, ints)
 
     by : (d day : ℤ) (b : Bool) → int_le day d ≡ b → (d <ℤ day) ⊎ (day ≤ℤ d)
-    by d day true h = inr (from_test day d h)
+    by d day true h = inr (int_le-true day d h)
     by d day false h = inl (grind (arith, ints))
 
     split : (d : ℤ) → first ≤ℤ d → d <ℤ (day +ℤ pos 1) → ((first ≤ℤ d) × (d <ℤ day)) ⊎ (d ≡ day)

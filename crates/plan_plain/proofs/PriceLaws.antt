@@ -4,7 +4,7 @@ use Rattle.std.specs.Prelude.{Option, Some, None, IsSome, slice_get, All, nat_le
 use Rattle.std.specs.Option.{ForSome, option_map_or}
 use Rattle.std.proofs.lemmas.Int.{ints}
 use Rattle.std.proofs.lemmas.Bool.Decides.{nat_tests}
-use Rattle.std.proofs.lemmas.Option.{slice_get_within, get_or_from_slice_get}
+use Rattle.std.proofs.lemmas.Option.{slice_get_within, get_or_from_slice_get, cond_some}
 use Rattle.std.proofs.lemmas.List.Elements.{All-get_or}
 use Rattle.std.proofs.lemmas.List.Sums.{list_all-from_AllPass}
 use Rattle.transit_base.specs.declared.numbers.AreaId.{AreaId}
@@ -24,7 +24,7 @@ use Rattle.feed_rows.specs.declared.rows.ProductRow.{ProductRow}
 use Rattle.feed_rows.specs.FeedRows.{FeedRows}
 use Rattle.feed_rows.specs.SoundFeed.{IsSoundFeed}
 use Rattle.feed_rows.specs.StopLinks.{is_platform, is_station, parent_of}
-use Rattle.feed_rows.specs.Words.{filled_and, when}
+use Rattle.plain_laws.specs.Plain.{filled_and, when}
 use Rattle.feed_rows.specs.Rides.{ride_facts}
 use Rattle.feed_rows.specs.Legs.{leg_facts, legs_of, stop_areas, own_areas, has_own_areas, frames_at}
 use Rattle.feed_rows.specs.LegRules.{network_matches, area_matches, frame_matches, rule_matches, is_top_priority, is_selected_rule}
@@ -32,9 +32,9 @@ use Rattle.feed_rows.specs.FareChoices.{is_leg_choice, is_leg_paid, is_fare_choi
 use Rattle.feed_rows.specs.FareSums.{amount_of, fare_sum}
 use Rattle.feed_rows.specs.JourneyEntries.{rides_price}
 use Rattle.feed_rows.specs.PriceTexts.{IsLeastPrice, IsUncovered}
-use Rattle.feed_rows.proofs.WordLaws.{filled_and-true, when_some}
-use Rattle.feed_rows.proofs.SumLaws.{fare_sum-first, fare_sum_none}
-use Rattle.feed_rows.proofs.ChoiceLaws.{is_fare_choice_by_places}
+use Rattle.plain_laws.proofs.Laws.{filled_and-true, one_item, no_item, none_if}
+use Rattle.feed_laws.proofs.SumLaws.{fare_sum-first, fare_sum_none}
+use Rattle.feed_laws.proofs.ChoiceLaws.{is_fare_choice_by_places}
 use Rattle.transit_base.specs.declared.moments.Money.{Money}
 use Rattle.plan_plain.specs.declared.caught.CaughtRide.{CaughtRide}
 use Rattle.plan_plain.specs.declared.prices.Fare.{Fare}
@@ -43,6 +43,7 @@ use Rattle.plan_plain.specs.Searches.{rides_of}
 use Rattle.plan_plain.specs.declared.prices.Ticket.{Ticket}
 use Rattle.plan_plain.specs.Prices.{HasPlainFares}
 use Rattle.plan_plain.specs.Tickets.{is_of_network, IsPick, AddsPicks, AnyPick}
+use Rattle.std.proofs.lemmas.Bool.{and_parts, eqb-true}
 
 -- without areas no stop is in one
 stop_areas_none : (feed : FeedRows) (stop : StopId) → feed.areas ≡ [] → stop_areas feed stop ≡ []
@@ -135,10 +136,6 @@ amount_at : (feed : FeedRows) (id : ProductRowId) (row : ProductRow) → slice_g
 unfolding amount_of
 amount_at feed id row at = rw at refl
 
-and_parts : (a b : Bool) → (a && b) ≡ true → (a ≡ true) × (b ≡ true)
-and_parts true b h = (refl, h)
-and_parts false b h = absurd (cc)
-
 -- what decides the tickets of a ride
 abbrev pub fare_of : RideFacts → Option RiderId → Fare
 fare_of facts rider = record { network = facts.network; rider = rider }
@@ -169,19 +166,6 @@ choice_of_pick feed facts rider pick amount plain sound is =
     let selected = selected_plain feed facts is.rule pick.rule.0 plain sound is.rule_is ∙ is.network in
     rw (is.rule_is, selected, is.row_is) is.admits
 
--- a list of one item
-one_item : {X : Type 0} (xs : List X) → length xs ≡ 1 → (x : X) × (xs ≡ x ∷ [])
-one_item [] long = absurd (omega arith)
-one_item (x ∷ []) long = (x, refl)
-one_item (x ∷ y ∷ xs) long = absurd (omega arith)
-
-no_item : {X : Type 0} (xs : List X) → length xs ≡ 0 → xs ≡ []
-no_item [] long = refl
-no_item (x ∷ xs) long = absurd (omega arith)
-
-same_length : (m n : ℕ) → (m == n) ≡ true → m ≡ n
-same_length m n h = grind (arith, nat_tests)
-
 -- the choice has this pick for one leg, and no change
 record IsSingle (choice : Choice) (pick : LegChoice) : Type 0 where
   pub legs : choice.legs ≡ pick ∷ []
@@ -197,8 +181,8 @@ single_of_paid : (feed : FeedRows) (leg : LegFacts) (choice : Choice) (rider : O
 unfolding is_fare_choice
 single_of_paid feed leg choice rider h =
     let four = parts _ _ _ _ h in
-    let one = one_item choice.legs (same_length _ _ four.0) in
-    (one.0, record { legs = one.1; changes = no_item choice.changes (same_length _ _ four.1) }, sym (paid_single feed leg choice rider one.0 one.1) ∙ four.2)
+    let one = one_item choice.legs (eqb-true _ _ four.0) in
+    (one.0, record { legs = one.1; changes = no_item choice.changes (eqb-true _ _ four.1) }, sym (paid_single feed leg choice rider one.0 one.1) ∙ four.2)
   where
     parts : (a b c d : Bool) → (a && b && (true && c) && d) ≡ true → (a ≡ true) × (b ≡ true) × (c ≡ true)
     parts true true true d h = (refl, refl, refl)
@@ -230,7 +214,7 @@ pick_of_price : (feed : FeedRows) (ride : Ride) (facts : RideFacts) (rider : Opt
 pick_of_price feed ride facts rider choice sum plain sound is price =
     let legs = legs_of_one feed ride facts is in
     let paid : when (is_fare_choice feed (leg_facts feed facts ∷ []) choice rider) (fare_sum feed choice) ≡ Some sum = rw legs at price in
-    let parts = when_some (is_fare_choice feed (leg_facts feed facts ∷ []) choice rider) (fare_sum feed choice) sum paid in
+    let parts = cond_some (is_fare_choice feed (leg_facts feed facts ∷ []) choice rider) (fare_sum feed choice) sum paid in
     let single = single_of_paid feed (leg_facts feed facts) choice rider parts.0 in
     let costs : amount_of feed single.0.product ≡ sum = sym (fare_sum-first feed choice single.0 single.1.legs single.1.changes) ∙ parts.1 in
     (single.0, subst (IsPick feed (fare_of facts rider) single.0) costs (pick_of_choice feed facts rider single.0 plain sound single.2))
@@ -243,10 +227,6 @@ price_of_pick feed ride facts rider choice pick amount plain sound is single of 
     let paid = paid_of_single feed (leg_facts feed facts) choice rider pick single (choice_of_pick feed facts rider pick amount plain sound of) in
     let costs = fare_sum-first feed choice pick single.legs single.changes ∙ amount_at feed pick.product of.row of.row_is ∙ of.costs in
     rw (legs, paid, costs) refl
-
-none_if : {X : Type 0} (o : Option X) → ((x : X) → o ≡ Some x → ⊥) → o ≡ None
-none_if None never = refl
-none_if (Some x) never = absurd (never x refl)
 
 -- where a ride has no ticket, no choice pays it
 pub uncovered_one : (feed : FeedRows) (ride : Ride) (facts : RideFacts) (rider : Option RiderId) → HasPlainFares feed → IsSoundFeed feed → ride_facts feed ride ≡ Some facts →
@@ -285,14 +265,14 @@ least_none feed rider choice legs changes = record { paid = paid; least = least 
     least other sum price =
         let none = legs_of_none feed in
         let got : when (is_fare_choice feed [] other rider) (fare_sum feed other) ≡ Some sum = rw none at price in
-        let parts = when_some (is_fare_choice feed [] other rider) (fare_sum feed other) sum got in
+        let parts = cond_some (is_fare_choice feed [] other rider) (fare_sum feed other) sum got in
         let long = and_parts (length other.legs == 0) (length other.changes == 0) (first_two (length other.legs == 0) (length other.changes == 0) _ _ parts.0) in
-        let zero = fare_sum_none feed other (no_item other.legs (same_length _ _ long.0)) (no_item other.changes (same_length _ _ long.1)) in
+        let zero = fare_sum_none feed other (no_item other.legs (eqb-true _ _ long.0)) (no_item other.changes (eqb-true _ _ long.1)) in
         at_least sum (sym (sym zero ∙ parts.1))
 
 -- a list that is empty, and one that is not
 pub is_none : {X : Type 0} (xs : List X) → (length xs == 0) ≡ true → length xs ≡ 0
-is_none xs h = same_length _ _ h
+is_none xs h = eqb-true _ _ h
 
 pub is_some : {X : Type 0} (xs : List X) → (length xs == 0) ≡ false → 0 < length xs
 is_some xs h = grind (arith, nat_tests)

@@ -4,7 +4,7 @@ use Rattle.std.specs.Prelude.{Option, Some, None, slice_get, option_map, All, Co
 use Rattle.std.proofs.lemmas.Int.{ints}
 use Rattle.std.proofs.lemmas.Bool.{cases_lt}
 use Rattle.std.proofs.lemmas.Bool.Decides.{nat_tests}
-use Rattle.std.proofs.lemmas.Option.{same_Some, none-some, slice_get_within, slice_get-get_or}
+use Rattle.std.proofs.lemmas.Option.{same_Some, none-some, slice_get_within, slice_get-get_or, cond_some}
 use Rattle.std.proofs.lemmas.List.Folds.{Any-from_list_any, list_any-from_Any}
 use Rattle.std.proofs.lemmas.List.{get_or_default, map-append, length-map, length_push, append-nil}
 use Rattle.std.proofs.lemmas.List.Elements.{All-weaker, All-nil, All-cons, All-append, All-contains}
@@ -23,15 +23,13 @@ use Rattle.feed_rows.specs.Journeys.{stands_for}
 use Rattle.feed_rows.specs.JourneyWalk.{Stand, first_stand, stand_at_end, next_stand, way_to, way_out, end_arrival}
 use Rattle.feed_rows.specs.ParetoTriples.{at_most, is_before}
 use Rattle.feed_rows.specs.StopLinks.{stop_set}
-use Rattle.feed_rows.specs.Walks.{after}
-use Rattle.feed_rows.specs.Words.{when}
-use Rattle.feed_rows.proofs.ExactLaws.{exact_of_front, covers_offers}
-use Rattle.feed_rows.proofs.JourneyLaws.{taken_of_next, journey_of_after, after_of_journey}
-use Rattle.feed_rows.proofs.ParetoLaws.{at_most-trans}
-use Rattle.feed_rows.proofs.RideLaws.{ride_facts_timed}
-use Rattle.feed_rows.proofs.SoundTrips.{sound_trip}
-use Rattle.feed_rows.proofs.WalkLaws.{chain_gives, after-push}
-use Rattle.feed_rows.proofs.WordLaws.{filled_and-true, when_some}
+use Rattle.plain_laws.specs.Plain.{after, when}
+use Rattle.feed_laws.proofs.ExactLaws.{exact_of_front, covers_offers}
+use Rattle.feed_laws.proofs.JourneyLaws.{taken_of_next, journey_of_after, after_of_journey}
+use Rattle.feed_laws.proofs.ParetoLaws.{at_most-trans}
+use Rattle.feed_laws.proofs.RideLaws.{ride_facts_timed}
+use Rattle.feed_laws.proofs.SoundTrips.{sound_trip}
+use Rattle.plain_laws.proofs.Laws.{chain_gives, after-push, filled_and-true}
 use Rattle.pareto_front.specs.Fronts.{CoversAll, IsFront}
 use Rattle.plan_plain.specs.declared.caught.CaughtRide.{CaughtRide}
 use Rattle.plan_plain.specs.InTime.{next_in_time, if_in_time, deadline, IsRight, HasCaught}
@@ -42,7 +40,7 @@ pub step_of_timed : (feed : FeedRows) (query : Query) (s : Stand) (r : Ride) (m 
 unfolding next_in_time
 step_of_timed feed query s r m e =
     let timed = chain_gives (if_in_time query) (next_stand feed query s r) m e in
-    let late = when_some (int_le timed.value.at (deadline query)) timed.value m timed.gives in
+    let late = cond_some (int_le timed.value.at (deadline query)) timed.value m timed.gives in
     timed.is ∙ ap Some late.1
 
 -- steps in time are steps
@@ -238,7 +236,7 @@ pub arrives_in_time : (feed : FeedRows) (query : Query) (stand : Stand) (last : 
 unfolding arrival_in_time
 arrives_in_time feed query stand last arrival e =
     let got = chain_gives (λ z. when (int_le z (deadline query)) z) (end_arrival feed query stand last) arrival e in
-    let late = when_some (int_le got.value (deadline query)) got.value arrival got.gives in
+    let late = cond_some (int_le got.value (deadline query)) got.value arrival got.gives in
     (got.is ∙ ap Some late.1, subst (λ z. z ≤ℤ deadline query) late.1 (from_test got.value (deadline query) late.0))
   where
     from_test : (x y : ℤ) → int_le x y ≡ true → x ≤ℤ y

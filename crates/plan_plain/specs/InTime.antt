@@ -8,7 +8,7 @@ use Rattle.feed_rows.specs.declared.journeys.Ride.{Ride}
 use Rattle.feed_rows.specs.FeedRows.{FeedRows}
 use Rattle.feed_rows.specs.JourneyWalk.{Stand, stand_at_end, next_stand, way_to}
 use Rattle.feed_rows.specs.Rides.{ride_facts}
-use Rattle.feed_rows.specs.Words.{when, filled_and}
+use Rattle.plain_laws.specs.Plain.{when, filled_and}
 use Rattle.plan_plain.specs.declared.caught.Run.{Run}
 use Rattle.plan_plain.specs.declared.caught.CaughtRide.{CaughtRide}
 

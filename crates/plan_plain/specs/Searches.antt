@@ -9,9 +9,8 @@ use Rattle.feed_rows.specs.JourneyEntries.{IsEntry}
 use Rattle.feed_rows.specs.JourneyWalk.{Stand, first_stand, stand_at_end, end_arrival}
 use Rattle.feed_rows.specs.Journeys.{stands_for}
 use Rattle.feed_rows.specs.Rides.{ride_facts}
-use Rattle.feed_rows.specs.Words.{when}
+use Rattle.plain_laws.specs.Plain.{when, after}
 use Rattle.feed_rows.specs.ParetoTriples.{at_most}
-use Rattle.feed_rows.specs.Walks.{after}
 use Rattle.pareto_front.specs.Fronts.{covers, CoversAll}
 use Rattle.plan_plain.specs.InTime.{next_in_time, deadline}
 use Rattle.plan_plain.specs.declared.caught.CaughtRide.{CaughtRide}

@@ -6,7 +6,7 @@ use Rattle.feed_rows.specs.declared.rows.LegRuleRow.{LegRuleRow}
 use Rattle.feed_rows.specs.declared.rows.ProductRow.{ProductRow}
 use Rattle.feed_rows.specs.FeedRows.{FeedRows}
 use Rattle.feed_rows.specs.FareChoices.{is_open}
-use Rattle.feed_rows.specs.Words.{filled_and}
+use Rattle.plain_laws.specs.Plain.{filled_and}
 use Rattle.plan_plain.specs.declared.prices.Fare.{Fare}
 use Rattle.plan_plain.specs.declared.prices.Ticket.{Ticket}
 

@@ -2,7 +2,7 @@
 ghost use Rattle.std.specs.Prelude.{◌≡◌, ◌<◌, ◌≤◌, [], length, All, IfOk, Some, None, true};
 ghost use Rattle.feed_rows.specs.Rides.{ride_facts};
 ghost use Rattle.feed_rows.specs.FareChoices.{is_open};
-ghost use Rattle.feed_rows.specs.Words.{at_and};
+ghost use Rattle.plain_laws.specs.Plain.{at_and};
 ghost use Rattle.plan_plain.specs.declared.caught.CaughtRide.{CaughtRide};
 ghost use Rattle.plan_plain.specs.Prices.{IsCheapest, HasPlainFares};
 ghost use Rattle.plan_plain.specs.Tickets.{is_of_network, AddsPicks, AddsTicket, IsOfRow, IsOfRule, AnyPick};

@@ -6,7 +6,7 @@ ghost use Rattle.feed_rows.specs.JourneyEntries.{IsExactAnswer, CoversOffers};
 ghost use Rattle.feed_rows.specs.JourneyWalk.{first_stand, stand_at_end};
 ghost use Rattle.feed_rows.specs.Rides.{ride_facts};
 ghost use Rattle.feed_rows.specs.StopLinks.{stop_set};
-ghost use Rattle.feed_rows.specs.Walks.{after};
+ghost use Rattle.plain_laws.specs.Plain.{after};
 ghost use Rattle.plan_plain.specs.declared.caught.CaughtRide.{CaughtRide};
 ghost use Rattle.plan_plain.specs.InTime.{next_in_time, IsUsualQuery, IsWithin};
 ghost use Rattle.plan_plain.specs.Prices.{HasPlainFares};

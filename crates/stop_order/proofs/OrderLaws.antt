@@ -1,38 +1,23 @@
 -- What the neighbours of a place tell is what the definitions say of its row.
 use Rattle.std.proofs.Common.{◌≡◌, refl, sym, ◌∙◌, ap, subst, ℕ, ◌+◌, ◌-◌, ◌<◌, ◌≤◌, inr, ⊎_elim, Bool, true, false, List, length, Option, None, Some, arith}
 use Rattle.std.specs.Prelude.{◌==◌, ◌&&◌, ◌||◌, not, nat_lt, IfSome}
-use Rattle.std.proofs.lemmas.Bool.{cases_Bool, cases_eq, cases_lt, and_parts, and_from}
-use Rattle.std.proofs.lemmas.Bool.Decides.{nat_tests}
-use Rattle.feed_rows.specs.Words.{at_and, any_below}
-use Rattle.feed_rows.proofs.BelowLaws.{IsLast, last_below_tells, last_below_some, any_below_hit, any_below_tells}
-use Rattle.feed_rows.proofs.GroupLaws.{length-list_below}
+use Rattle.std.proofs.lemmas.Bool.{cases_Bool, cases_eq, cases_lt, and_parts, and_from, eqb-true, eq-eqb, lt-ltb, ltb-true}
+use Rattle.plain_laws.specs.Plain.{at_and, any_below}
+use Rattle.plain_laws.proofs.Laws.{IsLast, last_below_tells, last_below_some, any_below_hit, any_below_tells, length-list_below, same_test, at_and-list_below}
 use Rattle.feed_faults.specs.RowKeys.{is_repeated}
 use Rattle.feed_faults.specs.StopTimeLinks.{StopTime, is_timed, is_earlier, first_time, last_time, same_place, comes_before, is_first, is_last, is_end_time_missing, is_nearest_before, do_times_decrease}
 use Rattle.feed_rows.specs.declared.rows.StopTimeRow.{StopTimeRow}
 use Rattle.trip_order.specs.declared.keys.PlaceKey.{PlaceKey}
 use Rattle.stop_order.specs.Numbered.{numbered_at, named_time, named_times, IsOneTrip, faults_at, first_of_times, last_of_times}
-use Rattle.trip_order.specs.Order.{key_at, AreSorted}
+use Rattle.trip_order.specs.Order.{key_at, AreSorted, Precedes}
 use Rattle.stop_order.specs.Order.{goes_on, repeats, goes_further, is_timed_place, latest_timed, falls_behind, place_faults}
-use Rattle.trip_order.proofs.SortLaws.{length_sorted, key_is, place_of, in_order, Precedes}
-use Rattle.stop_order.proofs.PlaceLaws.{same_test, at_and-list_below, Before, trip, sequence, timed, comes_hit, comes_told_first, comes_told_last, same_hit, same_told, timed_alike}
+use Rattle.stop_order.proofs.PlaceLaws.{Before, trip, sequence, timed, comes_hit, comes_told_first, comes_told_last, same_hit, same_told, timed_alike}
 
 -- the last timed place is one of the places
 pub latest_within : (times : List StopTimeRow) (keys : List PlaceKey) (place : ℕ) (latest : Option ℕ) → latest ≡ latest_timed times keys place → place < length keys → IfSome latest (λ q. q < length keys)
 unfolding latest_timed
 latest_within times keys place None e lt = tt
 latest_within times keys place (Some q) e lt = let last = last_below_tells (is_timed_place times keys) place q (sym e) in let below = last.within in omega arith
-
-told : (a b : ℕ) → (a == b) ≡ true → a ≡ b
-told a b e = grind (arith, nat_tests)
-
-hit : (a b : ℕ) → a ≡ b → (a == b) ≡ true
-hit a b e = grind (arith, nat_tests)
-
-less : (a b : ℕ) → a < b → nat_lt a b ≡ true
-less a b lt = grind (arith, nat_tests)
-
-less_told : (a b : ℕ) → nat_lt a b ≡ true → a < b
-less_told a b e = grind (arith, nat_tests)
 
 -- what precedes comes before, within a trip
 before_from : (a b : PlaceKey) → Precedes a b → a.trip ≡ b.trip → Before a.sequence b.sequence a.row b.row
@@ -72,17 +57,17 @@ module _ (times : List StopTimeRow) (keys : List PlaceKey) (are : AreSorted time
   rows = named_times times text
 
   many : length keys ≡ length times
-  many = length_sorted times keys are
+  many = are.many
 
   within : (k : ℕ) → k < length keys → row k < length times
-  within k lt = (key_is times keys are k lt).1
+  within k lt = (are.own k lt).1
 
   -- a place's key is that of its row
   trip_is : (k : ℕ) → k < length keys → (key_at keys k).trip ≡ trip times text (row k)
-  trip_is k lt = ap (λ (key : PlaceKey). key.trip) (key_is times keys are k lt).0
+  trip_is k lt = ap (λ (key : PlaceKey). key.trip) (are.own k lt).0
 
   sequence_is : (k : ℕ) → k < length keys → (key_at keys k).sequence ≡ sequence times text (row k)
-  sequence_is k lt = ap (λ (key : PlaceKey). key.sequence) (key_is times keys are k lt).0
+  sequence_is k lt = ap (λ (key : PlaceKey). key.sequence) (are.own k lt).0
 
   -- the trip of a place is that of this place
   abbrev IsHere : ℕ → Type 0
@@ -98,7 +83,7 @@ module _ (times : List StopTimeRow) (keys : List PlaceKey) (are : AreSorted time
   comes : (i j : ℕ) → i < j → j < length keys → IsHere i → IsHere j → comes_before rows (row i) (row j) ≡ true
   comes i j lt lj hi hj =
       let li : i < length keys = omega arith in
-      let is = before_from (key_at keys i) (key_at keys j) (in_order times keys are i j lt lj) (hi ∙ sym hj) in
+      let is = before_from (key_at keys i) (key_at keys j) (are.in_order i j lt lj) (hi ∙ sym hj) in
       let is' : Before (sequence times text (row i)) (sequence times text (row j)) (row i) (row j) = rw (← sequence_is i li, ← sequence_is j lj) is in
       comes_hit times text (row p) (within p below) one (row i) (row j) (within i li) (within j lj) (of_trip i li hi) (of_trip j lj hj) is'
 
@@ -107,7 +92,7 @@ module _ (times : List StopTimeRow) (keys : List PlaceKey) (are : AreSorted time
       let is' : Before (key_at keys i).sequence (key_at keys j).sequence (row i) (row j) = rw (sequence_is i li, sequence_is j lj) is in
       ⊎_elim (λ (same : i ≡ j). absurd (let itself : Before (key_at keys j).sequence (key_at keys j).sequence (row j) (row j) = rw same at is' in not_itself (key_at keys j).sequence (row j) itself))
       (λ (other : i ≡ j → ⊥). ⊎_elim (λ (lt : i < j). lt)
-      (λ (ge : j ≤ i). absurd (not_back (key_at keys i) (key_at keys j) (in_order times keys are j i (omega arith) li) (hi ∙ sym hj) is'))
+      (λ (ge : j ≤ i). absurd (not_back (key_at keys i) (key_at keys j) (are.in_order j i (omega arith) li) (hi ∙ sym hj) is'))
       (cases_lt i j))
       (cases_eq i j)
 
@@ -127,7 +112,7 @@ module _ (times : List StopTimeRow) (keys : List PlaceKey) (are : AreSorted time
 
   -- trips of places rise
   rising : (i j : ℕ) → i ≤ j → j < length keys → (key_at keys i).trip ≤ (key_at keys j).trip
-  rising i j le lj = ⊎_elim (λ (same : i ≡ j). rw same (omega arith)) (λ (other : i ≡ j → ⊥). rises (key_at keys i) (key_at keys j) (in_order times keys are i j (omega arith) lj)) (cases_eq i j)
+  rising i j le lj = ⊎_elim (λ (same : i ≡ j). rw same (omega arith)) (λ (other : i ≡ j → ⊥). rises (key_at keys i) (key_at keys j) (are.in_order i j (omega arith) lj)) (cases_eq i j)
 
   -- what lies between a place of the trip and this place is of the trip
   here_between : (i k : ℕ) → i ≤ k → k ≤ p → IsHere i → IsHere k
@@ -138,7 +123,7 @@ module _ (times : List StopTimeRow) (keys : List PlaceKey) (are : AreSorted time
 
   -- a row of the file has a place
   place : (r : ℕ) → r < length rows → (k : ℕ) × (k < length keys) × (row k ≡ r)
-  place r lt = place_of times keys are r (rw size at lt)
+  place r lt = are.placed r (rw size at lt)
 
   inside : (k : ℕ) → k < length keys → row k < length rows
   inside k lt = rw size (within k lt)
@@ -153,11 +138,11 @@ module _ (times : List StopTimeRow) (keys : List PlaceKey) (are : AreSorted time
       let comes' : comes_before rows (row at.0) (row p) ≡ true = rw at.2 found.2 in
       let two = comes_first at.0 p at.1 below refl comes' in
       let lt = two.1 in
-      and_from (nat_lt 0 p) ((key_at keys (p - 1)).trip == (key_at keys p).trip) (less 0 p (omega arith)) (hit (key_at keys (p - 1)).trip (key_at keys p).trip (here_between at.0 (p - 1) (omega arith) (omega arith) two.0)))
+      and_from (nat_lt 0 p) ((key_at keys (p - 1)).trip == (key_at keys p).trip) (lt-ltb 0 p (omega arith)) (eq-eqb (key_at keys (p - 1)).trip (key_at keys p).trip (here_between at.0 (p - 1) (omega arith) (omega arith) two.0)))
       (λ on.
       let two = and_parts (nat_lt 0 p) ((key_at keys (p - 1)).trip == (key_at keys p).trip) on in
-      let lt = less_told 0 p two.0 in
-      any_below_hit (λ other. comes_before rows other (row p)) (length rows) (row (p - 1)) (inside (p - 1) (omega arith)) (comes (p - 1) p (omega arith) below (told (key_at keys (p - 1)).trip (key_at keys p).trip two.1) refl)))
+      let lt = ltb-true 0 p two.0 in
+      any_below_hit (λ other. comes_before rows other (row p)) (length rows) (row (p - 1)) (inside (p - 1) (omega arith)) (comes (p - 1) p (omega arith) below (eqb-true (key_at keys (p - 1)).trip (key_at keys p).trip two.1) refl)))
 
   -- the last of a trip
   pub last_is : is_last rows (row p) ≡ not (goes_further keys p)
@@ -173,11 +158,11 @@ module _ (times : List StopTimeRow) (keys : List PlaceKey) (are : AreSorted time
       let here = two.0 in
       let low = rising p (p + 1) (omega arith) (omega arith) in
       let high = rising (p + 1) at.0 (omega arith) inner in
-      and_from (nat_lt (p + 1) (length keys)) ((key_at keys (p + 1)).trip == (key_at keys p).trip) (less (p + 1) (length keys) (omega arith)) (hit (key_at keys (p + 1)).trip (key_at keys p).trip (omega arith)))
+      and_from (nat_lt (p + 1) (length keys)) ((key_at keys (p + 1)).trip == (key_at keys p).trip) (lt-ltb (p + 1) (length keys) (omega arith)) (eq-eqb (key_at keys (p + 1)).trip (key_at keys p).trip (omega arith)))
       (λ on.
       let two = and_parts (nat_lt (p + 1) (length keys)) ((key_at keys (p + 1)).trip == (key_at keys p).trip) on in
-      let lt = less_told (p + 1) (length keys) two.0 in
-      any_below_hit (λ other. comes_before rows (row p) other) (length rows) (row (p + 1)) (inside (p + 1) lt) (comes p (p + 1) (omega arith) lt refl (told (key_at keys (p + 1)).trip (key_at keys p).trip two.1))))
+      let lt = ltb-true (p + 1) (length keys) two.0 in
+      any_below_hit (λ other. comes_before rows (row p) other) (length rows) (row (p + 1)) (inside (p + 1) lt) (comes p (p + 1) (omega arith) lt refl (eqb-true (key_at keys (p + 1)).trip (key_at keys p).trip two.1))))
 
   -- a repeated place of a trip
   pub repeated_is : is_repeated (same_place rows) (row p) ≡ repeats keys p
@@ -187,7 +172,7 @@ module _ (times : List StopTimeRow) (keys : List PlaceKey) (are : AreSorted time
       let found = any_below_tells (same_place rows (row p)) (row p) some in
       let in_file = within p below in
       let small = found.1 in
-      let at = place_of times keys are found.0 (omega arith) in
+      let at = are.placed found.0 (omega arith) in
       let same' : same_place rows (row p) (row at.0) ≡ true = rw at.2 found.2 in
       let ahead : row at.0 < row p = rw at.2 small in
       let two = same_told times text (row p) in_file one (row p) (row at.0) in_file (within at.0 at.1) refl same' in
@@ -196,19 +181,19 @@ module _ (times : List StopTimeRow) (keys : List PlaceKey) (are : AreSorted time
       let lt = earlier at.0 p at.1 below here refl (inr (sym two.1, ahead)) in
       let last : IsHere (p - 1) × ((key_at keys (p - 1)).sequence ≡ (key_at keys p).sequence) = ⊎_elim
       (λ (is : at.0 ≡ p - 1). rw (← is) (here, level))
-      (λ (apart : at.0 ≡ p - 1 → ⊥). between (key_at keys at.0) (key_at keys (p - 1)) (key_at keys p) (in_order times keys are at.0 (p - 1) (omega arith) (omega arith)) (in_order times keys are (p - 1) p (omega arith) below) here level)
+      (λ (apart : at.0 ≡ p - 1 → ⊥). between (key_at keys at.0) (key_at keys (p - 1)) (key_at keys p) (are.in_order at.0 (p - 1) (omega arith) (omega arith)) (are.in_order (p - 1) p (omega arith) below) here level)
       (cases_eq at.0 (p - 1)) in
       and_from (nat_lt 0 p && ((key_at keys (p - 1)).trip == (key_at keys p).trip)) ((key_at keys (p - 1)).sequence == (key_at keys p).sequence)
-      (and_from (nat_lt 0 p) ((key_at keys (p - 1)).trip == (key_at keys p).trip) (less 0 p (omega arith)) (hit (key_at keys (p - 1)).trip (key_at keys p).trip last.0))
-      (hit (key_at keys (p - 1)).sequence (key_at keys p).sequence last.1))
+      (and_from (nat_lt 0 p) ((key_at keys (p - 1)).trip == (key_at keys p).trip) (lt-ltb 0 p (omega arith)) (eq-eqb (key_at keys (p - 1)).trip (key_at keys p).trip last.0))
+      (eq-eqb (key_at keys (p - 1)).sequence (key_at keys p).sequence last.1))
       (λ on.
       let outer = and_parts (nat_lt 0 p && ((key_at keys (p - 1)).trip == (key_at keys p).trip)) ((key_at keys (p - 1)).sequence == (key_at keys p).sequence) on in
       let two = and_parts (nat_lt 0 p) ((key_at keys (p - 1)).trip == (key_at keys p).trip) outer.0 in
-      let lt = less_told 0 p two.0 in
+      let lt = ltb-true 0 p two.0 in
       let small : p - 1 < length keys = omega arith in
-      let here = told (key_at keys (p - 1)).trip (key_at keys p).trip two.1 in
-      let level = told (key_at keys (p - 1)).sequence (key_at keys p).sequence outer.1 in
-      let ahead = row_less (key_at keys (p - 1)) (key_at keys p) (in_order times keys are (p - 1) p (omega arith) below) here level in
+      let here = eqb-true (key_at keys (p - 1)).trip (key_at keys p).trip two.1 in
+      let level = eqb-true (key_at keys (p - 1)).sequence (key_at keys p).sequence outer.1 in
+      let ahead = row_less (key_at keys (p - 1)) (key_at keys p) (are.in_order (p - 1) p (omega arith) below) here level in
       let same = same_hit times text (row p) (within p below) one (row p) (row (p - 1)) (within p below) (within (p - 1) small) refl (of_trip (p - 1) small here) (sym (sequence_is p below) ∙ sym level ∙ sequence_is (p - 1) small) in
       any_below_hit (same_place rows (row p)) (row p) (row (p - 1)) ahead same)
 
@@ -263,9 +248,9 @@ module _ (times : List StopTimeRow) (keys : List PlaceKey) (are : AreSorted time
       ⊎_elim
       (λ (same : at.0 ≡ found.0). (found.0, found.1, rw (← same) two.0, rw (← same) at.2))
       (λ (apart : at.0 ≡ found.0 → ⊥). ⊎_elim
-      (λ (less : at.0 < found.0).
+      (λ (lt-ltb : at.0 < found.0).
       let here = here_between at.0 found.0 (omega arith) (omega arith) two.0 in
-      let first = comes at.0 found.0 less (omega arith) two.0 here in
+      let first = comes at.0 found.0 lt-ltb (omega arith) two.0 here in
       let second = comes found.0 p lt below here refl in
       let between' : between_test (row at.0) (row found.0) ≡ true = rw (first, second, timed_is found.0 (omega arith) ∙ last.passes) refl in
       let some = any_below_hit (between_test (row at.0)) (length rows) (row found.0) (inside found.0 (omega arith)) between' in
@@ -293,7 +278,7 @@ module _ (times : List StopTimeRow) (keys : List PlaceKey) (are : AreSorted time
   unfolding falls_behind
   falls_from latest q r e here is late =
       let late' = subst (λ s. is_earlier (first_at (row p)) (last_at s) ≡ true) (sym is) late in
-      rw e (and_from ((key_at keys q).trip == (key_at keys p).trip) (is_earlier (first_at (row p)) (last_at (row q))) (hit (key_at keys q).trip (key_at keys p).trip here) late')
+      rw e (and_from ((key_at keys q).trip == (key_at keys p).trip) (is_earlier (first_at (row p)) (last_at (row q))) (eq-eqb (key_at keys q).trip (key_at keys p).trip here) late')
 
   behind_is : any_below (length rows) behind_test ≡ falls_behind times keys p (latest_timed times keys p)
   unfolding is_nearest_before falls_behind latest_timed
@@ -313,7 +298,7 @@ module _ (times : List StopTimeRow) (keys : List PlaceKey) (are : AreSorted time
           let last = last_below_tells (is_timed_place times keys) p q e in
           let lt = last.within in
           let two = and_parts ((key_at keys q).trip == (key_at keys p).trip) (is_earlier (first_at (row p)) (last_at (row q))) behind in
-          let near = nearest_hit q last (told (key_at keys q).trip (key_at keys p).trip two.0) in
+          let near = nearest_hit q last (eqb-true (key_at keys q).trip (key_at keys p).trip two.0) in
           let small : q < length keys = omega arith in
           any_below_hit behind_test (length rows) (row q) (inside q small) (and_from (nearest_test (row q)) (at_and rows (row q) (λ y. is_earlier (first_at (row p)) (last_time y))) near (at_row (row q) (within q small) ∙ two.1))
 

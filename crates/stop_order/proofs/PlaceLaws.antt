@@ -1,39 +1,16 @@
 -- Named stop times by their rows: to come before another, and to be of one trip, by numbers.
-use Rattle.std.proofs.Common.{◌≡◌, refl, sym, ◌∙◌, ℕ, ◌<◌, ◌⊎◌, Bool, true, false, List, length, arith}
+use Rattle.std.proofs.Common.{◌≡◌, refl, sym, ◌∙◌, ℕ, ◌<◌, ◌⊎◌, Bool, true, List, length, arith}
 use Rattle.std.specs.Prelude.{◌==◌, ◌&&◌, ◌||◌, nat_lt, bytes_eq, is_some, Option, None, Some}
 use Rattle.std.specs.Option.{option_or}
-use Rattle.std.proofs.lemmas.Bool.{and_parts, and_from}
+use Rattle.std.proofs.lemmas.Bool.{and_parts, and_from, eqb-true, eq-eqb}
 use Rattle.std.proofs.lemmas.Bool.Decides.{nat_tests}
-use Rattle.std.proofs.lemmas.Slice.Eq.{bytes_eq-Decides}
-use Rattle.feed_rows.specs.Words.{at_and, list_below}
-use Rattle.feed_rows.proofs.GroupLaws.{slice_get-list_below}
+use Rattle.plain_laws.specs.Plain.{at_and}
+use Rattle.plain_laws.proofs.Laws.{at_and-list_below, bytes_eq-true, eq-bytes_eq}
 use Rattle.feed_faults.specs.StopTimeLinks.{StopTime, is_timed, both_and, same_place, comes_before}
 use Rattle.feed_rows.specs.declared.rows.StopTimeRow.{StopTimeRow}
 use Rattle.stop_order.specs.Numbered.{numbered_at, named_time, named_times, IsOneTrip, is_set}
 
--- tests that hold alike are equal
-pub same_test : (a b : Bool) → (a ≡ true → b ≡ true) → (b ≡ true → a ≡ true) → a ≡ b
-same_test true b f g = sym (f refl)
-same_test false true f g = g refl
-same_test false false f g = refl
-
--- a test of a row that is there
-pub at_and-list_below : {X : Type 0} (n : ℕ) (f : ℕ → X) (i : ℕ) (test : X → Bool) → i < n → at_and (list_below n f) i test ≡ test (f i)
-at_and-list_below n f i test lt = rw (slice_get-list_below n f i lt) refl
-
-equal : (a b : List ℕ) → bytes_eq a b ≡ true → a ≡ b
-equal a b e = (bytes_eq-Decides a b).0 e
-
-alike : (a b : List ℕ) → a ≡ b → bytes_eq a b ≡ true
-alike a b e = (bytes_eq-Decides a b).1 e
-
-told : (a b : ℕ) → (a == b) ≡ true → a ≡ b
-told a b e = grind (arith, nat_tests)
-
-hit : (a b : ℕ) → a ≡ b → (a == b) ≡ true
-hit a b e = grind (arith, nat_tests)
-
--- one number is less than another, or equal with a row that is less
+-- one number is less than another, or bytes_eq-true with a row that is less
 abbrev pub Before : ℕ → ℕ → ℕ → ℕ → Type 0
 Before s t a b = (s < t) ⊎ ((s ≡ t) × (a < b))
 
@@ -71,17 +48,17 @@ module _ (times : List StopTimeRow) (text : ℕ → List ℕ) where
   module _ (row : ℕ) (within : row < length times) (one : IsOneTrip times text row) where
     -- a row of the trip has its text
     of_trip : (a : ℕ) → a < length times → trip a ≡ trip row → text a ≡ text row
-    of_trip a la e = equal (text a) (text row) (one a la ∙ hit (trip a) (trip row) e)
+    of_trip a la e = bytes_eq-true (text a) (text row) (one a la ∙ eq-eqb (trip a) (trip row) e)
 
     -- two rows have one text, of which one is of the trip by its number
     pub text_from : (a b : ℕ) → a < length times → b < length times → trip a ≡ trip row → trip b ≡ trip row → bytes_eq (text a) (text b) ≡ true
-    text_from a b la lb ea eb = alike (text a) (text b) (of_trip a la ea ∙ sym (of_trip b lb eb))
+    text_from a b la lb ea eb = eq-bytes_eq (text a) (text b) (of_trip a la ea ∙ sym (of_trip b lb eb))
 
     pub trip_from_first : (a b : ℕ) → a < length times → b < length times → trip a ≡ trip row → bytes_eq (text a) (text b) ≡ true → trip b ≡ trip row
-    trip_from_first a b la lb ea e = told (trip b) (trip row) (sym (one b lb) ∙ alike (text b) (text row) (sym (equal (text a) (text b) e) ∙ of_trip a la ea))
+    trip_from_first a b la lb ea e = eqb-true (trip b) (trip row) (sym (one b lb) ∙ eq-bytes_eq (text b) (text row) (sym (bytes_eq-true (text a) (text b) e) ∙ of_trip a la ea))
 
     pub trip_from_last : (a b : ℕ) → a < length times → b < length times → trip b ≡ trip row → bytes_eq (text a) (text b) ≡ true → trip a ≡ trip row
-    trip_from_last a b la lb eb e = told (trip a) (trip row) (sym (one a la) ∙ alike (text a) (text row) (equal (text a) (text b) e ∙ of_trip b lb eb))
+    trip_from_last a b la lb eb e = eqb-true (trip a) (trip row) (sym (one a la) ∙ eq-bytes_eq (text a) (text row) (bytes_eq-true (text a) (text b) e ∙ of_trip b lb eb))
 
     -- a row comes before another, both of the trip
     pub comes_hit : (a b : ℕ) → a < length times → b < length times → trip a ≡ trip row → trip b ≡ trip row → Before (sequence a) (sequence b) a b → comes_before (named_times times text) a b ≡ true
@@ -109,11 +86,11 @@ module _ (times : List StopTimeRow) (text : ℕ → List ℕ) where
     unfolding same_place
     same_hit a b la lb ea eb is =
         both a b (λ x y. bytes_eq x.trip y.trip && (x.sequence == y.sequence)) la lb
-        ∙ and_from (bytes_eq (text a) (text b)) (sequence a == sequence b) (text_from a b la lb ea eb) (hit (sequence a) (sequence b) is)
+        ∙ and_from (bytes_eq (text a) (text b)) (sequence a == sequence b) (text_from a b la lb ea eb) (eq-eqb (sequence a) (sequence b) is)
 
     pub same_told : (a b : ℕ) → a < length times → b < length times → trip a ≡ trip row → same_place (named_times times text) a b ≡ true → (trip b ≡ trip row) × (sequence a ≡ sequence b)
     unfolding same_place
     same_told a b la lb ea e =
         let is = sym (both a b (λ x y. bytes_eq x.trip y.trip && (x.sequence == y.sequence)) la lb) ∙ e in
         let two = and_parts (bytes_eq (text a) (text b)) (sequence a == sequence b) is in
-        (trip_from_first a b la lb ea two.0, told (sequence a) (sequence b) two.1)
+        (trip_from_first a b la lb ea two.0, eqb-true (sequence a) (sequence b) two.1)

@@ -1,6 +1,6 @@
 -- Stop times whose trips are numbers, and what is wrong with them under the texts of their trips.
 use Rattle.std.specs.Prelude.{◌≡◌, ℕ, ◌<◌, ◌==◌, false, List, length, bytes_eq}
-use Rattle.feed_rows.specs.Words.{list_below}
+use Rattle.plain_laws.specs.Plain.{list_below}
 use Rattle.feed_faults.specs.RowKeys.{is_repeated}
 use Rattle.feed_faults.specs.StopTimeLinks.{StopTime, same_place, is_end_time_missing, do_times_decrease}
 use Rattle.feed_rows.specs.declared.rows.StopTimeRow.{StopTimeRow}

@@ -10,7 +10,7 @@ use std::alloc::{AllocError, Global};
 use trip_order::{PlaceKey, first_time, is_timed, last_time, sorted_keys};
 
 // The stop time at a place of the order.
-#[tactic(auto, using(trip_order::proofs::SortLaws::row_within))]
+#[tactic(auto, using(trip_order::specs::Order::row_within))]
 fn time_of(times: &[StopTimeRow], keys: &[PlaceKey], place: usize) -> StopTimeRow
     requires sorted { AreSorted times.now keys.now }
     requires within { place < length keys.now }
@@ -115,7 +115,7 @@ fn latest_with(
 ///
 /// # Errors
 /// Want of memory.
-#[tactic(auto, using(trip_order::proofs::SortLaws::row_within, trip_order::proofs::SortLaws::length_sorted))]
+#[tactic(auto, using(trip_order::specs::Order::row_within, trip_order::specs::Order::length_sorted))]
 pub fn order_faults(alloc: Global, times: &[StopTimeRow]) -> Result<Vec<OrderFaults>, AllocError>
     requires { length times.now < 2 ^ 32 }
     ensures count { IfOk result (λ faults. length faults.items ≡ length times.now) }

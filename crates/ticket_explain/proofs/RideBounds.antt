@@ -15,14 +15,14 @@ use Rattle.feed_rows.specs.declared.journeys.RideFacts.{RideFacts}
 use Rattle.feed_rows.specs.FeedRows.{FeedRows}
 use Rattle.feed_rows.specs.SoundFeed.{IsSoundFeed}
 use Rattle.feed_rows.specs.SoundTimetable.{IsCalendarDay}
-use Rattle.feed_rows.specs.Words.{int_same}
+use Rattle.plain_laws.specs.Plain.{int_same}
 use Rattle.feed_rows.specs.ServiceDays.{covers, is_covered, is_added, is_active}
 use Rattle.feed_rows.specs.Rides.{ride_facts}
-use Rattle.feed_rows.proofs.CallTimes.{first_departure_most}
-use Rattle.feed_rows.proofs.RideLaws.{ride_facts_tells}
-use Rattle.feed_rows.proofs.ShiftLaws.{list_any_tells, same_told, is_shift_bounds}
-use Rattle.feed_rows.proofs.SoundTrips.{sound_trip}
-use Rattle.feed_rows.proofs.WordLaws.{filled_and-true}
+use Rattle.feed_laws.proofs.CallTimes.{first_departure_most}
+use Rattle.feed_laws.proofs.RideLaws.{ride_facts_tells}
+use Rattle.plain_laws.proofs.Laws.{list_any_tells, int_same-true, filled_and-true}
+use Rattle.feed_laws.proofs.ShiftLaws.{is_shift_bounds}
+use Rattle.feed_laws.proofs.SoundTrips.{sound_trip}
 use Rattle.ticket_explain.specs.LineParts.{is_near}
 
 -- a day of the calendar, as a number
@@ -34,7 +34,7 @@ near_added : (feed : FeedRows) (service : ServiceId) (day : ℤ) → IsSoundFeed
 near_added feed service day sound e =
     let found = list_any_tells (λ (x : ExceptionRow). (x.service.0 == service.0) && int_same x.day.0 day && x.added) feed.exceptions e in
     let parts = and_parts _ _ (and_parts _ _ found.2).0 in
-    let same = same_told found.0.day.0 day parts.1 in
+    let same = int_same-true found.0.day.0 day parts.1 in
     let calendar = All-contains (λ (x : ExceptionRow). IsCalendarDay x.day) feed.exceptions found.0 sound.exceptions.days found.1 in
     let low = calendar.low in
     let high = calendar.high in

@@ -4,8 +4,8 @@ use Rattle.std.specs.Prelude.{Some, slice_get, slice_range, slice_index}
 use Rattle.std.proofs.Math.Seq.{drop-append_seam}
 use Rattle.std.proofs.lemmas.Bool.{cases_lt}
 use Rattle.std.proofs.lemmas.List.{length_push, get_or_push, get_or_append_left, length-append, length-drop, take-append-le, drop-append-le}
-use Rattle.feed_rows.specs.Words.{list_below}
-use Rattle.feed_rows.proofs.GroupLaws.{list_below-same, length-pieces, slice_get-pieces}
+use Rattle.plain_laws.specs.Plain.{list_below}
+use Rattle.plain_laws.proofs.Laws.{list_below-same, length-pieces, slice_get-pieces}
 use Rattle.ticket_explain.specs.TextLines.{lines_at, AreEnds}
 
 -- a text without lines

@@ -13,7 +13,7 @@ use Rattle.feed_rows.specs.declared.fares.ChangeChoice.{ChangeChoice}
 use Rattle.feed_rows.specs.FeedRows.{FeedRows}
 use Rattle.feed_rows.specs.Calls.{calls_of}
 use Rattle.feed_rows.specs.FareSums.{amount_of, is_charged, transfer_kind}
-use Rattle.feed_rows.specs.Words.{when}
+use Rattle.plain_laws.specs.Plain.{when}
 use Rattle.feed_rows.specs.Lines.{fields_text, line}
 use Rattle.feed_rows.specs.EntryText.{stop_text, stop_before, walk_lines, run_fields, way_fields, ride_line, leg_line, change_line}
 

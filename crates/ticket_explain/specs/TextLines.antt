@@ -1,6 +1,6 @@
 -- How a text is kept: its bytes, and where each of its lines ends among them.
 use Rattle.std.specs.Prelude.{◌≡◌, ℕ, List, ◌∷◌, length, slice_index}
-use Rattle.feed_rows.specs.Pieces.{pieces, AreCuts}
+use Rattle.plain_laws.specs.Plain.{pieces, AreCuts}
 
 -- the lines of the bytes that end at these places
 abbrev pub lines_at : List ℕ → List ℕ → List (List ℕ)

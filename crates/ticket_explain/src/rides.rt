@@ -1,6 +1,6 @@
 //! The line of a ride.
 ghost use Rattle.std.specs.Prelude.{◌≡◌, ◌<◌, ◌++◌, ◌∷◌, length, IfOk, OnOk, codes};
-ghost use Rattle.feed_rows.specs.Words.{when};
+ghost use Rattle.plain_laws.specs.Plain.{when};
 ghost use Rattle.feed_rows.specs.Lines.{fields_text};
 ghost use Rattle.feed_rows.specs.EntryText.{start_text, run_fields, way_fields, ride_line};
 ghost use Rattle.ticket_explain.specs.LineParts.{head_text, whole_ride, ride_between, ride_on, ride_line_in};

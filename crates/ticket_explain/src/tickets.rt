@@ -1,6 +1,6 @@
 //! The lines of a choice of tickets.
 ghost use Rattle.std.specs.Prelude.{◌≡◌, ◌+◌, ◌<◌, ◌^◌, ◌++◌, ◌∷◌, [], IfOk, OnOk, codes, decimal, pos};
-ghost use Rattle.feed_rows.specs.Words.{when};
+ghost use Rattle.plain_laws.specs.Plain.{when};
 ghost use Rattle.feed_rows.specs.Lines.{fields_text};
 ghost use Rattle.feed_rows.specs.MoneyText.{money_text};
 ghost use Rattle.feed_rows.specs.FareSums.{transfer_kind, starts_chain, is_included_on_entry, is_included_on_leaving, is_charged};

@@ -1,6 +1,6 @@
 //! The lines of a journey's walks and rides, in order of travel.
 ghost use Rattle.std.specs.Prelude.{◌≡◌, ◌++◌, ◌∷◌, [], IfOk, OnOk, codes, decimal};
-ghost use Rattle.feed_rows.specs.Words.{when};
+ghost use Rattle.plain_laws.specs.Plain.{when};
 ghost use Rattle.feed_rows.specs.Lines.{line as line_text};
 ghost use Rattle.feed_rows.specs.EntryText.{stay_line, walk_line, walk_lines, ride_lines, last_lines, travel_lines};
 ghost use Rattle.ticket_explain.specs.LineParts.{if_written, walk_part, ride_part, known_lines};

@@ -256,16 +256,6 @@ pub date_of-day_number : (year month day : ℕ) → IsTrue (is_date year month d
 date_of-day_number year month day exists =
     date_of-civil year month day (date_parts year month day (days_in_month (pos year) month) exists).0 (civil_date year month day exists)
 
--- a date's day lies from 0001-01-01 to 9999-12-31
-pub is_dated-day_number : (year month day : ℕ) → IsTrue (is_date year month day) → IsTrue (is_dated (day_number year month day))
-is_dated-day_number year month day exists =
-    let date = civil_date year month day exists in
-    let low = (date_parts year month day (days_in_month (pos year) month) exists).0 in
-    let early : day_count (pos year) month day ≤ 7_304_849 = (day_count_bounds (pos year) month day date).1 in
-    let late : 3_652_791 ≤ day_count (pos year) month day = day_count-late_enough year month day low date in
-    let count : up (days_from_civil (pos year) month day) + 4_371_953 ≡ down (days_from_civil (pos year) month day) + day_count (pos year) month day = days_from_civil-day_count (pos year) month day in
-    is_dated_from_ends (days_from_civil (pos year) month day) (omega (arith, signed_arith)) (omega (arith, signed_arith))
-
 CivilDate-same : (first second : CivilDate) → first.year ≡ second.year → first.month ≡ second.month → first.day ≡ second.day → first ≡ second
 CivilDate-same first second years months days = λ i. record { year = years i; month = months i; day = days i }
 

@@ -1,3 +1,2 @@
-pub mod MomentLemmas
 pub mod DateLemmas
 pub mod CheckedDates

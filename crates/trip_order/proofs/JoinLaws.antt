@@ -1,14 +1,15 @@
 -- Lists that are made of the items of another, one after another.
-use Rattle.std.proofs.Common.{◌≡◌, sym, ◌∙◌, ap, subst, ℕ, zero, suc, ◌+◌, ◌<◌, List, [], ◌∷◌, ◌++◌, length, get_or, set, append_assoc, take, ◌≤◌, ◌-◌, arith, IsPermutation}
-use Rattle.std.specs.List.{flat_map, swap, slice_range}
+use Rattle.std.proofs.Common.{◌≡◌, sym, ◌∙◌, ap, subst, ℕ, zero, suc, ◌<◌, List, [], ◌∷◌, ◌++◌, length, get_or, set, append_assoc, take, ◌≤◌, arith, IsPermutation}
+use Rattle.std.specs.List.{flat_map, swap}
 use Rattle.std.proofs.lemmas.List.{get_or_default, append-nil}
 use Rattle.std.proofs.lemmas.List.Elements.{All-push}
 use Rattle.std.proofs.lemmas.List.Concat.{flat_map-append}
-use Rattle.std.proofs.Math.Seq.{take-add, take-length}
+use Rattle.std.proofs.Math.Seq.{take-length}
 use Rattle.std.proofs.lemmas.List.Sorted.{IsPermutation-refl, IsPermutation-trans, IsPermutation-keeps, IsPermutation-append_left, IsPermutation-append_right, IsPermutation-append_comm}
 use Rattle.trip_order.specs.declared.keys.PlaceKey.{PlaceKey}
 use Rattle.trip_order.specs.declared.stretches.Stretch.{Stretch}
 use Rattle.trip_order.specs.Joined.{keys_within, LiesWithin, AreCut}
+use Rattle.plain_laws.proofs.Laws.{cut_further}
 
 module _ {X Y : Type 0} (f : X → List Y) where
   abbrev all : List X → List Y
@@ -48,10 +49,6 @@ module _ {X Y : Type 0} (f : X → List Y) where
   pub joined_IsPermutation : (xs ys : List X) → IsPermutation xs ys → IsPermutation (flat_map f xs) (flat_map f ys)
   joined_IsPermutation xs ys moved =
       IsPermutation-keeps xs (λ l. IsPermutation (all xs) (all l)) (IsPermutation-refl (all xs)) (λ l i j li lj p. IsPermutation-trans (all xs) (all l) (all (swap l i j)) p (swapped l i j li lj)) ys moved
-
--- a list is cut at a place, and again at a later one
-pub cut_further : {X : Type 0} (xs : List X) (from to : ℕ) → from ≤ to → take to xs ≡ take from xs ++ slice_range xs from to
-cut_further xs from to le = let e : from + (to - from) ≡ to = omega arith in subst (λ n. take n xs ≡ take from xs ++ slice_range xs from to) e (take-add from (to - from) xs)
 
 -- one stretch more reaches further
 pub joined_further : (keys : List PlaceKey) (stretches : List Stretch) (stretch : Stretch) → AreCut keys stretches stretch.from → stretch.from ≤ stretch.to → stretch.to ≤ length keys → AreCut keys (stretches ++ stretch ∷ []) stretch.to

@@ -2,7 +2,7 @@
 ghost use Rattle.std.specs.Prelude.{◌≡◌, ◌<◌, ◌^◌, length, IfOk};
 ghost use Rattle.std.specs.Bool.{OnTrue};
 ghost use Rattle.std.specs.List.Sorted.{IsPermutation};
-ghost use Rattle.feed_rows.specs.Words.{list_below};
+ghost use Rattle.plain_laws.specs.Plain.{list_below};
 ghost use Rattle.trip_order.specs.Order.{key_of, DoAscend, AreSorted};
 
 use crate::stretches::gathered_by_trip;

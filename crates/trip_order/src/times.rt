@@ -1,10 +1,6 @@
 //! The times of a stop time.
 ghost use Rattle.std.specs.Prelude.{◌≡◌};
-ghost use Rattle.feed_rows.specs.Calls.{
-  first_time as first_time_of,
-  last_time as last_time_of,
-  is_timed as is_row_timed,
-};
+ghost use Rattle.feed_rows.specs.Calls.{first_time as first_time_of, last_time as last_time_of, is_timed as is_row_timed};
 
 use feed_rows::StopTimeRow;
 

@@ -5,7 +5,7 @@ use Rattle.std.specs.Bool.{Decides}
 use Rattle.std.proofs.lemmas.Bool.Decides.{Decides-int_eq, Decides-eqb}
 use Rattle.std.proofs.lemmas.Bool.{and_parts, and_from}
 use Rattle.feed_rows.specs.declared.fares.Triple.{Triple}
-use Rattle.feed_rows.proofs.ParetoLaws.{same_parts}
+use Rattle.feed_laws.proofs.ParetoLaws.{same_parts}
 
 -- the test of each part in turn tells whether two triples are equal
 pub same_test : (a b : Triple) → Decides (int_eq a.arrival.0 b.arrival.0 && ((a.rides == b.rides) && int_eq a.price.0 b.price.0)) (a ≡ b)

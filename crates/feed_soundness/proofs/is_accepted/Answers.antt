@@ -1,5 +1,5 @@
 use Rattle.std.proofs.Common.{◌≡◌, sym, ◌∙◌, is_none, true, arith}
-use Rattle.feed_soundness.proofs.NoneLaws.{none_given}
+use Rattle.plain_laws.proofs.Laws.{none_given}
 use Rattle.feed_soundness.proofs.SoundRows.{sound_of_accepted}
 use Rattle.feed_soundness.proofs.is_accepted.Goals as goal
 

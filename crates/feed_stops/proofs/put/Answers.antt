@@ -1,4 +1,4 @@
-use Rattle.feed_rows.proofs.TextMaps.{btree_map_updates_bytes}
+use Rattle.plain_laws.proofs.Laws.{btree_map_updates_bytes}
 use Rattle.feed_stops.proofs.put.Goals as goal
 
 pub returns : goal.returns

@@ -1,5 +1,5 @@
 use Rattle.std.proofs.Common.{sym, ◌∙◌}
-use Rattle.feed_rows.proofs.ExactLaws.{same_triples}
+use Rattle.feed_laws.proofs.ExactLaws.{same_triples}
 use Rattle.triple_order.proofs.are_same_triples.Goals as goal
 
 pub returns-clause-exact : goal.returns-clause-exact

@@ -1,5 +1,5 @@
 use Rattle.std.proofs.Common.{sym, ◌∙◌}
-use Rattle.feed_rows.proofs.ExactLaws.{same_minimal}
+use Rattle.feed_laws.proofs.ExactLaws.{same_minimal}
 use Rattle.triple_order.proofs.is_at_most.Goals as goal
 
 pub returns-clause-minimal : goal.returns-clause-minimal

@@ -1,5 +1,5 @@
 use Rattle.std.proofs.Common.{◌≡◌}
-use Rattle.feed_rows.specs.Words.{list_below}
+use Rattle.plain_laws.specs.Plain.{list_below}
 use Rattle.feed_faults.specs.AcceptedFeed.{stop_time_row}
 use Rattle.feed_build.specs.CallTrips.{IsTripBefore}
 use Rattle.feed_build.proofs.stop_times.stop_time_rows.Given as goal

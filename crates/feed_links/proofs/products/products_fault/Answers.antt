@@ -1,5 +1,5 @@
 use Rattle.std.proofs.Common.{◌≡◌, ◌<◌, ◌∙◌, ap, sym, arith}
-use Rattle.feed_rows.proofs.FirstLaws.{first_below_found}
+use Rattle.plain_laws.proofs.Laws.{first_below_found}
 use Rattle.feed_faults.specs.Records.{row_count}
 use Rattle.feed_faults.specs.FeedTables.{FeedTables}
 use Rattle.feed_faults.specs.FareLinks.{product_fault}

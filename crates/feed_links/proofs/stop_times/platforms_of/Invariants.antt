@@ -1,6 +1,6 @@
 use Rattle.std.proofs.Common.{◌≡◌}
 use Rattle.std.specs.Prelude.{◌==◌}
-use Rattle.feed_rows.specs.Words.{list_below}
+use Rattle.plain_laws.specs.Plain.{list_below}
 use Rattle.feed_faults.specs.FieldValues.{stop_kind}
 use Rattle.feed_links.proofs.stop_times.platforms_of.Given as goal
 

@@ -1,5 +1,5 @@
 use Rattle.std.proofs.Common.{◌≡◌, None}
-use Rattle.feed_rows.specs.Words.{first_below}
+use Rattle.plain_laws.specs.Plain.{first_below}
 use Rattle.feed_faults.specs.TimetableLinks.{service_fault}
 use Rattle.feed_links.proofs.timetable.services_fault.Given as goal
 

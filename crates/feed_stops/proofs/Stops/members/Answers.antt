@@ -1,4 +1,4 @@
-use Rattle.feed_rows.proofs.StopSetLaws.{stop_sets-at}
+use Rattle.feed_laws.proofs.StopSetLaws.{stop_sets-at}
 use Rattle.feed_stops.proofs.Stops.members.Goals as goal
 
 pub returns : goal.returns

@@ -1,5 +1,5 @@
 use Rattle.std.proofs.Common.{sym}
-use Rattle.feed_tables.proofs.PassLaws.{first_in_found, first_in_next}
+use Rattle.plain_laws.proofs.Laws.{first_in_found, first_in_next}
 use Rattle.feed_tables.proofs.rows.fault_of_fields.Goals as goal
 
 pub returns-in-Some : goal.returns-in-Some

@@ -1,6 +1,6 @@
 use Rattle.std.proofs.Common.{◌≡◌, None}
-use Rattle.feed_tables.proofs.PassLaws.{at_item}
-use Rattle.feed_rows.specs.Words.{first_below}
+use Rattle.plain_laws.proofs.Laws.{at_item}
+use Rattle.plain_laws.specs.Plain.{first_below}
 use Rattle.feed_tables.specs.FieldFaults.{fault_of_field}
 use Rattle.feed_tables.proofs.rows.fault_of_fields.Given as goal
 

@@ -1,5 +1,5 @@
 use Rattle.std.proofs.Common.{◌≡◌, None}
-use Rattle.feed_rows.specs.Words.{first_below}
+use Rattle.plain_laws.specs.Plain.{first_below}
 use Rattle.feed_faults.specs.FormFaults.{form_fault_of_row}
 use Rattle.feed_tables.proofs.rows.fault_of_rows.Given as goal
 

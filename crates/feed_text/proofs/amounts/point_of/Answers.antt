@@ -1,7 +1,7 @@
 use Rattle.std.proofs.Common.{◌≡◌, ℕ, sym, arith, length, true}
 use Rattle.std.specs.Prelude.{slice_index, ◌==◌}
 use Rattle.std.proofs.lemmas.Bool.Decides.{nat_tests}
-use Rattle.feed_rows.proofs.FirstLaws.{find_below_found}
+use Rattle.plain_laws.proofs.Laws.{find_below_found}
 use Rattle.feed_text.proofs.amounts.point_of.Goals as goal
 
 pub returns-then-text-i-eq46-clause-value : goal.returns-then-text-i-eq46-clause-value

@@ -1,6 +1,6 @@
 use Rattle.std.proofs.Common.{◌≡◌, None}
 use Rattle.std.specs.Prelude.{slice_index, ◌==◌}
-use Rattle.feed_rows.specs.Words.{find_below}
+use Rattle.plain_laws.specs.Plain.{find_below}
 use Rattle.feed_text.proofs.amounts.point_of.Given as goal
 
 abbrev pub invariant-loop-i : goal.invariant-loop-i

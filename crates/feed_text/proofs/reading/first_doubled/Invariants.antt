@@ -1,6 +1,6 @@
 use Rattle.std.proofs.Common.{◌≡◌, None}
 use Rattle.std.specs.Prelude.{option_and_then, slice_get}
-use Rattle.feed_rows.specs.Words.{first_below}
+use Rattle.plain_laws.specs.Plain.{first_below}
 use Rattle.feed_faults.specs.FormFaults.{doubled_column}
 use Rattle.feed_text.proofs.reading.first_doubled.Given as goal
 

@@ -1,5 +1,5 @@
 use Rattle.std.proofs.Common.{◌≡◌, ℕ, ◌<◌, ◌≤◌, get_or, length}
-use Rattle.feed_rows.specs.Words.{list_below}
+use Rattle.plain_laws.specs.Plain.{list_below}
 use Rattle.feed_trips.specs.Groups.{count_less}
 use Rattle.feed_trips.proofs.groups.starts_of.Given as goal
 

@@ -1,6 +1,6 @@
 use Rattle.std.proofs.Common.{◌≡◌}
 use Rattle.feed_rows.specs.CallWalk.{walk}
-use Rattle.feed_rows.specs.Words.{joined_below}
+use Rattle.plain_laws.specs.Plain.{joined_below}
 use Rattle.feed_trips.specs.Groups.{group}
 use Rattle.feed_trips.proofs.order.calls_by_trip.Given as goal
 

@@ -4,7 +4,7 @@ use Rattle.feed_rows.specs.declared.journeys.Call.{Call}
 use Rattle.feed_rows.specs.FeedRows.{FeedRows}
 use Rattle.feed_rows.specs.SoundFeed.{IsSoundFeed}
 use Rattle.feed_rows.specs.CallWalk.{walk}
-use Rattle.feed_rows.specs.Words.{joined_below, list_below}
+use Rattle.plain_laws.specs.Plain.{joined_below, list_below}
 use Rattle.feed_trips.specs.Tables.{AreCallsOf}
 use Rattle.feed_trips.specs.Stretches.{AreTimed, rows_at}
 use Rattle.feed_trips.proofs.StretchLaws.{timed, stretch_calls}

@@ -1,5 +1,5 @@
 use Rattle.std.proofs.Common.{◌≡◌, ◌+◌, ◌*◌, ◌++◌, map, pos, ◌-ℤ◌}
-use Rattle.feed_rows.specs.Words.{list_below}
+use Rattle.plain_laws.specs.Plain.{list_below}
 use Rattle.feed_trips.proofs.runs.push_shifts.Given as goal
 
 abbrev pub invariant-loop-run : goal.invariant-loop-run

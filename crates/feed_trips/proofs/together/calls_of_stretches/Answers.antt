@@ -1,6 +1,6 @@
 use Rattle.std.proofs.Common.{◌≡◌, ◌+◌, refl, suc, ap, length, arith}
 use Rattle.feed_rows.specs.CallWalk.{walk}
-use Rattle.feed_rows.specs.Words.{joined_below}
+use Rattle.plain_laws.specs.Plain.{joined_below}
 use Rattle.feed_trips.specs.Stretches.{rows_at}
 use Rattle.feed_trips.proofs.together.calls_of_stretches.Goals as goal
 

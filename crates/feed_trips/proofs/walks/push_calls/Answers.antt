@@ -1,9 +1,9 @@
 use Rattle.std.proofs.Common.{◌≡◌, sym, ◌∙◌, ap, false, append_assoc, arith}
 use Rattle.feed_rows.specs.TimedTrips.{is_timed_at}
 use Rattle.feed_rows.specs.CallWalk.{TimedGap, gap_at, time_in}
-use Rattle.feed_rows.proofs.TimedLaws.{is_timed_at_row, timed_within}
-use Rattle.feed_rows.proofs.CallLaws.{gap_around, timed_turn, untimed_turn}
-use Rattle.feed_rows.proofs.CallTimes.{around_rises}
+use Rattle.feed_laws.proofs.TimedLaws.{is_timed_at_row, timed_within}
+use Rattle.feed_laws.proofs.CallLaws.{gap_around, timed_turn, untimed_turn}
+use Rattle.feed_laws.proofs.CallTimes.{around_rises}
 use Rattle.feed_trips.proofs.walks.push_calls.Goals as goal
 use Rattle.feed_trips.proofs.walks.push_calls.Goals.{then-is_timed+in_ok-push, else-is_timed+in_ok-push-2}
 

@@ -1,5 +1,5 @@
 use Rattle.std.proofs.Common.{◌≡◌, ◌++◌}
-use Rattle.feed_rows.specs.Words.{joined_below}
+use Rattle.plain_laws.specs.Plain.{joined_below}
 use Rattle.feed_walks.specs.Pairs.{pairs_at}
 use Rattle.feed_walks.proofs.pairs.push_linked_pairs.Given as goal
 

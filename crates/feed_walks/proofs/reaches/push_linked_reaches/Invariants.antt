@@ -1,5 +1,5 @@
 use Rattle.std.proofs.Common.{◌≡◌, ◌++◌}
-use Rattle.feed_rows.specs.Words.{joined_below}
+use Rattle.plain_laws.specs.Plain.{joined_below}
 use Rattle.feed_walks.specs.Reaches.{reaches_at}
 use Rattle.feed_walks.proofs.reaches.push_linked_reaches.Given as goal
 

@@ -1,5 +1,5 @@
 use Rattle.std.proofs.Common.{◌≡◌, ◌++◌, map}
-use Rattle.feed_rows.specs.Words.{joined_below}
+use Rattle.plain_laws.specs.Plain.{joined_below}
 use Rattle.feed_walks.specs.OutOf.{step_at, grouped_step}
 use Rattle.feed_walks.proofs.steps.push_steps.Given as goal
 

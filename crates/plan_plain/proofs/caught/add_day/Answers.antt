@@ -1,5 +1,5 @@
 use Rattle.std.proofs.Common.{◌≡◌, ◌<◌, length, ap, sym, ◌∙◌, arith, false}
-use Rattle.feed_rows.proofs.GroupLaws.{length-list_below}
+use Rattle.plain_laws.proofs.Laws.{length-list_below}
 use Rattle.feed_rows.specs.Rides.{runs_on}
 use Rattle.plan_plain.proofs.CaughtLaws.{adds_no_trip, adds_trip, adds_whole_day, runs_at}
 use Rattle.plan_plain.proofs.caught.add_day.Goals as goal

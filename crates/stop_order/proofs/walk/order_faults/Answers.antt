@@ -3,9 +3,8 @@ use Rattle.std.proofs.lemmas.Bool.{cases_eq}
 use Rattle.std.proofs.lemmas.Grind.{common_steps}
 use Rattle.stop_order.specs.declared.times.OrderFaults.{OrderFaults}
 use Rattle.stop_order.specs.Numbered.{no_faults, IsOneTrip}
-use Rattle.trip_order.specs.Order.{key_at}
+use Rattle.trip_order.specs.Order.{key_at, row_within}
 use Rattle.stop_order.specs.Order.{latest_timed, place_faults}
-use Rattle.trip_order.proofs.SortLaws.{place_of, row_within, rows_apart}
 use Rattle.stop_order.proofs.OrderLaws.{faults_is}
 use Rattle.stop_order.proofs.walk.order_faults.Goals as goal
 
@@ -42,14 +41,14 @@ loop-place-preserved c =
           (λ same. value ∙ ap (place_faults times keys) (sym same))
           (λ same. ap (λ i. (key_at keys i).row) same)
           (λ other. let less : k < c.loop-place.place = omega arith in c.loop-place.invariant.2 k less)
-          (λ other. let less : k < c.loop-place.place = omega arith in rows_apart times keys c.in_ok-keys.ensures k c.loop-place.place less below)),
+          (λ other. let less : k < c.loop-place.place = omega arith in c.in_ok-keys.ensures.apart k c.loop-place.place less below)),
     )
 
 pub returns-clause-value : goal.returns-clause-value
 returns-clause-value c = λ text row lt one.
     let keys = c.in_ok-keys.keys.items in
     let times = c.args.times.now in
-    let at = place_of times keys c.in_ok-keys.ensures row lt in
+    let at = c.in_ok-keys.ensures.placed row lt in
     let below : at.0 < c.loop-place.place = omega (arith, at.1, c.len-place-end.ensures) in
     let is = c.loop-place.invariant.2 at.0 below in
     let one' : IsOneTrip times text (key_at keys at.0).row = rw at.2 one in

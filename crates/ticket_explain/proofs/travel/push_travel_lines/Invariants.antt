@@ -1,5 +1,5 @@
 use Rattle.std.proofs.Common.{◌≡◌, ◌++◌}
-use Rattle.feed_rows.specs.Words.{joined_below}
+use Rattle.plain_laws.specs.Plain.{joined_below}
 use Rattle.feed_rows.specs.EntryText.{ride_lines}
 use Rattle.ticket_explain.proofs.travel.push_travel_lines.Given as goal
 

@@ -1,5 +1,5 @@
 use Rattle.std.proofs.Common.{◌≡◌}
-use Rattle.feed_rows.specs.Words.{list_below}
+use Rattle.plain_laws.specs.Plain.{list_below}
 use Rattle.trip_order.specs.Order.{key_of}
 use Rattle.trip_order.proofs.keys.keys_of.Given as goal
 

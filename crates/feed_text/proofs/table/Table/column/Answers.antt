@@ -1,6 +1,6 @@
 use Rattle.std.proofs.Common.{ℕ, get_or, [], length, sym, arith, bytes_eq}
 use Rattle.feed_rows.specs.Names.{column_text}
-use Rattle.feed_rows.proofs.FirstLaws.{find_below_found}
+use Rattle.plain_laws.proofs.Laws.{find_below_found}
 use Rattle.feed_faults.specs.Records.{header, column_of}
 use Rattle.feed_text.proofs.table.Table.column.Goals as goal
 

@@ -1,5 +1,5 @@
 use Rattle.std.proofs.Common.{◌≡◌, None, get_or, [], bytes_eq}
-use Rattle.feed_rows.specs.Words.{find_below}
+use Rattle.plain_laws.specs.Plain.{find_below}
 use Rattle.feed_rows.specs.Names.{column_text}
 use Rattle.feed_faults.specs.Records.{header}
 use Rattle.feed_text.proofs.table.Table.column.Given as goal

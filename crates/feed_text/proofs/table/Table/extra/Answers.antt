@@ -1,7 +1,7 @@
 use Rattle.std.proofs.Common.{◌≡◌, ℕ, ◌+◌, true, get_or, [], length, sym, refl, arith}
 use Rattle.std.specs.Prelude.{nat_le}
 use Rattle.std.proofs.lemmas.Bool.Decides.{nat_tests}
-use Rattle.feed_rows.proofs.BelowLaws.{any_below_hit}
+use Rattle.plain_laws.proofs.Laws.{any_below_hit}
 use Rattle.feed_faults.specs.Records.{header, is_filled, is_long}
 use Rattle.feed_text.specs.Parts.{field_in}
 use Rattle.feed_text.proofs.HeaderLaws.{none_before}

@@ -2,7 +2,7 @@ use Rattle.std.proofs.Common.{◌≡◌, ◌∙◌, length, arith, ap, subst}
 use Rattle.feed_rows.specs.FeedRows.{FeedRows}
 use Rattle.feed_rows.specs.ServiceDays.{is_active}
 use Rattle.feed_calendar.specs.BuiltCalendar.{IsCalendarOf}
-use Rattle.feed_timetable.proofs.TimetableLaws.{list_below_more}
+use Rattle.plain_laws.proofs.Laws.{list_below_more}
 use Rattle.feed_timetable.proofs.timetable.Timetable.services_on.Goals as goal
 
 pub loop-service-preserved : goal.loop-service-preserved

@@ -1,6 +1,6 @@
 use Rattle.std.proofs.Common.{◌≡◌}
 use Rattle.feed_rows.specs.ServiceDays.{is_active}
-use Rattle.feed_rows.specs.Words.{list_below}
+use Rattle.plain_laws.specs.Plain.{list_below}
 use Rattle.feed_timetable.proofs.timetable.Timetable.services_on.Given as goal
 
 abbrev pub invariant-loop-service : goal.invariant-loop-service

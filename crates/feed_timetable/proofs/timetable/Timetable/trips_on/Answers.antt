@@ -2,7 +2,8 @@ use Rattle.std.proofs.Common.{◌≡◌, ◌∙◌, length, arith, ap, subst}
 use Rattle.feed_rows.specs.FeedRows.{FeedRows}
 use Rattle.feed_rows.specs.SoundFeed.{IsSoundFeed}
 use Rattle.feed_rows.specs.Rides.{runs_on}
-use Rattle.feed_timetable.proofs.TimetableLaws.{list_below_more, service_is_listed, trip_runs}
+use Rattle.plain_laws.proofs.Laws.{list_below_more}
+use Rattle.feed_timetable.proofs.TimetableLaws.{service_is_listed, trip_runs}
 use Rattle.feed_timetable.proofs.timetable.Timetable.trips_on.Goals as goal
 
 pub index-requires : goal.index-requires

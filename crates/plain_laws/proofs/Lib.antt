@@ -1,0 +1,17 @@
+pub mod AscendingLaws
+pub mod BelowLaws
+pub mod ByteMapLaws
+pub mod Decisions
+pub mod FilterLaws
+pub mod GroupLaws
+pub mod InsertLaws
+pub mod JoinedLaws
+pub mod LeastLaws
+pub mod NumberLaws
+pub mod OptionalLaws
+pub mod OrderLaws
+pub mod PickLaws
+pub mod PlaceLaws
+pub mod StepLaws
+pub mod TestLaws
+pub mod Laws

@@ -1,0 +1,10 @@
+pub mod Ascending
+pub mod Below
+pub mod Given
+pub mod Groups
+pub mod Items
+pub mod Numbers
+pub mod Optional
+pub mod Pieces
+pub mod Steps
+pub mod Plain

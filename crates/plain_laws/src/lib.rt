@@ -1,0 +1,11 @@
+//! Lists, and the words and laws that no subject owns: fields that may be empty, numbers below a bound, places, groups, steps.
+//! `specs/Plain.antt` passes on the words and `proofs/Laws.antt` the laws; both are this crate's interface.
+#![tactic(auto)]
+
+mod groups;
+mod lists;
+#[cfg(test)]
+mod tests;
+
+pub use groups::{Grouped, Groups};
+pub use lists::{AscendingList, ItemList};
