@@ -1,7 +1,7 @@
--- Items in numbered groups, and a list that is cut into pieces.
-use Rattle.std.proofs.Common.{ℕ, ◌+◌, ◌<◌, List, [], ◌∷◌, arith, ◌≤◌, ⊎_elim, ◌≡◌, sym, ap, ◌-◌, true, false, length, drop, refl, subst, ◌++◌, ◌∙◌, get_or, ◌⊎◌, inl, inr, Contains, zero, suc}
+-- Items in numbered groups.
+use Rattle.std.proofs.Common.{ℕ, ◌+◌, ◌<◌, List, [], ◌∷◌, arith, ◌≤◌, ⊎_elim, ◌≡◌, sym, ap, ◌-◌, true, false, length, drop, refl, subst, ◌++◌, ◌∙◌, get_or, ◌⊎◌, inl, inr, Contains, zero, suc, add-one, length-append}
 use Rattle.plain_laws.specs.declared.groups.Grouped.{Grouped}
-use Rattle.plain_laws.specs.Groups.{IsStart, group_of, IsRegrouped, AreStarts, groups_below}
+use Rattle.plain_laws.specs.Groups.{IsStart, group_of, IsRegrouped, groups_below}
 use Rattle.std.proofs.lemmas.Bool.{cases_lt, cases_Bool}
 use Rattle.plain_laws.proofs.FilterLaws.{filter_part, same_ties}
 use Rattle.std.specs.Prelude.{◌==◌, slice_range, map, slice_index, Some, slice_get, filter, unwrap_or}
@@ -11,13 +11,14 @@ use Rattle.std.proofs.lemmas.List.{take-map, drop-map, length_push, get_or_push,
 use Rattle.std.specs.List.Sorted.{IsPermutation, IsNonDecreasingBy, IsStableByKey}
 use Rattle.std.specs.Ordering.{nat_cmp}
 use Rattle.std.proofs.lemmas.List.Sorted.{length_permutation}
-use Rattle.plain_laws.specs.Pieces.{AreCuts, pieces}
 use Rattle.plain_laws.proofs.BelowLaws.{list_below-same, length-list_below, slice_get-list_below}
 use Rattle.std.proofs.lemmas.Grind.{get_or_default_zero}
 use Rattle.plain_laws.proofs.OrderLaws.{Contains-cons_cases, Contains-cons_first, Contains-cons_later}
 use Rattle.plain_laws.specs.Below.{joined_below, list_below}
 use Rattle.std.proofs.lemmas.List.Kept.{IsNonDecreasingBy-filter}
 use Rattle.std.proofs.lemmas.Option.{slice_get_past}
+use Rattle.plain_laws.specs.Parts.{parts, Rise}
+use Rattle.plain_laws.proofs.PartLaws.{pushed_part}
 
 -- no group begins after the next
 hits : {X : Type 0} (members : List (Grouped X)) (i a b : ℕ) → IsStart members i a → IsStart members (i + 1) b → b < a → ⊥
@@ -32,11 +33,11 @@ pub start_order : {X : Type 0} (members : List (Grouped X)) (i a b : ℕ) → Is
 start_order members i a b start next = ⊎_elim (λ (lt : b < a). absurd (hits members i a b start next lt)) (λ (le : a ≤ b). le) (cases_lt b a)
 
 -- the items of a group stand from its start to the next group's
-pub group_of-starts : {X : Type 0} (members : List (Grouped X)) (i a b : ℕ) → IsStart members i a → IsStart members (i + 1) b → slice_range (map (λ m. m.item) members) a b ≡ group_of members i
+pub group_of-starts : {X : Type 0} (members : List (Grouped X)) (i a b : ℕ) → IsStart members i a → IsStart members (i + 1) b → map (λ m. m.item) (slice_range members a b) ≡ group_of members i
 group_of-starts {X} members i a b start next =
     let within = start.within in
     let bound = next.within in
-    rw (drop-map (λ (m : Grouped X). m.item) a members, take-map (λ (m : Grouped X). m.item) (b - a) (drop a members)) (ap (map (λ (m : Grouped X). m.item)) (sym (filter_part (λ m. m.group == i) members a b order bound before inside after)))
+    ap (map (λ (m : Grouped X). m.item)) (sym (filter_part (λ m. m.group == i) members a b order bound before inside after))
   where
     order : a ≤ b
     order = start_order members i a b start next
@@ -60,81 +61,10 @@ regrouped {X} [] new rises moved stable = record { rises = rises; same = λ i. a
 regrouped (m ∷ old) new rises moved stable =
     record { rises = rises; same = λ i. ap (map (λ x. x.item)) (same_ties (λ x. x.group) (m ∷ old) new i (record { group = i; item = m.item }) refl stable) }
 
--- one start more
-pub starts_more : {X : Type 0} (members : List (Grouped X)) (starts : List ℕ) (n start : ℕ) → AreStarts members starts n → IsStart members n start → AreStarts members (starts ++ start ∷ []) (n + 1)
-starts_more members starts n start before here =
-    let long = before.count in
-    record {
-      count = let pushed = length_push starts start in omega arith;
-      each = λ i lt. ⊎_elim
-          (λ (below : i < n). subst (IsStart members i) (sym (get_or_append_left starts (start ∷ []) 0 i (omega arith))) (before.each i below))
-          (λ (past : n ≤ i). let same : n ≡ i = omega arith in subst (IsStart members i) (sym (get_or_push starts start 0 i (omega arith))) (subst (λ k. IsStart members k start) same here))
-          (cases_lt i n);
-    }
-
--- starts of groups don't fall
-pub cuts_from_starts : {X : Type 0} (members : List (Grouped X)) (starts : List ℕ) (n : ℕ) → AreStarts members starts (n + 1) → AreCuts starts (length members)
-cuts_from_starts members starts n are =
-    let long = are.count in
-    record {
-      some = omega arith;
-      rises = λ i lt. start_order members i (slice_index starts i) (slice_index starts (i + 1)) (are.each i (omega arith)) (are.each (i + 1) (omega arith));
-      within = λ i lt. let start = are.each i (omega arith) in start.within;
-    }
-
--- the pieces of sorted members are their groups
-pub pieces_from_starts : {X : Type 0} (members : List (Grouped X)) (starts : List ℕ) (n : ℕ) → AreStarts members starts (n + 1) → pieces starts (map (λ m. m.item) members) ≡ groups_below n members
-unfolding groups_below
-pieces_from_starts {X} members starts n are =
-    let long = are.count in
-    let count : length starts - 1 ≡ n = omega arith in
-    rw count (list_below-same n (λ i. slice_range (map (λ m. m.item) members) (slice_index starts i) (slice_index starts (i + 1))) (group_of members) (λ i lt. group_of-starts members i (slice_index starts i) (slice_index starts (i + 1)) (are.each i (omega arith)) (are.each (i + 1) (omega arith))))
-
 -- members that are put by their groups have the groups that they had
 pub groups_below-regrouped : {X : Type 0} (n : ℕ) (old new : List (Grouped X)) → IsRegrouped old new → groups_below n new ≡ groups_below n old
 unfolding groups_below
 groups_below-regrouped n old new put = list_below-same n (group_of new) (group_of old) (λ i lt. put.same i)
-
--- there are as many pieces as starts but one
-pub length-pieces : {X : Type 0} (starts : List ℕ) (items : List X) → length (pieces starts items) ≡ length starts - 1
-length-pieces starts items = length-list_below (length starts - 1) (λ k. slice_range items (slice_index starts k) (slice_index starts (k + 1)))
-
--- a piece has a start and an end
-pub piece_within : {X : Type 0} (starts : List ℕ) (items : List X) (i : ℕ) → i < length (pieces starts items) → i + 1 < length starts
-piece_within starts items i lt =
-    let long = length-pieces starts items in
-    omega arith
-
--- and is what stands between them
-pub slice_get-pieces : {X : Type 0} (starts : List ℕ) (items : List X) (i : ℕ) → i + 1 < length starts → slice_get (pieces starts items) i ≡ Some (slice_range items (slice_index starts i) (slice_index starts (i + 1)))
-slice_get-pieces starts items i lt = slice_get-list_below (length starts - 1) (λ k. slice_range items (slice_index starts k) (slice_index starts (k + 1))) i (omega arith)
-
--- where a piece begins and ends
-pub record IsPiece (starts : List ℕ) (count i start end : ℕ) : Type 0 where
-  pub begins : start ≡ slice_index starts i
-  pub ends : end ≡ slice_index starts (i + 1)
-  pub ordered : start ≤ end
-  pub within : end ≤ count
-  pub starts_within : start ≤ count
-
-pub piece_ends : (starts : List ℕ) (count i start end : ℕ) → AreCuts starts count → i + 1 < length starts → start ≡ get_or starts i start → end ≡ get_or starts (i + 1) end → IsPiece starts count i start end
-piece_ends starts count i start end cuts lt from to =
-    let begins : start ≡ slice_index starts i = from ∙ get_or_default_zero starts i start (omega arith) in
-    let ends : end ≡ slice_index starts (i + 1) = to ∙ get_or_default_zero starts (i + 1) end lt in
-    let rises = cuts.rises i lt in
-    let inside = cuts.within (i + 1) lt in
-    record { begins = begins; ends = ends; ordered = omega arith; within = omega arith; starts_within = omega arith }
-
--- the parts of what is made of members, from what each step made
-pub cuts_from_groups : {X : Type 0} (sorted seen also : List (Grouped X)) (starts : List ℕ) (n : ℕ) (items : List X) → seen ≡ sorted → AreStarts seen starts (n + 1) → also ≡ sorted → items ≡ map (λ m. m.item) also → AreCuts starts (length items)
-cuts_from_groups sorted seen also starts n items same are same_also is =
-    let cuts = cuts_from_starts seen starts n are in
-    let long = ap length is ∙ length-map also (λ m. m.item) ∙ ap length same_also ∙ sym (ap length same) in
-    rw long cuts
-
-pub pieces_from_groups : {X : Type 0} (old sorted seen also : List (Grouped X)) (starts : List ℕ) (n : ℕ) (items : List X) → IsRegrouped old sorted → seen ≡ sorted → AreStarts seen starts (n + 1) → also ≡ sorted → items ≡ map (λ m. m.item) also → pieces starts items ≡ groups_below n old
-pieces_from_groups old sorted seen also starts n items put same are same_also is =
-    rw (is, same_also) (pieces_from_starts sorted starts n (subst (λ ms. AreStarts ms starts (n + 1)) same are)) ∙ groups_below-regrouped n old sorted put
 
 -- the members of a group
 pub Contains-group_of : {X : Type 0} (ms : List (Grouped X)) (i : ℕ) (x : X) → Contains ms (record { group = i; item = x }) → Contains (group_of ms i) x
@@ -209,3 +139,14 @@ unfolding groups_below
 groups_below-past n members i past =
     let long = length-list_below n (group_of members) in
     rw (slice_get_past (list_below n (group_of members)) i (omega arith)) refl
+
+-- one group more of members that stand by their groups
+pub group_pushed : {X : Type 0} (members : List (Grouped X)) (ends longer : List ℕ) (xs more : List X) (from to i end : ℕ) → IsStart members i from → IsStart members (i + 1) to
+    → Rise 0 ends (length xs) → parts 0 ends xs ≡ list_below i (group_of members) → more ≡ xs ++ map (λ m. m.item) (slice_range members from to) → longer ≡ ends ++ end ∷ [] → end ≡ length more
+    → Rise 0 longer (length more) × (parts 0 longer more ≡ list_below (i + 1) (group_of members))
+group_pushed {X} members ends longer xs more from to i end start next rise before is_more is_longer at =
+    let part = map (λ (m : Grouped X). m.item) (slice_range members from to) in
+    let is : part ≡ group_of members i = group_of-starts members i from to start next in
+    let size : end ≡ length xs + length part = at ∙ ap length is_more ∙ length-append xs part in
+    let pushed = pushed_part ends longer xs part more end rise is_longer is_more size in
+    (pushed.0, pushed.1 ∙ rw (before, is, add-one) refl)

@@ -14,4 +14,5 @@ pub mod PickLaws
 pub mod PlaceLaws
 pub mod StepLaws
 pub mod TestLaws
+pub mod PartLaws
 pub mod Laws

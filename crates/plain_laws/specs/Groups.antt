@@ -1,5 +1,5 @@
 -- Items in numbered groups.
-use Rattle.std.specs.Prelude.{ℕ, ◌==◌, List, map, filter, ◌≡◌, ◌<◌, ◌≤◌, length, slice_index}
+use Rattle.std.specs.Prelude.{ℕ, ◌==◌, List, map, filter, ◌≡◌, ◌<◌, ◌≤◌, length}
 use Rattle.plain_laws.specs.declared.groups.Grouped.{Grouped}
 use Rattle.plain_laws.specs.Below.{list_below}
 use Rattle.std.specs.List.Sorted.{IsNonDecreasingBy}
@@ -23,8 +23,3 @@ pub record IsStart {X : Type 0} (members : List (Grouped X)) (group start : ℕ)
   pub within : start ≤ length members
   pub below : AllWithin (λ m. m.group < group) members 0 start
   pub past : AllWithin (λ m. group ≤ m.group) members start (length members)
-
--- the starts of the groups with the numbers below n
-pub record AreStarts {X : Type 0} (members : List (Grouped X)) (starts : List ℕ) (n : ℕ) : Type 0 where
-  pub count : length starts ≡ n
-  pub each : (i : ℕ) → i < n → IsStart members i (slice_index starts i)

@@ -5,6 +5,6 @@ pub mod Groups
 pub mod Items
 pub mod Numbers
 pub mod Optional
-pub mod Pieces
+pub mod Parts
 pub mod Steps
 pub mod Plain

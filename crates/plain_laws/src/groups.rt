@@ -1,8 +1,10 @@
-//! Items in numbered groups, one group after another in one vector.
-ghost use Rattle.std.specs.Prelude.{◌≡◌, ℕ, ◌+◌, ◌<◌, ◌≤◌, length, IfOk, OnOk, Some, slice_get, unwrap_or, [], map};
+//! Lists in one vector: items in numbered groups, one group after another.
+ghost use Rattle.std.specs.Prelude.{◌≡◌, ℕ, ◌++◌, ◌∷◌, ◌<◌, length, IfOk, OnOk, OnErr, Some, slice_get, unwrap_or, [], map};
 ghost use Rattle.std.specs.List.Sorted.{IsNonDecreasingBy};
-ghost use Rattle.plain_laws.specs.Groups.{group_of, groups_below, AreStarts, IsStart, IsRegrouped};
+ghost use Rattle.plain_laws.specs.Groups.{groups_below, IsStart, IsRegrouped};
+ghost use Rattle.plain_laws.specs.Parts.{parts, Rise};
 
+use crate::parts::{part_of, push_end};
 use std::alloc::{AllocError, Global};
 use std::marker::Model;
 
@@ -14,55 +16,43 @@ pub struct Grouped<T> {
     pub item: T,
 }
 
-/// Items in groups that are numbered from 0. In a group they stand in the order in which they came. Contracts see it
-/// as the list of the groups.
+/// Items in groups that are numbered from 0: lists that are kept flat. In a group items stand in the order in which they
+/// came. Contracts see it as the list of the groups.
 #[derive(Drop)]
 pub struct Groups<T> {
-    /// Where each group begins, and where the last one ends.
-    starts: Vec<usize>,
+    /// Where each group ends among the items.
+    ends: Vec<u32>,
     items: Vec<T>,
 }
 
 impl<T> Model for Groups<T> {
     ghost use Rattle.std.specs.Prelude.{List, length};
-    ghost use Rattle.plain_laws.specs.Pieces.{pieces, AreCuts};
+    ghost use Rattle.plain_laws.specs.Parts.{parts, Rise};
 
     ghost Value = { List (List T) };
 
-    ghost view = { λ s. pieces s.starts.items s.items.items };
+    ghost view = { λ s. parts 0 s.ends.items s.items.items };
 
-    ghost invariant = { λ s. AreCuts s.starts.items (length s.items.items) };
+    ghost invariant = { λ s. Rise 0 s.ends.items (length s.items.items) };
 }
 
-/// Puts items of one group next to one another, and the groups in the order of their numbers.
-fn regroup<T: Copy + Drop>(members: &mut Vec<Grouped<T>>) -> Result<(), AllocError>
-    ensures { OnOk result (IsRegrouped members.old.items members.new.items) }
-{
-    members.sort_by_key(|member| member.group)?;
-    Ok(())
-}
-
-/// How many items stand before those of the group.
-fn start_of<T: Copy + Drop>(members: &[Grouped<T>], group: u32) -> usize
-    requires { IsNonDecreasingBy (λ (m : Grouped T). m.group) members.now }
-    ensures { IsStart members.now group result }
-{
-    members.partition_point(|member| member.group < group)
-}
-
-impl<T: Copy + Drop> Groups<T> {
-    /// The groups with the numbers below `count` of these members.
-    ///
-    /// # Errors
-    /// Want of memory.
-    pub fn of(alloc: Global, members: Vec<Grouped<T>>, count: u32) -> Result<Groups<T>, AllocError>
-        ensures { IfOk result (λ groups. groups ≡ groups_below count members.items) }
+impl<T: Drop> Groups<T> {
+    /// No groups.
+    pub fn empty(alloc: Global) -> Groups<T>
+        ensures { result ≡ [] }
     {
-        let mut sorted = members;
-        regroup(&mut sorted)?;
-        let starts = starts_of(alloc, sorted.as_slice(), count)?;
-        let items = items_of(alloc, sorted.as_slice())?;
-        Ok(Groups { starts, items })
+        Groups {
+            ends: Vec::new(alloc),
+            items: Vec::new(alloc),
+        }
+    }
+
+    /// The groups of these items that end at these places.
+    pub fn from_parts(ends: Vec<u32>, items: Vec<T>) -> Groups<T>
+        requires { Rise 0 ends.items (length items.items) }
+        ensures { result ≡ parts 0 ends.items items.items }
+    {
+        Groups { ends, items }
     }
 
     /// The items of a group, in order.
@@ -70,8 +60,7 @@ impl<T: Copy + Drop> Groups<T> {
         requires { number < length self.now }
         ensures { slice_get self.now number ≡ Some result.now }
     {
-        let start = self.starts[number];
-        let end = self.starts[number + 1];
+        let (start, end) = part_of(&self.ends, number, self.items.len());
         &self.items[start..end]
     }
 
@@ -90,30 +79,92 @@ impl<T: Copy + Drop> Groups<T> {
     pub fn count(&self) -> usize
         ensures { result ≡ length self.now }
     {
-        self.starts.len() - 1
+        self.ends.len()
     }
 }
 
-/// Where each group with a number below `count` starts, and where the last one ends.
-fn starts_of<T: Copy + Drop>(
+impl<T: Copy + Drop> Groups<T> {
+    /// Appends a group of these items. After a refusal the groups are as before.
+    ///
+    /// # Errors
+    /// Want of memory; so counts that there would be 2^32 items or more.
+    pub fn push(&mut self, group: &[T]) -> Result<(), AllocError>
+        ensures ok { OnOk result (self.new ≡ self.old ++ group.now ∷ []) }
+        ensures err { OnErr result (self.new ≡ self.old) }
+    {
+        let Some(end) = self.items.len().checked_add(group.len()) else {
+            return Err(AllocError);
+        };
+        push_end(&mut self.ends, end)?;
+        match self.items.extend_from_slice(group) {
+            Ok(()) => Ok(()),
+            Err(refused) => {
+                self.ends.pop();
+                Err(refused)
+            }
+        }
+    }
+
+    /// The groups with the numbers below `count` of these members.
+    ///
+    /// # Errors
+    /// Want of memory.
+    pub fn of(alloc: Global, members: Vec<Grouped<T>>, count: u32) -> Result<Groups<T>, AllocError>
+        ensures { IfOk result (λ groups. groups ≡ groups_below count members.items) }
+    {
+        let mut sorted = members;
+        regroup(&mut sorted)?;
+        let groups = groups_of_sorted(alloc, sorted.as_slice(), count)?;
+        Ok(groups)
+    }
+}
+
+/// Puts items of one group next to one another, and the groups in the order of their numbers.
+fn regroup<T: Copy + Drop>(members: &mut Vec<Grouped<T>>) -> Result<(), AllocError>
+    ensures { OnOk result (IsRegrouped members.old.items members.new.items) }
+{
+    members.sort_by_key(|member| member.group)?;
+    Ok(())
+}
+
+/// How many items stand before those of the group.
+fn start_of<T: Copy + Drop>(members: &[Grouped<T>], group: u32) -> usize
+    requires { IsNonDecreasingBy (λ (m : Grouped T). m.group) members.now }
+    ensures { IsStart members.now group result }
+{
+    members.partition_point(|member| member.group < group)
+}
+
+/// Appends the items of the members.
+fn push_items<T: Copy + Drop>(
+    items: &mut Vec<T>,
+    members: &[Grouped<T>],
+) -> Result<(), AllocError>
+    ensures { OnOk result (items.new.items ≡ items.old.items ++ map (λ (m : Grouped T). m.item) members.now) }
+{
+    for member in members {
+        items.push(member.item)?;
+    }
+    Ok(())
+}
+
+/// The groups of members that stand by the numbers of their groups.
+fn groups_of_sorted<T: Copy + Drop>(
     alloc: Global,
     members: &[Grouped<T>],
     count: u32,
-) -> Result<Vec<usize>, AllocError>
+) -> Result<Groups<T>, AllocError>
     requires { IsNonDecreasingBy (λ (m : Grouped T). m.group) members.now }
-    ensures { IfOk result (λ starts. AreStarts members.now starts.items (count + 1)) }
+    ensures { IfOk result (λ groups. groups ≡ groups_below count members.now) }
 {
-    let mut starts = Vec::with_capacity(alloc, count as usize + 1)?;
+    let mut ends = Vec::with_capacity(alloc, count as usize)?;
+    let mut items = Vec::with_capacity(alloc, members.len())?;
+    let mut from = 0;
     for group in 0..count {
-        starts.push(start_of(members, group))?;
+        let to = start_of(members, group + 1);
+        push_items(&mut items, &members[from..to])?;
+        push_end(&mut ends, items.len())?;
+        from = to;
     }
-    starts.push(start_of(members, count))?;
-    Ok(starts)
-}
-
-/// The items of the members, in order.
-fn items_of<T: Copy + Drop>(alloc: Global, members: &[Grouped<T>]) -> Result<Vec<T>, AllocError>
-    ensures { IfOk result (λ items. items.items ≡ map (λ (m : Grouped T). m.item) members.now) }
-{
-    members.iter().map(|member| member.item).collect(alloc)
+    Ok(Groups { ends, items })
 }

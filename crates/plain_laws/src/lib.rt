@@ -4,8 +4,10 @@
 
 mod groups;
 mod lists;
+mod parts;
 #[cfg(test)]
 mod tests;
 
 pub use groups::{Grouped, Groups};
 pub use lists::{AscendingList, ItemList};
+pub use parts::{end_of, part_of, push_end};

@@ -1,42 +1,19 @@
-use Rattle.std.proofs.Common.{arith}
-use Rattle.plain_laws.proofs.Laws.{piece_within, piece_ends, slice_get-pieces}
+use Rattle.std.proofs.Common.{◌≡◌, ◌<◌, ◌∙◌, ap, length, get_or, arith}
+use Rattle.plain_laws.specs.Parts.{parts, start_of}
+use Rattle.plain_laws.proofs.PartLaws.{length_parts, slice_get-parts}
 use Rattle.plain_laws.proofs.groups.Groups.group.Goals as goal
 
-pub index-start-requires : goal.index-start-requires
-index-start-requires g c = let lt = piece_within c.self.inside.starts.items c.self.inside.items.items c.args.number (rw c.self.view_is c.requires) in omega arith
-
-pub overflow_add-number : goal.overflow_add-number
-overflow_add-number g c = let lt = piece_within c.self.inside.starts.items c.self.inside.items.items c.args.number (rw c.self.view_is c.requires) in omega arith
-
-pub index-end-requires : goal.index-end-requires
-index-end-requires g c = let lt = piece_within c.self.inside.starts.items c.self.inside.items.items c.args.number (rw c.self.view_is c.requires) in omega arith
-
-pub offset_bounds-deref-start : goal.offset_bounds-deref-start
-offset_bounds-deref-start g c =
-    let lt = piece_within c.self.inside.starts.items c.self.inside.items.items c.args.number (rw c.self.view_is c.requires) in
-    let ends = piece_ends _ _ _ _ _ c.self.invariant lt c.index-start.ensures c.index-end.ensures in
-    omega arith
-
-pub slice_bounds-result-count : goal.slice_bounds-result-count
-slice_bounds-result-count g c =
-    let lt = piece_within c.self.inside.starts.items c.self.inside.items.items c.args.number (rw c.self.view_is c.requires) in
-    let ends = piece_ends _ _ _ _ _ c.self.invariant lt c.index-start.ensures c.index-end.ensures in
-    omega arith
-
-pub slice_bounds-result-start : goal.slice_bounds-result-start
-slice_bounds-result-start g c =
-    let lt = piece_within c.self.inside.starts.items c.self.inside.items.items c.args.number (rw c.self.view_is c.requires) in
-    let ends = piece_ends _ _ _ _ _ c.self.invariant lt c.index-start.ensures c.index-end.ensures in
-    omega arith
-
-pub slice_bounds-result-end : goal.slice_bounds-result-end
-slice_bounds-result-end g c =
-    let lt = piece_within c.self.inside.starts.items c.self.inside.items.items c.args.number (rw c.self.view_is c.requires) in
-    let ends = piece_ends _ _ _ _ _ c.self.invariant lt c.index-start.ensures c.index-end.ensures in
-    omega arith
+pub part_of-start-requires-clause-within : goal.part_of-start-requires-clause-within
+part_of-start-requires-clause-within g c =
+    let v = c.self.inside in
+    let asked = rw (← c.self.view_is) at c.requires in
+    rw c.deref.ensures.value (omega (arith, asked, length_parts 0 v.ends.items v.items.items))
 
 pub returns : goal.returns
 returns g c =
-    let lt = piece_within c.self.inside.starts.items c.self.inside.items.items c.args.number (rw c.self.view_is c.requires) in
-    let ends = piece_ends _ _ _ _ _ c.self.invariant lt c.index-start.ensures c.index-end.ensures in
-    rw (← c.self.view_is, c.deref.ensures.value, ends.begins, ends.ends) (slice_get-pieces c.self.inside.starts.items c.self.inside.items.items c.args.number lt)
+    let v = c.self.inside in
+    let asked = rw (← c.self.view_is) at c.requires in
+    let within : c.args.number < length v.ends.items = omega (arith, asked, length_parts 0 v.ends.items v.items.items) in
+    let start : c.part_of-start.result.0 ≡ start_of 0 v.ends.items c.args.number = c.part_of-start.ensures.start ∙ ap (λ l. start_of 0 l c.args.number) c.deref.ensures.value in
+    let end : c.part_of-start.result.1 ≡ get_or v.ends.items c.args.number 0 = c.part_of-start.ensures.end ∙ ap (λ l. get_or l c.args.number 0) c.deref.ensures.value in
+    rw (← c.self.view_is, c.deref-2.ensures.value, start, end) (slice_get-parts v.ends.items v.items.items c.args.number within)
