@@ -1,3 +1,3 @@
-pub mod Parts
+pub mod TableFields
 pub mod Reader
 pub mod TextErrors

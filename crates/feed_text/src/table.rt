@@ -5,33 +5,34 @@ ghost use Rattle.plain_laws.specs.Plain.{when, any_below};
 ghost use Rattle.feed_rows.specs.Names.{column_text};
 ghost use Rattle.feed_faults.specs.Records.{FileTable, table_of_bytes, cut, header, row_count, data_row, column_of, field, is_filled, is_long};
 ghost use Rattle.feed_faults.specs.FormFaults.{is_twice};
-ghost use Rattle.feed_text.specs.Parts.{parts, Rise, start_of, field_in};
+ghost use Rattle.feed_text.specs.TableFields.{field_in};
+ghost use Rattle.plain_laws.specs.Plain.{parts, Rise};
 
-use crate::flat::{end_of, part_of, push_fields};
+use crate::flat::push_fields;
 use csv::{ByteRecord, ReaderBuilder};
 use feed_rows::ColumnName;
+use plain_laws::{Groups, part_of, push_end};
 use std::alloc::{AllocError, Global};
 use std::marker::Model;
 
 /// A file as a table: its header and its data rows, which are numbered from 0, each field without the blanks at its ends.
 #[derive(Drop)]
 pub struct Table {
-    // The bytes of all fields, where each field ends among them, and where each row ends among the fields.
-    bytes: Vec<u8>,
-    fields: Vec<u32>,
+    // The bytes of all fields, field by field, and where each row ends among the fields.
+    fields: Groups<u8>,
     rows: Vec<u32>,
 }
 
 impl Model for Table {
     ghost use Rattle.std.specs.Prelude.{◌≤◌, ◌^◌, length};
     ghost use Rattle.feed_faults.specs.Records.{FileTable};
-    ghost use Rattle.feed_text.specs.Parts.{parts, Rise};
+    ghost use Rattle.plain_laws.specs.Plain.{parts, Rise};
 
     ghost Value = { FileTable };
 
-    ghost view = { λ t. parts 0 t.rows.items (parts 0 t.fields.items t.bytes.items) };
+    ghost view = { λ t. parts 0 t.rows.items t.fields };
 
-    ghost invariant = { λ t. Rise 0 t.fields.items (length t.bytes.items) × Rise 0 t.rows.items (length t.fields.items) × (length t.rows.items ≤ 2 ^ 32) };
+    ghost invariant = { λ t. Rise 0 t.rows.items (length t.fields) × (length t.rows.items ≤ 2 ^ 32) };
 }
 
 // The table of a file's bytes, where it has at most so many data rows.
@@ -47,22 +48,16 @@ pub(crate) fn table_within(
         .flexible(true)
         .from_reader(alloc, text);
     let mut row = ByteRecord::new(alloc);
-    let mut bytes = Vec::new(alloc);
-    let mut fields = Vec::new(alloc);
+    let mut fields = Groups::empty(alloc);
     let mut rows = Vec::new(alloc);
     // The header, the rows, and one record more, which is one too many.
     for _ in 0..u64::from(max_rows) + 2 {
         match reader.read_byte_record(&mut row) {
             Ok(true) => {
-                push_fields(&mut bytes, &mut fields, &row)?;
-                let end = end_of(fields.len())?;
-                rows.push(end)?;
+                push_fields(&mut fields, &row)?;
+                push_end(&mut rows, fields.count())?;
             }
-            Ok(false) => return Ok(Some(Table {
-                bytes,
-                fields,
-                rows,
-            })),
+            Ok(false) => return Ok(Some(Table { fields, rows })),
             // A read over bytes in memory fails for want of memory alone.
             Err(_) => return Err(AllocError),
         }
@@ -89,8 +84,7 @@ impl Table {
         ensures { result ≡ [] }
     {
         Table {
-            bytes: Vec::new(alloc),
-            fields: Vec::new(alloc),
+            fields: Groups::empty(alloc),
             rows: Vec::new(alloc),
         }
     }
@@ -103,7 +97,7 @@ impl Table {
     }
 
     // How many records there are, the header among them.
-    #[tactic(auto, using(crate::proofs::PartLaws::length_parts))]
+    #[tactic(auto, using(plain_laws::proofs::Laws::length_parts))]
     pub(crate) fn records(&self) -> usize
         ensures count { result ≡ length self.now }
         ensures few { result ≤ 2 ^ 32 }
@@ -117,7 +111,7 @@ impl Table {
         ensures count { result ≡ length (get_or self.now place []) }
         ensures few { result < 2 ^ 32 }
     {
-        let (start, end) = part_of(&self.rows, place, self.fields.len());
+        let (start, end) = part_of(&self.rows, place, self.fields.count());
         end - start
     }
 
@@ -126,12 +120,11 @@ impl Table {
         requires { place < length self.now }
         ensures { result.now ≡ field_in self.now place column }
     {
-        let (start, end) = part_of(&self.rows, place, self.fields.len());
+        let (start, end) = part_of(&self.rows, place, self.fields.count());
         if column >= end - start {
             return &[];
         }
-        let (from, to) = part_of(&self.fields, start + column, self.bytes.len());
-        &self.bytes[from..to]
+        self.fields.group(start + column)
     }
 
     /// How many data rows there are.

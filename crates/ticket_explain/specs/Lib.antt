@@ -1,2 +1,1 @@
-pub mod TextLines
 pub mod LineParts

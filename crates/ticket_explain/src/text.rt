@@ -1,38 +1,31 @@
 //! Texts of whole lines.
-ghost use Rattle.std.specs.Prelude.{◌≡◌, ◌<◌, ◌≤◌, slice_index, [], ◌∷◌, ◌++◌, length, Some, slice_get, OnOk, OnErr};
+ghost use Rattle.std.specs.Prelude.{◌≡◌, ◌<◌, [], ◌∷◌, ◌++◌, length, Some, slice_get, OnOk, OnErr};
 
+use plain_laws::Groups;
 use std::alloc::{AllocError, Global};
 use std::marker::Model;
 
 /// A text of lines, each with the line feed at its end. Contracts see it as the list of its lines.
 #[derive(Drop)]
 pub struct Text {
-    /// The lines, one after another.
-    bytes: Vec<u8>,
-    /// Where each line ends among the bytes.
-    ends: Vec<usize>,
+    lines: Groups<u8>,
 }
 
 impl Model for Text {
-    ghost use Rattle.std.specs.Prelude.{ℕ, List, length};
-    ghost use Rattle.ticket_explain.specs.TextLines.{lines_at, AreEnds};
+    ghost use Rattle.std.specs.Prelude.{ℕ, List};
 
     ghost Value = { List (List ℕ) };
 
-    ghost view = { λ t. lines_at t.ends.items t.bytes.items };
-
-    ghost invariant = { λ t. AreEnds t.ends.items (length t.bytes.items) };
+    ghost view = { λ t. t.lines };
 }
 
 impl Text {
     /// The text without lines.
-    #[tactic(auto, using(crate::proofs::TextLaws::no_ends))]
     pub fn empty(alloc: Global) -> Text
         ensures { result ≡ [] }
     {
         Text {
-            bytes: Vec::new(alloc),
-            ends: Vec::new(alloc),
+            lines: Groups::empty(alloc),
         }
     }
 
@@ -44,22 +37,14 @@ impl Text {
         ensures ok { OnOk result (self.new ≡ self.old ++ line.now ∷ []) }
         ensures err { OnErr result (self.new ≡ self.old) }
     {
-        let end = self.bytes.len() + line.len();
-        self.ends.push(end)?;
-        match self.bytes.extend_from_slice(line) {
-            Ok(()) => Ok(()),
-            Err(refused) => {
-                self.ends.pop();
-                Err(refused)
-            }
-        }
+        self.lines.push(line)
     }
 
     /// How many lines there are.
     pub fn lines(&self) -> usize
         ensures { result ≡ length self.now }
     {
-        self.ends.len()
+        self.lines.count()
     }
 
     /// A line, with its line feed.
@@ -67,16 +52,6 @@ impl Text {
         requires { number < length self.now }
         ensures { slice_get self.now number ≡ Some result.now }
     {
-        let start = start_of(&self.ends, number);
-        let end = start_of(&self.ends, number + 1);
-        &self.bytes[start..end]
+        self.lines.group(number)
     }
-}
-
-// Where a line starts, or the last one ends.
-fn start_of(ends: &[usize], number: usize) -> usize
-    requires { number ≤ length ends.now }
-    ensures { result ≡ slice_index (0 ∷ ends.now) number }
-{
-    if number == 0 { 0 } else { ends[number - 1] }
 }

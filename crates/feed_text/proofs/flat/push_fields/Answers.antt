@@ -1,6 +1,6 @@
-use Rattle.std.proofs.Common.{arith, sym}
+use Rattle.std.proofs.Common.{◌≡◌, ◌++◌, ◌∷◌, [], ◌∙◌, ap, arith, sym}
 use Rattle.csv.specs.Records.{fields_of}
-use Rattle.feed_text.proofs.PartLaws.{not_there, one_more}
+use Rattle.feed_text.proofs.FieldLaws.{not_there, one_more}
 use Rattle.feed_text.proofs.flat.push_fields.Goals as goal
 
 pub unreachable-requires : goal.unreachable-requires
@@ -9,7 +9,5 @@ unreachable-requires c =
     (omega (arith, c.loop-i-test.true, c.len-i-end.ensures))
 
 pub loop-i-preserved : goal.loop-i-preserved
-loop-i-preserved c = record {
-  rise = c.in_ok-push_field.ensures.rise;
-  kept = one_more _ _ _ _ _ _ c.in_ok-push_field.ensures.fields c.loop-i.invariant.kept (sym c.in-Some.ensures.value);
-}
+loop-i-preserved c =
+    one_more _ _ _ _ _ _ (c.in_ok-push.ensures.ok ∙ ap (λ bytes. c.loop-i.fields ++ bytes ∷ []) c.cut_of.ensures) c.loop-i.invariant (sym c.in-Some.ensures.value)

@@ -1,13 +1,12 @@
 use Rattle.std.proofs.Common.{◌≡◌, length, Some}
 use Rattle.csv.specs.Reading.{strip_bom}
-use Rattle.feed_text.specs.Parts.{parts, Rise}
+use Rattle.plain_laws.specs.Plain.{parts, Rise}
 use Rattle.feed_text.specs.Reader.{StandsBehind}
 use Rattle.feed_text.proofs.table.table_within.Given as goal
 
 abbrev pub invariant-loop : goal.invariant-loop
 invariant-loop l = record {
-  fields : Rise 0 l.fields.items (length l.bytes.items);
-  rows : Rise 0 l.rows.items (length l.fields.items);
+  rows : Rise 0 l.rows.items (length l.fields);
   count : length l.rows.items ≡ l.counter;
-  stands : StandsBehind (λ s. Some s.now) l.reader (strip_bom l.text) (parts 0 l.rows.items (parts 0 l.fields.items l.bytes.items));
+  stands : StandsBehind (λ s. Some s.now) l.reader (strip_bom l.text) (parts 0 l.rows.items l.fields);
 }
