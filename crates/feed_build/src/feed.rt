@@ -3,7 +3,7 @@ ghost use Rattle.std.specs.Prelude.{◌≡◌, IfOk};
 ghost use Rattle.feed_faults.specs.AcceptedFeed.{rows_of, rows_of_tables, stop_time_row};
 ghost use Rattle.feed_tables.specs.TableIds.{AreIdsOf};
 ghost use Rattle.feed_tables.specs.UnbuiltFiles.{AreUnbuiltEmpty};
-ghost use Rattle.feed_soundness.specs.AcceptedTables.{AreFormed, AreLinked};
+ghost use Rattle.feed_soundness.specs.AcceptedTables.{AreFormed, AreRelated};
 ghost use Rattle.feed_build.specs.FeedNames.{AreNamesOf};
 ghost use Rattle.feed_build.specs.FeedParts.{IsTimetableOf, AreFaresOf};
 
@@ -24,7 +24,7 @@ fn joined(
     fares: Fares,
 ) -> Result<Feed, AllocError>
     requires formed { AreFormed tables.now }
-    requires linked { AreLinked tables.now }
+    requires related { AreRelated tables.now }
     requires names { AreNamesOf tables.now names.now }
     requires timetable { IsTimetableOf tables.now timetable }
     requires fares { AreFaresOf tables.now fares }
@@ -78,7 +78,7 @@ pub fn feed_of_tables(
     stop_times: StopTimeRows,
 ) -> Result<Feed, AllocError>
     requires formed { AreFormed tables.now }
-    requires linked { AreLinked tables.now }
+    requires related { AreRelated tables.now }
     requires unbuilt { AreUnbuiltEmpty tables.now }
     requires ids { AreIdsOf tables.now ids.now }
     requires stop_times { stop_times ≡ rows_of tables.now.stop_times (stop_time_row tables.now) }

@@ -7,7 +7,7 @@ ghost use Rattle.feed_check.specs.BuiltFaults.{first_built_fault};
 ghost use Rattle.feed_check.specs.CheckErrors.{IsErrorOf};
 
 use feed_build::{feed_of_tables, stop_time_rows};
-use feed_links::first_link_fault;
+use feed_relations::first_relation_fault;
 use feed_rows::{Feed, FeedFault};
 use feed_tables::{TableIds, Tables};
 use feed_text::TextError;
@@ -52,7 +52,7 @@ pub fn check(alloc: Global, files: &Files) -> Result<Feed, CheckError>
     };
     let ids = TableIds::of(alloc, &tables)?;
     let stop_times = stop_time_rows(alloc, &tables, &ids)?;
-    if let Some(fault) = first_link_fault(alloc, &tables, &ids, stop_times.items())? {
+    if let Some(fault) = first_relation_fault(alloc, &tables, &ids, stop_times.items())? {
         return Err(CheckError::Fault(fault));
     }
     Ok(feed_of_tables(alloc, &tables, &ids, stop_times)?)

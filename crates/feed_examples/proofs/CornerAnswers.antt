@@ -53,9 +53,9 @@ not_empty t minimal exact = let has = exact.complete t minimal in let lt = has.1
 -- nor has it a triple that another is at most: a walk of an hour costs nothing and arrives with T3
 not_dominated : IsExactAnswer with_walk morning (by_one_ride ∷ []) → ⊥
 not_dominated exact =
-    let walked = entry 0 2 32400 0 (pos 0) [] [] [] in
-    let is : IsEntry with_walk morning walked = no_rides.1 in
-    let same : walked.triple ≡ by_one_ride.triple = (exact.minimal 0 by_one_ride (omega arith)).least walked.triple (walked, is, refl) refl in
+    let passed = entry 0 2 32400 0 (pos 0) [] [] [] in
+    let is : IsEntry with_walk morning passed = no_rides.1 in
+    let same : passed.triple ≡ by_one_ride.triple = (exact.minimal 0 by_one_ride (omega arith)).least passed.triple (passed, is, refl) refl in
     let rides : 0 ≡ 1 = ap (λ t. t.rides) same in
     omega (arith, rides)
 

@@ -100,9 +100,9 @@ abbrev walked_bus : Entry
 walked_bus = entry 2 1 29400 1 (pos 250) (ride 0 0 1 ∷ []) (leg 0 0 ∷ []) []
 
 -- a walk of 60 seconds to the first ride catches it to the second, and not a second later; a row is for its direction alone
-walk_before : (entry_test (with_links base (link_row 2 0 false 60 ∷ [])) (query 2 1 28740) walked_bus ≡ true) × (entry_test (with_links base (link_row 2 0 false 60 ∷ [])) (query 2 1 28741) walked_bus ≡ false) × (entry_test (with_links base (link_row 0 2 false 60 ∷ [])) (query 2 1 28740) walked_bus ≡ false)
+course_before : (entry_test (with_links base (link_row 2 0 false 60 ∷ [])) (query 2 1 28740) walked_bus ≡ true) × (entry_test (with_links base (link_row 2 0 false 60 ∷ [])) (query 2 1 28741) walked_bus ≡ false) × (entry_test (with_links base (link_row 0 2 false 60 ∷ [])) (query 2 1 28740) walked_bus ≡ false)
 unfolding entry_test is_ride ride_facts is_active shifts_of calls_of call_at link stop_set legs_of leg_facts stop_areas holds_at network_matches area_matches frame_matches rule_matches is_top_priority is_selected_rule group_matches limit_holds is_candidate suffices is_least_count is_selected_transfer is_arranged goes_on run_start change_at is_open is_leg_choice is_transfer_choice is_leg_paid is_change_paid is_fare_choice transfer_kind starts_chain is_charged amount_of leg_charge change_charge fare_sum
-walk_before = (refl, refl, refl)
+course_before = (refl, refl, refl)
 
 -- the walk of a journey without rides is within the window to the second, whatever the limit of rides
 walk_window : (entry_test with_walk (record morning { window = 3600; rides = 0 }) (on_foot 0 2 32400) ≡ true) × (entry_test with_walk (record morning { window = 3599 }) (on_foot 0 2 32400) ≡ false)

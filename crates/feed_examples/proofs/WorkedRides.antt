@@ -152,8 +152,8 @@ station =
     }
 
 -- station with one row of transfers.txt
-abbrev linked : ℕ → ℕ → LinkRow → FeedRows
-linked from to row = record station { links = record row { from = record { 0 = from }; to = record { 0 = to } } ∷ [] }
+abbrev related : ℕ → ℕ → LinkRow → FeedRows
+related from to row = record station { links = record row { from = record { 0 = from }; to = record { 0 = to } } ∷ [] }
 
 abbrev allowed : ℕ → LinkRow
 allowed seconds = record { from = record { 0 = 0 }; to = record { 0 = 0 }; forbidden = false; seconds = seconds }
@@ -170,7 +170,7 @@ unfolding link
 station_walks = (refl, refl, refl, refl, refl, refl, refl, refl)
 
 -- a row from station to station governs each platform of it, to itself too; one that forbids leaves no walk
-station_rows : (walk (linked 4 4 (allowed 300)) 1 3 ≡ Some 300) × (walk (linked 4 4 (allowed 300)) 1 1 ≡ Some 300) × (walk (linked 4 4 barred) 1 3 ≡ None) × (walk (linked 4 4 barred) 1 1 ≡ None) × (walk (linked 0 0 barred) 0 0 ≡ None) × (walk (linked 0 4 (allowed 60)) 0 3 ≡ Some 60) × (walk (linked 4 0 (allowed 60)) 3 0 ≡ Some 60) × (walk (linked 4 0 (allowed 60)) 0 3 ≡ None)
+station_rows : (walk (related 4 4 (allowed 300)) 1 3 ≡ Some 300) × (walk (related 4 4 (allowed 300)) 1 1 ≡ Some 300) × (walk (related 4 4 barred) 1 3 ≡ None) × (walk (related 4 4 barred) 1 1 ≡ None) × (walk (related 0 0 barred) 0 0 ≡ None) × (walk (related 0 4 (allowed 60)) 0 3 ≡ Some 60) × (walk (related 4 0 (allowed 60)) 3 0 ≡ Some 60) × (walk (related 4 0 (allowed 60)) 0 3 ≡ None)
 unfolding link
 station_rows = (refl, refl, refl, refl, refl, refl, refl, refl)
 

@@ -10,8 +10,8 @@ use Rattle.feed_rows.specs.declared.names.ColumnName.TheVariants as column
 use Rattle.feed_rows.specs.declared.faults.FaultKind.TheVariants as kind
 use Rattle.feed_faults.specs.Records.{FileTable}
 use Rattle.feed_faults.specs.FeedTables.{FeedTables}
-use Rattle.feed_faults.specs.FirstFault.{first_link_fault}
-use Rattle.feed_faults.specs.OnLiterals.{links_on_literals}
+use Rattle.feed_faults.specs.FirstFault.{first_relation_fault}
+use Rattle.feed_faults.specs.OnLiterals.{relations_on_literals}
 use Rattle.feed_faults.proofs.Expected.{fault}
 
 -- the days of some dates
@@ -60,16 +60,16 @@ abbrev service_days : List ℕ → List ℕ → FileTable
 service_days first last = (codes "service_id" ∷ codes "start_date" ∷ codes "end_date" ∷ []) ∷ (codes "W" ∷ first ∷ last ∷ []) ∷ []
 
 -- days in order, one day alone, and days that are reversed
-in_order : first_link_fault (calendars (service_days (codes "20250101") (codes "20251231")) []) ≡ None
-unfolding links_on_literals calendars
+in_order : first_relation_fault (calendars (service_days (codes "20250101") (codes "20251231")) []) ≡ None
+unfolding relations_on_literals calendars
 in_order = rw (january_1, december_31) refl
 
-one_day : first_link_fault (calendars (service_days (codes "20250602") (codes "20250602")) []) ≡ None
-unfolding links_on_literals calendars
+one_day : first_relation_fault (calendars (service_days (codes "20250602") (codes "20250602")) []) ≡ None
+unfolding relations_on_literals calendars
 one_day = rw june_2 refl
 
-reversed : first_link_fault (calendars (service_days (codes "20250602") (codes "20250601")) []) ≡ fault kind.DatesReversed file.Calendar 1 column.EndDate
-unfolding links_on_literals calendars
+reversed : first_relation_fault (calendars (service_days (codes "20250602") (codes "20250601")) []) ≡ fault kind.DatesReversed file.Calendar 1 column.EndDate
+unfolding relations_on_literals calendars
 reversed = rw (june_1, june_2) refl
 
 -- exceptions of a service
@@ -78,10 +78,10 @@ exceptions first second =
     (codes "service_id" ∷ codes "date" ∷ codes "exception_type" ∷ []) ∷ (codes "W" ∷ first ∷ codes "1" ∷ []) ∷ (codes "V" ∷ second ∷ codes "1" ∷ []) ∷ (codes "W" ∷ second ∷ codes "2" ∷ []) ∷ []
 
 -- two days, and one day twice
-two_days : first_link_fault (calendars [] (exceptions (codes "20250601") (codes "20250602"))) ≡ None
-unfolding links_on_literals calendars
+two_days : first_relation_fault (calendars [] (exceptions (codes "20250601") (codes "20250602"))) ≡ None
+unfolding relations_on_literals calendars
 two_days = rw (june_1, june_2) refl
 
-day_twice : first_link_fault (calendars [] (exceptions (codes "20250602") (codes "20250602"))) ≡ fault kind.DoubledKey file.CalendarDates 3 column.Date
-unfolding links_on_literals calendars
+day_twice : first_relation_fault (calendars [] (exceptions (codes "20250602") (codes "20250602"))) ≡ fault kind.DoubledKey file.CalendarDates 3 column.Date
+unfolding relations_on_literals calendars
 day_twice = rw june_2 refl

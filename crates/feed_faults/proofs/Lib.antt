@@ -5,11 +5,11 @@ pub mod Expected
 pub mod WorkedFaults
 pub mod ExporterForm
 pub mod FormChecks
-pub mod LinkChecks
+pub mod RelationChecks
 pub mod DateChecks
 pub mod FullFeed
 pub mod CornerRecords
 pub mod CornerFields
 pub mod CornerForms
-pub mod CornerLinks
+pub mod CornerRelations
 pub mod CornerRows

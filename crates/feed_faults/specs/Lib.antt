@@ -6,10 +6,10 @@ pub mod FormFaults
 pub mod FeedTables
 pub mod FieldValues
 pub mod RowKeys
-pub mod TimetableLinks
-pub mod StopTimeLinks
-pub mod NetworkLinks
-pub mod FareLinks
+pub mod TimetableRelations
+pub mod StopTimeRelations
+pub mod NetworkRelations
+pub mod FareRelations
 pub mod FirstFault
 pub mod AcceptedFeed
 pub mod OnLiterals

@@ -12,11 +12,11 @@ use Rattle.feed_faults.specs.FormFaults.{is_twice, doubled_column, missing_colum
 use Rattle.feed_faults.specs.FeedTables.{tables_of}
 use Rattle.feed_faults.specs.FieldValues.{int_or_past, time_or_past, day_or_past, amount_or_past}
 use Rattle.feed_faults.specs.RowKeys.{row_of, is_doubled}
-use Rattle.feed_faults.specs.TimetableLinks.{has_parent, is_at_station, stop_fault, route_fault, is_service_unknown, trip_fault, are_dates_reversed, service_fault, same_exception, exception_fault}
-use Rattle.feed_faults.specs.StopTimeLinks.{stop_time_of, stop_times_of, same_place, comes_before, is_first, is_last, is_end_time_missing, is_nearest_before, do_times_decrease, is_at_platform, stop_time_fault}
-use Rattle.feed_faults.specs.NetworkLinks.{same_start, frequency_fault, is_transfer_stop_unknown, transfer_fault, area_fault, stop_area_fault, has_own_networks, forbidden_fault, network_fault, route_network_fault}
-use Rattle.feed_faults.specs.FareLinks.{do_frames_overlap, is_bad_frame, timeframe_fault, rider_fault, medium_fault, same_product, is_currency_mixed, product_fault, is_network_unknown, leg_rule_fault, is_count_misplaced, is_limit_half, transfer_rule_fault}
-use Rattle.feed_faults.specs.FirstFault.{timetable_link_fault, network_link_fault, fare_link_fault, first_fault}
+use Rattle.feed_faults.specs.TimetableRelations.{has_parent, is_at_station, stop_fault, route_fault, is_service_unknown, trip_fault, are_dates_reversed, service_fault, same_exception, exception_fault}
+use Rattle.feed_faults.specs.StopTimeRelations.{stop_time_of, stop_times_of, same_place, comes_before, is_first, is_last, is_end_time_missing, is_nearest_before, do_times_decrease, is_at_platform, stop_time_fault}
+use Rattle.feed_faults.specs.NetworkRelations.{same_start, frequency_fault, is_transfer_stop_unknown, transfer_fault, area_fault, stop_area_fault, has_own_networks, forbidden_fault, network_fault, route_network_fault}
+use Rattle.feed_faults.specs.FareRelations.{do_frames_overlap, is_bad_frame, timeframe_fault, rider_fault, medium_fault, same_product, is_currency_mixed, product_fault, is_network_unknown, leg_rule_fault, is_count_misplaced, is_limit_half, transfer_rule_fault}
+use Rattle.feed_faults.specs.FirstFault.{timetable_relation_fault, network_relation_fault, fare_relation_fault, first_fault}
 use Rattle.feed_faults.specs.AcceptedFeed.{place_of_name, with_name, service_names, network_names, frame_names, product_names, group_names, parent_of, stop_row, network_of_route, route_row, trip_row, stop_time_row, service_row, exception_row, frequency_row, link_row, area_row, stop_area_row, timeframe_row, rider_row, medium_row, product_row, leg_rule_row, limit_of, transfer_rule_row, feed_currency, feed_decimals, rows_of_tables, feed_of}
 
 -- the grammars of fields
@@ -30,14 +30,14 @@ unfolding grammars_on_literals column_of field is_long is_twice doubled_column m
 forms_on_literals = tt
 
 -- the second pass over tables
-unfoldable pub links_on_literals : ⊤
+unfoldable pub relations_on_literals : ⊤
 unfolding grammars_on_literals column_of field is_passed_over int_or_past time_or_past day_or_past amount_or_past row_of is_doubled
     has_parent is_at_station stop_fault route_fault is_service_unknown trip_fault are_dates_reversed service_fault same_exception exception_fault
     stop_time_of stop_times_of same_place comes_before is_first is_last is_end_time_missing is_nearest_before do_times_decrease is_at_platform stop_time_fault
     same_start frequency_fault is_transfer_stop_unknown transfer_fault area_fault stop_area_fault has_own_networks forbidden_fault network_fault route_network_fault
     do_frames_overlap is_bad_frame timeframe_fault rider_fault medium_fault same_product is_currency_mixed product_fault is_network_unknown leg_rule_fault is_count_misplaced is_limit_half transfer_rule_fault
-    timetable_link_fault network_link_fault fare_link_fault
-links_on_literals = tt
+    timetable_relation_fault network_relation_fault fare_relation_fault
+relations_on_literals = tt
 
 -- the rows of tables
 unfoldable pub rows_on_literals : ⊤
@@ -52,5 +52,5 @@ bytes_on_literals = tt
 
 -- the first fault and the rows of a folder's bytes
 unfoldable pub feeds_on_literals : ⊤
-unfolding bytes_on_literals forms_on_literals links_on_literals rows_on_literals form_fault timetable_form_fault network_form_fault fare_form_fault first_fault feed_of
+unfolding bytes_on_literals forms_on_literals relations_on_literals rows_on_literals form_fault timetable_form_fault network_form_fault fare_form_fault first_fault feed_of
 feeds_on_literals = tt

@@ -1,4 +1,4 @@
--- The calls of a trip: where the first and the last row have times each row has its call, and one walk over the rows
+-- The calls of a trip: where the first and the last row have times each row has its call, and one pass over the rows
 -- gives them.
 use Rattle.std.proofs.Common.{◌≡◌, refl, sym, ◌∙◌, ap, subst, ℕ, zero, suc, ◌+◌, ◌<◌, ◌≤◌, ◌⊎◌, inl, inr, Bool, true, false, List, [], ◌∷◌, ◌++◌, length, get_or, arith}
 use Rattle.std.specs.Prelude.{Some, None, slice_get, unwrap_or}
@@ -10,7 +10,7 @@ use Rattle.feed_rows.specs.declared.journeys.Call.{Call}
 use Rattle.feed_rows.specs.FeedRows.{FeedRows}
 use Rattle.plain_laws.specs.Plain.{collect_below}
 use Rattle.feed_rows.specs.Calls.{first_time, last_time, is_timed, timed_before, time_between, filled_time, call_at, calls_of, trip_stop_times}
-use Rattle.feed_rows.specs.CallWalk.{TimedGap, gap_after, gap_at, time_in, time_at, next_timed, call_in, walk_below, walk}
+use Rattle.feed_rows.specs.CallPass.{TimedGap, gap_after, gap_at, time_in, time_at, next_timed, call_in, pass_below, pass}
 use Rattle.plain_laws.proofs.Laws.{collect_below_tells, IsCollected}
 use Rattle.feed_rows.specs.TimedTrips.{first_at, last_at, is_timed_at, HasTimedEnds}
 use Rattle.feed_laws.proofs.TimedLaws.{IsInGap, in_gap, timed_before_hit, timed_after_hit, timed_after_gap, timed_at, timed_row, untimed_row}
@@ -100,8 +100,8 @@ pub record IsCallOf (rows : List StopTimeRow) (m : ℕ) (row : StopTimeRow) (cal
   pub drop_off : call.drop_off ≡ row.drop_off
   pub times : HasOwnTimes rows m call ⊎ HasFilledTime rows m call
 
--- the call that the walk makes of a row is that of the definition
-pub record IsWalked (rows : List StopTimeRow) (m : ℕ) (row : StopTimeRow) : Type 0 where
+-- the call that the pass makes of a row is that of the definition
+pub record IsPassed (rows : List StopTimeRow) (m : ℕ) (row : StopTimeRow) : Type 0 where
   pub made : call_at rows m ≡ Some (call_in (gap_at rows m) m row)
   pub call_of : IsCallOf rows m row (call_in (gap_at rows m) m row)
 
@@ -119,10 +119,10 @@ call_at_none : (rows : List StopTimeRow) (m : ℕ) → slice_get rows m ≡ None
 unfolding call_at
 call_at_none rows m none = rw none refl
 
-pub walked : (rows : List StopTimeRow) (m : ℕ) (row : StopTimeRow) → HasTimedEnds rows → slice_get rows m ≡ Some row → IsWalked rows m row
-walked rows m row ends at = step (cases_Bool (is_timed row))
+pub passed : (rows : List StopTimeRow) (m : ℕ) (row : StopTimeRow) → HasTimedEnds rows → slice_get rows m ≡ Some row → IsPassed rows m row
+passed rows m row ends at = step (cases_Bool (is_timed row))
   where
-    step : (is_timed row ≡ true) ⊎ (is_timed row ≡ false) → IsWalked rows m row
+    step : (is_timed row ≡ true) ⊎ (is_timed row ≡ false) → IsPassed rows m row
     step (inl timed) =
         let times = timed_row row timed in
         let call : Call = record { stop = row.stop; sequence = row.sequence; arrival = times.0; departure = times.1; pickup = row.pickup; drop_off = row.drop_off } in
@@ -158,7 +158,7 @@ pub call_at_some : (rows : List StopTimeRow) (m : ℕ) → HasTimedEnds rows →
 call_at_some rows m ends lt = step (slice_get_cases rows m).1
   where
     step : ((row : StopTimeRow) × (m < length rows) × (slice_get rows m ≡ Some row) × (get_or rows m row ≡ row)) ⊎ ((length rows ≤ m) × (slice_get rows m ≡ None)) → (call : Call) × (call_at rows m ≡ Some call)
-    step (inl found) = (call_in (gap_at rows m) m found.0, (walked rows m found.0 ends found.2).made)
+    step (inl found) = (call_in (gap_at rows m) m found.0, (passed rows m found.0 ends found.2).made)
     step (inr past) = let out = past.0 in absurd (omega arith)
 
 -- the row of a call
@@ -167,17 +167,17 @@ call_at_row rows m call ends e = step (slice_get_cases rows m).1
   where
     step : ((row : StopTimeRow) × (m < length rows) × (slice_get rows m ≡ Some row) × (get_or rows m row ≡ row)) ⊎ ((length rows ≤ m) × (slice_get rows m ≡ None)) → (row : StopTimeRow) × (slice_get rows m ≡ Some row) × IsCallOf rows m row call
     step (inl found) =
-        let made = walked rows m found.0 ends found.2 in
+        let made = passed rows m found.0 ends found.2 in
         (found.0, found.2, subst (IsCallOf rows m found.0) (same_Some _ _ (sym made.made ∙ e)) made.call_of)
     step (inr past) = absurd (none-some call (sym (call_at_none rows m past.1) ∙ e))
 
--- the walk goes on by a call
-pub walk_below_more : (rows : List StopTimeRow) (m : ℕ) (row : StopTimeRow) → slice_get rows m ≡ Some row → walk_below rows (m + 1) ≡ walk_below rows m ++ call_in (gap_at rows m) m row ∷ []
-walk_below_more rows m row at = let e : m + 1 ≡ suc m = omega arith in rw (e, at) refl
+-- the pass goes on by a call
+pub pass_below_more : (rows : List StopTimeRow) (m : ℕ) (row : StopTimeRow) → slice_get rows m ≡ Some row → pass_below rows (m + 1) ≡ pass_below rows m ++ call_in (gap_at rows m) m row ∷ []
+pass_below_more rows m row at = let e : m + 1 ≡ suc m = omega arith in rw (e, at) refl
 
--- a turn of the walk at a timed row: its own times, and a new gap
+-- a turn of the pass at a timed row: its own times, and a new gap
 pub record IsTimedTurn (rows : List StopTimeRow) (m : ℕ) (row : StopTimeRow) : Type 0 where
-  pub calls : walk_below rows (m + 1) ≡ walk_below rows m ++ (record { stop = row.stop; sequence = row.sequence; arrival = unwrap_or (first_time row) 0; departure = unwrap_or (last_time row) 0; pickup = row.pickup; drop_off = row.drop_off }) ∷ []
+  pub calls : pass_below rows (m + 1) ≡ pass_below rows m ++ (record { stop = row.stop; sequence = row.sequence; arrival = unwrap_or (first_time row) 0; departure = unwrap_or (last_time row) 0; pickup = row.pickup; drop_off = row.drop_off }) ∷ []
   pub gap : gap_at rows (m + 1) ≡ record { from = m; left = unwrap_or (last_time row) 0; to = next_timed rows m; reached = time_at first_time rows (next_timed rows m) }
 
 pub timed_turn : (rows : List StopTimeRow) (m : ℕ) (d : StopTimeRow) → m < length rows → is_timed (get_or rows m d) ≡ true → IsTimedTurn rows m (get_or rows m d)
@@ -185,13 +185,13 @@ timed_turn rows m d lt timed =
     let row = get_or rows m d in
     let at : slice_get rows m ≡ Some row = slice_get-get_or rows m d lt in
     record {
-      calls = rw (walk_below_more rows m row at, call_in_timed (gap_at rows m) m row timed) refl;
+      calls = rw (pass_below_more rows m row at, call_in_timed (gap_at rows m) m row timed) refl;
       gap = gap_at_timed rows m (rw at timed) ∙ rw at refl;
     }
 
 -- a turn at a row without times: the time in the gap, and the same gap
 pub record IsUntimedTurn (rows : List StopTimeRow) (m : ℕ) (row : StopTimeRow) : Type 0 where
-  pub calls : walk_below rows (m + 1) ≡ walk_below rows m ++ (record { stop = row.stop; sequence = row.sequence; arrival = time_in (gap_at rows m) m; departure = time_in (gap_at rows m) m; pickup = row.pickup; drop_off = row.drop_off }) ∷ []
+  pub calls : pass_below rows (m + 1) ≡ pass_below rows m ++ (record { stop = row.stop; sequence = row.sequence; arrival = time_in (gap_at rows m) m; departure = time_in (gap_at rows m) m; pickup = row.pickup; drop_off = row.drop_off }) ∷ []
   pub gap : gap_at rows (m + 1) ≡ gap_at rows m
 
 pub untimed_turn : (rows : List StopTimeRow) (m : ℕ) (d : StopTimeRow) → m < length rows → is_timed (get_or rows m d) ≡ false → IsUntimedTurn rows m (get_or rows m d)
@@ -199,32 +199,32 @@ untimed_turn rows m d lt untimed =
     let row = get_or rows m d in
     let at : slice_get rows m ≡ Some row = slice_get-get_or rows m d lt in
     record {
-      calls = rw (walk_below_more rows m row at, call_in_untimed (gap_at rows m) m row untimed) refl;
+      calls = rw (pass_below_more rows m row at, call_in_untimed (gap_at rows m) m row untimed) refl;
       gap = gap_at_untimed rows m (rw at untimed);
     }
 
 -- it gives the calls of the rows
-pub walk_below_calls : (rows : List StopTimeRow) (m : ℕ) → HasTimedEnds rows → m ≤ length rows → collect_below m (call_at rows) ≡ Some (walk_below rows m)
-walk_below_calls rows zero ends le = refl
-walk_below_calls rows (suc m) ends le = step (walk_below_calls rows m ends (omega arith)) (slice_get_cases rows m).1
+pub pass_below_calls : (rows : List StopTimeRow) (m : ℕ) → HasTimedEnds rows → m ≤ length rows → collect_below m (call_at rows) ≡ Some (pass_below rows m)
+pass_below_calls rows zero ends le = refl
+pass_below_calls rows (suc m) ends le = step (pass_below_calls rows m ends (omega arith)) (slice_get_cases rows m).1
   where
-    step : collect_below m (call_at rows) ≡ Some (walk_below rows m) → ((row : StopTimeRow) × (m < length rows) × (slice_get rows m ≡ Some row) × (get_or rows m row ≡ row)) ⊎ ((length rows ≤ m) × (slice_get rows m ≡ None))
-        → collect_below (suc m) (call_at rows) ≡ Some (walk_below rows (suc m))
-    step before (inl found) = rw (before, (walked rows m found.0 ends found.2).made, found.2) refl
+    step : collect_below m (call_at rows) ≡ Some (pass_below rows m) → ((row : StopTimeRow) × (m < length rows) × (slice_get rows m ≡ Some row) × (get_or rows m row ≡ row)) ⊎ ((length rows ≤ m) × (slice_get rows m ≡ None))
+        → collect_below (suc m) (call_at rows) ≡ Some (pass_below rows (suc m))
+    step before (inl found) = rw (before, (passed rows m found.0 ends found.2).made, found.2) refl
     step before (inr past) = let out = past.0 in absurd (omega arith)
 
-pub walk_calls : (rows : List StopTimeRow) → HasTimedEnds rows → collect_below (length rows) (call_at rows) ≡ Some (walk rows)
-walk_calls rows ends = walk_below_calls rows (length rows) ends (omega arith)
+pub pass_calls : (rows : List StopTimeRow) → HasTimedEnds rows → collect_below (length rows) (call_at rows) ≡ Some (pass rows)
+pass_calls rows ends = pass_below_calls rows (length rows) ends (omega arith)
 
--- the calls of a trip are those of the walk
-pub calls_of-walk : (feed : FeedRows) (trip : TripId) → HasTimedEnds (trip_stop_times feed trip) → calls_of feed trip ≡ walk (trip_stop_times feed trip)
+-- the calls of a trip are those of the pass
+pub calls_of-pass : (feed : FeedRows) (trip : TripId) → HasTimedEnds (trip_stop_times feed trip) → calls_of feed trip ≡ pass (trip_stop_times feed trip)
 unfolding calls_of
-calls_of-walk feed trip ends = rw (walk_calls (trip_stop_times feed trip) ends) refl
+calls_of-pass feed trip ends = rw (pass_calls (trip_stop_times feed trip) ends) refl
 
 calls_of_collected : (feed : FeedRows) (trip : TripId) → HasTimedEnds (trip_stop_times feed trip) → IsCollected (length (trip_stop_times feed trip)) (call_at (trip_stop_times feed trip)) (calls_of feed trip)
 calls_of_collected feed trip ends =
     let rows = trip_stop_times feed trip in
-    rw (calls_of-walk feed trip ends) (collect_below_tells (length rows) (call_at rows) (walk rows) (walk_calls rows ends))
+    rw (calls_of-pass feed trip ends) (collect_below_tells (length rows) (call_at rows) (pass rows) (pass_calls rows ends))
 
 -- they are as many as the rows
 pub length-calls_of : (feed : FeedRows) (trip : TripId) → HasTimedEnds (trip_stop_times feed trip) → length (calls_of feed trip) ≡ length (trip_stop_times feed trip)

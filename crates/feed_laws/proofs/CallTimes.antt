@@ -9,7 +9,7 @@ use Rattle.transit_base.specs.declared.numbers.TripId.{TripId}
 use Rattle.feed_rows.specs.declared.rows.StopTimeRow.{StopTimeRow}
 use Rattle.feed_rows.specs.declared.journeys.Call.{Call}
 use Rattle.feed_rows.specs.FeedRows.{FeedRows}
-use Rattle.feed_rows.specs.CallWalk.{TimedGap, time_in}
+use Rattle.feed_rows.specs.CallPass.{TimedGap, time_in}
 use Rattle.feed_rows.specs.Calls.{last_time, first_time, is_timed, time_between, timed_before, calls_of, trip_stop_times, first_departure}
 use Rattle.feed_rows.specs.TimedTrips.{first_at, last_at, is_timed_at, HasTimedEnds, DoTimesRise, AreTimesAtMost, DoTimesEndBy}
 use Rattle.feed_laws.proofs.SequenceLaws.{trip_stop_times_all}

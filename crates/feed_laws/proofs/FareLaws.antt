@@ -1,4 +1,4 @@
--- The walk along legs gives each run and each change, and these look at no leg after them.
+-- The steps along legs gives each run and each change, and these look at no leg after them.
 use Rattle.std.proofs.Common.{◌≡◌, refl, sym, ◌∙◌, ap, subst, ℕ, zero, suc, ◌+◌, ◌<◌, ◌≤◌, ◌⊎◌, inl, inr, Bool, true, false, arith, cond}
 use Rattle.std.specs.Prelude.{Option, Some, None}
 use Rattle.std.proofs.lemmas.Bool.{cases_lt, eqb-true}
@@ -6,7 +6,7 @@ use Rattle.transit_base.specs.declared.numbers.LegGroupId.{LegGroupId}
 use Rattle.feed_rows.specs.FeedRows.{FeedRows}
 use Rattle.plain_laws.specs.Plain.{filled_and}
 use Rattle.feed_rows.specs.TransferRules.{FareLeg, same_group, goes_on, run_start, change_at, IsRun}
-use Rattle.feed_rows.specs.FareWalk.{Run, fresh_run, change_to, extends, next_run, IsRunAt}
+use Rattle.feed_rows.specs.FareStands.{Run, fresh_run, change_to, extends, next_run, IsRunAt}
 use Rattle.feed_laws.proofs.TransferLaws.{run_start-on, run_start-off, run_start-zero, run_start-run, run-off}
 
 -- ---- the group of a run
@@ -64,7 +64,7 @@ last_of_run feed leg i run at =
     group_of_run feed leg (run_start feed leg i) i run.first.group (run_start-run feed leg i)
     (record { value = run.first; is = at.first; of_group = refl })
 
--- ---- the walk
+-- ---- the course
 
 -- the change after leg i is the change from its run to the next leg
 pub change_of_run : (feed : FeedRows) (leg : ℕ → Option FareLeg) (i : ℕ) (run : Run) (next : FareLeg) →

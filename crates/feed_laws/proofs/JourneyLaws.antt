@@ -1,4 +1,4 @@
--- A journey of a query is a walk along its rides.
+-- A journey of a query is a course along its rides.
 use Rattle.std.proofs.Common.{◌≡◌, refl, sym, ◌∙◌, ap, subst, ℕ, zero, suc, ◌+◌, ◌<◌, ◌≤◌, ◌⊎◌, inl, inr, true, List, [], ◌∷◌, ◌++◌, length, get_or, arith}
 use Rattle.std.specs.Prelude.{Some, slice_get, option_and_then, All, IsTrue, ℤ, pos, ◌+ℤ◌, ◌≤ℤ◌}
 use Rattle.std.proofs.lemmas.Bool.{cases_lt, ne_eqb}
@@ -12,7 +12,7 @@ use Rattle.feed_rows.specs.FeedRows.{FeedRows}
 use Rattle.feed_rows.specs.Rides.{is_ride, ride_facts}
 use Rattle.feed_rows.specs.StopLinks.{link}
 use Rattle.feed_rows.specs.Journeys.{stands_for, facts_at, is_caught, catches_first, catches_next, arrival_after, IsJourney}
-use Rattle.feed_rows.specs.JourneyWalk.{Stand, first_stand, stand_at_end, way_to, stand_by, next_stand, stand_after, end_arrival}
+use Rattle.feed_rows.specs.JourneyStands.{Stand, first_stand, stand_at_end, way_to, stand_by, next_stand, stand_after, end_arrival}
 use Rattle.plain_laws.specs.Plain.{after}
 use Rattle.plain_laws.proofs.Laws.{filled_and-true, cond_gives, holds_else, option_and_then-assoc, chain_gives, after_first-push, after_first-append, after_first-all}
 
@@ -27,7 +27,7 @@ pub step_by_facts : (feed : FeedRows) (query : Query) (stand : Stand) (rides : L
 unfolding next_stand
 step_by_facts feed query stand rides n = sym (option_and_then-assoc (ride_facts feed) (stand_by feed query stand) (slice_get rides n))
 
--- what the n-th step of a walk is: where one stood before, and the ride that is caught there
+-- what the n-th step of a course is: where one stood before, and the ride that is caught there
 pub record IsStepAt (feed : FeedRows) (query : Query) (first : StopId) (rides : List Ride) (n : ℕ) (stand : Stand) : Type 0 where
   pub before : Stand
   pub stood : stand_after feed query first rides n ≡ Some before
@@ -36,32 +36,32 @@ pub record IsStepAt (feed : FeedRows) (query : Query) (first : StopId) (rides : 
   pub caught : is_caught before.at (way_to feed query before ride.from) ride ≡ true
   pub stands : stand_at_end ride ≡ stand
 
--- where a walk came through n + 1 rides, the last of them was caught after the others
-pub step_of_walk : (feed : FeedRows) (query : Query) (first : StopId) (rides : List Ride) (n : ℕ) (stand : Stand) →
+-- where a course came through n + 1 rides, the last of them was caught after the others
+pub step_of_course : (feed : FeedRows) (query : Query) (first : StopId) (rides : List Ride) (n : ℕ) (stand : Stand) →
     stand_after feed query first rides (suc n) ≡ Some stand → IsStepAt feed query first rides n stand
-step_of_walk feed query first rides n stand e =
+step_of_course feed query first rides n stand e =
     let b = chain_gives (λ p. option_and_then (next_stand feed query p) (slice_get rides n)) (stand_after feed query first rides n) stand e in
     let f = chain_gives (stand_by feed query b.value) (facts_at feed rides n) stand (sym (step_by_facts feed query b.value rides n) ∙ b.gives) in
     let c = cond_some (is_caught b.value.at (way_to feed query b.value f.value.from) f.value) (stand_at_end f.value) stand f.gives in
     record { before = b.value; stood = b.is; ride = f.value; is = f.is; caught = c.0; stands = c.1 }
 
--- and where it was, the walk comes through
-pub walk_of_step : (feed : FeedRows) (query : Query) (first : StopId) (rides : List Ride) (n : ℕ) (before : Stand) (ride : RideFacts) →
+-- and where it was, the course comes through
+pub course_of_step : (feed : FeedRows) (query : Query) (first : StopId) (rides : List Ride) (n : ℕ) (before : Stand) (ride : RideFacts) →
     stand_after feed query first rides n ≡ Some before → facts_at feed rides n ≡ Some ride →
     is_caught before.at (way_to feed query before ride.from) ride ≡ true → stand_after feed query first rides (suc n) ≡ Some (stand_at_end ride)
-walk_of_step feed query first rides n before ride stood is caught =
+course_of_step feed query first rides n before ride stood is caught =
     rw stood (step_by_facts feed query before rides n ∙ by)
   where
     by : option_and_then (stand_by feed query before) (facts_at feed rides n) ≡ Some (stand_at_end ride)
     by = rw (is, caught) refl
 
--- a walk that came through some rides came through fewer
-pub walk_before : (feed : FeedRows) (query : Query) (first : StopId) (rides : List Ride) (m n : ℕ) (stand : Stand) →
+-- a course that came through some rides came through fewer
+pub course_before : (feed : FeedRows) (query : Query) (first : StopId) (rides : List Ride) (m n : ℕ) (stand : Stand) →
     m ≤ n → stand_after feed query first rides n ≡ Some stand → (before : Stand) × (stand_after feed query first rides m ≡ Some before)
-walk_before feed query first rides m zero stand le e = let same : m ≡ 0 = omega arith in (stand, rw same e)
-walk_before feed query first rides m (suc n) stand le e =
-    let s = step_of_walk feed query first rides n stand e in
-    by (λ below. walk_before feed query first rides m n s.before below s.stood) (cases_lt n m)
+course_before feed query first rides m zero stand le e = let same : m ≡ 0 = omega arith in (stand, rw same e)
+course_before feed query first rides m (suc n) stand le e =
+    let s = step_of_course feed query first rides n stand e in
+    by (λ below. course_before feed query first rides m n s.before below s.stood) (cases_lt n m)
   where
     by : (m ≤ n → (before : Stand) × (stand_after feed query first rides m ≡ Some before)) → (n < m) ⊎ (m ≤ n) → (before : Stand) × (stand_after feed query first rides m ≡ Some before)
     by rest (inl last) = let same : m ≡ suc n = omega arith in (stand, rw same e)
@@ -80,7 +80,7 @@ first_ridden feed query journey some begins =
     record {
       ride = caught.value;
       is = caught.is;
-      stands = walk_of_step feed query journey.first journey.rides 0 (first_stand query journey.first) caught.value refl caught.is caught.passes;
+      stands = course_of_step feed query journey.first journey.rides 0 (first_stand query journey.first) caught.value refl caught.is caught.passes;
     }
 
 -- the ride after a ride is caught at its end
@@ -94,7 +94,7 @@ next_ridden feed query journey n r goes_on =
     record {
       ride = two.value;
       is = is;
-      stands = walk_of_step feed query journey.first journey.rides (suc n) (stand_at_end r.ride) two.value r.stands is caught;
+      stands = course_of_step feed query journey.first journey.rides (suc n) (stand_at_end r.ride) two.value r.stands is caught;
     }
 
 -- each ride of a journey is known, and one stands at its end after it
@@ -112,7 +112,7 @@ arrival_of_stand feed query journey zero stand e =
     let same : first_stand query journey.first ≡ stand = same_Some _ _ e in
     subst (λ (s : Stand). arrival_after feed query journey zero ≡ end_arrival feed query s journey.last) same refl
 arrival_of_stand feed query journey (suc n) stand e =
-    let s = step_of_walk feed query journey.first journey.rides n stand e in
+    let s = step_of_course feed query journey.first journey.rides n stand e in
     let at_end : arrival_after feed query journey (suc n) ≡ end_arrival feed query (stand_at_end s.ride) journey.last = rw (s.is) refl in
     at_end ∙ ap (λ (p : Stand). end_arrival feed query p journey.last) s.stands
 
@@ -123,8 +123,8 @@ at_end_of_journey feed query journey zero le begins goes_on = (first_stand query
 at_end_of_journey feed query journey (suc n) le begins goes_on =
     let r = ridden feed query journey n (omega arith) begins goes_on in (stand_at_end r.ride, r.stands)
 
--- a journey by the walk along its rides
-pub record IsWalked (feed : FeedRows) (query : Query) (journey : Journey) (arrival : ℤ) : Type 0 where
+-- a journey by the course along its rides
+pub record IsTravelled (feed : FeedRows) (query : Query) (journey : Journey) (arrival : ℤ) : Type 0 where
   pub starts : IsTrue (stands_for feed query.from journey.first)
   pub ends : IsTrue (stands_for feed query.to journey.last)
   pub few : length journey.rides ≤ query.rides
@@ -133,9 +133,9 @@ pub record IsWalked (feed : FeedRows) (query : Query) (journey : Journey) (arriv
   pub arrives : end_arrival feed query stand journey.last ≡ Some arrival
   pub in_time : arrival ≤ℤ (query.departure.0 +ℤ pos query.window)
 
--- a journey of the query is such a walk
-pub walked_of_journey : (feed : FeedRows) (query : Query) (journey : Journey) (arrival : ℤ) → IsJourney feed query journey arrival → IsWalked feed query journey arrival
-walked_of_journey feed query journey arrival j =
+-- a journey of the query is such a course
+pub travelled_of_journey : (feed : FeedRows) (query : Query) (journey : Journey) (arrival : ℤ) → IsJourney feed query journey arrival → IsTravelled feed query journey arrival
+travelled_of_journey feed query journey arrival j =
     let end = at_end_of_journey feed query journey (length journey.rides) (omega arith) j.begins j.goes_on in
     record {
       starts = j.starts;
@@ -147,49 +147,49 @@ walked_of_journey feed query journey arrival j =
       in_time = j.in_time;
     }
 
--- each ride of a walk is one of the feed
-walk_rides : (feed : FeedRows) (query : Query) (first : StopId) (rides : List Ride) (stand : Stand) →
+-- each ride of a course is one of the feed
+course_rides : (feed : FeedRows) (query : Query) (first : StopId) (rides : List Ride) (stand : Stand) →
     stand_after feed query first rides (length rides) ≡ Some stand → All (λ ride. IsTrue (is_ride feed ride)) rides
-walk_rides feed query first rides stand e k d lt =
-    let there = walk_before feed query first rides (suc k) (length rides) stand (omega arith) e in
-    let s = step_of_walk feed query first rides k there.0 there.1 in
+course_rides feed query first rides stand e k d lt =
+    let there = course_before feed query first rides (suc k) (length rides) stand (omega arith) e in
+    let s = step_of_course feed query first rides k there.0 there.1 in
     is_ride-of_facts feed (get_or rides k d) s.ride (rw (slice_get-get_or rides k d lt) at s.is)
 
--- the first ride of a walk is caught from the first stop
-walk_begins : (feed : FeedRows) (query : Query) (journey : Journey) (stand : Stand) →
+-- the first ride of a course is caught from the first stop
+course_begins : (feed : FeedRows) (query : Query) (journey : Journey) (stand : Stand) →
     stand_after feed query journey.first journey.rides (length journey.rides) ≡ Some stand → catches_first feed query journey ≡ true
-walk_begins feed query journey stand e = by (cases_lt 0 (length journey.rides))
+course_begins feed query journey stand e = by (cases_lt 0 (length journey.rides))
   where
     by : (0 < length journey.rides) ⊎ (length journey.rides ≤ 0) → catches_first feed query journey ≡ true
     by (inr none) = let same : length journey.rides ≡ 0 = omega arith in rw same refl
     by (inl some) =
-        let there = walk_before feed query journey.first journey.rides 1 (length journey.rides) stand (omega arith) e in
-        let s = step_of_walk feed query journey.first journey.rides 0 there.0 there.1 in
+        let there = course_before feed query journey.first journey.rides 1 (length journey.rides) stand (omega arith) e in
+        let s = step_of_course feed query journey.first journey.rides 0 there.0 there.1 in
         let same : first_stand query journey.first ≡ s.before = same_Some _ _ s.stood in
         let caught = subst (λ (b : Stand). is_caught b.at (way_to feed query b s.ride.from) s.ride ≡ true) (sym same) s.caught in
         rw (ne_eqb (length journey.rides) 0 (λ e. omega arith), s.is) caught
 
--- each later ride of a walk is caught from the one before it
-walk_goes_on : (feed : FeedRows) (query : Query) (first : StopId) (rides : List Ride) (stand : Stand) →
+-- each later ride of a course is caught from the one before it
+course_goes_on : (feed : FeedRows) (query : Query) (first : StopId) (rides : List Ride) (stand : Stand) →
     stand_after feed query first rides (length rides) ≡ Some stand → (i : ℕ) → i + 1 < length rides → catches_next feed rides i ≡ true
-walk_goes_on feed query first rides stand e i lt =
-    let there = walk_before feed query first rides (suc (suc i)) (length rides) stand (omega arith) e in
-    let s = step_of_walk feed query first rides (suc i) there.0 there.1 in
-    let b = step_of_walk feed query first rides i s.before s.stood in
+course_goes_on feed query first rides stand e i lt =
+    let there = course_before feed query first rides (suc (suc i)) (length rides) stand (omega arith) e in
+    let s = step_of_course feed query first rides (suc i) there.0 there.1 in
+    let b = step_of_course feed query first rides i s.before s.stood in
     let caught = subst (λ (p : Stand). is_caught p.at (way_to feed query p s.ride.from) s.ride ≡ true) (sym b.stands) s.caught in
     let is : facts_at feed rides (i + 1) ≡ Some s.ride = subst (λ k. facts_at feed rides k ≡ Some s.ride) (omega arith) s.is in
     rw (b.is, is) caught
 
--- such a walk is a journey of the query
-pub journey_of_walked : (feed : FeedRows) (query : Query) (journey : Journey) (arrival : ℤ) → IsWalked feed query journey arrival → IsJourney feed query journey arrival
-journey_of_walked feed query journey arrival w =
+-- such a course is a journey of the query
+pub journey_of_travelled : (feed : FeedRows) (query : Query) (journey : Journey) (arrival : ℤ) → IsTravelled feed query journey arrival → IsJourney feed query journey arrival
+journey_of_travelled feed query journey arrival w =
     record {
       starts = w.starts;
       ends = w.ends;
-      rides = walk_rides feed query journey.first journey.rides w.stand w.stands;
+      rides = course_rides feed query journey.first journey.rides w.stand w.stands;
       few = w.few;
-      begins = walk_begins feed query journey w.stand w.stands;
-      goes_on = walk_goes_on feed query journey.first journey.rides w.stand w.stands;
+      begins = course_begins feed query journey w.stand w.stands;
+      goes_on = course_goes_on feed query journey.first journey.rides w.stand w.stands;
       arrives = arrival_of_stand feed query journey (length journey.rides) w.stand w.stands ∙ w.arrives;
       in_time = w.in_time;
     }
@@ -199,12 +199,12 @@ pub stand_after-push : (feed : FeedRows) (query : Query) (first : StopId) (rides
     stand_after feed query first (rides ++ ride ∷ []) (length rides + 1) ≡ option_and_then (λ stand. next_stand feed query stand ride) (stand_after feed query first rides (length rides))
 stand_after-push feed query first rides ride = after_first-push (next_stand feed query) (first_stand query first) rides ride
 
--- the walk along the first rides looks at no ride that comes later
+-- the course along the first rides looks at no ride that comes later
 pub stand_after-append : (feed : FeedRows) (query : Query) (first : StopId) (rides more : List Ride) (n : ℕ) → n ≤ length rides →
     stand_after feed query first (rides ++ more) n ≡ stand_after feed query first rides n
 stand_after-append feed query first rides more n le = after_first-append (next_stand feed query) (first_stand query first) rides more n le
 
--- the walk along all rides is the walk from the front
+-- the course along all rides is the course from the front
 pub stand_after-all : (feed : FeedRows) (query : Query) (first : StopId) (rides : List Ride) →
     stand_after feed query first rides (length rides) ≡ after (next_stand feed query) (first_stand query first) rides
 stand_after-all feed query first rides = after_first-all (next_stand feed query) (first_stand query first) rides
@@ -239,13 +239,13 @@ pub is_ride-of_next : (feed : FeedRows) (query : Query) (before : Stand) (ride :
 is_ride-of_next feed query before ride stand e =
     let t = taken_of_next feed query before ride stand e in is_ride-of_facts feed ride t.facts t.is
 
--- a walk from the front that ends in time is a journey
+-- a course from the front that ends in time is a journey
 pub journey_of_after : (feed : FeedRows) (query : Query) (journey : Journey) (arrival : ℤ) (stand : Stand) →
     IsTrue (stands_for feed query.from journey.first) → IsTrue (stands_for feed query.to journey.last) → length journey.rides ≤ query.rides →
     after (next_stand feed query) (first_stand query journey.first) journey.rides ≡ Some stand →
     end_arrival feed query stand journey.last ≡ Some arrival → arrival ≤ℤ (query.departure.0 +ℤ pos query.window) → IsJourney feed query journey arrival
 journey_of_after feed query journey arrival stand starts ends few stands arrives in_time =
-    journey_of_walked feed query journey arrival
+    journey_of_travelled feed query journey arrival
     (record {
       starts = starts;
       ends = ends;
@@ -256,14 +256,14 @@ journey_of_after feed query journey arrival stand starts ends few stands arrives
       in_time = in_time;
     })
 
--- the walk from the front along a journey's rides, and the arrival from its end
-pub record IsWalkFromFront (feed : FeedRows) (query : Query) (journey : Journey) (arrival : ℤ) : Type 0 where
+-- the course from the front along a journey's rides, and the arrival from its end
+pub record IsCourseFromFront (feed : FeedRows) (query : Query) (journey : Journey) (arrival : ℤ) : Type 0 where
   pub stand : Stand
   pub stands : after (next_stand feed query) (first_stand query journey.first) journey.rides ≡ Some stand
   pub arrives : end_arrival feed query stand journey.last ≡ Some arrival
 
--- a journey is a walk from the front
-pub after_of_journey : (feed : FeedRows) (query : Query) (journey : Journey) (arrival : ℤ) → IsJourney feed query journey arrival → IsWalkFromFront feed query journey arrival
+-- a journey is a course from the front
+pub after_of_journey : (feed : FeedRows) (query : Query) (journey : Journey) (arrival : ℤ) → IsJourney feed query journey arrival → IsCourseFromFront feed query journey arrival
 after_of_journey feed query journey arrival j =
-    let w = walked_of_journey feed query journey arrival j in
+    let w = travelled_of_journey feed query journey arrival j in
     record { stand = w.stand; stands = sym (stand_after-all feed query journey.first journey.rides) ∙ w.stands; arrives = w.arrives }

@@ -18,7 +18,7 @@ use Rattle.plain_laws.specs.Plain.{when}
 use Rattle.feed_rows.specs.TransferRules.{FareLeg, change_at}
 use Rattle.feed_rows.specs.FareChoices.{chosen_leg, fare_leg, is_leg_choice, is_change_choice, is_leg_paid, is_fare_choice}
 use Rattle.feed_rows.specs.FareSums.{amount_of, fare_sum, fare_price}
-use Rattle.feed_rows.specs.FareWalk.{Run, change_to, next_run, IsRunAt, frees_next, frees_first, next_held, next_paid, place_kind, place_charge, FareStand, stand_price, stand_of_first, stand_of_next, first_stand, next_stand, stand_at, IsStandOf}
+use Rattle.feed_rows.specs.FareStands.{Run, change_to, next_run, IsRunAt, frees_next, frees_first, next_held, next_paid, place_kind, place_charge, FareStand, stand_price, stand_of_first, stand_of_next, first_stand, next_stand, stand_at, IsStandOf}
 use Rattle.plain_laws.proofs.Laws.{slice_get-append_left, slice_get-push_last, slice_get-old_item, slice_get-new_item}
 use Rattle.feed_laws.proofs.FareLaws.{run_of_first}
 use Rattle.feed_laws.proofs.SumLaws.{IsPushed, next_total, next_paid-total, fare_sum-push, fare_sum-first, held_at-push, held_at-first}
@@ -303,7 +303,7 @@ stand_at-same feed rider legs legs' choice choice' (suc i) leg pick place =
     let next_place = place i (omega arith) in
     rw (before, next, next_pick, next_place) refl
 
--- the walk along one more leg is one step after the walk along the others
+-- the steps along one more leg is one step after the steps along the others
 pub stand_at-push : (feed : FeedRows) (rider : Option RiderId) (legs : List LegFacts) (leg : LegFacts)
     (choice : Choice) (place : Option ChangeChoice) (pick : LegChoice) (more : Choice) (n : ℕ) →
     length legs ≡ suc n → IsPushed choice place pick more n →
@@ -322,17 +322,17 @@ stand_at-push feed rider legs leg choice place pick more n long pushed =
     rw (before, new, new_pick, new_place) refl
 
 -- the choice pays the legs, and fares stand here after them; or it doesn't, and they stand nowhere
-abbrev pub Walked : FeedRows → Option RiderId → List LegFacts → Choice → ℕ → Option FareStand → Type 0
-Walked feed rider legs choice n None = is_fare_choice feed legs choice rider ≡ false
-Walked feed rider legs choice n (Some stand) = (is_fare_choice feed legs choice rider ≡ true)
+abbrev pub Stepped : FeedRows → Option RiderId → List LegFacts → Choice → ℕ → Option FareStand → Type 0
+Stepped feed rider legs choice n None = is_fare_choice feed legs choice rider ≡ false
+Stepped feed rider legs choice n (Some stand) = (is_fare_choice feed legs choice rider ≡ true)
     × IsStandOf feed legs choice n stand
 
-walked_first : (feed : FeedRows) (rider : Option RiderId) (leg : LegFacts) (pick : LegChoice) →
-    Walked feed rider (leg ∷ []) (choice_of_one pick) 0 (first_stand feed rider leg pick)
-walked_first feed rider leg pick = by (first_stand feed rider leg pick) refl
+stepped_first : (feed : FeedRows) (rider : Option RiderId) (leg : LegFacts) (pick : LegChoice) →
+    Stepped feed rider (leg ∷ []) (choice_of_one pick) 0 (first_stand feed rider leg pick)
+stepped_first feed rider leg pick = by (first_stand feed rider leg pick) refl
   where
     by : (o : Option FareStand) → first_stand feed rider leg pick ≡ o →
-        Walked feed rider (leg ∷ []) (choice_of_one pick) 0 o
+        Stepped feed rider (leg ∷ []) (choice_of_one pick) 0 o
     by None is = first_stand-paid feed rider leg pick ∙ ap is_some is
     by (Some stand) is = (
       first_stand-paid feed rider leg pick
@@ -340,18 +340,18 @@ walked_first feed rider leg pick = by (first_stand feed rider leg pick) refl
       first_stand-of feed rider leg pick stand is,
     )
 
-walked_next : (feed : FeedRows) (rider : Option RiderId) (legs : List LegFacts) (leg : LegFacts) (choice : Choice)
+stepped_next : (feed : FeedRows) (rider : Option RiderId) (legs : List LegFacts) (leg : LegFacts) (choice : Choice)
     (place : Option ChangeChoice) (pick : LegChoice) (more : Choice) (n : ℕ) →
     length legs ≡ suc n → IsPushed choice place pick more n → (o : Option FareStand) →
-    Walked feed rider legs choice n o →
-    Walked feed rider (legs ++ leg ∷ []) more (suc n)
+    Stepped feed rider legs choice n o →
+    Stepped feed rider (legs ++ leg ∷ []) more (suc n)
     (option_and_then (λ stand. next_stand feed rider stand leg pick place) o)
-walked_next feed rider legs leg choice place pick more n long pushed None before =
+stepped_next feed rider legs leg choice place pick more n long pushed None before =
     is_fare_choice-push feed legs leg choice place pick more rider n long pushed ∙ never _ _ before
   where
     never : (a b : Bool) → a ≡ false → (a && b) ≡ false
     never a b e = rw e refl
-walked_next feed rider legs leg choice place pick more n long pushed (Some stand) before = by
+stepped_next feed rider legs leg choice place pick more n long pushed (Some stand) before = by
     (next_stand feed rider stand leg pick place) refl
   where
     paid : is_fare_choice feed (legs ++ leg ∷ []) more rider ≡ is_some (next_stand feed rider stand leg pick place)
@@ -363,42 +363,42 @@ walked_next feed rider legs leg choice place pick more n long pushed (Some stand
         and_true a b e = rw e refl
 
     by : (o : Option FareStand) → next_stand feed rider stand leg pick place ≡ o →
-        Walked feed rider (legs ++ leg ∷ []) more (suc n) o
+        Stepped feed rider (legs ++ leg ∷ []) more (suc n) o
     by None is = paid ∙ ap is_some is
     by (Some stand') is =
         (paid ∙ ap is_some is, next_stand-of feed rider legs leg choice place pick more n stand long pushed before.1 stand' is)
 
 -- a choice with the right number of places pays the legs exactly where each step is right, and then fares stand as it says
-pub walked : (feed : FeedRows) (rider : Option RiderId) (n : ℕ) (legs : List LegFacts) (picks : List LegChoice)
+pub stepped : (feed : FeedRows) (rider : Option RiderId) (n : ℕ) (legs : List LegFacts) (picks : List LegChoice)
     (places : List (Option ChangeChoice)) →
     length legs ≡ suc n → length picks ≡ suc n → length places ≡ n →
-    Walked feed rider legs (record { legs = picks; changes = places }) n
+    Stepped feed rider legs (record { legs = picks; changes = places }) n
     (stand_at feed rider legs (record { legs = picks; changes = places }) n)
-walked feed rider zero (leg ∷ []) (pick ∷ []) [] long long' long'' = walked_first feed rider leg pick
-walked feed rider zero (leg ∷ []) (pick ∷ []) (place ∷ places) long long' long'' = absurd (omega arith)
-walked feed rider zero (leg ∷ []) [] places long long' long'' = absurd (omega arith)
-walked feed rider zero (leg ∷ []) (pick ∷ other ∷ picks) places long long' long'' = absurd (omega arith)
-walked feed rider zero [] picks places long long' long'' = absurd (omega arith)
-walked feed rider zero (leg ∷ other ∷ legs) picks places long long' long'' = absurd (omega arith)
-walked feed rider (suc n) legs picks places long long' long'' =
+stepped feed rider zero (leg ∷ []) (pick ∷ []) [] long long' long'' = stepped_first feed rider leg pick
+stepped feed rider zero (leg ∷ []) (pick ∷ []) (place ∷ places) long long' long'' = absurd (omega arith)
+stepped feed rider zero (leg ∷ []) [] places long long' long'' = absurd (omega arith)
+stepped feed rider zero (leg ∷ []) (pick ∷ other ∷ picks) places long long' long'' = absurd (omega arith)
+stepped feed rider zero [] picks places long long' long'' = absurd (omega arith)
+stepped feed rider zero (leg ∷ other ∷ legs) picks places long long' long'' = absurd (omega arith)
+stepped feed rider (suc n) legs picks places long long' long'' =
     let more : Choice = record { legs = picks; changes = places } in
     let front = ends_with legs (suc n) long in
     let last = last_places more n long' long'' in
-    let before = walked feed rider n front.front last.choice.legs last.choice.changes front.long last.pushed.legs last.pushed.changes in
-    subst (λ (ls : List LegFacts). Walked feed rider ls more (suc n) (stand_at feed rider ls more (suc n)))
+    let before = stepped feed rider n front.front last.choice.legs last.choice.changes front.long last.pushed.legs last.pushed.changes in
+    subst (λ (ls : List LegFacts). Stepped feed rider ls more (suc n) (stand_at feed rider ls more (suc n)))
     (sym front.is)
-    (subst (Walked feed rider (front.front ++ front.last ∷ []) more (suc n))
+    (subst (Stepped feed rider (front.front ++ front.last ∷ []) more (suc n))
     (sym (stand_at-push feed rider front.front front.last last.choice last.place last.pick more n front.long last.pushed))
-    (walked_next feed rider front.front front.last last.choice last.place last.pick more n front.long last.pushed _ before))
+    (stepped_next feed rider front.front front.last last.choice last.place last.pick more n front.long last.pushed _ before))
 
 -- stepping along all legs gives the price of a choice, which is there exactly where the choice pays the legs
 pub fare_price-stand : (feed : FeedRows) (rider : Option RiderId) (legs : List LegFacts) (choice : Choice) (n : ℕ) →
     length legs ≡ suc n → length choice.legs ≡ suc n → length choice.changes ≡ n →
     fare_price feed legs choice rider ≡ option_map stand_price (stand_at feed rider legs choice n)
 fare_price-stand feed rider legs choice n long long' long'' =
-    by (stand_at feed rider legs choice n) (walked feed rider n legs choice.legs choice.changes long long' long'')
+    by (stand_at feed rider legs choice n) (stepped feed rider n legs choice.legs choice.changes long long' long'')
   where
-    by : (o : Option FareStand) → Walked feed rider legs choice n o →
+    by : (o : Option FareStand) → Stepped feed rider legs choice n o →
         fare_price feed legs choice rider ≡ option_map stand_price o
     by None unpaid = rw unpaid refl
     by (Some stand) paid = let pays = paid.0 in rw pays (ap Some (sym paid.1.price))
@@ -426,10 +426,10 @@ stand_of_paid feed rider legs choice n long paid =
     let places = places_of_paid feed rider legs choice paid in
     let picks = places.0 in
     let changes = places.1 in
-    by (stand_at feed rider legs choice n) refl (walked feed rider n legs choice.legs choice.changes long
+    by (stand_at feed rider legs choice n) refl (stepped feed rider n legs choice.legs choice.changes long
     (omega arith) (omega arith))
   where
-    by : (o : Option FareStand) → stand_at feed rider legs choice n ≡ o → Walked feed rider legs choice n o →
+    by : (o : Option FareStand) → stand_at feed rider legs choice n ≡ o → Stepped feed rider legs choice n o →
         StandsAfter feed rider legs choice n
     by None is unpaid = absurd (cc)
     by (Some stand) is w = record { stand = stand; is = is; of = w.1 }

@@ -10,7 +10,7 @@ use Rattle.feed_rows.specs.declared.fares.Choice.{Choice}
 use Rattle.feed_rows.specs.FeedRows.{FeedRows}
 use Rattle.plain_laws.specs.Plain.{sum_below}
 use Rattle.feed_rows.specs.FareSums.{transfer_kind, starts_chain, is_charged, amount_of, leg_amount, leg_charge, change_charge, fare_sum}
-use Rattle.feed_rows.specs.FareWalk.{held_at, frees_next, frees_first, next_held, next_paid, place_kind, place_charge}
+use Rattle.feed_rows.specs.FareStands.{held_at, frees_next, frees_first, next_held, next_paid, place_kind, place_charge}
 use Rattle.plain_laws.proofs.Laws.{sum_below-same, slice_get-old_item, slice_get-new_item}
 
 -- what leg i costs, where `kind` gives the type of each change and `amount` the amount of each leg

@@ -6,7 +6,7 @@ use Rattle.std.proofs.lemmas.Bool.Decides.{nat_tests}
 use Rattle.std.proofs.lemmas.Option.{slice_get_past, slice_get-get_or}
 use Rattle.feed_rows.specs.declared.rows.StopTimeRow.{StopTimeRow}
 use Rattle.feed_rows.specs.Calls.{first_time, last_time, is_timed, timed_before, timed_after}
-use Rattle.feed_rows.specs.CallWalk.{next_timed}
+use Rattle.feed_rows.specs.CallPass.{next_timed}
 use Rattle.feed_rows.specs.TimedTrips.{first_at, last_at, is_timed_at, HasTimedEnds}
 use Rattle.plain_laws.proofs.Laws.{find_below_none, find_below_hit, find_below_tells, find_below_some, find_below-same, last_below_hit, last_below_tells, last_below_some}
 

@@ -13,11 +13,11 @@ use Rattle.feed_faults.specs.FileColumns.{time_of_day}
 use Rattle.feed_faults.specs.FeedTables.{FeedTables}
 use Rattle.feed_faults.specs.FieldValues.{frame_start, frame_end}
 use Rattle.feed_faults.specs.RowKeys.{is_unknown, is_repeated, is_doubled, same_field}
-use Rattle.feed_faults.specs.TimetableLinks.{is_service_unknown}
-use Rattle.feed_faults.specs.NetworkLinks.{area_fault, stop_area_fault}
-use Rattle.feed_faults.specs.FareLinks.{is_one_filled, do_frames_overlap, is_bad_frame, timeframe_fault, rider_fault, medium_fault}
+use Rattle.feed_faults.specs.TimetableRelations.{is_service_unknown}
+use Rattle.feed_faults.specs.NetworkRelations.{area_fault, stop_area_fault}
+use Rattle.feed_faults.specs.FareRelations.{is_one_filled, do_frames_overlap, is_bad_frame, timeframe_fault, rider_fault, medium_fault}
 use Rattle.feed_faults.specs.AcceptedFeed.{name_number, service_names, frame_names, area_row, stop_area_row, timeframe_row, rider_row, medium_row, rows_of_tables}
-use Rattle.feed_soundness.specs.AcceptedTables.{AreFormed, AreLinked}
+use Rattle.feed_soundness.specs.AcceptedTables.{AreFormed, AreRelated}
 use Rattle.plain_laws.proofs.Laws.{none_when, none_first, length-list_below, All-list_below, AllPairs-list_below, eq-bytes_eq}
 use Rattle.feed_soundness.proofs.FieldLaws.{may_at}
 use Rattle.feed_soundness.proofs.ValueLaws.{time_past_good}
@@ -61,24 +61,24 @@ end_small frames row fit = step (is_filled (field frames row column.EndTime)) re
     step true e = rw e (time_past_good end_of_day (field frames row column.EndTime) (fit e))
     step false e = rw e (omega arith)
 
-module _ (t : FeedTables) (linked : AreLinked t) where
+module _ (t : FeedTables) (related : AreRelated t) where
   area_new : (row : ℕ) → row < row_count t.areas → is_doubled t.areas column.AreaId row ≡ false
   unfolding area_fault
-  area_new row lt = none_when (is_doubled t.areas column.AreaId row) _ (linked.areas row lt)
+  area_new row lt = none_when (is_doubled t.areas column.AreaId row) _ (related.areas row lt)
 
   rider_new : (row : ℕ) → row < row_count t.rider_categories → is_doubled t.rider_categories column.RiderCategoryId row ≡ false
   unfolding rider_fault
-  rider_new row lt = none_when (is_doubled t.rider_categories column.RiderCategoryId row) _ (linked.rider_categories row lt)
+  rider_new row lt = none_when (is_doubled t.rider_categories column.RiderCategoryId row) _ (related.rider_categories row lt)
 
   medium_new : (row : ℕ) → row < row_count t.fare_media → is_doubled t.fare_media column.FareMediaId row ≡ false
   unfolding medium_fault
-  medium_new row lt = none_when (is_doubled t.fare_media column.FareMediaId row) _ (linked.fare_media row lt)
+  medium_new row lt = none_when (is_doubled t.fare_media column.FareMediaId row) _ (related.fare_media row lt)
 
   -- a timeframe that isn't bad
   frame_good : (row : ℕ) → row < row_count t.timeframes → is_bad_frame t.timeframes row ≡ false
   unfolding timeframe_fault
   frame_good row lt =
-      let one = none_first (is_service_unknown t (field t.timeframes row column.ServiceId)) _ _ (linked.timeframes row lt) in
+      let one = none_first (is_service_unknown t (field t.timeframes row column.ServiceId)) _ _ (related.timeframes row lt) in
       (none_first (is_bad_frame t.timeframes row) _ _ one.1).0
 
   frame_ordered : (row : ℕ) → row < row_count t.timeframes → frame_start t.timeframes row < frame_end t.timeframes row
@@ -96,7 +96,7 @@ module _ (t : FeedTables) (linked : AreLinked t) where
       let frames = t.timeframes in
       (or_parts (is_one_filled (field frames row column.StartTime) (field frames row column.EndTime) || not (nat_lt (frame_start frames row) (frame_end frames row))) (is_repeated (do_frames_overlap frames) row) (frame_good row lt)).1
 
-module _ (t : FeedTables) (formed : AreFormed t) (linked : AreLinked t) where
+module _ (t : FeedTables) (formed : AreFormed t) (related : AreRelated t) where
   -- areas.txt
   pub areas_sound : AreSoundAreas (rows_of_tables t)
   unfolding rows_of_tables area_row
@@ -104,20 +104,20 @@ module _ (t : FeedTables) (formed : AreFormed t) (linked : AreLinked t) where
       record {
         few = rw (length-list_below (row_count t.areas) (area_row t)) formed.areas.few;
         ids = All-list_below (λ a. IsIdText a.id) (row_count t.areas) (area_row t) (λ i lt. (ids.area_id t formed i lt).3);
-        no_doubles = AllPairs-list_below (λ a b. a.id ≡ b.id → ⊥) (row_count t.areas) (area_row t) (λ i j lt within. ids_apart t.areas column.AreaId i j (area_new t linked j within) lt);
+        no_doubles = AllPairs-list_below (λ a b. a.id ≡ b.id → ⊥) (row_count t.areas) (area_row t) (λ i j lt within. ids_apart t.areas column.AreaId i j (area_new t related j within) lt);
       }
 
   -- the area and the stop of a stop's area are known
   pub area_known : (row : ℕ) → row < row_count t.stop_areas → IsKnown t.areas column.AreaId (field t.stop_areas row column.AreaId)
   unfolding stop_area_fault
   area_known row lt =
-      let one = none_first (is_unknown t.areas column.AreaId (field t.stop_areas row column.AreaId)) _ _ (linked.stop_areas row lt) in
+      let one = none_first (is_unknown t.areas column.AreaId (field t.stop_areas row column.AreaId)) _ _ (related.stop_areas row lt) in
       known t.areas column.AreaId (field t.stop_areas row column.AreaId) (ids.area_of_stop t formed row lt).2 one.0
 
   pub area_stop_known : (row : ℕ) → row < row_count t.stop_areas → IsKnown t.stops column.StopId (field t.stop_areas row column.StopId)
   unfolding stop_area_fault
   area_stop_known row lt =
-      let one = none_first (is_unknown t.areas column.AreaId (field t.stop_areas row column.AreaId)) _ _ (linked.stop_areas row lt) in
+      let one = none_first (is_unknown t.areas column.AreaId (field t.stop_areas row column.AreaId)) _ _ (related.stop_areas row lt) in
       let two = none_first (is_unknown t.stops column.StopId (field t.stop_areas row column.StopId)) _ _ one.1 in
       known t.stops column.StopId (field t.stop_areas row column.StopId) (ids.stop_of_area t formed row lt).2 two.0
 
@@ -148,7 +148,7 @@ module _ (t : FeedTables) (formed : AreFormed t) (linked : AreLinked t) where
       let groups = same_name (frame_names t) (field frames i column.TimeframeGroupId) (field frames j column.TimeframeGroupId) (frame_named i first) (frame_named j within) group in
       let services = same_name (service_names t) (field frames i column.ServiceId) (field frames j column.ServiceId) (frame_service i first) (frame_service j within) service in
       let both = and_from (same_field frames column.TimeframeGroupId j i) (same_field frames column.ServiceId j i) (eq-bytes_eq _ _ (sym groups)) (eq-bytes_eq _ _ (sym services)) in
-      let apart = apart (do_frames_overlap frames) i j (frame_new t linked j within) lt in
+      let apart = apart (do_frames_overlap frames) i j (frame_new t related j within) lt in
       times_apart (same_field frames column.TimeframeGroupId j i && same_field frames column.ServiceId j i) (frame_start frames i) (frame_end frames i) (frame_start frames j) (frame_end frames j) apart both
 
   -- timeframes.txt
@@ -159,7 +159,7 @@ module _ (t : FeedTables) (formed : AreFormed t) (linked : AreLinked t) where
         few = rw (length-list_below (row_count t.timeframes) (timeframe_row t)) formed.timeframes.few;
         frames = All-list_below (λ f. f.frame.0 < length (frame_names t)) (row_count t.timeframes) (timeframe_row t) (λ i lt. (frame_named i lt).within);
         services = All-list_below (λ f. f.service.0 < length (service_names t)) (row_count t.timeframes) (timeframe_row t) (λ i lt. (frame_service i lt).within);
-        ordered = All-list_below (λ f. f.start < f.end) (row_count t.timeframes) (timeframe_row t) (frame_ordered t linked);
+        ordered = All-list_below (λ f. f.start < f.end) (row_count t.timeframes) (timeframe_row t) (frame_ordered t related);
         ends = All-list_below (λ f. f.end ≤ 86_400) (row_count t.timeframes) (timeframe_row t)
             (λ i lt. end_small t.timeframes i (may_at file.Timeframes t.timeframes i 2 column.EndTime time_of_day formed.timeframes lt refl));
         apart = AllPairs-list_below (λ f g. f.frame.0 ≡ g.frame.0 → f.service.0 ≡ g.service.0 → (f.end ≤ g.start) ⊎ (g.end ≤ f.start)) (row_count t.timeframes) (timeframe_row t) frames_apart;
@@ -173,7 +173,7 @@ module _ (t : FeedTables) (formed : AreFormed t) (linked : AreLinked t) where
         few = rw (length-list_below (row_count t.rider_categories) (rider_row t)) formed.rider_categories.few;
         ids = All-list_below (λ r. IsIdText r.id) (row_count t.rider_categories) (rider_row t) (λ i lt. (ids.rider_id t formed i lt).3);
         no_doubles = AllPairs-list_below (λ r s. r.id ≡ s.id → ⊥) (row_count t.rider_categories) (rider_row t)
-            (λ i j lt within. ids_apart t.rider_categories column.RiderCategoryId i j (rider_new t linked j within) lt);
+            (λ i j lt within. ids_apart t.rider_categories column.RiderCategoryId i j (rider_new t related j within) lt);
       }
 
   -- fare_media.txt
@@ -184,5 +184,5 @@ module _ (t : FeedTables) (formed : AreFormed t) (linked : AreLinked t) where
         few = rw (length-list_below (row_count t.fare_media) (medium_row t)) formed.fare_media.few;
         ids = All-list_below (λ m. IsIdText m.id) (row_count t.fare_media) (medium_row t) (λ i lt. (ids.medium_id t formed i lt).3);
         no_doubles = AllPairs-list_below (λ m n. m.id ≡ n.id → ⊥) (row_count t.fare_media) (medium_row t)
-            (λ i j lt within. ids_apart t.fare_media column.FareMediaId i j (medium_new t linked j within) lt);
+            (λ i j lt within. ids_apart t.fare_media column.FareMediaId i j (medium_new t related j within) lt);
       }

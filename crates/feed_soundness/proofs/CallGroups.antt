@@ -13,9 +13,9 @@ use Rattle.feed_faults.specs.FileColumns.{int}
 use Rattle.feed_faults.specs.FeedTables.{FeedTables}
 use Rattle.feed_faults.specs.FieldValues.{stop_kind}
 use Rattle.feed_faults.specs.RowKeys.{is_unknown, is_repeated}
-use Rattle.feed_faults.specs.StopTimeLinks.{stop_times_of, same_place, is_end_time_missing, do_times_decrease, is_at_platform, stop_time_fault}
+use Rattle.feed_faults.specs.StopTimeRelations.{stop_times_of, same_place, is_end_time_missing, do_times_decrease, is_at_platform, stop_time_fault}
 use Rattle.feed_faults.specs.AcceptedFeed.{row_number, stop_row, stop_time_row, rows_of_tables}
-use Rattle.feed_soundness.specs.AcceptedTables.{AreFormed, AreLinked}
+use Rattle.feed_soundness.specs.AcceptedTables.{AreFormed, AreRelated}
 use Rattle.plain_laws.proofs.Laws.{none_first, length-list_below, All-list_below, get_or-list_below}
 use Rattle.feed_soundness.proofs.FieldLaws.{must_at}
 use Rattle.feed_soundness.proofs.ValueLaws.{int_good, time_good}
@@ -25,7 +25,7 @@ use Rattle.feed_soundness.proofs.RouteGroups.{trips_length}
 use Rattle.feed_soundness.proofs.IdColumns as ids
 
 -- what the checks of a stop time say
-pub record IsLinkedCall (t : FeedTables) (row : ℕ) : Type 0 where
+pub record IsRelatedCall (t : FeedTables) (row : ℕ) : Type 0 where
   pub trip : is_unknown t.trips column.TripId (field t.stop_times row column.TripId) ≡ false
   pub stop : is_unknown t.stops column.StopId (field t.stop_times row column.StopId) ≡ false
   pub platform : is_at_platform t row ≡ true
@@ -33,9 +33,9 @@ pub record IsLinkedCall (t : FeedTables) (row : ℕ) : Type 0 where
   pub ended : is_end_time_missing (stop_times_of t.stop_times) row ≡ false
   pub rising : do_times_decrease (stop_times_of t.stop_times) row ≡ false
 
-pub linked_call : (t : FeedTables) (row : ℕ) → stop_time_fault t row ≡ None → IsLinkedCall t row
+pub related_call : (t : FeedTables) (row : ℕ) → stop_time_fault t row ≡ None → IsRelatedCall t row
 unfolding stop_time_fault
-linked_call t row none =
+related_call t row none =
     let at = field t.stop_times row in
     let one = none_first (is_unknown t.trips column.TripId (at column.TripId)) _ _ none in
     let two = none_first (is_unknown t.stops column.StopId (at column.StopId)) _ _ one.1 in
@@ -45,20 +45,20 @@ linked_call t row none =
     let six = none_first (do_times_decrease (stop_times_of t.stop_times) row) _ _ five.1 in
     record { trip = one.0; stop = two.0; platform = not-false (is_at_platform t row) three.0; new = four.0; ended = five.0; rising = six.0 }
 
-module _ (t : FeedTables) (formed : AreFormed t) (linked : AreLinked t) where
+module _ (t : FeedTables) (formed : AreFormed t) (related : AreRelated t) where
   -- the trip and the stop of a stop time are known
   pub call_trip_known : (row : ℕ) → row < row_count t.stop_times → IsKnown t.trips column.TripId (field t.stop_times row column.TripId)
-  call_trip_known row lt = known t.trips column.TripId (field t.stop_times row column.TripId) (ids.trip_of_call t formed row lt).2 (linked_call t row (linked.stop_times row lt)).trip
+  call_trip_known row lt = known t.trips column.TripId (field t.stop_times row column.TripId) (ids.trip_of_call t formed row lt).2 (related_call t row (related.stop_times row lt)).trip
 
   pub call_stop_known : (row : ℕ) → row < row_count t.stop_times → IsKnown t.stops column.StopId (field t.stop_times row column.StopId)
-  call_stop_known row lt = known t.stops column.StopId (field t.stop_times row column.StopId) (ids.stop_of_call t formed row lt).2 (linked_call t row (linked.stop_times row lt)).stop
+  call_stop_known row lt = known t.stops column.StopId (field t.stop_times row column.StopId) (ids.stop_of_call t formed row lt).2 (related_call t row (related.stop_times row lt)).stop
 
   -- the stop is a platform
   pub call_platform : (row : ℕ) → row < row_count t.stop_times → stop_kind t.stops (row_number t.stops column.StopId (field t.stop_times row column.StopId)) ≡ 0
   unfolding is_at_platform
   call_platform row lt =
       let place = call_stop_known row lt in
-      let platform = (linked_call t row (linked.stop_times row lt)).platform in
+      let platform = (related_call t row (related.stop_times row lt)).platform in
       eqb-true (stop_kind t.stops (row_number t.stops column.StopId (field t.stop_times row column.StopId))) 0 (rw place.found at platform)
 
   -- stop_times.txt

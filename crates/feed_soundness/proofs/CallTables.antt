@@ -9,7 +9,7 @@ use Rattle.plain_laws.proofs.Laws.{any_below_tells, none_any, rest_fails, length
 use Rattle.feed_faults.specs.Records.{FileTable, row_count, field}
 use Rattle.feed_faults.specs.FieldGrammars.{most_int}
 use Rattle.feed_faults.specs.FieldValues.{int_or_past}
-use Rattle.feed_faults.specs.StopTimeLinks.{StopTime, stop_time_of, stop_times_of, is_timed, first_time, last_time, is_earlier, same_place, comes_before, is_first, is_last, is_end_time_missing, is_nearest_before, do_times_decrease}
+use Rattle.feed_faults.specs.StopTimeRelations.{StopTime, stop_time_of, stop_times_of, is_timed, first_time, last_time, is_earlier, same_place, comes_before, is_first, is_last, is_end_time_missing, is_nearest_before, do_times_decrease}
 use Rattle.feed_soundness.proofs.CallOrder.{AtMost, AreRows, never_falls, rank_rises}
 
 -- a time that isn't earlier

@@ -3,7 +3,7 @@ pub mod FieldLaws
 pub mod ValueLaws
 pub mod KeyLaws
 pub mod NameLaws
-pub mod LinkedFiles
+pub mod RelatedFiles
 pub mod IdColumns
 pub mod NameGroups
 pub mod StopGroups

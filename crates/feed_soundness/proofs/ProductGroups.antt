@@ -15,9 +15,9 @@ use Rattle.feed_faults.specs.Records.{FileTable, row_count, field, is_filled}
 use Rattle.feed_faults.specs.FileColumns.{amount, currency}
 use Rattle.feed_faults.specs.FeedTables.{FeedTables}
 use Rattle.feed_faults.specs.RowKeys.{is_unknown, is_repeated, same_field}
-use Rattle.feed_faults.specs.FareLinks.{same_product, product_fault}
+use Rattle.feed_faults.specs.FareRelations.{same_product, product_fault}
 use Rattle.feed_faults.specs.AcceptedFeed.{if_filled, row_number, product_names, product_row, feed_currency, feed_decimals, rows_of_tables}
-use Rattle.feed_soundness.specs.AcceptedTables.{AreFormed, AreLinked}
+use Rattle.feed_soundness.specs.AcceptedTables.{AreFormed, AreRelated}
 use Rattle.plain_laws.proofs.Laws.{none_first, length-list_below, All-list_below, AllPairs-list_below, eq-bytes_eq}
 use Rattle.feed_soundness.proofs.FieldLaws.{must_at}
 use Rattle.feed_soundness.proofs.ValueLaws.{amount_good, IsCurrencyText, currency_good}
@@ -38,29 +38,29 @@ same_reference make number back table name (x ∷ xs) (y ∷ ys) one other e =
     same_number table name (x ∷ xs) (y ∷ ys) (one refl) (other refl) (sym (back _) ∙ made ∙ back _)
 
 -- what the checks of a product say
-record IsLinkedProduct (t : FeedTables) (row : ℕ) : Type 0 where
+record IsRelatedProduct (t : FeedTables) (row : ℕ) : Type 0 where
   rider : is_unknown t.rider_categories column.RiderCategoryId (field t.fare_products row column.RiderCategoryId) ≡ false
   medium : is_unknown t.fare_media column.FareMediaId (field t.fare_products row column.FareMediaId) ≡ false
   new : is_repeated (same_product t.fare_products) row ≡ false
 
-linked_product : (t : FeedTables) (row : ℕ) → product_fault t row ≡ None → IsLinkedProduct t row
+related_product : (t : FeedTables) (row : ℕ) → product_fault t row ≡ None → IsRelatedProduct t row
 unfolding product_fault
-linked_product t row none =
+related_product t row none =
     let one = none_first (is_unknown t.rider_categories column.RiderCategoryId (field t.fare_products row column.RiderCategoryId)) _ _ none in
     let two = none_first (is_unknown t.fare_media column.FareMediaId (field t.fare_products row column.FareMediaId)) _ _ one.1 in
     let three = none_first (is_repeated (same_product t.fare_products) row) _ _ two.1 in
     record { rider = one.0; medium = two.0; new = three.0 }
 
-module _ (t : FeedTables) (formed : AreFormed t) (linked : AreLinked t) where
+module _ (t : FeedTables) (formed : AreFormed t) (related : AreRelated t) where
   product_named : (row : ℕ) → row < row_count t.fare_products → IsNamed (product_names t) (field t.fare_products row column.FareProductId)
   product_named row lt = names.product_named t row lt (ids.product_id t formed row lt).2
 
   -- the rider category and the medium of a product
   pub product_rider_known : (row : ℕ) → row < row_count t.fare_products → MayBeKnown t.rider_categories column.RiderCategoryId (field t.fare_products row column.RiderCategoryId)
-  product_rider_known row lt filled = known t.rider_categories column.RiderCategoryId (field t.fare_products row column.RiderCategoryId) filled (linked_product t row (linked.fare_products row lt)).rider
+  product_rider_known row lt filled = known t.rider_categories column.RiderCategoryId (field t.fare_products row column.RiderCategoryId) filled (related_product t row (related.fare_products row lt)).rider
 
   pub product_medium_known : (row : ℕ) → row < row_count t.fare_products → MayBeKnown t.fare_media column.FareMediaId (field t.fare_products row column.FareMediaId)
-  product_medium_known row lt filled = known t.fare_media column.FareMediaId (field t.fare_products row column.FareMediaId) filled (linked_product t row (linked.fare_products row lt)).medium
+  product_medium_known row lt filled = known t.fare_media column.FareMediaId (field t.fare_products row column.FareMediaId) filled (related_product t row (related.fare_products row lt)).medium
 
   rider_told : (row : ℕ) → row < row_count t.fare_products → ForSome (product_row t row).rider (λ r. r.0 < length (rows_of_tables t).riders)
   unfolding product_row
@@ -87,7 +87,7 @@ module _ (t : FeedTables) (formed : AreFormed t) (linked : AreLinked t) where
       let medium_ids = same_reference make_medium (λ m. m.0) (λ n. refl) t.fare_media column.FareMediaId (field table i column.FareMediaId) (field table j column.FareMediaId) (product_medium_known i first) (product_medium_known j within) medium in
       let two = and_from (same_field table column.FareProductId j i) (same_field table column.RiderCategoryId j i) (eq-bytes_eq _ _ (sym product_ids)) (eq-bytes_eq _ _ (sym rider_ids)) in
       let three = and_from (same_field table column.FareProductId j i && same_field table column.RiderCategoryId j i) (same_field table column.FareMediaId j i) two (eq-bytes_eq _ _ (sym medium_ids)) in
-      let both : true ≡ false = sym three ∙ apart (same_product table) i j (linked_product t j (linked.fare_products j within)).new lt in
+      let both : true ≡ false = sym three ∙ apart (same_product table) i j (related_product t j (related.fare_products j within)).new lt in
       absurd (cc)
 
   name_told : (row : ℕ) → row < row_count t.fare_products → (product_row t row).product.0 < length (product_names t)

@@ -14,10 +14,10 @@ use Rattle.feed_faults.specs.FormFaults.{is_passed_over}
 use Rattle.feed_faults.specs.FeedTables.{FeedTables}
 use Rattle.feed_faults.specs.FieldValues.{day_or_past, time_or_past, int_or_past}
 use Rattle.feed_faults.specs.RowKeys.{is_unknown, is_repeated, is_doubled, same_field}
-use Rattle.feed_faults.specs.TimetableLinks.{are_dates_reversed, service_fault, same_exception, exception_fault}
-use Rattle.feed_faults.specs.NetworkLinks.{same_start, frequency_fault, is_transfer_stop_unknown, transfer_fault}
+use Rattle.feed_faults.specs.TimetableRelations.{are_dates_reversed, service_fault, same_exception, exception_fault}
+use Rattle.feed_faults.specs.NetworkRelations.{same_start, frequency_fault, is_transfer_stop_unknown, transfer_fault}
 use Rattle.feed_faults.specs.AcceptedFeed.{row_number, name_number, service_names, service_row, exception_row, frequency_row, link_row, rows_of_tables}
-use Rattle.feed_soundness.specs.AcceptedTables.{AreFormed, AreLinked}
+use Rattle.feed_soundness.specs.AcceptedTables.{AreFormed, AreRelated}
 use Rattle.plain_laws.proofs.Laws.{none_when, none_first, length-list_below, All-list_below, AllPairs-list_below, All-picks_below, length-picks_below, eq-bytes_eq, eq-int_same}
 use Rattle.feed_soundness.proofs.FieldLaws.{must_at, may_at}
 use Rattle.feed_soundness.proofs.ValueLaws.{int_good, optional_good, time_past_good, day_good}
@@ -32,7 +32,7 @@ use Rattle.feed_soundness.proofs.NameGroups as names
 not_reversed : (first last : ℤ) → int_lt last first ≡ false → first ≤ℤ last
 not_reversed first last e = grind (arith, ints)
 
-module _ (t : FeedTables) (formed : AreFormed t) (linked : AreLinked t) where
+module _ (t : FeedTables) (formed : AreFormed t) (related : AreRelated t) where
   service_named : (row : ℕ) → row < row_count t.calendar → IsNamed (service_names t) (field t.calendar row column.ServiceId)
   service_named row lt = names.calendar_service_named t row lt (ids.service_of_calendar t formed row lt).2
 
@@ -41,12 +41,12 @@ module _ (t : FeedTables) (formed : AreFormed t) (linked : AreLinked t) where
 
   service_new : (row : ℕ) → row < row_count t.calendar → is_doubled t.calendar column.ServiceId row ≡ false
   unfolding service_fault
-  service_new row lt = (none_first (is_doubled t.calendar column.ServiceId row) _ _ (linked.calendar row lt)).0
+  service_new row lt = (none_first (is_doubled t.calendar column.ServiceId row) _ _ (related.calendar row lt)).0
 
   service_dates : (row : ℕ) → row < row_count t.calendar → day_or_past (field t.calendar row column.StartDate) ≤ℤ day_or_past (field t.calendar row column.EndDate)
   unfolding service_fault are_dates_reversed
   service_dates row lt =
-      let one = none_first (is_doubled t.calendar column.ServiceId row) _ _ (linked.calendar row lt) in
+      let one = none_first (is_doubled t.calendar column.ServiceId row) _ _ (related.calendar row lt) in
       let two = none_first (are_dates_reversed t.calendar row) _ _ one.1 in
       not_reversed _ _ two.0
 
@@ -74,7 +74,7 @@ module _ (t : FeedTables) (formed : AreFormed t) (linked : AreLinked t) where
 
   exception_new : (row : ℕ) → row < row_count t.calendar_dates → is_repeated (same_exception t.calendar_dates) row ≡ false
   unfolding exception_fault
-  exception_new row lt = none_when (is_repeated (same_exception t.calendar_dates) row) _ (linked.calendar_dates row lt)
+  exception_new row lt = none_when (is_repeated (same_exception t.calendar_dates) row) _ (related.calendar_dates row lt)
 
   -- no two exceptions have one service and one day
   exceptions_apart : (i j : ℕ) → i < j → j < row_count t.calendar_dates → name_number (service_names t) (field t.calendar_dates i column.ServiceId) ≡ name_number (service_names t) (field t.calendar_dates j column.ServiceId) → day_or_past (field t.calendar_dates i column.Date) ≡ day_or_past (field t.calendar_dates j column.Date) → ⊥
@@ -103,13 +103,13 @@ module _ (t : FeedTables) (formed : AreFormed t) (linked : AreLinked t) where
   pub frequency_trip_known : (row : ℕ) → row < row_count t.frequencies → IsKnown t.trips column.TripId (field t.frequencies row column.TripId)
   unfolding frequency_fault
   frequency_trip_known row lt =
-      let one = none_first (is_unknown t.trips column.TripId (field t.frequencies row column.TripId)) _ _ (linked.frequencies row lt) in
+      let one = none_first (is_unknown t.trips column.TripId (field t.frequencies row column.TripId)) _ _ (related.frequencies row lt) in
       known t.trips column.TripId (field t.frequencies row column.TripId) (ids.trip_of_frequency t formed row lt).2 one.0
 
   frequency_new : (row : ℕ) → row < row_count t.frequencies → is_repeated (same_start t.frequencies) row ≡ false
   unfolding frequency_fault
   frequency_new row lt =
-      let one = none_first (is_unknown t.trips column.TripId (field t.frequencies row column.TripId)) _ _ (linked.frequencies row lt) in
+      let one = none_first (is_unknown t.trips column.TripId (field t.frequencies row column.TripId)) _ _ (related.frequencies row lt) in
       (none_first (is_repeated (same_start t.frequencies) row) _ _ one.1).0
 
   -- no two frequencies have one trip and one start
@@ -148,13 +148,13 @@ module _ (t : FeedTables) (formed : AreFormed t) (linked : AreLinked t) where
   pub transfer_from_known : (row : ℕ) → row < row_count t.transfers → is_passed_over t.transfers row ≡ false → IsKnown t.stops column.StopId (field t.transfers row column.FromStopId)
   unfolding transfer_fault is_transfer_stop_unknown
   transfer_from_known row lt kept =
-      let one = none_first (is_transfer_stop_unknown t row (field t.transfers row column.FromStopId)) _ _ (linked.transfers row lt) in
+      let one = none_first (is_transfer_stop_unknown t row (field t.transfers row column.FromStopId)) _ _ (related.transfers row lt) in
       known t.stops column.StopId (field t.transfers row column.FromStopId) (ids.from_of_transfer t formed row lt kept).2 (rw kept at one.0)
 
   pub transfer_to_known : (row : ℕ) → row < row_count t.transfers → is_passed_over t.transfers row ≡ false → IsKnown t.stops column.StopId (field t.transfers row column.ToStopId)
   unfolding transfer_fault is_transfer_stop_unknown
   transfer_to_known row lt kept =
-      let one = none_first (is_transfer_stop_unknown t row (field t.transfers row column.FromStopId)) _ _ (linked.transfers row lt) in
+      let one = none_first (is_transfer_stop_unknown t row (field t.transfers row column.FromStopId)) _ _ (related.transfers row lt) in
       let two = none_first (is_transfer_stop_unknown t row (field t.transfers row column.ToStopId)) _ _ one.1 in
       known t.stops column.StopId (field t.transfers row column.ToStopId) (ids.to_of_transfer t formed row lt kept).2 (rw kept at two.0)
 

@@ -1,4 +1,4 @@
--- What the two passes say of tables where they find no fault: each file by itself is formed, and the files are linked.
+-- What the two passes say of tables where they find no fault: each file by itself is formed, and the files are related.
 use Rattle.std.specs.Prelude.{◌≡◌, ℕ, ◌<◌, ◌≤◌, slice_get, Option, Some, None}
 use Rattle.feed_rows.specs.declared.names.FileName.{FileName}
 use Rattle.feed_rows.specs.declared.names.FileName.TheVariants as file
@@ -7,10 +7,10 @@ use Rattle.feed_faults.specs.declared.columns.ColumnRule.{ColumnRule}
 use Rattle.feed_faults.specs.Records.{FileTable, row_count}
 use Rattle.feed_faults.specs.FormFaults.{field_misfit, judged_columns}
 use Rattle.feed_faults.specs.FeedTables.{FeedTables}
-use Rattle.feed_faults.specs.TimetableLinks.{stop_fault, route_fault, trip_fault, service_fault, exception_fault}
-use Rattle.feed_faults.specs.StopTimeLinks.{stop_time_fault}
-use Rattle.feed_faults.specs.NetworkLinks.{frequency_fault, transfer_fault, area_fault, stop_area_fault, network_fault, route_network_fault}
-use Rattle.feed_faults.specs.FareLinks.{timeframe_fault, rider_fault, medium_fault, product_fault, leg_rule_fault, transfer_rule_fault}
+use Rattle.feed_faults.specs.TimetableRelations.{stop_fault, route_fault, trip_fault, service_fault, exception_fault}
+use Rattle.feed_faults.specs.StopTimeRelations.{stop_time_fault}
+use Rattle.feed_faults.specs.NetworkRelations.{frequency_fault, transfer_fault, area_fault, stop_area_fault, network_fault, route_network_fault}
+use Rattle.feed_faults.specs.FareRelations.{timeframe_fault, rider_fault, medium_fault, product_fault, leg_rule_fault, transfer_rule_fault}
 
 -- a file is formed: it hasn't too many rows, and no judged field of them has a fault
 pub record IsFormed (file : FileName) (table : FileTable) : Type 0 where
@@ -43,7 +43,7 @@ abbrev pub NoFault : FileTable → (ℕ → Option FeedFault) → Type 0
 NoFault table fault = (row : ℕ) → row < row_count table → fault row ≡ None
 
 -- no row of a file has a fault among the others
-pub record AreLinked (t : FeedTables) : Type 0 where
+pub record AreRelated (t : FeedTables) : Type 0 where
   pub stops : NoFault t.stops (stop_fault t)
   pub routes : NoFault t.routes (route_fault t)
   pub trips : NoFault t.trips (trip_fault t)

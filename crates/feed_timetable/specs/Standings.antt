@@ -1,6 +1,6 @@
 -- Where a traveller stands, as the definitions see it.
 use Rattle.std.specs.Prelude.{List, All, ℤ, ◌≤ℤ◌, negsuc, pos, ◌^◌}
-use Rattle.feed_rows.specs.JourneyWalk.{Stand}
+use Rattle.feed_rows.specs.JourneyStands.{Stand}
 use Rattle.feed_timetable.specs.declared.standing.Standing.{Standing}
 
 -- the stand

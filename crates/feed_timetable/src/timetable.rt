@@ -12,7 +12,7 @@ ghost use Rattle.plain_laws.specs.Plain.{list_below};
 ghost use Rattle.feed_rows.specs.Queries.{find_stop};
 ghost use Rattle.feed_rows.specs.StopLinks.{link, stop_set};
 ghost use Rattle.feed_rows.specs.Journeys.{stands_for, access, egress, direct, is_caught};
-ghost use Rattle.feed_rows.specs.JourneyWalk.{way_to, way_out, end_arrival};
+ghost use Rattle.feed_rows.specs.JourneyStands.{way_to, way_out, end_arrival};
 ghost use Rattle.feed_timetable.specs.Standings.{stand_of, IsNear, AreShifts};
 
 use crate::standing::Standing;
@@ -292,7 +292,7 @@ impl<'f> Timetable<'f> {
     }
 
     /// The arrival at the last stop from where one stands after all rides; none where one doesn't get there.
-    #[tactic(auto, unfolding(feed_rows::specs::JourneyWalk::end_arrival))]
+    #[tactic(auto, unfolding(feed_rows::specs::JourneyStands::end_arrival))]
     pub fn end_arrival(&self, query: &Query, standing: Standing, last: StopId) -> Option<Moment>
         requires near { IsNear standing }
         ensures { option_map (λ (moment : Moment). moment.0) result ≡ end_arrival self.now query.now (stand_of standing) last }

@@ -10,12 +10,12 @@ use Rattle.feed_rows.specs.declared.rows.StopTimeRow.{StopTimeRow}
 use Rattle.feed_rows.specs.declared.journeys.Call.{Call}
 use Rattle.feed_rows.specs.FeedRows.{FeedRows}
 use Rattle.feed_rows.specs.Calls.{in_its_place, in_sequence, trip_stop_times}
-use Rattle.feed_rows.specs.CallWalk.{walk}
+use Rattle.feed_rows.specs.CallPass.{pass}
 use Rattle.feed_rows.specs.SoundFeed.{IsSoundFeed}
 use Rattle.feed_rows.specs.TimedTrips.{HasTimedEnds, DoTimesRise}
 use Rattle.plain_laws.specs.Plain.{list_below, joined_below}
 use Rattle.plain_laws.proofs.Laws.{length-list_below, get_or-list_below}
-use Rattle.feed_laws.proofs.CallLaws.{calls_of-walk}
+use Rattle.feed_laws.proofs.CallLaws.{calls_of-pass}
 use Rattle.feed_laws.proofs.SoundTrips.{sound_ends, sound_rise}
 use Rattle.feed_trips.specs.declared.together.Stretch.{Stretch}
 use Rattle.feed_trips.specs.Tables.{AreCallsOf}
@@ -158,16 +158,16 @@ timed feed trips stretches sound are = record {
 
 -- and their calls, one stretch after another, are those of the trips
 pub stretch_calls : (feed : FeedRows) (stretches : List Stretch) → IsSoundFeed feed → AreStretches feed.stop_times (length feed.stop_times) (length feed.trips) stretches
-    → AreCallsOf feed (joined_below (length stretches) (λ t. walk (rows_at feed.stop_times stretches t))) (list_below (length stretches + 1) (λ k. length (joined_below k (λ t. walk (rows_at feed.stop_times stretches t)))))
+    → AreCallsOf feed (joined_below (length stretches) (λ t. pass (rows_at feed.stop_times stretches t))) (list_below (length stretches + 1) (λ k. length (joined_below k (λ t. pass (rows_at feed.stop_times stretches t)))))
 stretch_calls feed stretches sound are t lt =
     let count = are.count in
     let long = length-list_below (length stretches + 1) size in
     let begins : get_or starts 0 0 ≡ 0 = get_or-list_below (length stretches + 1) size 0 0 (omega arith) in
     let it = groups_joined f starts (length stretches) t (omega arith) begins next (omega arith) in
-    record { lies = it.lies; is = it.is ∙ ap walk (rows_are feed (length feed.trips) t stretches are lt) ∙ sym (calls_of-walk feed (record { 0 = t }) (sound_ends feed (record { 0 = t }) sound.calls)) }
+    record { lies = it.lies; is = it.is ∙ ap pass (rows_are feed (length feed.trips) t stretches are lt) ∙ sym (calls_of-pass feed (record { 0 = t }) (sound_ends feed (record { 0 = t }) sound.calls)) }
   where
     f : ℕ → List Call
-    f s = walk (rows_at feed.stop_times stretches s)
+    f s = pass (rows_at feed.stop_times stretches s)
 
     size : ℕ → ℕ
     size k = length (joined_below k f)

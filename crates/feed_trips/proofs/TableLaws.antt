@@ -12,12 +12,12 @@ use Rattle.feed_rows.specs.declared.journeys.Call.{Call}
 use Rattle.feed_rows.specs.FeedRows.{FeedRows}
 use Rattle.plain_laws.specs.Plain.{list_below, joined_below}
 use Rattle.feed_rows.specs.Calls.{call_at, calls_of, trip_stop_times}
-use Rattle.feed_rows.specs.CallWalk.{walk}
+use Rattle.feed_rows.specs.CallPass.{pass}
 use Rattle.feed_rows.specs.TimedTrips.{HasTimedEnds, DoTimesRise}
 use Rattle.feed_rows.specs.SoundFeed.{IsSoundFeed}
 use Rattle.feed_rows.specs.SoundTimetable.{AreSoundFrequencies}
 use Rattle.plain_laws.proofs.Laws.{collect_below_tells, list_any-filter, length-list_below, get_or-list_below}
-use Rattle.feed_laws.proofs.CallLaws.{walk_calls, calls_of-walk}
+use Rattle.feed_laws.proofs.CallLaws.{pass_calls, calls_of-pass}
 use Rattle.feed_laws.proofs.CallTimes.{calls_of_most}
 use Rattle.feed_laws.proofs.SoundTrips.{sound_ends, sound_rise, calls_apart, sound_trip}
 use Rattle.feed_laws.proofs.TripLaws.{IsInOrder, trip_stop_times_of_sorted}
@@ -27,9 +27,9 @@ use Rattle.feed_trips.specs.Tables.{AreCallsOf, AreRunTables}
 use Rattle.feed_trips.proofs.GroupLaws.{count_less_zero, groups_of_keys, length-group, groups_joined}
 use Rattle.feed_trips.proofs.OrderLaws.{trips_rise}
 
--- the walk makes a call of each row
-length-walk : (rows : List StopTimeRow) → HasTimedEnds rows → length (walk rows) ≡ length rows
-length-walk rows ends = (collect_below_tells (length rows) (call_at rows) (walk rows) (walk_calls rows ends)).length_is
+-- the pass makes a call of each row
+length-pass : (rows : List StopTimeRow) → HasTimedEnds rows → length (pass rows) ≡ length rows
+length-pass rows ends = (collect_below_tells (length rows) (call_at rows) (pass rows) (pass_calls rows ends)).length_is
 
 -- the stop times of a sound feed in order, and where those of each trip begin
 pub record AreSortedRows (feed : FeedRows) (rows : List StopTimeRow) (starts : List ℕ) : Type 0 where
@@ -62,19 +62,19 @@ module _ (feed : FeedRows) (rows : List StopTimeRow) (starts : List ℕ) (are : 
       let few = are.sound.stop_times.few in
       omega arith
 
-  -- so the calls of each trip are a group of their walks
-  pub call_groups : AreCallsOf feed (joined_below (length feed.trips) (λ t. walk (group rows starts t))) starts
+  -- so the calls of each trip are a group of their passes
+  pub call_groups : AreCallsOf feed (joined_below (length feed.trips) (λ t. pass (group rows starts t))) starts
   call_groups t lt =
       let numbers = map (λ (r : StopTimeRow). r.trip.0) rows in
       let begins : get_or starts 0 0 ≡ 0 = rw are.starts_are (get_or-list_below (length feed.trips + 1) (count_less numbers) 0 0 (omega arith) ∙ count_less_zero numbers) in
       let long : length starts ≡ length feed.trips + 1 = rw are.starts_are (length-list_below (length feed.trips + 1) (count_less numbers)) in
-      let it = groups_joined (λ s. walk (group rows starts s)) starts (length feed.trips) t (omega arith) begins next lt in
-      record { lies = it.lies; is = it.is ∙ ap walk (row_groups t lt).is ∙ sym (calls_of-walk feed (record { 0 = t }) (sound_ends feed (record { 0 = t }) are.sound.calls)) }
+      let it = groups_joined (λ s. pass (group rows starts s)) starts (length feed.trips) t (omega arith) begins next lt in
+      record { lies = it.lies; is = it.is ∙ ap pass (row_groups t lt).is ∙ sym (calls_of-pass feed (record { 0 = t }) (sound_ends feed (record { 0 = t }) are.sound.calls)) }
     where
-      next : (s : ℕ) → s < length feed.trips → get_or starts s 0 + length (walk (group rows starts s)) ≡ get_or starts (s + 1) 0
+      next : (s : ℕ) → s < length feed.trips → get_or starts s 0 + length (pass (group rows starts s)) ≡ get_or starts (s + 1) 0
       next s below =
           let size = length-group rows starts s (rows_lie s below) in
-          let calls = length-walk (group rows starts s) (rows_end s below) in
+          let calls = length-pass (group rows starts s) (rows_end s below) in
           rw calls size
 
 -- the frequency rows of a sound feed in order are tables

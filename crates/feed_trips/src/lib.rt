@@ -8,6 +8,6 @@ mod runs;
 mod scan;
 mod together;
 mod trips;
-mod walks;
+mod passes;
 
 pub use trips::Trips;

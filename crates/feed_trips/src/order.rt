@@ -4,7 +4,7 @@ ghost use Rattle.std.specs.List.Sorted.{IsPermutation, IsNonDecreasingBy};
 ghost use Rattle.transit_base.specs.declared.numbers.TripId.{TripId};
 ghost use Rattle.feed_rows.specs.declared.rows.StopTimeRow.{StopTimeRow};
 ghost use Rattle.feed_rows.specs.declared.rows.FrequencyRow.{FrequencyRow};
-ghost use Rattle.feed_rows.specs.CallWalk.{walk};
+ghost use Rattle.feed_rows.specs.CallPass.{pass};
 ghost use Rattle.plain_laws.specs.Plain.{joined_below};
 ghost use Rattle.feed_rows.specs.TimedTrips.{HasTimedEnds, DoTimesRise};
 ghost use Rattle.feed_laws.proofs.TripLaws.{IsInOrder};
@@ -14,7 +14,7 @@ ghost use Rattle.feed_trips.specs.Stretches.{AreStretches};
 
 use crate::groups::{group_at, starts_of};
 use crate::together::{Stretch, calls_of_stretches, stretches_of};
-use crate::walks::push_calls;
+use crate::passes::push_calls;
 use feed_rows::{Call, Feed, FrequencyRow, StopTimeRow};
 use std::alloc::{AllocError, Global};
 use trip_order::sorted_keys;
@@ -90,7 +90,7 @@ pub fn calls_by_trip(
     requires ends { (t : ℕ) → t < trips → HasTimedEnds (group rows.now starts.now t) }
     requires rise { (t : ℕ) → t < trips → DoTimesRise (group rows.now starts.now t) }
     requires few { length rows.now < 2 ^ 32 }
-    ensures { IfOk result (λ calls. calls.items ≡ joined_below trips (λ t. walk (group rows.now starts.now t))) }
+    ensures { IfOk result (λ calls. calls.items ≡ joined_below trips (λ t. pass (group rows.now starts.now t))) }
 {
     let mut calls = Vec::with_capacity(alloc, rows.len())?;
     for trip in 0..trips {

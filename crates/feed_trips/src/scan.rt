@@ -1,7 +1,7 @@
 //! The next stop time that has a time.
 ghost use Rattle.std.specs.Prelude.{◌≡◌, ◌<◌, ◌≤◌, length};
 ghost use Rattle.feed_rows.specs.Calls.{first_time as first_time_of};
-ghost use Rattle.feed_rows.specs.CallWalk.{next_timed, time_at};
+ghost use Rattle.feed_rows.specs.CallPass.{next_timed, time_at};
 
 use feed_rows::StopTimeRow;
 use trip_order::{first_time, is_timed};

@@ -3,11 +3,11 @@
 ghost use Rattle.std.specs.Prelude.{◌≡◌, ℕ, ◌+◌, ◌<◌, ◌≤◌, ◌^◌, ◌++◌, length, All, IfOk, OnOk, IfNone, IfSome};
 ghost use Rattle.std.specs.Bool.{OnFalse, OnTrue};
 ghost use Rattle.feed_rows.specs.declared.rows.StopTimeRow.{StopTimeRow};
-ghost use Rattle.feed_rows.specs.CallWalk.{walk};
+ghost use Rattle.feed_rows.specs.CallPass.{pass};
 ghost use Rattle.plain_laws.specs.Plain.{joined_below, list_below};
 ghost use Rattle.feed_trips.specs.Stretches.{AreStretches, AreTimed, IsApart, IsScattered, rows_at};
 
-use crate::walks::push_calls;
+use crate::passes::push_calls;
 use feed_rows::{Call, StopTimeRow};
 use std::alloc::{AllocError, Global};
 
@@ -82,7 +82,7 @@ fn push_stretch(
     requires timed { AreTimed rows.now stretches.now }
     requires inside { trip < length stretches.now }
     requires few { length rows.now < 2 ^ 32 }
-    ensures { OnOk result (calls.new.items ≡ calls.old.items ++ walk (rows_at rows.now stretches.now trip)) }
+    ensures { OnOk result (calls.new.items ≡ calls.old.items ++ pass (rows_at rows.now stretches.now trip)) }
 {
     let stretch = stretches[trip];
     push_calls(calls, &rows[stretch.from..stretch.to])
@@ -99,8 +99,8 @@ pub fn calls_of_stretches(
 ) -> Result<(Vec<Call>, Vec<usize>), AllocError>
     requires timed { AreTimed rows.now stretches.now }
     requires few { length rows.now < 2 ^ 32 }
-    ensures calls { IfOk result (λ tables. tables.0.items ≡ joined_below (length stretches.now) (λ t. walk (rows_at rows.now stretches.now t))) }
-    ensures starts { IfOk result (λ tables. tables.1.items ≡ list_below (length stretches.now + 1) (λ k. length (joined_below k (λ t. walk (rows_at rows.now stretches.now t))))) }
+    ensures calls { IfOk result (λ tables. tables.0.items ≡ joined_below (length stretches.now) (λ t. pass (rows_at rows.now stretches.now t))) }
+    ensures starts { IfOk result (λ tables. tables.1.items ≡ list_below (length stretches.now + 1) (λ k. length (joined_below k (λ t. pass (rows_at rows.now stretches.now t))))) }
 {
     let mut calls = Vec::with_capacity(alloc, rows.len())?;
     let mut starts = Vec::with_capacity(alloc, stretches.len() + 1)?;

@@ -106,12 +106,6 @@ any_of_any p q (x ∷ xs) each some = step (p x) refl some (any_of_any p q xs ea
         or_true true b h = refl
         or_true false b h = h
 
--- two tests that follow from one another are equal
-pub same_test : (a b : Bool) → (a ≡ true → b ≡ true) → (b ≡ true → a ≡ true) → a ≡ b
-same_test true b to from = sym (to refl)
-same_test false true to from = from refl
-same_test false false to from = refl
-
 -- what each item passes, the item at a place passes
 pub list_all-at : {X : Type 0} (p : X → Bool) (xs : List X) (i : ℕ) (x : X) → list_all p xs ≡ true →
     slice_get xs i ≡ Some x → p x ≡ true

@@ -23,7 +23,7 @@ use Rattle.feed_rows.specs.Rides.{runs_on, ride_facts}
 use Rattle.feed_rows.specs.Shifts.{shifts_of}
 use Rattle.feed_laws.proofs.ShiftLaws.{Contains_from_found, list_any-shifts_of}
 use Rattle.feed_rows.specs.Journeys.{is_caught}
-use Rattle.feed_rows.specs.JourneyWalk.{Stand, stand_at_end, way_to, stand_by, next_stand}
+use Rattle.feed_rows.specs.JourneyStands.{Stand, stand_at_end, way_to, stand_by, next_stand}
 use Rattle.plain_laws.specs.Plain.{filled_and, list_below}
 use Rattle.plain_laws.proofs.Laws.{slice_get-list_below, filled_and-true, chain_gives, int_le-true, le-int_le}
 use Rattle.feed_laws.proofs.RideLaws.{ride_facts_tells, ride_facts_timed}

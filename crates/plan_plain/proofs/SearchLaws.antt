@@ -20,7 +20,7 @@ use Rattle.feed_rows.specs.FeedRows.{FeedRows}
 use Rattle.feed_rows.specs.SoundFeed.{IsSoundFeed}
 use Rattle.feed_rows.specs.JourneyEntries.{rides_price, IsEntry, IsExactAnswer, CoversOffers}
 use Rattle.feed_rows.specs.Journeys.{stands_for}
-use Rattle.feed_rows.specs.JourneyWalk.{Stand, first_stand, stand_at_end, next_stand, way_to, way_out, end_arrival}
+use Rattle.feed_rows.specs.JourneyStands.{Stand, first_stand, stand_at_end, next_stand, way_to, way_out, end_arrival}
 use Rattle.feed_rows.specs.ParetoTriples.{at_most, is_before}
 use Rattle.feed_rows.specs.StopLinks.{stop_set}
 use Rattle.plain_laws.specs.Plain.{after, when}
@@ -204,14 +204,14 @@ pub gains_start : (feed : FeedRows) (query : Query) (first : StopId) (old new : 
 gains_start feed query first old new sound gains =
     gains_same feed query (GoesOn feed query first [] (first_stand query first) query.rides) (StartsAt feed query first) old new gains
     (λ e starts.
-    let walk = after_of_journey feed query e.journey e.triple.arrival.0 starts.right.journey in
-    let until = ends_in_time feed query walk.stand e.journey.last e.triple.arrival.0 walk.arrives starts.right.journey.in_time in
-    let goes = timed_of_after feed query (first_stand query e.journey.first) e.journey.rides walk.stand sound walk.stands until in
+    let course = after_of_journey feed query e.journey e.triple.arrival.0 starts.right.journey in
+    let until = ends_in_time feed query course.stand e.journey.last e.triple.arrival.0 course.arrives starts.right.journey.in_time in
+    let goes = timed_of_after feed query (first_stand query e.journey.first) e.journey.rides course.stand sound course.stands until in
     record {
       rest = e.journey.rides;
-      end = walk.stand;
+      end = course.stand;
       few = starts.right.journey.few;
-      goes = subst (λ f. after (next_in_time feed query) (first_stand query f) e.journey.rides ≡ Some walk.stand) starts.starts goes;
+      goes = subst (λ f. after (next_in_time feed query) (first_stand query f) e.journey.rides ≡ Some course.stand) starts.starts goes;
       has = record { right = starts.right; starts = starts.starts; goes = refl };
     })
 
@@ -247,11 +247,11 @@ pub entry_arrival : (feed : FeedRows) (query : Query) (first last : StopId) (sta
     arrival_in_time feed query stand last ≡ Some e.triple.arrival.0
 unfolding arrival_in_time
 entry_arrival feed query first last stand path e searched ends =
-    let walk = after_of_journey feed query e.journey e.triple.arrival.0 ends.has.right.journey in
-    let from : after (next_stand feed query) (first_stand query first) e.journey.rides ≡ Some walk.stand = subst (λ f. after (next_stand feed query) (first_stand query f) e.journey.rides ≡ Some walk.stand) ends.has.starts walk.stands in
-    let along : after (next_stand feed query) (first_stand query first) (rides_of path) ≡ Some walk.stand = subst (λ rs. after (next_stand feed query) (first_stand query first) rs ≡ Some walk.stand) ends.has.goes from in
-    let same : walk.stand ≡ stand = same_Some _ _ (sym along ∙ after_of_timed feed query (first_stand query first) (rides_of path) stand searched.goes) in
-    let arrives : end_arrival feed query stand last ≡ Some e.triple.arrival.0 = subst (λ s. end_arrival feed query s last ≡ Some e.triple.arrival.0) same (subst (λ l. end_arrival feed query walk.stand l ≡ Some e.triple.arrival.0) ends.ends walk.arrives) in
+    let course = after_of_journey feed query e.journey e.triple.arrival.0 ends.has.right.journey in
+    let from : after (next_stand feed query) (first_stand query first) e.journey.rides ≡ Some course.stand = subst (λ f. after (next_stand feed query) (first_stand query f) e.journey.rides ≡ Some course.stand) ends.has.starts course.stands in
+    let along : after (next_stand feed query) (first_stand query first) (rides_of path) ≡ Some course.stand = subst (λ rs. after (next_stand feed query) (first_stand query first) rs ≡ Some course.stand) ends.has.goes from in
+    let same : course.stand ≡ stand = same_Some _ _ (sym along ∙ after_of_timed feed query (first_stand query first) (rides_of path) stand searched.goes) in
+    let arrives : end_arrival feed query stand last ≡ Some e.triple.arrival.0 = subst (λ s. end_arrival feed query s last ≡ Some e.triple.arrival.0) same (subst (λ l. end_arrival feed query course.stand l ≡ Some e.triple.arrival.0) ends.ends course.arrives) in
     let in_time : int_le e.triple.arrival.0 (deadline query) ≡ true = to_test _ _ ends.has.right.journey.in_time in
     rw (arrives, in_time) refl
   where

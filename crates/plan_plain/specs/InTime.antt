@@ -6,7 +6,7 @@ use Rattle.feed_rows.specs.declared.journeys.Call.{Call}
 use Rattle.feed_rows.specs.declared.journeys.Query.{Query}
 use Rattle.feed_rows.specs.declared.journeys.Ride.{Ride}
 use Rattle.feed_rows.specs.FeedRows.{FeedRows}
-use Rattle.feed_rows.specs.JourneyWalk.{Stand, stand_at_end, next_stand, way_to}
+use Rattle.feed_rows.specs.JourneyStands.{Stand, stand_at_end, next_stand, way_to}
 use Rattle.feed_rows.specs.Rides.{ride_facts}
 use Rattle.plain_laws.specs.Plain.{when, filled_and}
 use Rattle.plan_plain.specs.declared.caught.Run.{Run}

@@ -6,7 +6,7 @@ use Rattle.feed_rows.specs.declared.journeys.Ride.{Ride}
 use Rattle.feed_rows.specs.declared.fares.Entry.{Entry}
 use Rattle.feed_rows.specs.FeedRows.{FeedRows}
 use Rattle.feed_rows.specs.JourneyEntries.{IsEntry}
-use Rattle.feed_rows.specs.JourneyWalk.{Stand, first_stand, stand_at_end, end_arrival}
+use Rattle.feed_rows.specs.JourneyStands.{Stand, first_stand, stand_at_end, end_arrival}
 use Rattle.feed_rows.specs.Journeys.{stands_for}
 use Rattle.feed_rows.specs.Rides.{ride_facts}
 use Rattle.plain_laws.specs.Plain.{when, after}

@@ -4,7 +4,7 @@ ghost use Rattle.feed_rows.specs.declared.journeys.Ride.{Ride};
 ghost use Rattle.feed_rows.specs.declared.journeys.Call.{Call};
 ghost use Rattle.feed_rows.specs.Calls.{calls_of};
 ghost use Rattle.feed_rows.specs.Rides.{runs_on, ride_facts};
-ghost use Rattle.feed_rows.specs.JourneyWalk.{stand_at_end};
+ghost use Rattle.feed_rows.specs.JourneyStands.{stand_at_end};
 ghost use Rattle.feed_rows.specs.Shifts.{shifts_of};
 ghost use Rattle.feed_timetable.specs.Standings.{stand_of, AreShifts};
 ghost use Rattle.plan_plain.specs.InTime.{next_in_time, if_in_time, deadline, IsUsualQuery, IsWithin, AddsCaught, HasCaught, IsRight, IsRideOf, IsFrom, IsAt, IsBefore, HasShift, IsOnTrip, IsOnDay, IsOnDays, IsOfRun, gets_there, departure_of, may_board, first_day, day_after};
@@ -42,7 +42,7 @@ pub fn deadline(query: &Query) -> Moment
 }
 
 // Where and when the ride goes; none where it is no ride of the feed, isn't caught, or ends past the window.
-#[tactic(auto, unfolding(feed_rows::specs::JourneyWalk::next_stand, crate::specs::InTime::next_in_time))]
+#[tactic(auto, unfolding(feed_rows::specs::JourneyStands::next_stand, crate::specs::InTime::next_in_time))]
 fn facts_in_time(
     timetable: &Timetable,
     query: &Query,

@@ -3,7 +3,7 @@ ghost use Rattle.std.specs.Prelude.{◌≡◌, ◌<◌, ◌≤◌, ◌+◌, ◌+
 ghost use Rattle.feed_rows.specs.declared.fares.Entry.{Entry};
 ghost use Rattle.feed_rows.specs.Journeys.{stands_for};
 ghost use Rattle.feed_rows.specs.JourneyEntries.{IsExactAnswer, CoversOffers};
-ghost use Rattle.feed_rows.specs.JourneyWalk.{first_stand, stand_at_end};
+ghost use Rattle.feed_rows.specs.JourneyStands.{first_stand, stand_at_end};
 ghost use Rattle.feed_rows.specs.Rides.{ride_facts};
 ghost use Rattle.feed_rows.specs.StopLinks.{stop_set};
 ghost use Rattle.plain_laws.specs.Plain.{after};

@@ -5,7 +5,7 @@ use Rattle.std.proofs.lemmas.Bool.{cases_Bool, cases_eq, cases_lt, and_parts, an
 use Rattle.plain_laws.specs.Plain.{at_and, any_below}
 use Rattle.plain_laws.proofs.Laws.{IsLast, last_below_tells, last_below_some, any_below_hit, any_below_tells, length-list_below, same_test, at_and-list_below}
 use Rattle.feed_faults.specs.RowKeys.{is_repeated}
-use Rattle.feed_faults.specs.StopTimeLinks.{StopTime, is_timed, is_earlier, first_time, last_time, same_place, comes_before, is_first, is_last, is_end_time_missing, is_nearest_before, do_times_decrease}
+use Rattle.feed_faults.specs.StopTimeRelations.{StopTime, is_timed, is_earlier, first_time, last_time, same_place, comes_before, is_first, is_last, is_end_time_missing, is_nearest_before, do_times_decrease}
 use Rattle.feed_rows.specs.declared.rows.StopTimeRow.{StopTimeRow}
 use Rattle.trip_order.specs.declared.keys.PlaceKey.{PlaceKey}
 use Rattle.stop_order.specs.Numbered.{numbered_at, named_time, named_times, IsOneTrip, faults_at, first_of_times, last_of_times}

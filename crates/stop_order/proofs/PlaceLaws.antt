@@ -6,7 +6,7 @@ use Rattle.std.proofs.lemmas.Bool.{and_parts, and_from, eqb-true, eq-eqb}
 use Rattle.std.proofs.lemmas.Bool.Decides.{nat_tests}
 use Rattle.plain_laws.specs.Plain.{at_and}
 use Rattle.plain_laws.proofs.Laws.{at_and-list_below, bytes_eq-true, eq-bytes_eq}
-use Rattle.feed_faults.specs.StopTimeLinks.{StopTime, is_timed, both_and, same_place, comes_before}
+use Rattle.feed_faults.specs.StopTimeRelations.{StopTime, is_timed, both_and, same_place, comes_before}
 use Rattle.feed_rows.specs.declared.rows.StopTimeRow.{StopTimeRow}
 use Rattle.stop_order.specs.Numbered.{numbered_at, named_time, named_times, IsOneTrip, is_set}
 

@@ -2,7 +2,7 @@
 use Rattle.std.specs.Prelude.{◌≡◌, ℕ, ◌<◌, ◌==◌, false, List, length, bytes_eq}
 use Rattle.plain_laws.specs.Plain.{list_below}
 use Rattle.feed_faults.specs.RowKeys.{is_repeated}
-use Rattle.feed_faults.specs.StopTimeLinks.{StopTime, same_place, is_end_time_missing, do_times_decrease}
+use Rattle.feed_faults.specs.StopTimeRelations.{StopTime, same_place, is_end_time_missing, do_times_decrease}
 use Rattle.feed_rows.specs.declared.rows.StopTimeRow.{StopTimeRow}
 pub use Rattle.feed_rows.specs.Calls.{first_time as first_of_times, last_time as last_of_times, is_timed as is_set}
 pub use Rattle.trip_order.specs.Order.{no_time, numbered_at}

@@ -1,7 +1,7 @@
 -- What neighbours among the keys of stop times tell of a row.
 use Rattle.std.specs.Prelude.{ℕ, ◌+◌, ◌-◌, ◌==◌, ◌&&◌, ◌||◌, not, nat_lt, Bool, List, length, Option}
 use Rattle.plain_laws.specs.Plain.{last_below, filled_and}
-use Rattle.feed_faults.specs.StopTimeLinks.{is_earlier}
+use Rattle.feed_faults.specs.StopTimeRelations.{is_earlier}
 use Rattle.feed_rows.specs.declared.rows.StopTimeRow.{StopTimeRow}
 use Rattle.trip_order.specs.declared.keys.PlaceKey.{PlaceKey}
 use Rattle.trip_order.specs.Order.{numbered_at, key_at}

@@ -1,10 +1,10 @@
-//! What is wrong with stop times among those of their trips, for all rows by one sort and one walk.
+//! What is wrong with stop times among those of their trips, for all rows by one sort and one pass.
 #![tactic(auto)]
 
 #[cfg(test)]
 mod tests;
 mod times;
-mod walk;
+mod pass;
 
 pub use times::OrderFaults;
-pub use walk::order_faults;
+pub use pass::order_faults;

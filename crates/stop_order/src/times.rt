@@ -1,6 +1,6 @@
 //! What is wrong with a stop time.
 ghost use Rattle.std.specs.Prelude.{◌≡◌};
-ghost use Rattle.feed_faults.specs.StopTimeLinks.{is_earlier};
+ghost use Rattle.feed_faults.specs.StopTimeRelations.{is_earlier};
 
 /// What is wrong with a stop time among those of its trip.
 #[derive(Clone, Copy, Debug, PartialEq, Eq)]

@@ -39,8 +39,8 @@ loop-preserved c =
     let reads = c.in-Ok-true.ensures.reads stands.no_trim stands.ready in
     let record_fields = map cut (fields_of c.read_byte_record.new.row) in
     let grown = c.in_ok-push_fields-in-Ok-true.ensures in
-    let size : c.count-in-Ok-true.result ≡ length c.loop.fields + length record_fields = c.count-in-Ok-true.ensures ∙ ap length grown ∙ length-append c.loop.fields record_fields in
-    let next = pushed_part c.loop.rows.items c.push_end.new.ends.items c.loop.fields record_fields c.push_fields.new.fields c.count-in-Ok-true.result c.loop.invariant.rows c.in_ok-push_end-in-Ok-true.ensures.ok grown size in
+    let size : c.count.result ≡ length c.loop.fields + length record_fields = c.count.ensures ∙ ap length grown ∙ length-append c.loop.fields record_fields in
+    let next = pushed_part c.loop.rows.items c.push_end.new.ends.items c.loop.fields record_fields c.push_fields.new.fields c.count.result c.loop.invariant.rows c.in_ok-push_end-in-Ok-true.ensures.ok grown size in
     record {
       rows = next.0;
       count = grind (arith, common_steps, c.loop.invariant.count);

@@ -3,7 +3,7 @@ use Rattle.feed_rows.specs.declared.rows.StopTimeRow.{StopTimeRow}
 use Rattle.feed_rows.specs.declared.journeys.Call.{Call}
 use Rattle.feed_rows.specs.FeedRows.{FeedRows}
 use Rattle.feed_rows.specs.SoundFeed.{IsSoundFeed}
-use Rattle.feed_rows.specs.CallWalk.{walk}
+use Rattle.feed_rows.specs.CallPass.{pass}
 use Rattle.plain_laws.specs.Plain.{joined_below, list_below}
 use Rattle.feed_trips.specs.Tables.{AreCallsOf}
 use Rattle.feed_trips.specs.Stretches.{AreTimed, rows_at}
@@ -19,8 +19,8 @@ pub returns : goal.returns
 returns c =
     let rows : c.items-rows.result.now ≡ c.args.feed.now.stop_times = c.items-rows.ensures.value ∙ ap (λ (f : FeedRows). f.stop_times) c.feed.view_is in
     let stretches = c.args.stretches.now in
-    let calls = c.in_ok-calls.ensures.calls ∙ ap (λ (rs : List StopTimeRow). joined_below (length stretches) (λ t. walk (rows_at rs stretches t))) rows in
-    let starts = c.in_ok-calls.ensures.starts ∙ ap (λ (rs : List StopTimeRow). list_below (length stretches + 1) (λ k. length (joined_below k (λ t. walk (rows_at rs stretches t))))) rows in
+    let calls = c.in_ok-calls.ensures.calls ∙ ap (λ (rs : List StopTimeRow). joined_below (length stretches) (λ t. pass (rows_at rs stretches t))) rows in
+    let starts = c.in_ok-calls.ensures.starts ∙ ap (λ (rs : List StopTimeRow). list_below (length stretches + 1) (λ k. length (joined_below k (λ t. pass (rows_at rs stretches t))))) rows in
     subst (λ (cs : List Call). AreCallsOf c.args.feed.now cs c.in_ok-calls.starts.items) (sym calls)
-    (subst (AreCallsOf c.args.feed.now (joined_below (length stretches) (λ t. walk (rows_at c.args.feed.now.stop_times stretches t)))) (sym starts)
+    (subst (AreCallsOf c.args.feed.now (joined_below (length stretches) (λ t. pass (rows_at c.args.feed.now.stop_times stretches t)))) (sym starts)
     (stretch_calls c.args.feed.now stretches (subst IsSoundFeed c.feed.view_is c.feed.invariant) c.requires))

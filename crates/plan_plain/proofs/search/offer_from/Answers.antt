@@ -1,5 +1,5 @@
 use Rattle.std.proofs.Common.{ap, subst}
-use Rattle.feed_rows.specs.JourneyWalk.{first_stand}
+use Rattle.feed_rows.specs.JourneyStands.{first_stand}
 use Rattle.plan_plain.specs.Searches.{rides_of, Gains, GoesOn}
 use Rattle.plan_plain.proofs.SearchLaws.{gains_start}
 use Rattle.plan_plain.proofs.search.offer_from.Goals as goal

@@ -1,5 +1,0 @@
-use Rattle.stop_order.proofs.OrderLaws.{latest_within}
-use Rattle.stop_order.proofs.walk.faults_of.Goals as goal
-
-pub falls_behind-requires-clause-latest : goal.falls_behind-requires-clause-latest
-falls_behind-requires-clause-latest c = latest_within c.args.times.now c.args.keys.now c.args.place c.args.latest c.requires.latest c.requires.within

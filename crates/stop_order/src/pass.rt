@@ -1,0 +1,137 @@
+//! The pass over stop times in order.
+ghost use Rattle.std.specs.Prelude.{◌≡◌, ◌<◌, ◌+◌, ◌^◌, ℕ, List, get_or, length, IfOk, IfSome, Option};
+ghost use Rattle.trip_order.specs.Order.{AreSorted};
+ghost use Rattle.stop_order.specs.Numbered.{named_times, IsOneTrip, faults_at, no_faults};
+ghost use Rattle.stop_order.specs.Order.{time_at, goes_on, repeats, goes_further, falls_behind, latest_timed, place_faults};
+
+use crate::times::{OrderFaults, is_earlier};
+use feed_rows::StopTimeRow;
+use std::alloc::{AllocError, Global};
+use trip_order::{PlaceKey, first_time, is_timed, last_time, sorted_keys};
+
+// The stop time at a place of the order.
+#[tactic(auto, using(trip_order::specs::Order::row_within))]
+fn time_of(times: &[StopTimeRow], keys: &[PlaceKey], place: usize) -> StopTimeRow
+    requires sorted { AreSorted times.now keys.now }
+    requires within { place < length keys.now }
+    ensures { result ≡ time_at times.now keys.now place }
+{
+    times[keys[place].row as usize]
+}
+
+// Whether the place before has the trip of this one.
+#[tactic(auto, unfolding(crate::specs::Order::goes_on))]
+fn goes_on(keys: &[PlaceKey], place: usize) -> bool
+    requires { place < length keys.now }
+    ensures { result ≡ goes_on keys.now place }
+{
+    place > 0 && keys[place - 1].trip == keys[place].trip
+}
+
+// Whether it has its sequence, too.
+#[tactic(auto, unfolding(crate::specs::Order::repeats, crate::specs::Order::goes_on))]
+fn repeats(keys: &[PlaceKey], place: usize) -> bool
+    requires { place < length keys.now }
+    ensures { result ≡ repeats keys.now place }
+{
+    goes_on(keys, place) && keys[place - 1].sequence == keys[place].sequence
+}
+
+// Whether the place after has the trip of this one.
+#[tactic(auto, unfolding(crate::specs::Order::goes_further))]
+fn goes_further(keys: &[PlaceKey], place: usize) -> bool
+    requires { place < length keys.now }
+    ensures { result ≡ goes_further keys.now place }
+{
+    place + 1 < keys.len() && keys[place + 1].trip == keys[place].trip
+}
+
+// Whether the time of a place is less than that of the last timed place before it, which is of its trip.
+#[tactic(auto, unfolding(crate::specs::Order::falls_behind))]
+fn falls_behind(
+    times: &[StopTimeRow],
+    keys: &[PlaceKey],
+    place: usize,
+    latest: Option<usize>,
+) -> bool
+    requires sorted { AreSorted times.now keys.now }
+    requires within { place < length keys.now }
+    requires latest { IfSome latest (λ q. q < length keys.now) }
+    ensures { result ≡ falls_behind times.now keys.now place latest }
+{
+    let Some(before) = latest else {
+        return false;
+    };
+    let first = first_time(time_of(times, keys, place));
+    keys[before].trip == keys[place].trip
+        && is_earlier(first, last_time(time_of(times, keys, before)))
+}
+
+// What is wrong at a place.
+#[tactic(auto, using(crate::proofs::OrderLaws::latest_within), unfolding(crate::specs::Order::place_faults))]
+fn faults_of(
+    times: &[StopTimeRow],
+    keys: &[PlaceKey],
+    place: usize,
+    latest: Option<usize>,
+) -> OrderFaults
+    requires sorted { AreSorted times.now keys.now }
+    requires within { place < length keys.now }
+    requires latest { latest ≡ latest_timed times.now keys.now place }
+    ensures { result ≡ place_faults times.now keys.now place }
+{
+    let time = time_of(times, keys, place);
+    OrderFaults {
+        is_repeated: repeats(keys, place),
+        is_end_time_missing: !is_timed(time)
+            && (!goes_on(keys, place) || !goes_further(keys, place)),
+        do_times_decrease: is_earlier(last_time(time), first_time(time))
+            || falls_behind(times, keys, place, latest),
+    }
+}
+
+// The last timed place up to this one, which has this last one before it.
+#[tactic(auto, unfolding(crate::specs::Order::latest_timed))]
+fn latest_with(
+    times: &[StopTimeRow],
+    keys: &[PlaceKey],
+    place: usize,
+    latest: Option<usize>,
+) -> Option<usize>
+    requires sorted { AreSorted times.now keys.now }
+    requires within { place < length keys.now }
+    requires latest { latest ≡ latest_timed times.now keys.now place }
+    ensures { result ≡ latest_timed times.now keys.now (place + 1) }
+{
+    if is_timed(time_of(times, keys, place)) {
+        Some(place)
+    } else {
+        latest
+    }
+}
+
+/// What is wrong with each row among those of its trip, under every text of trips by which a row's trip has the rows that it
+/// has by number.
+///
+/// # Errors
+/// Want of memory.
+#[tactic(auto, using(trip_order::specs::Order::row_within, trip_order::specs::Order::length_sorted))]
+pub fn order_faults(alloc: Global, times: &[StopTimeRow]) -> Result<Vec<OrderFaults>, AllocError>
+    requires { length times.now < 2 ^ 32 }
+    ensures count { IfOk result (λ faults. length faults.items ≡ length times.now) }
+    ensures value { IfOk result (λ faults. (text : ℕ → List ℕ) (row : ℕ) → row < length times.now → IsOneTrip times.now text row → get_or faults.items row no_faults ≡ faults_at (named_times times.now text) row) }
+{
+    let keys = sorted_keys(alloc, times)?;
+    let none = OrderFaults {
+        is_repeated: false,
+        is_end_time_missing: false,
+        do_times_decrease: false,
+    };
+    let mut faults = vec![in alloc; none; times.len()]?;
+    let mut latest = None;
+    for place in 0..keys.len() {
+        faults[keys[place].row as usize] = faults_of(times, &keys, place, latest);
+        latest = latest_with(times, &keys, place, latest);
+    }
+    Ok(faults)
+}
