@@ -7,7 +7,7 @@ use Rattle.std.proofs.lemmas.List.Sorted.{IsPermutation-map}
 use Rattle.std.proofs.Math.Seq.{take-length}
 use Rattle.plain_laws.specs.Plain.{list_below}
 use Rattle.feed_rows.specs.declared.rows.StopTimeRow.{StopTimeRow}
-use Rattle.feed_laws.proofs.TripLaws.{IsInOrder}
+use Rattle.feed_trips.specs.Tables.{IsInOrder}
 use Rattle.trip_order.specs.declared.keys.PlaceKey.{PlaceKey}
 use Rattle.trip_order.specs.Order.{no_time, numbered_at, key_of, no_key, key_at, AreSorted, Precedes}
 
@@ -42,30 +42,3 @@ in_order_by_keys rows keys are i j d lt within =
 
     told : (a b : PlaceKey) → a ≡ key_of rows a.row → b ≡ key_of rows b.row → Precedes a b → IsInOrder (row_of rows a) (row_of rows b)
     told a b ea eb is = rise a b (row_of rows a) (row_of rows b) (ap (λ (k : PlaceKey). k.trip) ea) (ap (λ (k : PlaceKey). k.sequence) ea) (ap (λ (k : PlaceKey). k.trip) eb) (ap (λ (k : PlaceKey). k.sequence) eb) is
-
--- stop times that are in order are so by their trips
-pub trips_rise : (rows : List StopTimeRow) → AllPairs IsInOrder rows → IsNonDecreasingBy (λ (r : StopTimeRow). r.trip.0) rows
-trips_rise rows up i j d le within = step (cases_eq i j)
-  where
-    rise : (a b : StopTimeRow) → IsInOrder a b → a.trip.0 ≤ b.trip.0
-    rise a b (inl lt) = omega arith
-    rise a b (inr same) = let e = same.0 in omega arith
-
-    step : (i ≡ j) ⊎ (i ≡ j → ⊥) → (get_or rows i d).trip.0 ≤ (get_or rows j d).trip.0
-    step (inl same) = rw same (omega arith)
-    step (inr apart) = rise (get_or rows i d) (get_or rows j d) (up i j d (omega arith) within)
-
--- the keys of items in order
-pub keys_rise : {X : Type 0} (key : X → ℕ) (items : List X) → IsNonDecreasingBy key items → IsNonDecreasing (map key items)
-keys_rise {X} key items up i j d le within =
-    let long = length-map items key in
-    at items up i j d le (omega arith)
-  where
-    get : (xs : List X) (k : ℕ) (e : ℕ) (x : X) → k < length xs → get_or (map key xs) k e ≡ key (get_or xs k x)
-    get [] k e x lt = absurd (omega arith)
-    get (y ∷ ys) zero e x lt = refl
-    get (y ∷ ys) (suc k) e x lt = get ys k e x (omega arith)
-
-    at : (xs : List X) → IsNonDecreasingBy key xs → (i j d : ℕ) → i ≤ j → j < length xs → get_or (map key xs) i d ≤ get_or (map key xs) j d
-    at [] up i j d le lt = absurd (omega arith)
-    at (y ∷ ys) up i j d le lt = rw (get (y ∷ ys) i d y (omega arith), get (y ∷ ys) j d y lt) (up i j y le lt)

@@ -7,10 +7,13 @@ use Rattle.feed_rows.specs.FeedRows.{FeedRows}
 use Rattle.plain_laws.specs.Plain.{int_same}
 use Rattle.feed_rows.specs.Calls.{first_departure}
 use Rattle.feed_rows.specs.Shifts.{run_starts, ascending_of, has_frequencies, shifts_of, is_run_start, is_shift}
-use Rattle.feed_laws.proofs.ShiftLaws.{ascending_of_ascending, list_any-ascending_of, list_any-run_starts, shifts_of_only}
+use Rattle.feed_laws.proofs.ShiftLaws.{ascending_of_ascending, list_any-ascending_of, list_any-run_starts, run_starts_counted, shifts_of_only}
 use Rattle.plain_laws.proofs.Laws.{list_any-map, list_any-flat_map, list_any_same}
 use Rattle.feed_trips.specs.Runs.{AreRunsOf, shifts_against}
 use Rattle.feed_laws.proofs.RideLaws.{is_ride_by_shift}
+
+-- the starts of a row's runs by their count
+pub ruleset starts_by_count = (run_starts_counted)
 
 true_right : (b : Bool) → (b && true) ≡ b
 true_right true = refl

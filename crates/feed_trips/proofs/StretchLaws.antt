@@ -1,27 +1,30 @@
 -- Trips whose rows stand together in the file.
-use Rattle.std.proofs.Common.{◌≡◌, ◌≢◌, refl, sym, ◌∙◌, ap, subst, ℕ, zero, suc, ◌+◌, ◌-◌, ◌<◌, ◌≤◌, ◌⊎◌, inl, inr, Bool, ◌==◌, List, [], ◌∷◌, ◌++◌, length, get_or, take, drop, filter, arith, slice_set, get_or-set_other, get_or-set_same}
+use Rattle.std.proofs.Common.{◌≡◌, ◌≢◌, refl, sym, ◌∙◌, ap, subst, ℕ, zero, suc, ◌+◌, ◌-◌, ◌<◌, ◌≤◌, ◌⊎◌, inl, inr, Bool, ◌==◌, List, [], ◌∷◌, ◌++◌, length, get_or, take, drop, filter, arith, slice_set, get_or-set_other, get_or-set_same, ⊎_elim, All, AllPairs, IsPermutation, append_assoc, true, ◌^◌}
 use Rattle.std.specs.Prelude.{slice_range}
-use Rattle.std.proofs.lemmas.Bool.{cases_eq, eq-eqb, ne_eqb, le-leb}
+use Rattle.std.proofs.lemmas.Bool.{cases_eq, eq-eqb, ne_eqb, le-leb, cases_lt, eqb-true}
 use Rattle.std.proofs.lemmas.List.{get_or-take, get_or-drop, length-take, length-drop, length-append, take_all, append-nil, get_or-replicate, length-replicate}
-use Rattle.std.proofs.lemmas.List.Elements.{filter-append}
-use Rattle.std.proofs.Math.Seq.{take-suc}
+use Rattle.std.proofs.lemmas.List.Elements.{filter-append, filter_passes}
+use Rattle.std.proofs.Math.Seq.{take-suc, drop-cons}
 use Rattle.std.proofs.Math.ListN.{replicate, length-set}
 use Rattle.feed_rows.specs.declared.rows.StopTimeRow.{StopTimeRow}
 use Rattle.feed_rows.specs.declared.journeys.Call.{Call}
 use Rattle.feed_rows.specs.FeedRows.{FeedRows}
-use Rattle.feed_rows.specs.Calls.{in_its_place, in_sequence, trip_stop_times}
+use Rattle.feed_rows.specs.Calls.{in_its_place, in_sequence, trip_stop_times, calls_of}
 use Rattle.feed_rows.specs.CallPass.{pass}
 use Rattle.feed_rows.specs.SoundFeed.{IsSoundFeed}
 use Rattle.feed_rows.specs.TimedTrips.{HasTimedEnds, DoTimesRise}
-use Rattle.plain_laws.specs.Plain.{list_below, joined_below}
-use Rattle.plain_laws.proofs.Laws.{length-list_below, get_or-list_below}
+use Rattle.plain_laws.specs.Plain.{list_below}
+use Rattle.plain_laws.proofs.Laws.{list_below-same, cut_further, passes_more}
 use Rattle.feed_laws.proofs.CallLaws.{calls_of-pass}
-use Rattle.feed_laws.proofs.SoundTrips.{sound_ends, sound_rise}
+use Rattle.feed_laws.proofs.SoundTrips.{sound_ends, sound_rise, calls_apart}
 use Rattle.feed_trips.specs.declared.together.Stretch.{Stretch}
-use Rattle.feed_trips.specs.Tables.{AreCallsOf}
-use Rattle.feed_trips.proofs.GroupLaws.{groups_joined}
-use Rattle.feed_trips.specs.Stretches.{no_stretch, rows_of, rows_at, IsStretch, AreStretches, AreTimed}
+use Rattle.feed_trips.specs.Tables.{trip_calls}
+use Rattle.feed_trips.specs.Stretches.{no_stretch, rows_of, rows_at, IsStretch, AreStretches, AreTimed, IsScattered}
+use Rattle.std.proofs.lemmas.List.Sorted.{All-permutation, length_permutation}
 use Rattle.feed_laws.proofs.TimedLaws.{next_timed_hit, next_timed_end, untimed_more, is_timed_at_row}
+use Rattle.feed_trips.specs.Tables.{IsInOrder}
+use Rattle.feed_trips.proofs.TripLaws.{trip_stop_times_of_sorted}
+use Rattle.trip_order.specs.Order.{no_time}
 
 -- no row stands anywhere at first
 pub none_yet : (rows : List StopTimeRow) (trips : ℕ) → AreStretches rows 0 trips (replicate trips no_stretch)
@@ -130,61 +133,155 @@ in_order_already (x ∷ (y ∷ ys)) up =
 range_at : (rows : List StopTimeRow) (from to k : ℕ) (d : StopTimeRow) → from + k < to → get_or (slice_range rows from to) k d ≡ get_or rows (from + k) d
 range_at rows from to k d lt = get_or-take (to - from) (drop from rows) k d (omega arith) ∙ get_or-drop from rows k d
 
--- the rows of each trip's stretch are its stop times in order
+-- the rows of each trip's stretch are its rows
+stretch_rows : (rows : List StopTimeRow) (trips t : ℕ) (stretches : List Stretch) → AreStretches rows (length rows) trips stretches → t < trips → rows_at rows stretches t ≡ filter (λ r. r.trip.0 == t) rows
+stretch_rows rows trips t stretches are lt = (are.each t lt).are ∙ ap (filter (λ r. r.trip.0 == t)) (take_all (length rows) rows (omega arith))
+
+-- in the file they are its stop times in order
 pub rows_are : (feed : FeedRows) (trips t : ℕ) (stretches : List Stretch) → AreStretches feed.stop_times (length feed.stop_times) trips stretches → t < trips → rows_at feed.stop_times stretches t ≡ trip_stop_times feed (record { 0 = t })
 rows_are feed trips t stretches are lt =
     let rows = feed.stop_times in
     let s = get_or stretches t no_stretch in
     let is = are.each t lt in
-    let whole = take_all (length rows) rows (omega arith) in
-    let own : rows_of rows s ≡ filter (λ r. r.trip.0 == t) rows = is.are ∙ ap (filter (λ r. r.trip.0 == t)) whole in
     let size = length-take (s.to - s.from) (drop s.from rows) in
     sym (in_order_already (rows_of rows s) (λ k d below.
     let inside : s.from + (k + 1) < s.to = omega (arith, size) in
     let next : s.from + (k + 1) ≡ (s.from + k) + 1 = omega arith in
-    rw (range_at rows s.from s.to k d (omega arith), range_at rows s.from s.to (k + 1) d inside, next) (is.rise (s.from + k) d (omega arith) (omega arith)))) ∙ ap in_sequence own
+    rw (range_at rows s.from s.to k d (omega arith), range_at rows s.from s.to (k + 1) d inside, next) (is.rise (s.from + k) d (omega arith) (omega arith)))) ∙ ap in_sequence (stretch_rows rows trips t stretches are lt)
 
--- so they begin and end with times, which don't fall
-pub timed : (feed : FeedRows) (trips : ℕ) (stretches : List Stretch) → IsSoundFeed feed → AreStretches feed.stop_times (length feed.stop_times) trips stretches → AreTimed feed.stop_times stretches
-timed feed trips stretches sound are = record {
-  forward = λ t lt. (are.each t (within t lt)).forward;
-  ends = λ t lt. (are.each t (within t lt)).ends;
-  timed = λ t lt. subst HasTimedEnds (sym (rows_are feed trips t stretches are (within t lt))) (sound_ends feed (record { 0 = t }) sound.calls);
-  rise = λ t lt. subst DoTimesRise (sym (rows_are feed trips t stretches are (within t lt))) (sound_rise feed (record { 0 = t }) sound.calls);
-}
-  where
-    within : (t : ℕ) → t < length stretches → t < trips
-    within t lt = let count = are.count in omega arith
+-- and so they are among rows that are sorted
+pub sorted_are : (feed : FeedRows) (rows : List StopTimeRow) (trips t : ℕ) (stretches : List Stretch) → IsSoundFeed feed → IsPermutation feed.stop_times rows → AllPairs IsInOrder rows → AreStretches rows (length rows) trips stretches → t < trips
+    → rows_at rows stretches t ≡ trip_stop_times feed (record { 0 = t })
+sorted_are feed rows trips t stretches sound moved up are lt =
+    stretch_rows rows trips t stretches are lt ∙ trip_stop_times_of_sorted feed rows (record { 0 = t }) (calls_apart feed sound.calls) moved up
 
--- and their calls, one stretch after another, are those of the trips
-pub stretch_calls : (feed : FeedRows) (stretches : List Stretch) → IsSoundFeed feed → AreStretches feed.stop_times (length feed.stop_times) (length feed.trips) stretches
-    → AreCallsOf feed (joined_below (length stretches) (λ t. pass (rows_at feed.stop_times stretches t))) (list_below (length stretches + 1) (λ k. length (joined_below k (λ t. pass (rows_at feed.stop_times stretches t)))))
-stretch_calls feed stretches sound are t lt =
-    let count = are.count in
-    let long = length-list_below (length stretches + 1) size in
-    let begins : get_or starts 0 0 ≡ 0 = get_or-list_below (length stretches + 1) size 0 0 (omega arith) in
-    let it = groups_joined f starts (length stretches) t (omega arith) begins next (omega arith) in
-    record { lies = it.lies; is = it.is ∙ ap pass (rows_are feed (length feed.trips) t stretches are lt) ∙ sym (calls_of-pass feed (record { 0 = t }) (sound_ends feed (record { 0 = t }) sound.calls)) }
-  where
-    f : ℕ → List Call
-    f s = pass (rows_at feed.stop_times stretches s)
+module _ (feed : FeedRows) (rows : List StopTimeRow) (stretches : List Stretch) (sound : IsSoundFeed feed) (are : AreStretches rows (length rows) (length feed.trips) stretches)
+    (own : (t : ℕ) → t < length feed.trips → rows_at rows stretches t ≡ trip_stop_times feed (record { 0 = t })) where
+  within : (t : ℕ) → t < length stretches → t < length feed.trips
+  within t lt = let count = are.count in omega arith
 
-    size : ℕ → ℕ
-    size k = length (joined_below k f)
+  -- so they begin and end with times, which don't fall
+  pub timed : AreTimed rows stretches
+  timed = record {
+    forward = λ t lt. (are.each t (within t lt)).forward;
+    ends = λ t lt. (are.each t (within t lt)).ends;
+    timed = λ t lt. subst HasTimedEnds (sym (own t (within t lt))) (sound_ends feed (record { 0 = t }) sound.calls);
+    rise = λ t lt. subst DoTimesRise (sym (own t (within t lt))) (sound_rise feed (record { 0 = t }) sound.calls);
+  }
 
-    starts : List ℕ
-    starts = list_below (length stretches + 1) size
+  -- and their calls are those of the trips
+  pub stretch_calls : list_below (length stretches) (λ t. pass (rows_at rows stretches t)) ≡ trip_calls feed
+  stretch_calls =
+      rw are.count (list_below-same (length feed.trips) (λ t. pass (rows_at rows stretches t)) (λ t. calls_of feed (record { 0 = t }))
+      (λ t lt. ap pass (own t lt) ∙ sym (calls_of-pass feed (record { 0 = t }) (sound_ends feed (record { 0 = t }) sound.calls))))
 
-    next : (s : ℕ) → s < length stretches → get_or starts s 0 + length (f s) ≡ get_or starts (s + 1) 0
-    next s below =
-        let here = get_or-list_below (length stretches + 1) size s 0 (omega arith) in
-        let after = get_or-list_below (length stretches + 1) size (s + 1) 0 (omega arith) in
-        let e : s + 1 ≡ suc s = omega arith in
-        let more : size (s + 1) ≡ size s + length (f s) = rw e (length-append (joined_below s f) (f s)) in
-        here_after here after more
-      where
-        here_after : get_or starts s 0 ≡ size s → get_or starts (s + 1) 0 ≡ size (s + 1) → size (s + 1) ≡ size s + length (f s) → get_or starts s 0 + length (f s) ≡ get_or starts (s + 1) 0
-        here_after a b c = omega arith
+-- stretches of rows that are the trips' stop times: their rows are timed, and their calls are those of the trips
+pub record AreTripStretches (feed : FeedRows) (rows : List StopTimeRow) (stretches : List Stretch) : Type 0 where
+  pub timed_rows : AreTimed rows stretches
+  pub calls : list_below (length stretches) (λ t. pass (rows_at rows stretches t)) ≡ trip_calls feed
+
+pub file_stretches : (feed : FeedRows) (stretches : List Stretch) → IsSoundFeed feed → AreStretches feed.stop_times (length feed.stop_times) (length feed.trips) stretches → AreTripStretches feed feed.stop_times stretches
+file_stretches feed stretches sound are =
+    let own = λ (t : ℕ) (lt : t < length feed.trips). rows_are feed (length feed.trips) t stretches are lt in
+    record { timed_rows = timed feed feed.stop_times stretches sound are own; calls = stretch_calls feed feed.stop_times stretches sound are own }
+
+pub sorted_stretches : (feed : FeedRows) (rows : List StopTimeRow) (stretches : List Stretch) → IsSoundFeed feed → IsPermutation feed.stop_times rows → AllPairs IsInOrder rows → AreStretches rows (length rows) (length feed.trips) stretches
+    → AreTripStretches feed rows stretches
+sorted_stretches feed rows stretches sound moved up are =
+    let own = λ (t : ℕ) (lt : t < length feed.trips). sorted_are feed rows (length feed.trips) t stretches sound moved up are lt in
+    record { timed_rows = timed feed rows stretches sound are own; calls = stretch_calls feed rows stretches sound are own }
+
+-- sorted rows are of the feed's trips, and few
+pub sorted_within : (feed : FeedRows) (rows : List StopTimeRow) → IsSoundFeed feed → IsPermutation feed.stop_times rows → All (λ r. r.trip.0 < length feed.trips) rows
+sorted_within feed rows sound moved = All-permutation (λ (r : StopTimeRow). r.trip.0 < length feed.trips) feed.stop_times rows moved sound.stop_times.trips
+
+pub sorted_few : (feed : FeedRows) (rows : List StopTimeRow) → IsSoundFeed feed → IsPermutation feed.stop_times rows → length rows < 2 ^ 32
+sorted_few feed rows sound moved =
+    let long = length_permutation feed.stop_times rows moved in
+    let few = sound.stop_times.few in
+    omega arith
+
+-- the rows of a stretch are of its trip
+own_trip : (rows : List StopTimeRow) (n trip : ℕ) (s : Stretch) → IsStretch rows n trip s → All (λ r. (r.trip.0 == trip) ≡ true) (rows_of rows s)
+own_trip rows n trip s is = subst (All (λ (r : StopTimeRow). (r.trip.0 == trip) ≡ true)) (sym is.are) (filter_passes (λ (r : StopTimeRow). r.trip.0 == trip) (take n rows))
+
+-- a range that isn't empty begins with its first item
+range_first : (rows : List StopTimeRow) (from to : ℕ) (d : StopTimeRow) → from < to → from < length rows → slice_range rows from to ≡ get_or rows from d ∷ slice_range rows (from + 1) to
+range_first rows from to d lt inside =
+    let size : to - from ≡ suc (to - (from + 1)) = omega arith in
+    let next : from + 1 ≡ suc from = omega arith in
+    rw (size, drop-cons rows from d, next) refl
+
+-- where rows are sorted, none lies apart from those of its trip
+module _ (rows : List StopTimeRow) (trips : ℕ) (up : AllPairs IsInOrder rows) (few : All (λ (r : StopTimeRow). r.trip.0 < trips) rows) (scattered : IsScattered rows trips) where
+  here : StopTimeRow
+  here = get_or rows scattered.place no_time
+
+  s : Stretch
+  s = get_or scattered.stretches here.trip.0 no_stretch
+
+  is_stretch : IsStretch rows scattered.place here.trip.0 s
+  unfolding here s
+  is_stretch = scattered.before.each here.trip.0 (few scattered.place no_time scattered.inside)
+
+  begun : s.from < s.to
+  unfolding here s
+  begun = scattered.apart.begun no_time
+
+  last_own : (get_or rows (s.to - 1) no_time).trip.0 ≡ here.trip.0
+  last_own =
+      let from = begun in
+      let ends = is_stretch.ends in
+      let inside = scattered.inside in
+      let place : s.from + (s.to - 1 - s.from) ≡ s.to - 1 = omega arith in
+      let size = length-take (s.to - s.from) (drop s.from rows) in
+      let left = length-drop s.from rows in
+      let own = own_trip rows scattered.place here.trip.0 s is_stretch (s.to - 1 - s.from) no_time (omega arith) in
+      let at_range = range_at rows s.from s.to (s.to - 1 - s.from) no_time (omega arith) in
+      let moved = rw at_range at own in
+      eqb-true (get_or rows (s.to - 1) no_time).trip.0 here.trip.0 (rw place at moved)
+
+  -- a row between it and its trip's is of the trip too
+  between : (a b c : StopTimeRow) → a.trip.0 ≡ c.trip.0 → IsInOrder a b → IsInOrder b c → b.trip.0 ≡ c.trip.0
+  between a b c same first second = grind (arith, same, first, second)
+
+  falls : (a b : StopTimeRow) → a.trip.0 ≡ b.trip.0 → IsInOrder a b → b.sequence < a.sequence → ⊥
+  falls a b same order less = grind (arith, same, order, less)
+
+  at_once : s.to ≡ scattered.place → ⊥
+  unfolding here s
+  at_once same =
+      let from = begun in
+      let inside = scattered.inside in
+      let before : (get_or rows (scattered.place - 1) no_time).trip.0 ≡ here.trip.0 = rw same at last_own in
+      falls (get_or rows (scattered.place - 1) no_time) here before (up (scattered.place - 1) scattered.place no_time (omega arith) inside) (scattered.apart.apart no_time same)
+
+  later : s.to < scattered.place → ⊥
+  unfolding here
+  later lt =
+      let from = begun in
+      let inside = scattered.inside in
+      let place = scattered.place in
+      let test = λ (r : StopTimeRow). r.trip.0 == here.trip.0 in
+      let next = get_or rows s.to no_time in
+      let same : next.trip.0 ≡ here.trip.0 = next_own lt in
+      let size = length-take (s.to - s.from) (drop s.from rows) in
+      let left = length-drop s.from rows in
+      let cut : take place rows ≡ take s.from rows ++ (slice_range rows s.from s.to ++ (next ∷ slice_range rows (s.to + 1) place)) =
+      cut_further rows s.to place (omega arith) ∙ rw (cut_further rows s.from s.to (omega arith), range_first rows s.to place no_time lt (omega arith), append_assoc) refl in
+      let more = passes_more test (take s.from rows) (slice_range rows s.from s.to) next (slice_range rows (s.to + 1) place) (own_trip rows place here.trip.0 s is_stretch) (eq-eqb next.trip.0 here.trip.0 same) in
+      let kept : length (slice_range rows s.from s.to) ≡ length (filter test (take place rows)) = ap length is_stretch.are in
+      let also = ap (λ rs. length (filter test rs)) cut in
+      omega (arith, more, kept, also)
+    where
+      next_own : s.to < scattered.place → (get_or rows s.to no_time).trip.0 ≡ here.trip.0
+      next_own lt =
+          let from = begun in
+          let inside = scattered.inside in
+          between (get_or rows (s.to - 1) no_time) (get_or rows s.to no_time) here last_own (up (s.to - 1) s.to no_time (omega arith) (omega arith)) (up s.to scattered.place no_time lt inside)
+
+  pub sorted_together : ⊥
+  sorted_together = let ends = is_stretch.ends in ⊎_elim later (λ ge. at_once (omega arith)) (cases_lt s.to scattered.place)
 
 -- the steps of a scan for the next timed row
 pub ruleset timed_scan = (next_timed_hit, next_timed_end, untimed_more, is_timed_at_row)

@@ -1,4 +1,3 @@
-pub mod Groups
 pub mod NamedTrips
 pub mod Runs
 pub mod Tables

@@ -1,18 +1,21 @@
--- The tables of calls and of frequency rows, one trip after another.
-use Rattle.std.specs.Prelude.{ℕ, ◌<◌, List, length, All}
+-- The calls and the frequency rows of a feed, trip by trip.
+use Rattle.std.specs.Prelude.{◌≡◌, ℕ, ◌<◌, ◌≤◌, ◌⊎◌, List, length}
 use Rattle.feed_rows.specs.declared.journeys.Call.{Call}
 use Rattle.feed_rows.specs.declared.rows.FrequencyRow.{FrequencyRow}
+use Rattle.feed_rows.specs.declared.rows.StopTimeRow.{StopTimeRow}
 use Rattle.feed_rows.specs.FeedRows.{FeedRows}
 use Rattle.feed_rows.specs.Calls.{calls_of}
-use Rattle.feed_trips.specs.Groups.{IsGroup, group, IsGroupOf}
-use Rattle.feed_trips.specs.Runs.{AreRunsOf, IsSoundRun}
+use Rattle.feed_rows.specs.Shifts.{trip_frequencies}
+use Rattle.plain_laws.specs.Plain.{list_below}
 
--- the calls of each trip of the feed are a group of the calls
-abbrev pub AreCallsOf : FeedRows → List Call → List ℕ → Type 0
-AreCallsOf feed calls starts = (t : ℕ) → t < length feed.trips → IsGroupOf calls starts t (calls_of feed (record { 0 = t }))
+-- a row doesn't come after another: by trip, and within a trip by sequence
+abbrev pub IsInOrder : StopTimeRow → StopTimeRow → Type 0
+IsInOrder a b = (a.trip.0 < b.trip.0) ⊎ ((a.trip.0 ≡ b.trip.0) × (a.sequence ≤ b.sequence))
 
--- the frequency rows of each trip of the feed are a group of the rows
-pub record AreRunTables (feed : FeedRows) (rows : List FrequencyRow) (starts : List ℕ) : Type 0 where
-  pub lie : (t : ℕ) → t < length feed.trips → IsGroup rows starts t
-  pub are : (t : ℕ) → t < length feed.trips → AreRunsOf feed (record { 0 = t }) (group rows starts t)
-  pub sound : All IsSoundRun rows
+-- the calls of each trip
+abbrev pub trip_calls : FeedRows → List (List Call)
+trip_calls feed = list_below (length feed.trips) (λ t. calls_of feed (record { 0 = t }))
+
+-- the frequency rows of each trip, in file order
+abbrev pub trip_runs : FeedRows → List (List FrequencyRow)
+trip_runs feed = list_below (length feed.trips) (λ t. trip_frequencies feed (record { 0 = t }))

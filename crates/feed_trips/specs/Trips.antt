@@ -1,8 +1,9 @@
 -- What contracts see of `Trips`, and what holds of its tables.
+use Rattle.std.specs.Prelude.{◌≡◌}
 use Rattle.feed_rows.specs.FeedRows.{FeedRows}
 use Rattle.feed_rows.specs.SoundFeed.{IsSoundFeed}
 use Rattle.feed_trips.specs.declared.trips.Trips.TheInside.{Inside}
-use Rattle.feed_trips.specs.Tables.{AreCallsOf, AreRunTables}
+use Rattle.feed_trips.specs.Tables.{trip_calls, trip_runs}
 use Rattle.feed_trips.specs.NamedTrips.{AreNamedInOrder}
 
 -- the feed that the tables are of
@@ -12,6 +13,6 @@ feed_of fields = fields.feed.now
 -- the tables have the calls, the frequency rows and the ids of the trips of a feed without a fault
 pub record AreTablesOf (feed : FeedRows) (fields : Inside) : Type 0 where
   pub sound : IsSoundFeed feed
-  pub calls : AreCallsOf feed fields.calls.items fields.call_starts.items
-  pub runs : AreRunTables feed fields.frequencies.items fields.frequency_starts.items
+  pub calls : fields.calls ≡ trip_calls feed
+  pub runs : fields.frequencies ≡ trip_runs feed
   pub names : AreNamedInOrder feed fields.by_id.items

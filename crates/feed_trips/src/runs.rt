@@ -36,7 +36,7 @@ fn runs_in(row: &FrequencyRow) -> u32
 }
 
 // Appends the shifts of a row's runs against the first departure, in seconds.
-#[tactic(auto, using(feed_laws::proofs::ShiftLaws::run_starts_counted))]
+#[tactic(auto, using(crate::proofs::RunLaws::starts_by_count))]
 fn push_shifts(shifts: &mut Vec<i64>, row: &FrequencyRow, first: u32) -> Result<(), AllocError>
     requires { IsSoundRun row.now }
     ensures { OnOk result (shifts.new.items ≡ shifts.old.items ++ map (λ start. pos start -ℤ pos first) (run_starts row.now)) }

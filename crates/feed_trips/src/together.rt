@@ -4,11 +4,12 @@ ghost use Rattle.std.specs.Prelude.{◌≡◌, ℕ, ◌+◌, ◌<◌, ◌≤◌,
 ghost use Rattle.std.specs.Bool.{OnFalse, OnTrue};
 ghost use Rattle.feed_rows.specs.declared.rows.StopTimeRow.{StopTimeRow};
 ghost use Rattle.feed_rows.specs.CallPass.{pass};
-ghost use Rattle.plain_laws.specs.Plain.{joined_below, list_below};
+ghost use Rattle.plain_laws.specs.Plain.{list_below};
 ghost use Rattle.feed_trips.specs.Stretches.{AreStretches, AreTimed, IsApart, IsScattered, rows_at};
 
 use crate::passes::push_calls;
 use feed_rows::{Call, StopTimeRow};
+use plain_laws::{Groups, push_end};
 use std::alloc::{AllocError, Global};
 
 /// Where the rows of a trip stand: from a place, and up to the place after the last.
@@ -88,7 +89,7 @@ fn push_stretch(
     push_calls(calls, &rows[stretch.from..stretch.to])
 }
 
-/// The calls of the rows at these stretches, one stretch after another, and where those of each begin and the last end.
+/// The calls of the rows at each of these stretches.
 ///
 /// # Errors
 /// Want of memory.
@@ -96,18 +97,16 @@ pub fn calls_of_stretches(
     alloc: Global,
     rows: &[StopTimeRow],
     stretches: &[Stretch],
-) -> Result<(Vec<Call>, Vec<usize>), AllocError>
+) -> Result<Groups<Call>, AllocError>
     requires timed { AreTimed rows.now stretches.now }
     requires few { length rows.now < 2 ^ 32 }
-    ensures calls { IfOk result (λ tables. tables.0.items ≡ joined_below (length stretches.now) (λ t. pass (rows_at rows.now stretches.now t))) }
-    ensures starts { IfOk result (λ tables. tables.1.items ≡ list_below (length stretches.now + 1) (λ k. length (joined_below k (λ t. pass (rows_at rows.now stretches.now t))))) }
+    ensures { IfOk result (λ calls. calls ≡ list_below (length stretches.now) (λ t. pass (rows_at rows.now stretches.now t))) }
 {
     let mut calls = Vec::with_capacity(alloc, rows.len())?;
-    let mut starts = Vec::with_capacity(alloc, stretches.len() + 1)?;
+    let mut ends = Vec::with_capacity(alloc, stretches.len())?;
     for trip in 0..stretches.len() {
-        starts.push(calls.len())?;
         push_stretch(&mut calls, rows, stretches, trip)?;
+        push_end(&mut ends, calls.len())?;
     }
-    starts.push(calls.len())?;
-    Ok((calls, starts))
+    Ok(Groups::from_parts(ends, calls))
 }

@@ -8,11 +8,11 @@ ghost use Rattle.feed_rows.specs.Queries.{find_trip};
 ghost use Rattle.plain_laws.specs.Plain.{at_and};
 ghost use Rattle.feed_trips.specs.Runs.{AreRunsOf, IsSoundRun};
 
-use crate::groups::group_at;
 use crate::ids::{NamedTrip, find_named, trips_by_id};
-use crate::order::{call_tables, run_tables};
+use crate::order::{calls_by_trip, runs_by_trip};
 use crate::runs::{has_run_at, shifts_of_runs};
 use feed_rows::{Call, Feed, FrequencyRow, Ride, RideFacts, Shifts};
+use plain_laws::Groups;
 use std::alloc::{AllocError, Global};
 use std::marker::Model;
 use transit_base::{Moment, NetworkId, TripId};
@@ -21,14 +21,10 @@ use transit_base::{Moment, NetworkId, TripId};
 #[derive(Drop)]
 pub struct Trips<'f> {
     feed: &'f Feed,
-    /// The calls of all trips, one trip after another.
-    calls: Vec<Call>,
-    /// Where the calls of each trip begin, and where the last ones end.
-    call_starts: Vec<usize>,
-    /// The frequency rows, one trip after another.
-    frequencies: Vec<FrequencyRow>,
-    /// Where the frequency rows of each trip begin, and where the last ones end.
-    frequency_starts: Vec<usize>,
+    /// The calls of each trip.
+    calls: Groups<Call>,
+    /// The frequency rows of each trip.
+    frequencies: Groups<FrequencyRow>,
     /// The trips in order of their ids.
     by_id: Vec<NamedTrip<'f>>,
 }
@@ -54,15 +50,13 @@ impl<'f> Trips<'f> {
         ensures { IfOk result (λ trips. trips ≡ feed.now) }
     {
         let _rows = &feed.trips;
-        let (calls, call_starts) = call_tables(alloc, feed)?;
-        let (frequencies, frequency_starts) = run_tables(alloc, feed)?;
+        let calls = calls_by_trip(alloc, feed)?;
+        let frequencies = runs_by_trip(alloc, feed)?;
         let by_id = trips_by_id(alloc, feed)?;
         Ok(Trips {
             feed,
             calls,
-            call_starts,
             frequencies,
-            frequency_starts,
             by_id,
         })
     }
@@ -80,7 +74,7 @@ impl<'f> Trips<'f> {
         ensures value { result.now ≡ calls_of self.now trip }
         ensures times { All (λ (c : Call). (c.arrival ≤ 604_799) × (c.departure ≤ 604_799)) result.now }
     {
-        group_at(&self.calls, &self.call_starts, trip.0 as usize)
+        self.calls.group(trip.0 as usize)
     }
 
     // The frequency rows of a trip.
@@ -89,7 +83,7 @@ impl<'f> Trips<'f> {
         ensures runs { AreRunsOf self.now trip result.now }
         ensures sound { All IsSoundRun result.now }
     {
-        group_at(&self.frequencies, &self.frequency_starts, trip.0 as usize)
+        self.frequencies.group(trip.0 as usize)
     }
 
     /// Whether a trip has frequency rows.

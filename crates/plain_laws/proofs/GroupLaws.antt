@@ -150,3 +150,13 @@ group_pushed {X} members ends longer xs more from to i end start next rise befor
     let size : end ≡ length xs + length part = at ∙ ap length is_more ∙ length-append xs part in
     let pushed = pushed_part ends longer xs part more end rise is_longer is_more size in
     (pushed.0, pushed.1 ∙ rw (before, is, add-one) refl)
+
+-- items that are numbered by a key
+pub group_of-map : {X : Type 0} (key : X → ℕ) (xs : List X) (i : ℕ) → group_of (map (λ x. record { group = key x; item = x }) xs) i ≡ filter (λ x. key x == i) xs
+group_of-map key [] i = refl
+group_of-map key (x ∷ xs) i = step (cases_Bool (key x == i)) (group_of-map key xs i)
+  where
+    step : ((key x == i) ≡ true) ⊎ ((key x == i) ≡ false) → group_of (map (λ y. record { group = key y; item = y }) xs) i ≡ filter (λ y. key y == i) xs
+        → group_of (map (λ y. record { group = key y; item = y }) (x ∷ xs)) i ≡ filter (λ y. key y == i) (x ∷ xs)
+    step (inl hit) rest = rw hit (ap (λ ys. x ∷ ys) rest)
+    step (inr miss) rest = rw miss rest

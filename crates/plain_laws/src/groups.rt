@@ -136,10 +136,7 @@ fn start_of<T: Copy + Drop>(members: &[Grouped<T>], group: u32) -> usize
 }
 
 /// Appends the items of the members.
-fn push_items<T: Copy + Drop>(
-    items: &mut Vec<T>,
-    members: &[Grouped<T>],
-) -> Result<(), AllocError>
+fn push_items<T: Copy + Drop>(items: &mut Vec<T>, members: &[Grouped<T>]) -> Result<(), AllocError>
     ensures { OnOk result (items.new.items ≡ items.old.items ++ map (λ (m : Grouped T). m.item) members.now) }
 {
     for member in members {

@@ -1,6 +1,6 @@
 use Rattle.std.proofs.Common.{◌≡◌, ◌∙◌, ◌≤◌, ap, sym, subst, length, map, AllPairs, IsPermutation, arith}
 use Rattle.std.proofs.lemmas.List.{take_all}
-use Rattle.feed_laws.proofs.TripLaws.{IsInOrder}
+use Rattle.feed_trips.specs.Tables.{IsInOrder}
 use Rattle.feed_trips.proofs.OrderLaws.{row_of, moved_by_keys, in_order_by_keys}
 use Rattle.feed_trips.proofs.order.sorted_stop_times.Goals as goal
 

@@ -1,13 +1,14 @@
-use Rattle.std.proofs.Common.{◌≡◌, ◌+◌, refl, suc, ap, length, arith}
+use Rattle.std.proofs.Common.{◌≡◌, ◌+◌, ◌∙◌, refl, ap, length, length-append, add-one, arith}
 use Rattle.feed_rows.specs.CallPass.{pass}
-use Rattle.plain_laws.specs.Plain.{joined_below}
+use Rattle.plain_laws.proofs.Laws.{pushed_part}
 use Rattle.feed_trips.specs.Stretches.{rows_at}
 use Rattle.feed_trips.proofs.together.calls_of_stretches.Goals as goal
 
-pub returns-clause-starts : goal.returns-clause-starts
-returns-clause-starts c =
-    let n = length c.args.stretches.now in
-    let end : c.loop-trip.trip ≡ n = omega arith in
-    let next : n + 1 ≡ suc n = omega arith in
-    let size : c.len-2.result ≡ length (joined_below c.loop-trip.trip (λ t. pass (rows_at c.args.rows.now c.args.stretches.now t))) = omega (arith, c.len-2.ensures, ap length c.loop-trip.invariant.calls, c.loop-trip.calls.ok.0) in
-    rw (next, c.in_ok-push-2.ensures.items, size, c.loop-trip.invariant.starts, end) refl
+pub loop-trip-preserved : goal.loop-trip-preserved
+loop-trip-preserved c =
+    let made = pass (rows_at c.args.rows.now c.args.stretches.now c.loop-trip.trip) in
+    let grown = c.in_ok-push_stretch.ensures in
+    let long : c.len.result ≡ length c.push_stretch.new.calls.items = omega (arith, c.len.ensures) in
+    let size : c.len.result ≡ length c.loop-trip.calls.items + length made = long ∙ ap length grown ∙ length-append c.loop-trip.calls.items made in
+    let next = pushed_part _ _ _ _ _ _ c.loop-trip.invariant.rise c.in_ok-push_end.ensures.ok grown size in
+    record { rise = next.0; calls = next.1 ∙ rw (c.loop-trip.invariant.calls, add-one) refl }

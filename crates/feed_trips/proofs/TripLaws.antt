@@ -10,12 +10,9 @@ use Rattle.transit_base.specs.declared.numbers.TripId.{TripId}
 use Rattle.feed_rows.specs.declared.rows.StopTimeRow.{StopTimeRow}
 use Rattle.feed_rows.specs.FeedRows.{FeedRows}
 use Rattle.feed_rows.specs.Calls.{trip_stop_times}
+use Rattle.feed_trips.specs.Tables.{IsInOrder}
 use Rattle.plain_laws.proofs.Laws.{HaveSameMembers, Contains-filter, Contains-filter_passes}
 use Rattle.feed_laws.proofs.SequenceLaws.{IsBefore, IsApart, AreCallsApart, in_sequence_only, trip_rows_apart}
-
--- a row doesn't come after another: by trip, and within a trip by sequence
-abbrev pub IsInOrder : StopTimeRow → StopTimeRow → Type 0
-IsInOrder a b = (a.trip.0 < b.trip.0) ⊎ ((a.trip.0 ≡ b.trip.0) × (a.sequence ≤ b.sequence))
 
 -- rows that are those of a list and pass a test are those of the list that do
 filter_there : (p : StopTimeRow → Bool) (rows others : List StopTimeRow) → IsPermutation rows others → (x : StopTimeRow) → Contains (filter p rows) x → Contains (filter p others) x

@@ -1,0 +1,30 @@
+use Rattle.std.proofs.Common.{◌≡◌, ◌∙◌, sym, ap, subst, List, length}
+use Rattle.feed_rows.specs.declared.rows.StopTimeRow.{StopTimeRow}
+use Rattle.feed_rows.specs.FeedRows.{FeedRows}
+use Rattle.feed_rows.specs.SoundFeed.{IsSoundFeed}
+use Rattle.feed_rows.specs.CallPass.{pass}
+use Rattle.plain_laws.specs.Plain.{list_below}
+use Rattle.feed_trips.specs.declared.together.Stretch.{Stretch}
+use Rattle.feed_trips.specs.Stretches.{AreStretches, AreTimed, rows_at}
+use Rattle.feed_trips.proofs.StretchLaws.{file_stretches}
+use Rattle.feed_trips.proofs.order.calls_by_trip.Goals as goal
+
+pub calls_of_stretches-requires-clause-timed : goal.calls_of_stretches-requires-clause-timed
+calls_of_stretches-requires-clause-timed c =
+    let rows : c.items-rows.result.now ≡ c.args.feed.now.stop_times = c.items-rows.ensures.value ∙ ap (λ (f : FeedRows). f.stop_times) c.feed.view_is in
+    let trips : length c.items-trips.result.now ≡ length c.args.feed.now.trips = ap length (c.items-trips.ensures.value ∙ ap (λ (f : FeedRows). f.trips) c.feed.view_is) in
+    let found = rw c.in-Some.is at c.in_ok-stretches.ensures.together in
+    let of_trips = subst (λ n. AreStretches c.items-rows.result.now (length c.items-rows.result.now) n c.in-Some.stretches.items) trips found in
+    let are = subst (λ (rs : List StopTimeRow). AreStretches rs (length rs) (length c.args.feed.now.trips) c.in-Some.stretches.items) rows of_trips in
+    rw c.deref.ensures.value (subst (λ (rs : List StopTimeRow). AreTimed rs c.in-Some.stretches.items) (sym rows) (file_stretches c.args.feed.now c.in-Some.stretches.items (subst IsSoundFeed c.feed.view_is c.feed.invariant) are).timed_rows)
+
+pub returns-in-Some : goal.returns-in-Some
+returns-in-Some c =
+    let rows : c.items-rows.result.now ≡ c.args.feed.now.stop_times = c.items-rows.ensures.value ∙ ap (λ (f : FeedRows). f.stop_times) c.feed.view_is in
+    let trips : length c.items-trips.result.now ≡ length c.args.feed.now.trips = ap length (c.items-trips.ensures.value ∙ ap (λ (f : FeedRows). f.trips) c.feed.view_is) in
+    let found = rw c.in-Some.is at c.in_ok-stretches.ensures.together in
+    let of_trips = subst (λ n. AreStretches c.items-rows.result.now (length c.items-rows.result.now) n c.in-Some.stretches.items) trips found in
+    let are = subst (λ (rs : List StopTimeRow). AreStretches rs (length rs) (length c.args.feed.now.trips) c.in-Some.stretches.items) rows of_trips in
+    c.in_ok-calls.ensures ∙ ap (λ (ss : List Stretch). list_below (length ss) (λ t. pass (rows_at c.items-rows.result.now ss t))) c.deref.ensures.value
+    ∙ ap (λ (rs : List StopTimeRow). list_below (length c.in-Some.stretches.items) (λ t. pass (rows_at rs c.in-Some.stretches.items t))) rows
+    ∙ (file_stretches c.args.feed.now c.in-Some.stretches.items (subst IsSoundFeed c.feed.view_is c.feed.invariant) are).calls
