@@ -1,4 +1,3 @@
-pub mod BaseSound
 pub mod CornerAnswers
 pub mod CornerFares
 pub mod CornerJourneys

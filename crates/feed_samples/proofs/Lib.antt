@@ -1,2 +1,4 @@
 pub mod FeedParts
 pub mod VariedSound
+pub mod BaseSound
+pub mod WalkChecks

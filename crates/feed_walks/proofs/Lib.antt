@@ -4,4 +4,3 @@ pub mod PairLaws
 pub mod ReachLaws
 pub mod LinkLaws
 pub mod StepLaws
-pub mod WalkChecks

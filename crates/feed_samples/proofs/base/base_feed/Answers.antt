@@ -1,7 +1,7 @@
 use Rattle.std.proofs.Common.{sym, subst, refl}
 use Rattle.feed_rows.specs.SoundFeed.{IsSoundFeed}
 use Rattle.feed_samples.specs.BaseRows.{base_rows}
-use Rattle.feed_examples.proofs.BaseSound.{base_is_sound}
+use Rattle.feed_samples.proofs.BaseSound.{base_is_sound}
 use Rattle.feed_samples.proofs.FeedParts.{same_feed}
 use Rattle.feed_samples.proofs.base.base_feed.Goals as goal
 
