@@ -1,10 +1,9 @@
 -- Rows of sample feeds.
-use Rattle.std.specs.Prelude.{ℕ, List, Option, Some, true}
+use Rattle.std.specs.Prelude.{ℕ, List, Option}
 use Rattle.transit_base.specs.declared.numbers.StopId.{StopId}
 use Rattle.transit_base.specs.declared.numbers.RouteId.{RouteId}
 use Rattle.feed_rows.specs.declared.rows.StopRow.{StopRow}
 use Rattle.feed_rows.specs.declared.rows.TripRow.{TripRow}
-use Rattle.feed_rows.specs.declared.rows.StopTimeRow.{StopTimeRow}
 
 -- a stop
 abbrev pub stop_row : List ℕ → ℕ → Option StopId → StopRow
@@ -13,16 +12,3 @@ stop_row id kind parent = record { id = id; kind = kind; parent = parent }
 -- a trip of the service 0
 abbrev pub trip_row : List ℕ → RouteId → TripRow
 trip_row id route = record { id = id; route = route; service = record { 0 = 0 } }
-
--- a stop time with one time for arrival and departure
-abbrev pub call_row : ℕ → ℕ → ℕ → ℕ → StopTimeRow
-call_row trip stop sequence time =
-    record {
-      trip = record { 0 = trip };
-      stop = record { 0 = stop };
-      sequence = sequence;
-      arrival = Some time;
-      departure = Some time;
-      pickup = true;
-      drop_off = true;
-    }

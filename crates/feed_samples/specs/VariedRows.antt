@@ -8,7 +8,8 @@ use Rattle.feed_rows.specs.declared.rows.FrequencyRow.{FrequencyRow}
 use Rattle.feed_rows.specs.declared.rows.LinkRow.{LinkRow}
 use Rattle.feed_rows.specs.FeedRows.{FeedRows}
 use Rattle.feed_examples.specs.BaseFeed.{base}
-use Rattle.feed_samples.specs.SampleRows.{stop_row, call_row}
+use Rattle.feed_examples.specs.BaseFeed.{call}
+use Rattle.feed_samples.specs.SampleRows.{stop_row}
 
 -- A, B, C; the station P with the platforms P1 and P2; the station Q with Q1 and Q2
 abbrev pub varied_stops : List StopRow
@@ -20,9 +21,9 @@ varied_stops =
 -- T3 out of order, with a call at B that has no time and where riders may not board
 abbrev pub varied_stop_times : List StopTimeRow
 varied_stop_times =
-    call_row 2 2 9 32400 ∷ call_row 0 0 1 28800 ∷ call_row 0 1 2 29400 ∷ call_row 1 1 1 29700 ∷ call_row 1 2 2 30600
+    call 2 2 9 32400 ∷ call 0 0 1 28800 ∷ call 0 1 2 29400 ∷ call 1 1 1 29700 ∷ call 1 2 2 30600
     ∷ record { trip = record { 0 = 2 }; stop = record { 0 = 1 }; sequence = 5; arrival = None; departure = None; pickup = false; drop_off = true }
-    ∷ call_row 2 0 1 29100 ∷ []
+    ∷ call 2 0 1 29100 ∷ []
 
 -- the service M runs from 2025-06-02 to 2025-06-09, from Monday to Friday
 abbrev pub varied_services : List ServiceRow

@@ -1,6 +1,7 @@
 //! Lists of rows, from tables in the code.
 ghost use Rattle.std.specs.Prelude.{◌≡◌, ◌≤◌, ◌++◌, ◌∷◌, [], true, length, IfOk, OnOk, None, Some};
-ghost use Rattle.feed_samples.specs.SampleRows.{stop_row, trip_row, call_row};
+ghost use Rattle.feed_examples.specs.BaseFeed.{call};
+ghost use Rattle.feed_samples.specs.SampleRows.{stop_row, trip_row};
 
 use feed_rows::{Id, NameList, StopRow, StopRows, StopTimeRow, TripRow, TripRows};
 use plain_laws::ItemList;
@@ -77,7 +78,7 @@ pub fn push_trip(
 
 /// A stop time with one time for arrival and departure, in seconds of the service day.
 pub fn call(trip: u32, stop: u32, sequence: u32, time: u32) -> StopTimeRow
-    ensures { result ≡ call_row trip stop sequence time }
+    ensures { result ≡ call trip stop sequence time }
 {
     StopTimeRow {
         trip: TripId(trip),
