@@ -11,10 +11,7 @@ use feed_rows::{ColumnName, StopTimeRow, StopTimeRows};
 use feed_tables::{IdIndex, TableIds, Tables};
 use feed_text::{int_or_past, optional_int, time_of};
 use std::alloc::{AllocError, Global};
-use transit_base::{StopId, TripId};
-
-// The greatest time, 167:59:59, in seconds.
-const MOST_TIME: u32 = 604_799;
+use transit_base::{MOST_TIME, StopId, TripId};
 
 // Whether a pickup or drop-off type permits: 1 forbids, and 0, 2, 3 and empty permit.
 fn permits(text: &[u8]) -> bool

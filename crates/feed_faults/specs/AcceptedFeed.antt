@@ -4,6 +4,7 @@
 -- no row.
 use Rattle.std.specs.Prelude.{ℕ, zero, suc, ◌&&◌, ◌==◌, not, nat_lt, if◌then◌else◌, Bool, List, [], ◌∷◌, ◌++◌, length, get_or, bytes_eq, is_some, is_none, unwrap_or, Option, None, Some, ℤ, pos, negsuc}
 use Rattle.std.specs.Option.{option_map_or}
+use Rattle.transit_base.specs.Limits.{most_time}
 use Rattle.transit_base.specs.declared.numbers.StopId.{StopId}
 use Rattle.feed_rows.specs.declared.names.FileName.{FileName}
 use Rattle.feed_rows.specs.declared.names.ColumnName.{ColumnName}
@@ -30,7 +31,7 @@ use Rattle.feed_rows.specs.HeldFiles.{HeldFile}
 use Rattle.plain_laws.specs.Plain.{when, find_below, list_below, picks_below}
 use Rattle.feed_faults.specs.Records.{FileTable, row_count, column_of, field, is_filled}
 use Rattle.feed_rows.specs.TimeGrammar.{time_value}
-use Rattle.feed_faults.specs.FieldGrammars.{most_int, most_time, count_value, currency_decimals}
+use Rattle.feed_faults.specs.FieldGrammars.{most_int, count_value, currency_decimals}
 use Rattle.feed_faults.specs.FormFaults.{is_passed_over}
 use Rattle.feed_faults.specs.FeedTables.{FeedTables, tables_of}
 use Rattle.feed_faults.specs.FieldValues.{int_or_past, optional_int, time_or_past, day_or_past, amount_or_past, stop_kind, frame_start, frame_end}

@@ -41,13 +41,6 @@ int_value least most text = if_between least most (signed_value number_value tex
 unfoldable pub count_value : List ℕ → Option ℤ
 count_value text = option_and_then (λ z. when (not (int_same z (pos 0))) z) (int_value (negsuc 0) (pos most_int) text)
 
--- the greatest time, 167:59:59, and the end of a day, 24:00:00, in seconds
-abbrev pub most_time : ℕ
-most_time = 604799
-
-abbrev pub end_of_day : ℕ
-end_of_day = 86400
-
 -- a date: eight digits YYYYMMDD that name a day of the years 0001 to 9999; its value is the day's number (Date)
 unfoldable pub date_value : List ℕ → Option ℤ
 date_value text =

@@ -1,10 +1,11 @@
 -- The values of a row's fields. A field that is no value from 0 to the greatest gives the one after it. These are values
 -- of files whose fields are of their grammars; of others they say nothing.
 use Rattle.std.specs.Prelude.{ℕ, ◌+◌, if◌then◌else◌, List, Option, None, Some, unwrap_or, ℤ, pos, negsuc, ◌+ℤ◌}
+use Rattle.transit_base.specs.Limits.{day_seconds}
 use Rattle.feed_rows.specs.declared.names.ColumnName.TheVariants as column
 use Rattle.feed_faults.specs.Records.{FileTable, field, is_filled}
 use Rattle.feed_rows.specs.TimeGrammar.{time_value}
-use Rattle.feed_faults.specs.FieldGrammars.{end_of_day, int_value, date_value, amount_in, most_amount}
+use Rattle.feed_faults.specs.FieldGrammars.{int_value, date_value, amount_in, most_amount}
 
 -- a number from 0 on, or else the number of something that isn't there
 abbrev pub nat_or : ℕ → Option ℤ → ℕ
@@ -39,9 +40,9 @@ stop_kind stops row = optional_int 4 (field stops row column.LocationType)
 -- the first second of a timeframe, where an empty one is that of the day (timeframes.txt: start_time)
 abbrev pub frame_start : FileTable → ℕ → ℕ
 frame_start frames row =
-    if is_filled (field frames row column.StartTime) then time_or_past end_of_day (field frames row column.StartTime) else 0
+    if is_filled (field frames row column.StartTime) then time_or_past day_seconds (field frames row column.StartTime) else 0
 
 -- the second before which a timeframe ends, where an empty one is the end of the day (timeframes.txt: end_time)
 abbrev pub frame_end : FileTable → ℕ → ℕ
 frame_end frames row =
-    if is_filled (field frames row column.EndTime) then time_or_past end_of_day (field frames row column.EndTime) else end_of_day
+    if is_filled (field frames row column.EndTime) then time_or_past day_seconds (field frames row column.EndTime) else day_seconds

@@ -1,6 +1,7 @@
 -- The columns of each file that are read, in the order in which they are judged, and how a field of each is judged
 -- (Field Definitions). Every other column is passed over.
 use Rattle.std.specs.Prelude.{ℕ, pos, Bool, List, [], ◌∷◌, is_some}
+use Rattle.transit_base.specs.Limits.{most_time, day_seconds}
 use Rattle.feed_rows.specs.declared.names.FileName.{FileName}
 use Rattle.feed_rows.specs.declared.names.FileName.TheVariants as file
 use Rattle.feed_rows.specs.declared.names.ColumnName.{ColumnName}
@@ -12,7 +13,7 @@ use Rattle.feed_faults.specs.declared.columns.Grammar.TheVariants as grammar
 use Rattle.feed_faults.specs.declared.columns.EmptyField.TheVariants as empty
 use Rattle.feed_faults.specs.declared.columns.ColumnRule.{ColumnRule}
 use Rattle.feed_rows.specs.TimeGrammar.{time_value}
-use Rattle.feed_faults.specs.FieldGrammars.{most_int, most_time, end_of_day, is_id, int_value, count_value, date_value, currency_decimals, amount_in}
+use Rattle.feed_faults.specs.FieldGrammars.{most_int, is_id, int_value, count_value, date_value, currency_decimals, amount_in}
 
 -- a column that must be there, with no field empty
 abbrev pub must : ColumnName → Grammar → ColumnRule
@@ -50,7 +51,7 @@ abbrev pub any_time : Grammar
 any_time = grammar.Time most_time
 
 abbrev pub time_of_day : Grammar
-time_of_day = grammar.Time end_of_day
+time_of_day = grammar.Time day_seconds
 
 -- the columns of a file, in the order in which they are judged
 abbrev pub columns_of : FileName → List ColumnRule

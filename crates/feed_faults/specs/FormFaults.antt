@@ -3,6 +3,7 @@
 use Rattle.std.specs.Prelude.{ℕ, ◌&&◌, ◌||◌, not, nat_lt, if◌then◌else◌, Bool, true, false, List, [], ◌∷◌, length, get_or, take, bytes_eq, is_some, is_none, Option, None, Some, option_map, pos}
 use Rattle.std.specs.Option.{option_or}
 use Rattle.std.specs.Str.{is_utf8}
+use Rattle.feed_rows.specs.Limits.{most_rows}
 use Rattle.feed_rows.specs.declared.names.FileName.{FileName}
 use Rattle.feed_rows.specs.declared.names.FileName.TheVariants as file
 use Rattle.feed_rows.specs.declared.names.ColumnName.{ColumnName}
@@ -20,10 +21,6 @@ use Rattle.feed_faults.specs.Records.{FileTable, table_of_bytes, header, row_cou
 use Rattle.feed_faults.specs.FieldGrammars.{int_value}
 use Rattle.feed_faults.specs.FileColumns.{columns_of, fits, misfit}
 use Rattle.feed_faults.specs.FaultPlaces.{file_fault, column_fault, row_fault, field_fault}
-
--- the greatest number of data rows of a file (profile)
-abbrev pub most_rows : ℕ
-most_rows = 4000000
 
 -- a column stands twice in a header
 unfoldable pub is_twice : FileTable → ColumnName → Bool

@@ -1,5 +1,6 @@
 -- The second pass over frequencies, transfers, areas and networks.
 use Rattle.std.specs.Prelude.{ℕ, ◌&&◌, ◌==◌, not, nat_lt, Bool, List, [], ◌∷◌, Option}
+use Rattle.transit_base.specs.Limits.{most_time}
 use Rattle.feed_rows.specs.declared.names.FileName.{FileName}
 use Rattle.feed_rows.specs.declared.names.FileName.TheVariants as file
 use Rattle.feed_rows.specs.declared.names.ColumnName.TheVariants.{TripId, StartTime, StopId, FromStopId, ToStopId, AreaId, NetworkId, RouteId}
@@ -7,7 +8,6 @@ use Rattle.feed_rows.specs.declared.faults.FaultKind.TheVariants.{UnknownReferen
 use Rattle.feed_rows.specs.declared.faults.FeedFault.{FeedFault}
 use Rattle.plain_laws.specs.Plain.{when, any_below, first_of}
 use Rattle.feed_faults.specs.Records.{FileTable, row_count, field, is_filled}
-use Rattle.feed_faults.specs.FieldGrammars.{most_time}
 use Rattle.feed_faults.specs.FormFaults.{is_passed_over}
 use Rattle.feed_faults.specs.FaultPlaces.{file_fault, field_fault}
 use Rattle.feed_faults.specs.FeedTables.{FeedTables}

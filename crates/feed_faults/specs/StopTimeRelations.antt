@@ -2,6 +2,7 @@
 -- go by stop_sequence, and among equal sequences by row, over all rows of the file.
 use Rattle.std.specs.Prelude.{ℕ, ◌&&◌, ◌||◌, ◌==◌, not, nat_lt, Bool, List, [], ◌∷◌, length, bytes_eq, is_some, Option}
 use Rattle.std.specs.Option.{option_or}
+use Rattle.transit_base.specs.Limits.{most_time}
 use Rattle.feed_rows.specs.declared.names.FileName.TheVariants as file
 use Rattle.feed_rows.specs.declared.names.ColumnName.TheVariants.{TripId, StopId, StopSequence, ArrivalTime, DepartureTime}
 use Rattle.feed_rows.specs.declared.faults.FaultKind.TheVariants.{UnknownReference, WrongStopKind, DoubledKey, EndTimeMissing, TimesDecrease}
@@ -9,7 +10,7 @@ use Rattle.feed_rows.specs.declared.faults.FeedFault.{FeedFault}
 use Rattle.plain_laws.specs.Plain.{when, filled_and, at_and, any_below, list_below, first_of}
 use Rattle.feed_faults.specs.Records.{FileTable, row_count, field}
 use Rattle.feed_rows.specs.TimeGrammar.{time_value}
-use Rattle.feed_faults.specs.FieldGrammars.{most_int, most_time}
+use Rattle.feed_faults.specs.FieldGrammars.{most_int}
 use Rattle.feed_faults.specs.FaultPlaces.{field_fault}
 use Rattle.feed_faults.specs.FeedTables.{FeedTables}
 use Rattle.feed_faults.specs.FieldValues.{int_or_past, stop_kind}

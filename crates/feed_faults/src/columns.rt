@@ -3,6 +3,7 @@ ghost use Rattle.std.specs.Prelude.{◌≡◌};
 ghost use Rattle.feed_faults.specs.FileColumns.{columns_of};
 
 use feed_rows::{ColumnName, FileName};
+use transit_base::{DAY_SECONDS, MOST_TIME};
 
 /// What the fields of a column are, where they are filled.
 #[derive(Clone, Copy, Debug, PartialEq, Eq)]
@@ -113,12 +114,12 @@ static STOP_TIMES: [ColumnRule; 7] = [
     ColumnRule {
         name: ColumnName::ArrivalTime,
         empty: EmptyField::Fine,
-        grammar: Grammar::Time { most: 604_799 },
+        grammar: Grammar::Time { most: MOST_TIME },
     },
     ColumnRule {
         name: ColumnName::DepartureTime,
         empty: EmptyField::Fine,
-        grammar: Grammar::Time { most: 604_799 },
+        grammar: Grammar::Time { most: MOST_TIME },
     },
     ColumnRule {
         name: ColumnName::PickupType,
@@ -212,12 +213,12 @@ static FREQUENCIES: [ColumnRule; 5] = [
     ColumnRule {
         name: ColumnName::StartTime,
         empty: EmptyField::Fault,
-        grammar: Grammar::Time { most: 604_799 },
+        grammar: Grammar::Time { most: MOST_TIME },
     },
     ColumnRule {
         name: ColumnName::EndTime,
         empty: EmptyField::Fault,
-        grammar: Grammar::Time { most: 604_799 },
+        grammar: Grammar::Time { most: MOST_TIME },
     },
     ColumnRule {
         name: ColumnName::HeadwaySecs,
@@ -307,12 +308,12 @@ static TIMEFRAMES: [ColumnRule; 4] = [
     ColumnRule {
         name: ColumnName::StartTime,
         empty: EmptyField::Fine,
-        grammar: Grammar::Time { most: 86_400 },
+        grammar: Grammar::Time { most: DAY_SECONDS },
     },
     ColumnRule {
         name: ColumnName::EndTime,
         empty: EmptyField::Fine,
-        grammar: Grammar::Time { most: 86_400 },
+        grammar: Grammar::Time { most: DAY_SECONDS },
     },
     ColumnRule {
         name: ColumnName::ServiceId,

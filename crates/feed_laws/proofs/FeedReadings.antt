@@ -3,6 +3,7 @@ use Rattle.std.proofs.Common.{◌≡◌, ℕ, ◌^◌, ◌<◌, ◌≤◌, List,
 use Rattle.std.specs.Prelude.{◌≢◌, All, slice_get, pos, negsuc, ◌≤ℤ◌, nat_abs}
 use Rattle.std.specs.Option.{ForSome, option_or}
 use Rattle.std.proofs.lemmas.Int.{ints}
+use Rattle.transit_base.specs.Limits.{most_time}
 use Rattle.transit_base.specs.declared.numbers.StopId.{StopId}
 use Rattle.feed_rows.specs.declared.rows.StopRow.{StopRow}
 use Rattle.feed_rows.specs.declared.rows.RouteRow.{RouteRow}
@@ -125,26 +126,26 @@ time-bound P None p time first second is = second time is
 time-bound P (Some x) p time first second is = first time is
 
 -- the first time of a stop time is in its week
-pub first_time_small : (feed : FeedRows) (i time : ℕ) (c : StopTimeRow) → AreSoundStopTimes feed → slice_get feed.stop_times i ≡ Some c → first_time c ≡ Some time → time ≤ 604_799
+pub first_time_small : (feed : FeedRows) (i time : ℕ) (c : StopTimeRow) → AreSoundStopTimes feed → slice_get feed.stop_times i ≡ Some c → first_time c ≡ Some time → time ≤ most_time
 first_time_small feed i time c sound got =
     time-bound
-    (λ t. t ≤ 604_799)
+    (λ t. t ≤ most_time)
     c.arrival
     c.departure
     time
-    (All-slice_get (λ r. ForSome r.arrival (λ t. t ≤ 604_799)) feed.stop_times i c got sound.arrivals)
-    (All-slice_get (λ r. ForSome r.departure (λ t. t ≤ 604_799)) feed.stop_times i c got sound.departures)
+    (All-slice_get (λ r. ForSome r.arrival (λ t. t ≤ most_time)) feed.stop_times i c got sound.arrivals)
+    (All-slice_get (λ r. ForSome r.departure (λ t. t ≤ most_time)) feed.stop_times i c got sound.departures)
 
 -- the last time of a stop time is in its week
-pub last_time_small : (feed : FeedRows) (i time : ℕ) (c : StopTimeRow) → AreSoundStopTimes feed → slice_get feed.stop_times i ≡ Some c → last_time c ≡ Some time → time ≤ 604_799
+pub last_time_small : (feed : FeedRows) (i time : ℕ) (c : StopTimeRow) → AreSoundStopTimes feed → slice_get feed.stop_times i ≡ Some c → last_time c ≡ Some time → time ≤ most_time
 last_time_small feed i time c sound got =
     time-bound
-    (λ t. t ≤ 604_799)
+    (λ t. t ≤ most_time)
     c.departure
     c.arrival
     time
-    (All-slice_get (λ r. ForSome r.departure (λ t. t ≤ 604_799)) feed.stop_times i c got sound.departures)
-    (All-slice_get (λ r. ForSome r.arrival (λ t. t ≤ 604_799)) feed.stop_times i c got sound.arrivals)
+    (All-slice_get (λ r. ForSome r.departure (λ t. t ≤ most_time)) feed.stop_times i c got sound.departures)
+    (All-slice_get (λ r. ForSome r.arrival (λ t. t ≤ most_time)) feed.stop_times i c got sound.arrivals)
 
 -- a stop time with one of the two times has both a first and a last time
 pub last_time-first_time : (c : StopTimeRow) (time : ℕ) → first_time c ≡ Some time → (last : ℕ) × (last_time c ≡ Some last)

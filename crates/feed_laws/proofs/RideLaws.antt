@@ -5,6 +5,7 @@ use Rattle.std.proofs.lemmas.Bool.{and_parts}
 use Rattle.std.proofs.lemmas.Bool.Decides.{nat_tests}
 use Rattle.std.proofs.lemmas.Int.{ints}
 use Rattle.std.proofs.lemmas.Option.{same_Some, none-some}
+use Rattle.transit_base.specs.Limits.{day_seconds}
 use Rattle.transit_base.specs.Moments.{moment_at}
 use Rattle.feed_rows.specs.declared.journeys.Call.{Call}
 use Rattle.feed_rows.specs.declared.journeys.Ride.{Ride}
@@ -84,12 +85,12 @@ ride_facts_tells feed ride facts e = step (is_ride feed ride) refl (slice_get (c
 -- when a ride goes: it departs on its day or later, arrives no sooner than it departs, and not after twice the greatest
 -- time
 pub record IsTimedRide (ride : Ride) (facts : RideFacts) (most : ℕ) : Type 0 where
-  pub departs : (ride.day.0 *ℤ pos 86400) ≤ℤ facts.departure.0
+  pub departs : (ride.day.0 *ℤ pos day_seconds) ≤ℤ facts.departure.0
   pub forward : facts.departure.0 ≤ℤ facts.arrival.0
-  pub arrives : facts.arrival.0 ≤ℤ (ride.day.0 *ℤ pos 86400 +ℤ pos (2 * most))
+  pub arrives : facts.arrival.0 ≤ℤ (ride.day.0 *ℤ pos day_seconds +ℤ pos (2 * most))
 
 ride_between : (day shift : ℤ) (first boards alights s most : ℕ) → shift +ℤ pos first ≡ pos s → s ≤ most → first ≤ boards → boards ≤ alights → alights ≤ most
-    → ((day *ℤ pos 86400) ≤ℤ moment_at day (shift +ℤ pos boards)) × (moment_at day (shift +ℤ pos boards) ≤ℤ moment_at day (shift +ℤ pos alights)) × (moment_at day (shift +ℤ pos alights) ≤ℤ (day *ℤ pos 86400 +ℤ pos (2 * most)))
+    → ((day *ℤ pos day_seconds) ≤ℤ moment_at day (shift +ℤ pos boards)) × (moment_at day (shift +ℤ pos boards) ≤ℤ moment_at day (shift +ℤ pos alights)) × (moment_at day (shift +ℤ pos alights) ≤ℤ (day *ℤ pos day_seconds +ℤ pos (2 * most)))
 ride_between day shift first boards alights s most leads by low forward high = (omega (arith, ints), omega (arith, ints), omega (arith, ints))
 
 pub ride_facts_timed : (feed : FeedRows) (ride : Ride) (facts : RideFacts) (most : ℕ) → IsTimedTrip feed ride.trip most → ride_facts feed ride ≡ Some facts → IsTimedRide ride facts most

@@ -1,6 +1,8 @@
 -- A test of a feed's rows that proves them sound where they pass: so a feed that is written out is sound by computing,
 -- `sound_from_test feed refl`. Each fact is tested list by list, in the order of its definition.
 use Rattle.std.proofs.Common.{◌≡◌, ◌≢◌, ◌<◌, ◌≤◌, ◌⊎◌, ap, ℕ, ◌^◌, Bool, true, List, Option, Some, length, is_some, nat_abs, pos, negsuc}
+use Rattle.feed_rows.specs.Limits.{most_rows}
+use Rattle.transit_base.specs.Limits.{most_time, day_seconds}
 use Rattle.transit_base.specs.declared.calendar.Day.{Day}
 use Rattle.transit_base.specs.declared.numbers.RiderId.{RiderId}
 use Rattle.transit_base.specs.declared.numbers.MediumId.{MediumId}
@@ -51,7 +53,7 @@ name_list names =
 -- the stops
 abbrev stops_test : (feed : FeedRows) → Option (AreSoundStops feed)
 stops_test feed =
-    ask (at_most (length feed.stops) 4_000_000) (λ few.
+    ask (at_most (length feed.stops) most_rows) (λ few.
     ask (each feed.stops (λ s. id_text s.id)) (λ ids.
     ask (each_pair feed.stops (λ s t. isnt (is_text s.id t.id))) (λ no_doubles.
     ask (each feed.stops (λ s. at_most s.kind 4)) (λ kinds.
@@ -71,7 +73,7 @@ stops_test feed =
 -- the routes
 abbrev routes_test : (feed : FeedRows) → Option (AreSoundRoutes feed)
 routes_test feed =
-    ask (at_most (length feed.routes) 4_000_000) (λ few.
+    ask (at_most (length feed.routes) most_rows) (λ few.
     ask (each feed.routes (λ r. id_text r.id)) (λ ids.
     ask (each_pair feed.routes (λ r s. isnt (is_text r.id s.id))) (λ no_doubles.
     ask (each feed.routes (λ r. for_some r.network (λ n. below n.0 (length feed.network_names)))) (λ networks.
@@ -80,7 +82,7 @@ routes_test feed =
 -- the trips
 abbrev trips_test : (feed : FeedRows) → Option (AreSoundTrips feed)
 trips_test feed =
-    ask (at_most (length feed.trips) 4_000_000) (λ few.
+    ask (at_most (length feed.trips) most_rows) (λ few.
     ask (each feed.trips (λ t. id_text t.id)) (λ ids.
     ask (each_pair feed.trips (λ t u. isnt (is_text t.id u.id))) (λ no_doubles.
     ask (each feed.trips (λ t. below t.route.0 (length feed.routes))) (λ routes.
@@ -90,13 +92,13 @@ trips_test feed =
 -- the stop times, row by row
 abbrev stop_times_test : (feed : FeedRows) → Option (AreSoundStopTimes feed)
 stop_times_test feed =
-    ask (at_most (length feed.stop_times) 4_000_000) (λ few.
+    ask (at_most (length feed.stop_times) most_rows) (λ few.
     ask (each feed.stop_times (λ c. below c.trip.0 (length feed.trips))) (λ trips.
     ask (each feed.stop_times (λ c. below c.stop.0 (length feed.stops))) (λ stops.
     ask (each feed.stop_times (λ c. for_item feed.stops c.stop.0 (λ s. is s.kind 0))) (λ platforms.
     ask (each feed.stop_times (λ c. at_most c.sequence 2_147_483_647)) (λ sequences.
-    ask (each feed.stop_times (λ c. for_some c.arrival (λ s. at_most s 604_799))) (λ arrivals.
-    ask (each feed.stop_times (λ c. for_some c.departure (λ s. at_most s 604_799))) (λ departures.
+    ask (each feed.stop_times (λ c. for_some c.arrival (λ s. at_most s most_time))) (λ arrivals.
+    ask (each feed.stop_times (λ c. for_some c.departure (λ s. at_most s most_time))) (λ departures.
     Some (record {
       few = few;
       trips = trips;
@@ -139,7 +141,7 @@ calls_test feed =
 -- the calendar
 abbrev services_test : (feed : FeedRows) → Option (AreSoundServices feed)
 services_test feed =
-    ask (at_most (length feed.services) 4_000_000) (λ few.
+    ask (at_most (length feed.services) most_rows) (λ few.
     ask (each feed.services (λ s. below s.service.0 (length feed.service_names))) (λ names.
     ask (each_pair feed.services (λ s t. isnt (is s.service.0 t.service.0))) (λ no_doubles.
     ask (each feed.services (λ s. is (length s.days) 7)) (λ weekdays.
@@ -159,7 +161,7 @@ services_test feed =
 -- the exceptions
 abbrev exceptions_test : (feed : FeedRows) → Option (AreSoundExceptions feed)
 exceptions_test feed =
-    ask (at_most (length feed.exceptions) 4_000_000) (λ few.
+    ask (at_most (length feed.exceptions) most_rows) (λ few.
     ask (each feed.exceptions (λ e. below e.service.0 (length feed.service_names))) (λ services.
     ask (each_pair feed.exceptions (λ e f. given (is e.service.0 f.service.0) (isnt (int_is e.day.0 f.day.0)))) (λ no_doubles.
     ask (each feed.exceptions (λ e. calendar_day e.day)) (λ days.
@@ -168,11 +170,11 @@ exceptions_test feed =
 -- the frequency rows
 abbrev frequencies_test : (feed : FeedRows) → Option (AreSoundFrequencies feed)
 frequencies_test feed =
-    ask (at_most (length feed.frequencies) 4_000_000) (λ few.
+    ask (at_most (length feed.frequencies) most_rows) (λ few.
     ask (each feed.frequencies (λ f. below f.trip.0 (length feed.trips))) (λ trips.
     ask (each_pair feed.frequencies (λ f g. given (is f.trip.0 g.trip.0) (isnt (is f.start g.start)))) (λ no_doubles.
-    ask (each feed.frequencies (λ f. at_most f.start 604_799)) (λ starts.
-    ask (each feed.frequencies (λ f. at_most f.end 604_799)) (λ ends.
+    ask (each feed.frequencies (λ f. at_most f.start most_time)) (λ starts.
+    ask (each feed.frequencies (λ f. at_most f.end most_time)) (λ ends.
     ask (each feed.frequencies (λ f. both (at_most 1 f.headway) (at_most f.headway 2_147_483_647))) (λ headways.
     Some (record {
       few = few;
@@ -186,7 +188,7 @@ frequencies_test feed =
 -- the links
 abbrev links_test : (feed : FeedRows) → Option (AreSoundLinks feed)
 links_test feed =
-    ask (at_most (length feed.links) 4_000_000) (λ few.
+    ask (at_most (length feed.links) most_rows) (λ few.
     ask (each feed.links (λ l. below l.from.0 (length feed.stops))) (λ froms.
     ask (each feed.links (λ l. below l.to.0 (length feed.stops))) (λ tos.
     ask (each feed.links (λ l. at_most l.seconds 2_147_483_647)) (λ seconds.
@@ -195,7 +197,7 @@ links_test feed =
 -- the areas
 abbrev areas_test : (feed : FeedRows) → Option (AreSoundAreas feed)
 areas_test feed =
-    ask (at_most (length feed.areas) 4_000_000) (λ few.
+    ask (at_most (length feed.areas) most_rows) (λ few.
     ask (each feed.areas (λ a. id_text a.id)) (λ ids.
     ask (each_pair feed.areas (λ a b. isnt (is_text a.id b.id))) (λ no_doubles.
     Some (record { few = few; ids = ids; no_doubles = no_doubles }))))
@@ -203,7 +205,7 @@ areas_test feed =
 -- the areas of stops
 abbrev stop_areas_test : (feed : FeedRows) → Option (AreSoundStopAreas feed)
 stop_areas_test feed =
-    ask (at_most (length feed.stop_areas) 4_000_000) (λ few.
+    ask (at_most (length feed.stop_areas) most_rows) (λ few.
     ask (each feed.stop_areas (λ s. below s.area.0 (length feed.areas))) (λ areas.
     ask (each feed.stop_areas (λ s. below s.stop.0 (length feed.stops))) (λ stops.
     Some (record { few = few; areas = areas; stops = stops }))))
@@ -215,11 +217,11 @@ lie_apart t u = either (at_most t.end u.start) (at_most u.end t.start)
 -- the timeframes
 abbrev timeframes_test : (feed : FeedRows) → Option (AreSoundTimeframes feed)
 timeframes_test feed =
-    ask (at_most (length feed.timeframes) 4_000_000) (λ few.
+    ask (at_most (length feed.timeframes) most_rows) (λ few.
     ask (each feed.timeframes (λ t. below t.frame.0 (length feed.frame_names))) (λ frames.
     ask (each feed.timeframes (λ t. below t.service.0 (length feed.service_names))) (λ services.
     ask (each feed.timeframes (λ t. below t.start t.end)) (λ ordered.
-    ask (each feed.timeframes (λ t. at_most t.end 86_400)) (λ ends.
+    ask (each feed.timeframes (λ t. at_most t.end day_seconds)) (λ ends.
     ask (each_pair feed.timeframes (λ t u. given (is t.frame.0 u.frame.0) (given (is t.service.0 u.service.0) (lie_apart t u)))) (λ apart.
     Some (record {
       few = few;
@@ -233,7 +235,7 @@ timeframes_test feed =
 -- the rider categories
 abbrev riders_test : (feed : FeedRows) → Option (AreSoundRiders feed)
 riders_test feed =
-    ask (at_most (length feed.riders) 4_000_000) (λ few.
+    ask (at_most (length feed.riders) most_rows) (λ few.
     ask (each feed.riders (λ r. id_text r.id)) (λ ids.
     ask (each_pair feed.riders (λ r s. isnt (is_text r.id s.id))) (λ no_doubles.
     Some (record { few = few; ids = ids; no_doubles = no_doubles }))))
@@ -241,7 +243,7 @@ riders_test feed =
 -- the fare media
 abbrev media_test : (feed : FeedRows) → Option (AreSoundMedia feed)
 media_test feed =
-    ask (at_most (length feed.media) 4_000_000) (λ few.
+    ask (at_most (length feed.media) most_rows) (λ few.
     ask (each feed.media (λ m. id_text m.id)) (λ ids.
     ask (each_pair feed.media (λ m n. isnt (is_text m.id n.id))) (λ no_doubles.
     Some (record { few = few; ids = ids; no_doubles = no_doubles }))))
@@ -253,7 +255,7 @@ differ p q = given (same_rider p.rider q.rider) (isnt (same_medium p.medium q.me
 -- the fare products
 abbrev products_test : (feed : FeedRows) → Option (AreSoundProducts feed)
 products_test feed =
-    ask (at_most (length feed.products) 4_000_000) (λ few.
+    ask (at_most (length feed.products) most_rows) (λ few.
     ask (each feed.products (λ p. below p.product.0 (length feed.product_names))) (λ names.
     ask (each feed.products (λ p. for_some p.rider (λ r. below r.0 (length feed.riders)))) (λ riders.
     ask (each feed.products (λ p. for_some p.medium (λ m. below m.0 (length feed.media)))) (λ media.
@@ -271,7 +273,7 @@ products_test feed =
 -- the leg rules
 abbrev leg_rules_test : (feed : FeedRows) → Option (AreSoundLegRules feed)
 leg_rules_test feed =
-    ask (at_most (length feed.leg_rules) 4_000_000) (λ few.
+    ask (at_most (length feed.leg_rules) most_rows) (λ few.
     ask (each feed.leg_rules (λ r. for_some r.group (λ g. below g.0 (length feed.group_names)))) (λ groups.
     ask (each feed.leg_rules (λ r. for_some r.network (λ n. below n.0 (length feed.network_names)))) (λ networks.
     ask (each feed.leg_rules (λ r. for_some r.from_area (λ a. below a.0 (length feed.areas)))) (λ from_areas.
@@ -297,7 +299,7 @@ leg_rules_test feed =
 -- the transfer rules
 abbrev transfer_rules_test : (feed : FeedRows) → Option (AreSoundTransferRules feed)
 transfer_rules_test feed =
-    ask (at_most (length feed.transfer_rules) 4_000_000) (λ few.
+    ask (at_most (length feed.transfer_rules) most_rows) (λ few.
     ask (each feed.transfer_rules (λ r. for_some r.from (λ g. below g.0 (length feed.group_names)))) (λ froms.
     ask (each feed.transfer_rules (λ r. for_some r.to (λ g. below g.0 (length feed.group_names)))) (λ tos.
     ask (each feed.transfer_rules (λ r. for_some r.product (λ p. below p.0 (length feed.product_names)))) (λ products.

@@ -6,6 +6,7 @@ use Rattle.std.proofs.lemmas.Bool.{cases_eq, cases_Bool, eqb-true, eq-eqb}
 use Rattle.std.proofs.lemmas.Option.{option_and_then_some, get_or_from_slice_get, slice_get_within, slice_get-get_or}
 use Rattle.std.proofs.lemmas.List.Elements.{All-weaker, All-contains, All-contains_itself, filter_passes, Contains-get_or}
 use Rattle.std.proofs.lemmas.List.Sorted.{All-permutation}
+use Rattle.transit_base.specs.Limits.{most_time}
 use Rattle.transit_base.specs.declared.numbers.TripId.{TripId}
 use Rattle.feed_rows.specs.declared.rows.StopTimeRow.{StopTimeRow}
 use Rattle.feed_rows.specs.FeedRows.{FeedRows}
@@ -163,19 +164,19 @@ sound_rise feed trip sound =
             rw (here, later) at lt
 
 -- no time of a sound feed is later than 167:59:59
-pub sound_times : (feed : FeedRows) → AreSoundStopTimes feed → DoTimesEndBy feed 604_799
+pub sound_times : (feed : FeedRows) → AreSoundStopTimes feed → DoTimesEndBy feed most_time
 sound_times feed sound k d lt = (small (get_or feed.stop_times k d).arrival (sound.arrivals k d lt), small (get_or feed.stop_times k d).departure (sound.departures k d lt))
   where
-    small : (o : Option ℕ) → ForSome o (λ t. t ≤ 604_799) → IfSome o (λ t. t ≤ 604_799)
+    small : (o : Option ℕ) → ForSome o (λ t. t ≤ most_time) → IfSome o (λ t. t ≤ most_time)
     small None all = tt
     small (Some t) all = all t refl
 
 -- each trip of a sound feed has times that don't fall, none later than 167:59:59
-pub sound_trip : (feed : FeedRows) (trip : TripId) → IsSoundFeed feed → IsTimedTrip feed trip 604_799
+pub sound_trip : (feed : FeedRows) (trip : TripId) → IsSoundFeed feed → IsTimedTrip feed trip most_time
 sound_trip feed trip sound =
     record {
       ends = sound_ends feed trip sound.calls;
       rise = sound_rise feed trip sound.calls;
-      times = trip_times_most feed trip 604_799 (sound_times feed sound.stop_times);
+      times = trip_times_most feed trip most_time (sound_times feed sound.stop_times);
       runs = λ k d lt of_trip. sound.frequencies.ends k d lt;
     }

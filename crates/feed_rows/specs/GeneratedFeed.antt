@@ -2,6 +2,7 @@
 -- numbers that tell when its trips depart and how long they take.
 use Rattle.std.specs.Prelude.{ℕ, zero, suc, ◌+◌, ◌-◌, ◌*◌, ◌%◌, ◌==◌, nat_lt, if◌then◌else◌, List, [], ◌∷◌, ◌++◌, map, replicate, None, false, pos, codes, decimal}
 use Rattle.std.specs.List.{flat_map}
+use Rattle.feed_rows.specs.Limits.{usual_window}
 use Rattle.transit_base.specs.Dates.{day_number}
 use Rattle.transit_base.specs.Moments.{moment_at}
 use Rattle.transit_base.specs.DateTexts.{time_text}
@@ -204,6 +205,6 @@ generated_plan lines =
       departure = moment_at (day_number 2025 6 2) (pos 25_200);
       rides = 4;
       rider = None;
-      window = 86_400;
+      window = usual_window;
       stats = false;
     }

@@ -46,3 +46,4 @@ pub mod Feed
 pub mod HeldFiles
 pub mod FaultCounts
 pub mod StopSets
+pub mod Limits

@@ -1,5 +1,6 @@
 -- The words that name the rides of the command `price`.
 use Rattle.std.specs.Prelude.{ℕ, ◌+◌, ◌==◌, nat_lt, if◌then◌else◌, List, length, take, drop, slice_index, slice_range, Option, Some, None, option_map, ℤ, codes, bytes_eq}
+use Rattle.transit_base.specs.Limits.{most_time}
 use Rattle.plain_laws.specs.Plain.{given, given_last, when, last_below}
 use Rattle.feed_rows.specs.Numerals.{within}
 use Rattle.feed_rows.specs.TimeGrammar.{time_value}
@@ -43,7 +44,7 @@ ride_parts word =
 
 -- START: `-`, or the first departure of a run as a time of at most 167:59:59
 abbrev pub start_value : List ℕ → Option (Option ℕ)
-start_value text = if bytes_eq text (codes "-") then Some None else option_map Some (time_value 604_799 text)
+start_value text = if bytes_eq text (codes "-") then Some None else option_map Some (time_value most_time text)
 
 -- I or J: a number of at most 2,147,483,647
 abbrev pub sequence_value : List ℕ → Option ℕ

@@ -2,46 +2,48 @@
 -- range, whole numbers of the files at most 2^31 - 1, times of day at most 24:00:00 and amounts at most 10^12.
 use Rattle.std.specs.Prelude.{◌≡◌, ◌≢◌, ◌^◌, ◌<◌, ◌≤◌, ◌⊎◌, ◌↔◌, nat_abs, length, All, AllPairs, IsSome, IsNone, false}
 use Rattle.std.specs.Option.{ForSome}
+use Rattle.feed_rows.specs.Limits.{most_rows}
+use Rattle.transit_base.specs.Limits.{day_seconds}
 use Rattle.feed_rows.specs.FeedRows.{FeedRows}
 use Rattle.feed_rows.specs.SoundNames.{IsIdText}
 
 -- areas.txt
 pub record AreSoundAreas (feed : FeedRows) : Type 0 where
-  pub few : length feed.areas ≤ 4_000_000
+  pub few : length feed.areas ≤ most_rows
   pub ids : All (λ a. IsIdText a.id) feed.areas
   pub no_doubles : AllPairs (λ a b. a.id ≢ b.id) feed.areas
 
 -- stop_areas.txt
 pub record AreSoundStopAreas (feed : FeedRows) : Type 0 where
-  pub few : length feed.stop_areas ≤ 4_000_000
+  pub few : length feed.stop_areas ≤ most_rows
   pub areas : All (λ s. s.area.0 < length feed.areas) feed.stop_areas
   pub stops : All (λ s. s.stop.0 < length feed.stops) feed.stop_areas
 
 -- timeframes.txt
 pub record AreSoundTimeframes (feed : FeedRows) : Type 0 where
-  pub few : length feed.timeframes ≤ 4_000_000
+  pub few : length feed.timeframes ≤ most_rows
   pub frames : All (λ t. t.frame.0 < length feed.frame_names) feed.timeframes
   pub services : All (λ t. t.service.0 < length feed.service_names) feed.timeframes
   pub ordered : All (λ t. t.start < t.end) feed.timeframes
-  pub ends : All (λ t. t.end ≤ 86_400) feed.timeframes
+  pub ends : All (λ t. t.end ≤ day_seconds) feed.timeframes
   -- of two rows of one group and one service, one ends before the other starts
   pub apart : AllPairs (λ t u. t.frame.0 ≡ u.frame.0 → t.service.0 ≡ u.service.0 → (t.end ≤ u.start) ⊎ (u.end ≤ t.start)) feed.timeframes
 
 -- rider_categories.txt
 pub record AreSoundRiders (feed : FeedRows) : Type 0 where
-  pub few : length feed.riders ≤ 4_000_000
+  pub few : length feed.riders ≤ most_rows
   pub ids : All (λ r. IsIdText r.id) feed.riders
   pub no_doubles : AllPairs (λ r s. r.id ≢ s.id) feed.riders
 
 -- fare_media.txt
 pub record AreSoundMedia (feed : FeedRows) : Type 0 where
-  pub few : length feed.media ≤ 4_000_000
+  pub few : length feed.media ≤ most_rows
   pub ids : All (λ m. IsIdText m.id) feed.media
   pub no_doubles : AllPairs (λ m n. m.id ≢ n.id) feed.media
 
 -- fare_products.txt
 pub record AreSoundProducts (feed : FeedRows) : Type 0 where
-  pub few : length feed.products ≤ 4_000_000
+  pub few : length feed.products ≤ most_rows
   pub names : All (λ p. p.product.0 < length feed.product_names) feed.products
   pub riders : All (λ p. ForSome p.rider (λ r. r.0 < length feed.riders)) feed.products
   pub media : All (λ p. ForSome p.medium (λ m. m.0 < length feed.media)) feed.products
@@ -51,7 +53,7 @@ pub record AreSoundProducts (feed : FeedRows) : Type 0 where
 
 -- fare_leg_rules.txt
 pub record AreSoundLegRules (feed : FeedRows) : Type 0 where
-  pub few : length feed.leg_rules ≤ 4_000_000
+  pub few : length feed.leg_rules ≤ most_rows
   pub groups : All (λ r. ForSome r.group (λ g. g.0 < length feed.group_names)) feed.leg_rules
   pub networks : All (λ r. ForSome r.network (λ n. n.0 < length feed.network_names)) feed.leg_rules
   pub from_areas : All (λ r. ForSome r.from_area (λ a. a.0 < length feed.areas)) feed.leg_rules
@@ -65,7 +67,7 @@ pub record AreSoundLegRules (feed : FeedRows) : Type 0 where
 
 -- fare_transfer_rules.txt
 pub record AreSoundTransferRules (feed : FeedRows) : Type 0 where
-  pub few : length feed.transfer_rules ≤ 4_000_000
+  pub few : length feed.transfer_rules ≤ most_rows
   pub froms : All (λ r. ForSome r.from (λ g. g.0 < length feed.group_names)) feed.transfer_rules
   pub tos : All (λ r. ForSome r.to (λ g. g.0 < length feed.group_names)) feed.transfer_rules
   pub products : All (λ r. ForSome r.product (λ p. p.0 < length feed.product_names)) feed.transfer_rules

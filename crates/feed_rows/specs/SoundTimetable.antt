@@ -2,6 +2,8 @@
 -- range, whole numbers of the files are at most 2^31 - 1, and times of a service day at most 167:59:59.
 use Rattle.std.specs.Prelude.{◌≡◌, ◌≢◌, ◌<◌, ◌≤◌, pos, negsuc, ◌≤ℤ◌, length, All, AllPairs, IsSome}
 use Rattle.std.specs.Option.{ForSome}
+use Rattle.feed_rows.specs.Limits.{most_rows}
+use Rattle.transit_base.specs.Limits.{most_time}
 use Rattle.transit_base.specs.declared.calendar.Day.{Day}
 use Rattle.feed_rows.specs.declared.rows.StopTimeRow.{StopTimeRow}
 use Rattle.feed_rows.specs.FeedRows.{FeedRows}
@@ -16,7 +18,7 @@ pub record IsCalendarDay (day : Day) : Type 0 where
 
 -- stops.txt
 pub record AreSoundStops (feed : FeedRows) : Type 0 where
-  pub few : length feed.stops ≤ 4_000_000
+  pub few : length feed.stops ≤ most_rows
   pub ids : All (λ s. IsIdText s.id) feed.stops
   pub no_doubles : AllPairs (λ s t. s.id ≢ t.id) feed.stops
   pub kinds : All (λ s. s.kind ≤ 4) feed.stops
@@ -27,14 +29,14 @@ pub record AreSoundStops (feed : FeedRows) : Type 0 where
 
 -- routes.txt
 pub record AreSoundRoutes (feed : FeedRows) : Type 0 where
-  pub few : length feed.routes ≤ 4_000_000
+  pub few : length feed.routes ≤ most_rows
   pub ids : All (λ r. IsIdText r.id) feed.routes
   pub no_doubles : AllPairs (λ r s. r.id ≢ s.id) feed.routes
   pub networks : All (λ r. ForSome r.network (λ n. n.0 < length feed.network_names)) feed.routes
 
 -- trips.txt
 pub record AreSoundTrips (feed : FeedRows) : Type 0 where
-  pub few : length feed.trips ≤ 4_000_000
+  pub few : length feed.trips ≤ most_rows
   pub ids : All (λ t. IsIdText t.id) feed.trips
   pub no_doubles : AllPairs (λ t u. t.id ≢ u.id) feed.trips
   pub routes : All (λ t. t.route.0 < length feed.routes) feed.trips
@@ -54,13 +56,13 @@ IsLastCall feed row = All (λ other. other.trip.0 ≡ row.trip.0 → other.seque
 
 -- stop_times.txt, row by row
 pub record AreSoundStopTimes (feed : FeedRows) : Type 0 where
-  pub few : length feed.stop_times ≤ 4_000_000
+  pub few : length feed.stop_times ≤ most_rows
   pub trips : All (λ c. c.trip.0 < length feed.trips) feed.stop_times
   pub stops : All (λ c. c.stop.0 < length feed.stops) feed.stop_times
   pub platforms : All (λ c. ForItem feed.stops c.stop.0 (λ s. s.kind ≡ 0)) feed.stop_times
   pub sequences : All (λ c. c.sequence ≤ 2_147_483_647) feed.stop_times
-  pub arrivals : All (λ c. ForSome c.arrival (λ s. s ≤ 604_799)) feed.stop_times
-  pub departures : All (λ c. ForSome c.departure (λ s. s ≤ 604_799)) feed.stop_times
+  pub arrivals : All (λ c. ForSome c.arrival (λ s. s ≤ most_time)) feed.stop_times
+  pub departures : All (λ c. ForSome c.departure (λ s. s ≤ most_time)) feed.stop_times
 
 -- the rows of stop_times.txt beside one another
 pub record AreOrderedCalls (feed : FeedRows) : Type 0 where
@@ -75,7 +77,7 @@ pub record AreOrderedCalls (feed : FeedRows) : Type 0 where
 
 -- calendar.txt
 pub record AreSoundServices (feed : FeedRows) : Type 0 where
-  pub few : length feed.services ≤ 4_000_000
+  pub few : length feed.services ≤ most_rows
   pub names : All (λ s. s.service.0 < length feed.service_names) feed.services
   pub no_doubles : AllPairs (λ s t. s.service.0 ≢ t.service.0) feed.services
   pub weekdays : All (λ s. length s.days ≡ 7) feed.services
@@ -85,23 +87,23 @@ pub record AreSoundServices (feed : FeedRows) : Type 0 where
 
 -- calendar_dates.txt
 pub record AreSoundExceptions (feed : FeedRows) : Type 0 where
-  pub few : length feed.exceptions ≤ 4_000_000
+  pub few : length feed.exceptions ≤ most_rows
   pub services : All (λ e. e.service.0 < length feed.service_names) feed.exceptions
   pub no_doubles : AllPairs (λ e f. e.service.0 ≡ f.service.0 → e.day.0 ≢ f.day.0) feed.exceptions
   pub days : All (λ e. IsCalendarDay e.day) feed.exceptions
 
 -- frequencies.txt
 pub record AreSoundFrequencies (feed : FeedRows) : Type 0 where
-  pub few : length feed.frequencies ≤ 4_000_000
+  pub few : length feed.frequencies ≤ most_rows
   pub trips : All (λ f. f.trip.0 < length feed.trips) feed.frequencies
   pub no_doubles : AllPairs (λ f g. f.trip.0 ≡ g.trip.0 → f.start ≢ g.start) feed.frequencies
-  pub starts : All (λ f. f.start ≤ 604_799) feed.frequencies
-  pub ends : All (λ f. f.end ≤ 604_799) feed.frequencies
+  pub starts : All (λ f. f.start ≤ most_time) feed.frequencies
+  pub ends : All (λ f. f.end ≤ most_time) feed.frequencies
   pub headways : All (λ f. (1 ≤ f.headway) × (f.headway ≤ 2_147_483_647)) feed.frequencies
 
 -- transfers.txt
 pub record AreSoundLinks (feed : FeedRows) : Type 0 where
-  pub few : length feed.links ≤ 4_000_000
+  pub few : length feed.links ≤ most_rows
   pub froms : All (λ l. l.from.0 < length feed.stops) feed.links
   pub tos : All (λ l. l.to.0 < length feed.stops) feed.links
   pub seconds : All (λ l. l.seconds ≤ 2_147_483_647) feed.links

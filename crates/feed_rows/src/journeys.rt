@@ -2,6 +2,14 @@
 use plain_laws::{AscendingList, ItemList};
 use transit_base::{AreaId, Day, FrameId, Moment, NetworkId, RiderId, StopId, TripId};
 
+/// The seconds after the departure within which a journey arrives, where the traveller doesn't say.
+pub const USUAL_WINDOW: u32 = 86_400;
+
+/// The seconds between which the shift of each run lies: a week and some more.
+pub const LEAST_SHIFT: i64 = -700_000;
+/// See [`LEAST_SHIFT`].
+pub const MOST_SHIFT: i64 = 700_000;
+
 /// What a traveller asks: the journeys from a stop to a stop from a moment on.
 #[derive(Clone, Copy, Debug)]
 pub struct Query {

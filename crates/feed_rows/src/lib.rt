@@ -24,7 +24,8 @@ pub use feed::{
 };
 pub use ids::Id;
 pub use journeys::{
-    AreaList, Call, FrameList, Journey, LegFacts, LegList, Query, Ride, RideFacts, RideList, Shifts,
+    AreaList, Call, FrameList, Journey, LEAST_SHIFT, LegFacts, LegList, MOST_SHIFT, Query, Ride,
+    RideFacts, RideList, Shifts, USUAL_WINDOW,
 };
 pub use names::{ColumnName, FileName};
 pub use rows::{

@@ -2,13 +2,13 @@
 use Rattle.std.proofs.Common.{◌≡◌, refl, sym, ◌∙◌, ℕ, ◌<◌, ◌≤◌, ◌⊎◌, inl, inr, Bool, true, false, length, arith}
 use Rattle.std.specs.Prelude.{◌&&◌, ◌||◌, not, nat_lt, is_some}
 use Rattle.std.proofs.lemmas.Bool.{cases_lt, and_from, or_parts, not-false, lt-ltb, ltb-true}
+use Rattle.transit_base.specs.Limits.{day_seconds}
 use Rattle.feed_rows.specs.declared.names.FileName.TheVariants as file
 use Rattle.feed_rows.specs.declared.names.ColumnName.TheVariants as column
 use Rattle.feed_rows.specs.SoundNames.{IsIdText}
 use Rattle.feed_rows.specs.SoundFares.{AreSoundAreas, AreSoundStopAreas, AreSoundTimeframes, AreSoundRiders, AreSoundMedia}
 use Rattle.feed_rows.specs.TimeGrammar.{time_value}
 use Rattle.feed_faults.specs.Records.{FileTable, row_count, field, is_filled}
-use Rattle.feed_faults.specs.FieldGrammars.{end_of_day}
 use Rattle.feed_faults.specs.FileColumns.{time_of_day}
 use Rattle.feed_faults.specs.FeedTables.{FeedTables}
 use Rattle.feed_faults.specs.FieldValues.{frame_start, frame_end}
@@ -54,11 +54,11 @@ times_apart same start end later_start later_end e is = step (cases_lt later_sta
         absurd (cc)
 
 -- a timeframe ends with the day at the latest
-end_small : (frames : FileTable) (row : ℕ) → (is_filled (field frames row column.EndTime) ≡ true → is_some (time_value end_of_day (field frames row column.EndTime)) ≡ true) → frame_end frames row ≤ 86_400
+end_small : (frames : FileTable) (row : ℕ) → (is_filled (field frames row column.EndTime) ≡ true → is_some (time_value day_seconds (field frames row column.EndTime)) ≡ true) → frame_end frames row ≤ day_seconds
 end_small frames row fit = step (is_filled (field frames row column.EndTime)) refl
   where
-    step : (b : Bool) → is_filled (field frames row column.EndTime) ≡ b → frame_end frames row ≤ 86_400
-    step true e = rw e (time_past_good end_of_day (field frames row column.EndTime) (fit e))
+    step : (b : Bool) → is_filled (field frames row column.EndTime) ≡ b → frame_end frames row ≤ day_seconds
+    step true e = rw e (time_past_good day_seconds (field frames row column.EndTime) (fit e))
     step false e = rw e (omega arith)
 
 module _ (t : FeedTables) (related : AreRelated t) where
@@ -160,7 +160,7 @@ module _ (t : FeedTables) (formed : AreFormed t) (related : AreRelated t) where
         frames = All-list_below (λ f. f.frame.0 < length (frame_names t)) (row_count t.timeframes) (timeframe_row t) (λ i lt. (frame_named i lt).within);
         services = All-list_below (λ f. f.service.0 < length (service_names t)) (row_count t.timeframes) (timeframe_row t) (λ i lt. (frame_service i lt).within);
         ordered = All-list_below (λ f. f.start < f.end) (row_count t.timeframes) (timeframe_row t) (frame_ordered t related);
-        ends = All-list_below (λ f. f.end ≤ 86_400) (row_count t.timeframes) (timeframe_row t)
+        ends = All-list_below (λ f. f.end ≤ day_seconds) (row_count t.timeframes) (timeframe_row t)
             (λ i lt. end_small t.timeframes i (may_at file.Timeframes t.timeframes i 2 column.EndTime time_of_day formed.timeframes lt refl));
         apart = AllPairs-list_below (λ f g. f.frame.0 ≡ g.frame.0 → f.service.0 ≡ g.service.0 → (f.end ≤ g.start) ⊎ (g.end ≤ f.start)) (row_count t.timeframes) (timeframe_row t) frames_apart;
       }

@@ -3,12 +3,13 @@ use Rattle.std.proofs.Common.{◌≡◌, refl, ℕ, ◌<◌, ◌≤◌, true, fa
 use Rattle.std.specs.Prelude.{None, not}
 use Rattle.std.specs.Option.{ForSome}
 use Rattle.std.proofs.lemmas.Bool.{eqb-true, not-false}
+use Rattle.transit_base.specs.Limits.{most_time}
 use Rattle.feed_rows.specs.declared.names.FileName.TheVariants as file
 use Rattle.feed_rows.specs.declared.names.ColumnName.TheVariants as column
 use Rattle.plain_laws.specs.Plain.{ForItem}
 use Rattle.feed_rows.specs.SoundTimetable.{AreSoundStopTimes}
 use Rattle.feed_faults.specs.Records.{row_count, field}
-use Rattle.feed_faults.specs.FieldGrammars.{most_int, most_time}
+use Rattle.feed_faults.specs.FieldGrammars.{most_int}
 use Rattle.feed_faults.specs.FileColumns.{int}
 use Rattle.feed_faults.specs.FeedTables.{FeedTables}
 use Rattle.feed_faults.specs.FieldValues.{stop_kind}
@@ -75,6 +76,6 @@ module _ (t : FeedTables) (formed : AreFormed t) (related : AreRelated t) where
             (λ i lt d within. rw (get_or-list_below (row_count t.stops) (stop_row t) (row_number t.stops column.StopId (at i column.StopId)) d (call_stop_known i lt).within) (call_platform i lt));
         sequences = All-list_below (λ c. c.sequence ≤ 2_147_483_647) rows (stop_time_row t)
             (λ i lt. (int_good 0 most_int (at i column.StopSequence) (must_at file.StopTimes t.stop_times i 2 column.StopSequence (int 0 most_int) formed.stop_times lt refl).fit).high);
-        arrivals = All-list_below (λ c. ForSome c.arrival (λ s. s ≤ 604_799)) rows (stop_time_row t) (λ i lt. time_good most_time (at i column.ArrivalTime));
-        departures = All-list_below (λ c. ForSome c.departure (λ s. s ≤ 604_799)) rows (stop_time_row t) (λ i lt. time_good most_time (at i column.DepartureTime));
+        arrivals = All-list_below (λ c. ForSome c.arrival (λ s. s ≤ most_time)) rows (stop_time_row t) (λ i lt. time_good most_time (at i column.ArrivalTime));
+        departures = All-list_below (λ c. ForSome c.departure (λ s. s ≤ most_time)) rows (stop_time_row t) (λ i lt. time_good most_time (at i column.DepartureTime));
       }

@@ -3,6 +3,7 @@ use Rattle.std.proofs.Common.{◌≡◌, refl, ℕ, ◌<◌, ◌≤◌, Bool, tr
 use Rattle.std.specs.Prelude.{map, Some, None, slice_get, nat_lt, not, option_map}
 use Rattle.std.proofs.lemmas.Bool.Decides.{nat_tests}
 use Rattle.std.specs.Str.{is_utf8}
+use Rattle.feed_rows.specs.Limits.{most_rows}
 use Rattle.feed_rows.specs.declared.names.FileName.{FileName}
 use Rattle.feed_rows.specs.declared.names.FileName.TheVariants as file
 use Rattle.feed_rows.specs.declared.faults.FaultKind.TheVariants as kind
@@ -11,7 +12,7 @@ use Rattle.plain_laws.specs.Plain.{when, first_in, first_of}
 use Rattle.feed_faults.specs.declared.columns.ColumnRule.{ColumnRule}
 use Rattle.feed_faults.specs.Records.{FileTable, table_of_bytes, row_count, is_long}
 use Rattle.feed_faults.specs.FaultPlaces.{file_fault, row_fault, field_fault}
-use Rattle.feed_faults.specs.FormFaults.{most_rows, field_misfit, judged_columns, form_fault_of_row, form_fault_of_rows, form_fault_of_table, form_fault_of_bytes, form_fault_of_held, is_needed, form_fault, header_fault, timetable_form_fault, network_form_fault, fare_form_fault, first_form_fault}
+use Rattle.feed_faults.specs.FormFaults.{field_misfit, judged_columns, form_fault_of_row, form_fault_of_rows, form_fault_of_table, form_fault_of_bytes, form_fault_of_held, is_needed, form_fault, header_fault, timetable_form_fault, network_form_fault, fare_form_fault, first_form_fault}
 use Rattle.feed_faults.specs.FeedTables.{table_of, tables_of}
 use Rattle.feed_soundness.specs.AcceptedTables.{IsFormed, AreFormed}
 use Rattle.plain_laws.proofs.Laws.{none_either, none_below, none_in, none_when, none_map}

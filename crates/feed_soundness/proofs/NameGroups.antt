@@ -1,5 +1,6 @@
 -- The five lists of names of accepted tables, and the fields whose names stand in them.
 use Rattle.std.proofs.Common.{ℕ, ◌+◌, ◌<◌, ◌≤◌, List, [], arith}
+use Rattle.feed_rows.specs.Limits.{most_rows}
 use Rattle.feed_rows.specs.declared.names.ColumnName.{ColumnName}
 use Rattle.feed_rows.specs.declared.names.ColumnName.TheVariants.{ServiceId, NetworkId, TimeframeGroupId, FareProductId, LegGroupId}
 use Rattle.feed_rows.specs.SoundNames.{IsNameList}
@@ -11,7 +12,7 @@ use Rattle.feed_soundness.proofs.IdColumns.{MayBeId, service_of_trip, service_of
 use Rattle.feed_soundness.proofs.NameLaws.{MayBeNamed, AreNames, no_names, column_names, name_list, keeps_names, takes_names}
 
 -- the names of one file more
-one_file : (most : ℕ) (names : List (List ℕ)) (table : FileTable) (name : ColumnName) → AreNames most names → row_count table ≤ 4_000_000 → ((row : ℕ) → row < row_count table → MayBeId table row name) → AreNames (most + 4_000_000) (with_column names table name)
+one_file : (most : ℕ) (names : List (List ℕ)) (table : FileTable) (name : ColumnName) → AreNames most names → row_count table ≤ most_rows → ((row : ℕ) → row < row_count table → MayBeId table row name) → AreNames (most + most_rows) (with_column names table name)
 one_file most names table name are few ids =
     let all = column_names most names table name (row_count table) are (λ row lt filled. (ids row lt filled).2) in
     let long = all.few in
@@ -24,7 +25,7 @@ module _ (t : FeedTables) (formed : AreFormed t) where
   service_list = name_list 16_000_000 _
       (one_file 12_000_000 _ t.timeframes ServiceId
       (one_file 8_000_000 _ t.calendar_dates ServiceId
-      (one_file 4_000_000 _ t.calendar ServiceId
+      (one_file most_rows _ t.calendar ServiceId
       (one_file 0 [] t.trips ServiceId no_names formed.trips.few (λ row lt filled. let id = service_of_trip t formed row lt in (id.0, id.1, id.3)))
       formed.calendar.few (λ row lt filled. let id = service_of_calendar t formed row lt in (id.0, id.1, id.3)))
       formed.calendar_dates.few (λ row lt filled. let id = service_of_exception t formed row lt in (id.0, id.1, id.3)))
@@ -33,21 +34,21 @@ module _ (t : FeedTables) (formed : AreFormed t) where
   pub network_list : IsNameList (network_names t)
   unfolding network_names
   network_list = name_list 8_000_000 _
-      (one_file 4_000_000 _ t.networks NetworkId
+      (one_file most_rows _ t.networks NetworkId
       (one_file 0 [] t.routes NetworkId no_names formed.routes.few (own_network_of_route t formed))
       formed.networks.few (λ row lt filled. let id = network_id t formed row lt in (id.0, id.1, id.3))) (omega arith)
 
   pub frame_list : IsNameList (frame_names t)
   unfolding frame_names
-  frame_list = name_list 4_000_000 _ (one_file 0 [] t.timeframes TimeframeGroupId no_names formed.timeframes.few (λ row lt filled. let id = group_of_frame t formed row lt in (id.0, id.1, id.3))) (omega arith)
+  frame_list = name_list most_rows _ (one_file 0 [] t.timeframes TimeframeGroupId no_names formed.timeframes.few (λ row lt filled. let id = group_of_frame t formed row lt in (id.0, id.1, id.3))) (omega arith)
 
   pub product_list : IsNameList (product_names t)
   unfolding product_names
-  product_list = name_list 4_000_000 _ (one_file 0 [] t.fare_products FareProductId no_names formed.fare_products.few (λ row lt filled. let id = product_id t formed row lt in (id.0, id.1, id.3))) (omega arith)
+  product_list = name_list most_rows _ (one_file 0 [] t.fare_products FareProductId no_names formed.fare_products.few (λ row lt filled. let id = product_id t formed row lt in (id.0, id.1, id.3))) (omega arith)
 
   pub group_list : IsNameList (group_names t)
   unfolding group_names
-  group_list = name_list 4_000_000 _ (one_file 0 [] t.fare_leg_rules LegGroupId no_names formed.fare_leg_rules.few (group_of_leg_rule t formed)) (omega arith)
+  group_list = name_list most_rows _ (one_file 0 [] t.fare_leg_rules LegGroupId no_names formed.fare_leg_rules.few (group_of_leg_rule t formed)) (omega arith)
 
   -- as lists of the rows
   pub services_listed : IsNameList (rows_of_tables t).service_names

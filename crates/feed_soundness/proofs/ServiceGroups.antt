@@ -3,12 +3,13 @@ use Rattle.std.proofs.Common.{◌≡◌, refl, sym, ◌∙◌, ℕ, ◌<◌, ◌
 use Rattle.std.specs.Prelude.{◌==◌, not, ℤ, int_lt, ◌≤ℤ◌}
 use Rattle.std.proofs.lemmas.Bool.{and_from, eq-eqb, not-true}
 use Rattle.std.proofs.lemmas.Int.{ints}
+use Rattle.transit_base.specs.Limits.{most_time}
 use Rattle.feed_rows.specs.declared.names.FileName.TheVariants as file
 use Rattle.feed_rows.specs.declared.names.ColumnName.TheVariants as column
 use Rattle.plain_laws.specs.Plain.{int_same}
 use Rattle.feed_rows.specs.SoundTimetable.{IsCalendarDay, AreSoundServices, AreSoundExceptions, AreSoundFrequencies, AreSoundLinks}
 use Rattle.feed_faults.specs.Records.{row_count, field}
-use Rattle.feed_faults.specs.FieldGrammars.{most_int, most_time}
+use Rattle.feed_faults.specs.FieldGrammars.{most_int}
 use Rattle.feed_faults.specs.FileColumns.{int, date, any_time}
 use Rattle.feed_faults.specs.FormFaults.{is_passed_over}
 use Rattle.feed_faults.specs.FeedTables.{FeedTables}
@@ -137,9 +138,9 @@ module _ (t : FeedTables) (formed : AreFormed t) (related : AreRelated t) where
         trips = All-list_below (λ f. f.trip.0 < length (rows_of_tables t).trips) (row_count t.frequencies) (frequency_row t)
             (λ i lt. rw (trips_length t) (frequency_trip_known i lt).within);
         no_doubles = AllPairs-list_below (λ f g. f.trip.0 ≡ g.trip.0 → f.start ≡ g.start → ⊥) (row_count t.frequencies) (frequency_row t) frequencies_apart;
-        starts = All-list_below (λ f. f.start ≤ 604_799) (row_count t.frequencies) (frequency_row t)
+        starts = All-list_below (λ f. f.start ≤ most_time) (row_count t.frequencies) (frequency_row t)
             (λ i lt. time_past_good most_time (field t.frequencies i column.StartTime) (must_at file.Frequencies t.frequencies i 1 column.StartTime any_time formed.frequencies lt refl).fit);
-        ends = All-list_below (λ f. f.end ≤ 604_799) (row_count t.frequencies) (frequency_row t)
+        ends = All-list_below (λ f. f.end ≤ most_time) (row_count t.frequencies) (frequency_row t)
             (λ i lt. time_past_good most_time (field t.frequencies i column.EndTime) (must_at file.Frequencies t.frequencies i 2 column.EndTime any_time formed.frequencies lt refl).fit);
         headways = All-list_below (λ f. (1 ≤ f.headway) × (f.headway ≤ 2_147_483_647)) (row_count t.frequencies) (frequency_row t) frequency_headway;
       }

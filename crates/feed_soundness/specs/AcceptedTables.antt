@@ -1,5 +1,6 @@
 -- What the two passes say of tables where they find no fault: each file by itself is formed, and the files are related.
 use Rattle.std.specs.Prelude.{◌≡◌, ℕ, ◌<◌, ◌≤◌, slice_get, Option, Some, None}
+use Rattle.feed_rows.specs.Limits.{most_rows}
 use Rattle.feed_rows.specs.declared.names.FileName.{FileName}
 use Rattle.feed_rows.specs.declared.names.FileName.TheVariants as file
 use Rattle.feed_rows.specs.declared.faults.FeedFault.{FeedFault}
@@ -14,7 +15,7 @@ use Rattle.feed_faults.specs.FareRelations.{timeframe_fault, rider_fault, medium
 
 -- a file is formed: it hasn't too many rows, and no judged field of them has a fault
 pub record IsFormed (file : FileName) (table : FileTable) : Type 0 where
-  pub few : row_count table ≤ 4_000_000
+  pub few : row_count table ≤ most_rows
   pub fields : (row k : ℕ) (rule : ColumnRule) → row < row_count table → slice_get (judged_columns file table row) k ≡ Some rule → field_misfit table row rule ≡ None
 
 -- all files are formed

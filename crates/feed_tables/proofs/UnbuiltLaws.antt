@@ -2,6 +2,7 @@
 use Rattle.std.proofs.Common.{◌≡◌, refl, sym, ◌∙◌, subst, Bool, true, false, List, [], ◌∷◌, Option, Some, None}
 use Rattle.std.specs.Option.{option_or}
 use Rattle.std.proofs.lemmas.Option.{none-some}
+use Rattle.feed_rows.specs.Limits.{most_rows}
 use Rattle.feed_rows.specs.declared.names.FileName.{FileName}
 use Rattle.feed_rows.specs.declared.names.FileName.TheVariants as file
 use Rattle.feed_rows.specs.declared.faults.FaultKind.TheVariants as kind
@@ -10,7 +11,7 @@ use Rattle.plain_laws.specs.Plain.{first_of}
 use Rattle.feed_faults.specs.Records.{table_of_bytes}
 use Rattle.feed_faults.specs.FaultPlaces.{file_fault}
 use Rattle.feed_faults.specs.FeedTables.{FeedTables, table_of, tables_of}
-use Rattle.feed_faults.specs.FormFaults.{form_fault_of_held, form_fault_of_bytes, form_fault_of_rows, most_rows, form_fault, timetable_form_fault, network_form_fault, fare_form_fault, first_form_fault}
+use Rattle.feed_faults.specs.FormFaults.{form_fault_of_held, form_fault_of_bytes, form_fault_of_rows, form_fault, timetable_form_fault, network_form_fault, fare_form_fault, first_form_fault}
 use Rattle.feed_faults.specs.OnLiterals.{bytes_on_literals, forms_on_literals}
 use Rattle.folder_io.specs.declared.files.FileBytes.{FileBytes}
 use Rattle.folder_io.specs.FolderCalls.{Contents}

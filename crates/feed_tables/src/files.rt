@@ -1,10 +1,11 @@
 //! The table of a feed's file, judged by itself.
 ghost use Rattle.std.specs.Prelude.{◌≡◌, ◌≤◌, nat_lt, true, length, [], None, IfOk, IfErr, OnOk};
+ghost use Rattle.feed_rows.specs.Limits.{most_rows};
 ghost use Rattle.feed_rows.specs.HeldFiles.{HeldFile, most_bytes};
 ghost use Rattle.feed_faults.specs.Records.{row_count, table_of_bytes};
 ghost use Rattle.feed_faults.specs.FaultPlaces.{file_fault};
 ghost use Rattle.feed_faults.specs.FeedTables.{table_of};
-ghost use Rattle.feed_faults.specs.FormFaults.{most_rows, has_record, is_always_needed, is_needed, form_fault_of_bytes, form_fault_of_held};
+ghost use Rattle.feed_faults.specs.FormFaults.{has_record, is_always_needed, is_needed, form_fault_of_bytes, form_fault_of_held};
 ghost use Rattle.feed_text.specs.TextErrors.{IsErrorOf};
 ghost use Rattle.folder_io.specs.KeptFiles.{held_of, held_in, IsWithin, AreWithin};
 ghost use Rattle.feed_tables.specs.FirstPass.{is_built, has_byte, unbuilt_fault, pass_fault};

@@ -7,6 +7,8 @@ use Rattle.feed_rows.specs.declared.rows.StopTimeRow.{StopTimeRow}
 use Rattle.feed_laws.proofs.SequenceLaws.{length-in_sequence}
 use Rattle.std.proofs.lemmas.Int.{ints}
 use Rattle.std.proofs.lemmas.List.Elements.{Contains-get_or}
+use Rattle.feed_rows.specs.Limits.{least_shift, most_shift}
+use Rattle.transit_base.specs.Limits.{most_time}
 use Rattle.transit_base.specs.declared.numbers.TripId.{TripId}
 use Rattle.feed_rows.specs.declared.rows.TripRow.{TripRow}
 use Rattle.feed_rows.specs.FeedRows.{FeedRows}
@@ -40,11 +42,11 @@ shift_bounds feed trip sound k d lt =
     let timed = sound_trip feed trip sound in
     let z = get_or (shifts_of feed trip) k d in
     let is : is_shift feed trip z ≡ true = sym (list_any-shifts_of feed trip z) ∙ found_from_Contains (shifts_of feed trip) z (Contains-get_or (shifts_of feed trip) k d lt) in
-    let begins = first_departure_most feed trip 604_799 timed.ends timed.times in
-    let bounds = is_shift_bounds feed trip z 604_799 (omega arith) timed.runs begins is in
+    let begins = first_departure_most feed trip most_time timed.ends timed.times in
+    let bounds = is_shift_bounds feed trip z most_time (omega arith) timed.runs begins is in
     within z bounds.0 bounds.1
   where
-    within : (z : ℤ) → (pos 0 -ℤ pos 604_799) ≤ℤ z → z <ℤ pos 604_799 → (negsuc 699_999 ≤ℤ z) × (z ≤ℤ pos 700_000)
+    within : (z : ℤ) → (pos 0 -ℤ pos most_time) ≤ℤ z → z <ℤ pos most_time → (least_shift ≤ℤ z) × (z ≤ℤ most_shift)
     within z low high = (omega (arith, ints), omega (arith, ints))
 
 -- the service of a trip has a name

@@ -1,5 +1,6 @@
 -- Where a traveller stands, as the definitions see it.
 use Rattle.std.specs.Prelude.{List, All, ℤ, ◌≤ℤ◌, negsuc, pos, ◌^◌}
+use Rattle.feed_rows.specs.Limits.{least_shift, most_shift}
 use Rattle.feed_rows.specs.JourneyStands.{Stand}
 use Rattle.feed_timetable.specs.declared.standing.Standing.{Standing}
 
@@ -14,4 +15,4 @@ pub record IsNear (standing : Standing) : Type 0 where
 
 -- the seconds by which runs are shifted are fewer than a service day's times may be
 abbrev pub AreShifts : List ℤ → Type 0
-AreShifts shifts = All (λ z. (negsuc 699_999 ≤ℤ z) × (z ≤ℤ pos 700_000)) shifts
+AreShifts shifts = All (λ z. (least_shift ≤ℤ z) × (z ≤ℤ most_shift)) shifts

@@ -1,5 +1,7 @@
 //! The stops, trips, walks and services of one feed, beside one another.
 ghost use Rattle.std.specs.Prelude.{◌≡◌, ◌<◌, ◌≤◌, ◌^◌, ◌≤ℤ◌, pos, negsuc, length, All, IfOk, IfSome, IsTrue, option_map, Option, Some, None};
+ghost use Rattle.feed_rows.specs.Limits.{least_shift, most_shift};
+ghost use Rattle.transit_base.specs.Limits.{most_time};
 ghost use Rattle.transit_base.specs.declared.moments.Secs.{Secs};
 ghost use Rattle.transit_base.specs.declared.moments.Moment.{Moment};
 ghost use Rattle.feed_rows.specs.declared.journeys.Call.{Call};
@@ -164,7 +166,7 @@ impl<'f> Timetable<'f> {
     pub fn calls_of(&self, trip: TripId) -> &[Call]
         requires { trip.0 < length self.now.trips }
         ensures value { result.now ≡ calls_of self.now trip }
-        ensures times { All (λ (c : Call). c.departure ≤ 604_799) result.now }
+        ensures times { All (λ (c : Call). c.departure ≤ most_time) result.now }
         ensures few { length result.now < 2 ^ 32 }
     {
         let feed = self.feed;
@@ -199,7 +201,7 @@ impl<'f> Timetable<'f> {
     pub fn first_departure(&self, trip: TripId) -> u32
         requires { trip.0 < length self.now.trips }
         ensures value { result ≡ first_departure self.now trip }
-        ensures most { result ≤ 604_799 }
+        ensures most { result ≤ most_time }
     {
         match self.calls_of(trip).first() {
             Some(call) => call.departure,
@@ -212,8 +214,8 @@ impl<'f> Timetable<'f> {
         requires trip { ride.now.trip.0 < length self.now.trips }
         requires day_low { negsuc 799_999 ≤ℤ ride.now.day.0 }
         requires day_high { ride.now.day.0 ≤ℤ pos 3_000_000 }
-        requires shift_low { negsuc 699_999 ≤ℤ ride.now.shift }
-        requires shift_high { ride.now.shift ≤ℤ pos 700_000 }
+        requires shift_low { least_shift ≤ℤ ride.now.shift }
+        requires shift_high { ride.now.shift ≤ℤ most_shift }
         ensures { result ≡ ride_facts self.now ride.now }
     {
         let active = self.runs_on(ride.trip, ride.day);

@@ -3,6 +3,7 @@ use Rattle.std.proofs.Common.{◌≡◌, sym, ◌∙◌, ap, ◌<◌, ◌≤◌,
 use Rattle.std.specs.Prelude.{Some, slice_get}
 use Rattle.std.proofs.lemmas.List.Elements.{All-filter}
 use Rattle.std.proofs.lemmas.Option.{slice_get-get_or, same_Some}
+use Rattle.transit_base.specs.Limits.{most_time}
 use Rattle.transit_base.specs.declared.numbers.TripId.{TripId}
 use Rattle.feed_rows.specs.declared.rows.FrequencyRow.{FrequencyRow}
 use Rattle.feed_rows.specs.declared.journeys.Call.{Call}
@@ -51,7 +52,7 @@ runs_sound feed trip sound = All-filter (λ (f : FrequencyRow). f.trip.0 == trip
     runs all k d lt = record { start = all.starts k d lt; end = all.ends k d lt; some = (all.headways k d lt).0; headway = (all.headways k d lt).1 }
 
 -- no time of a call is later than 167:59:59
-pub calls_small : (feed : FeedRows) (trip : TripId) → IsSoundFeed feed → All (λ (c : Call). (c.arrival ≤ 604_799) × (c.departure ≤ 604_799)) (calls_of feed trip)
+pub calls_small : (feed : FeedRows) (trip : TripId) → IsSoundFeed feed → All (λ (c : Call). (c.arrival ≤ most_time) × (c.departure ≤ most_time)) (calls_of feed trip)
 calls_small feed trip sound k d lt =
     let it = sound_trip feed trip sound in
-    calls_of_most feed trip 604_799 k (get_or (calls_of feed trip) k d) it.ends it.times (slice_get-get_or (calls_of feed trip) k d lt)
+    calls_of_most feed trip most_time k (get_or (calls_of feed trip) k d) it.ends it.times (slice_get-get_or (calls_of feed trip) k d lt)

@@ -1,6 +1,7 @@
 -- The frequency rows of a trip, in any order.
 use Rattle.std.specs.Prelude.{◌≡◌, ℕ, ◌≤◌, ◌==◌, ◌&&◌, Bool, List, ℤ, pos, ◌-ℤ◌, map}
 use Rattle.std.specs.List.{list_any, flat_map}
+use Rattle.transit_base.specs.Limits.{most_time}
 use Rattle.transit_base.specs.declared.numbers.TripId.{TripId}
 use Rattle.feed_rows.specs.declared.rows.FrequencyRow.{FrequencyRow}
 use Rattle.feed_rows.specs.FeedRows.{FeedRows}
@@ -12,8 +13,8 @@ AreRunsOf feed trip rows = (p : FrequencyRow → Bool) → list_any p rows ≡ l
 
 -- the numbers of a frequency row are within their limits
 pub record IsSoundRun (row : FrequencyRow) : Type 0 where
-  pub start : row.start ≤ 604_799
-  pub end : row.end ≤ 604_799
+  pub start : row.start ≤ most_time
+  pub end : row.end ≤ most_time
   pub some : 1 ≤ row.headway
   pub headway : row.headway ≤ 2_147_483_647
 

@@ -1,5 +1,7 @@
 //! The trips of a feed.
 ghost use Rattle.std.specs.Prelude.{◌≡◌, ◌<◌, ◌≤◌, ◌≤ℤ◌, ◌+ℤ◌, pos, negsuc, ℤ, length, All, IfOk};
+ghost use Rattle.feed_rows.specs.Limits.{least_shift, most_shift};
+ghost use Rattle.transit_base.specs.Limits.{most_time};
 ghost use Rattle.feed_rows.specs.declared.journeys.Call.{Call};
 ghost use Rattle.feed_rows.specs.Calls.{calls_of, first_departure};
 ghost use Rattle.feed_rows.specs.Shifts.{has_frequencies, is_shift, shifts_of};
@@ -72,7 +74,7 @@ impl<'f> Trips<'f> {
     pub fn calls_of(&self, trip: TripId) -> &[Call]
         requires { trip.0 < length self.now.trips }
         ensures value { result.now ≡ calls_of self.now trip }
-        ensures times { All (λ (c : Call). (c.arrival ≤ 604_799) × (c.departure ≤ 604_799)) result.now }
+        ensures times { All (λ (c : Call). (c.arrival ≤ most_time) × (c.departure ≤ most_time)) result.now }
     {
         self.calls.group(trip.0 as usize)
     }
@@ -133,8 +135,8 @@ impl<'f> Trips<'f> {
     #[tactic(auto, using(crate::proofs::RunLaws::is_shift_none, crate::proofs::RunLaws::is_shift_rows))]
     fn is_shift(&self, trip: TripId, shift: i64) -> bool
         requires trip { trip.0 < length self.now.trips }
-        requires low { negsuc 699_999 ≤ℤ shift }
-        requires high { shift ≤ℤ pos 700_000 }
+        requires low { least_shift ≤ℤ shift }
+        requires high { shift ≤ℤ most_shift }
         ensures { result ≡ is_shift self.now trip shift }
     {
         let rows = self.frequencies_of(trip);
@@ -159,8 +161,8 @@ impl<'f> Trips<'f> {
     fn is_ride(&self, active: bool, ride: &Ride) -> bool
         requires trip { ride.now.trip.0 < length self.now.trips }
         requires active { active ≡ runs_on self.now ride.now.trip ride.now.day.0 }
-        requires shift_low { negsuc 699_999 ≤ℤ ride.now.shift }
-        requires shift_high { ride.now.shift ≤ℤ pos 700_000 }
+        requires shift_low { least_shift ≤ℤ ride.now.shift }
+        requires shift_high { ride.now.shift ≤ℤ most_shift }
         ensures { result ≡ is_ride self.now ride.now }
     {
         let calls = self.calls_of(ride.trip);
@@ -179,8 +181,8 @@ impl<'f> Trips<'f> {
         requires active { active ≡ runs_on self.now ride.now.trip ride.now.day.0 }
         requires day_low { negsuc 799_999 ≤ℤ ride.now.day.0 }
         requires day_high { ride.now.day.0 ≤ℤ pos 3_000_000 }
-        requires shift_low { negsuc 699_999 ≤ℤ ride.now.shift }
-        requires shift_high { ride.now.shift ≤ℤ pos 700_000 }
+        requires shift_low { least_shift ≤ℤ ride.now.shift }
+        requires shift_high { ride.now.shift ≤ℤ most_shift }
         ensures { result ≡ ride_facts self.now ride.now }
     {
         if !self.is_ride(active, ride) {
@@ -197,10 +199,10 @@ impl<'f> Trips<'f> {
         requires trip { ride.now.trip.0 < length self.now.trips }
         requires day_low { negsuc 799_999 ≤ℤ ride.now.day.0 }
         requires day_high { ride.now.day.0 ≤ℤ pos 3_000_000 }
-        requires shift_low { negsuc 699_999 ≤ℤ ride.now.shift }
-        requires shift_high { ride.now.shift ≤ℤ pos 700_000 }
-        requires departure { boarding.now.departure ≤ 604_799 }
-        requires arrival { alighting.now.arrival ≤ 604_799 }
+        requires shift_low { least_shift ≤ℤ ride.now.shift }
+        requires shift_high { ride.now.shift ≤ℤ most_shift }
+        requires departure { boarding.now.departure ≤ most_time }
+        requires arrival { alighting.now.arrival ≤ most_time }
         ensures { result ≡ facts_between self.now ride.now boarding.now alighting.now }
     {
         RideFacts {
@@ -217,9 +219,9 @@ impl<'f> Trips<'f> {
 fn moment_of(ride: &Ride, seconds: u32) -> Moment
     requires day_low { negsuc 799_999 ≤ℤ ride.now.day.0 }
     requires day_high { ride.now.day.0 ≤ℤ pos 3_000_000 }
-    requires shift_low { negsuc 699_999 ≤ℤ ride.now.shift }
-    requires shift_high { ride.now.shift ≤ℤ pos 700_000 }
-    requires seconds { seconds ≤ 604_799 }
+    requires shift_low { least_shift ≤ℤ ride.now.shift }
+    requires shift_high { ride.now.shift ≤ℤ most_shift }
+    requires seconds { seconds ≤ most_time }
     ensures { result ≡ moment_of ride.now seconds }
 {
     Moment::at(ride.day, ride.shift + i64::from(seconds))
@@ -227,8 +229,8 @@ fn moment_of(ride: &Ride, seconds: u32) -> Moment
 
 // The second of the service day that a second is shifted to.
 fn shifted(shift: i64, second: u32) -> i64
-    requires low { negsuc 699_999 ≤ℤ shift }
-    requires high { shift ≤ℤ pos 700_000 }
+    requires low { least_shift ≤ℤ shift }
+    requires high { shift ≤ℤ most_shift }
     ensures { result ≡ shift +ℤ pos second }
 {
     shift + i64::from(second)

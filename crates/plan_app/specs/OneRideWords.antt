@@ -1,5 +1,6 @@
 -- The words that are taken: those of a plan of at most one ride, plan FROM TO DATE TIME --rides 1, and check.
 use Rattle.std.specs.Prelude.{ℕ, ◌==◌, ◌&&◌, not, nat_lt, Bool, false, if◌then◌else◌, List, length, slice_index, Option, Some, None, option_map, option_and_then, ℤ, pos, codes, bytes_eq}
+use Rattle.feed_rows.specs.Limits.{usual_window}
 use Rattle.transit_base.specs.Moments.{moment_at}
 use Rattle.feed_rows.specs.CommandWords.{word_at}
 use Rattle.feed_rows.specs.Requests.{PlanRequest, Request}
@@ -29,7 +30,7 @@ one_ride words departure =
       departure = departure;
       rides = 1;
       rider = None;
-      window = 86_400;
+      window = usual_window;
       stats = false;
     }
 

@@ -1,5 +1,6 @@
 -- What the words of a command ask for.
 use Rattle.std.specs.Prelude.{◌≤ℤ◌, false, ℤ, pos, negsuc, None}
+use Rattle.feed_rows.specs.Limits.{usual_window}
 use Rattle.feed_rows.specs.Requests.{PlanRequest, Request}
 use Rattle.plan_app.specs.declared.request.Asked.{Asked}
 use Rattle.plan_app.specs.declared.request.Asked.TheVariants as asked
@@ -14,7 +15,7 @@ request_of plan =
       departure = plan.departure.0;
       rides = 1;
       rider = None;
-      window = 86_400;
+      window = usual_window;
       stats = false;
     }
 

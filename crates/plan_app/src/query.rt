@@ -5,7 +5,7 @@ ghost use Rattle.feed_rows.specs.Queries.{named_stop, query_of};
 ghost use Rattle.plan_app.specs.Request.{request_of};
 
 use crate::request::OneRide;
-use feed_rows::{Feed, Query, StopWord, UsageFault};
+use feed_rows::{Feed, Query, StopWord, USUAL_WINDOW, UsageFault};
 use feed_timetable::Timetable;
 use transit_base::StopId;
 
@@ -45,7 +45,7 @@ pub(crate) fn query_of(timetable: &Timetable, plan: &OneRide) -> Result<Query, U
         to,
         departure: plan.departure,
         rides: 1,
-        window: 86_400,
+        window: USUAL_WINDOW,
         rider: None,
     })
 }

@@ -7,6 +7,7 @@ use Rattle.std.proofs.lemmas.List.{get_or_default}
 use Rattle.std.proofs.lemmas.Bool.{cases_lt}
 use mathlib.Core.Bool.{true≢false}
 use Rattle.std.proofs.lemmas.List.Elements.{All-append, All-cons, All-nil, Contains-append_left, Contains-push}
+use Rattle.transit_base.specs.Limits.{day_seconds, most_time}
 use Rattle.feed_laws.proofs.MomentLaws.{time_of_day_bound, moment_at-parts}
 use Rattle.transit_base.specs.Moments.{moment_at, civil_day}
 use Rattle.transit_base.specs.declared.numbers.TripId.{TripId}
@@ -17,6 +18,7 @@ use Rattle.feed_rows.specs.declared.journeys.Query.{Query}
 use Rattle.feed_rows.specs.declared.journeys.Ride.{Ride}
 use Rattle.feed_rows.specs.declared.journeys.RideFacts.{RideFacts}
 use Rattle.feed_rows.specs.FeedRows.{FeedRows}
+use Rattle.feed_rows.specs.Limits.{most_window}
 use Rattle.feed_rows.specs.SoundFeed.{IsSoundFeed}
 use Rattle.feed_rows.specs.Calls.{calls_of}
 use Rattle.feed_rows.specs.Rides.{runs_on, ride_facts}
@@ -172,7 +174,7 @@ caught_trip feed query stand ride next e =
     slice_get_within feed.trips ride.trip.0 row.value row.is
 
 -- the seconds of a moment's civil day
-pub civil_day_bounds : (moment : ℤ) → ((civil_day moment *ℤ pos 86400) ≤ℤ moment) × (moment <ℤ (civil_day moment *ℤ pos 86400 +ℤ pos 86400))
+pub civil_day_bounds : (moment : ℤ) → ((civil_day moment *ℤ pos day_seconds) ≤ℤ moment) × (moment <ℤ (civil_day moment *ℤ pos day_seconds +ℤ pos day_seconds))
 civil_day_bounds moment = let parts = moment_at-parts moment in let bound = time_of_day_bound moment in (omega (arith, ints), omega (arith, ints))
 
 -- the last days of a query lie before 3001
@@ -183,15 +185,15 @@ day_after_high query usual =
     let window = usual.window in
     small (civil_day (deadline query)) query.departure.0 query.window bounds.0 late window
   where
-    small : (day departure : ℤ) (window : ℕ) → (day *ℤ pos 86400) ≤ℤ (departure +ℤ pos window) → departure ≤ℤ pos 32_504_284_800 → window ≤ 259_200 → (day +ℤ pos 1) ≤ℤ pos 3_000_000
+    small : (day departure : ℤ) (window : ℕ) → (day *ℤ pos day_seconds) ≤ℤ (departure +ℤ pos window) → departure ≤ℤ pos 32_504_284_800 → window ≤ most_window → (day +ℤ pos 1) ≤ℤ pos 3_000_000
     small day departure window below late few = omega (arith, ints)
 
-day_bounds : (from at departs arrives day : ℤ) (way : ℕ) → from ≤ℤ at → (at +ℤ pos way) ≤ℤ departs → departs ≤ℤ arrives → arrives ≤ℤ (day *ℤ pos 86400 +ℤ pos (2 * 604799)) →
+day_bounds : (from at departs arrives day : ℤ) (way : ℕ) → from ≤ℤ at → (at +ℤ pos way) ≤ℤ departs → departs ≤ℤ arrives → arrives ≤ℤ (day *ℤ pos day_seconds +ℤ pos (2 * most_time)) →
     (civil_day from -ℤ pos 13) ≤ℤ day
 day_bounds from at departs arrives day way since catches forward low =
     let parts = moment_at-parts from in let bound = time_of_day_bound from in omega (arith, ints)
 
-day_until : (until departs arrives day : ℤ) → (day *ℤ pos 86400) ≤ℤ departs → departs ≤ℤ arrives → arrives ≤ℤ until → day <ℤ (civil_day until +ℤ pos 1)
+day_until : (until departs arrives day : ℤ) → (day *ℤ pos day_seconds) ≤ℤ departs → departs ≤ℤ arrives → arrives ≤ℤ until → day <ℤ (civil_day until +ℤ pos 1)
 day_until until departs arrives day begins forward ends =
     let parts = moment_at-parts until in let bound = time_of_day_bound until in omega (arith, ints)
 
@@ -200,7 +202,7 @@ pub caught_day : (feed : FeedRows) (query : Query) (stand : Stand) (ride : Ride)
     (first_day query ≤ℤ ride.day.0) × (ride.day.0 <ℤ day_after query)
 caught_day feed query stand ride next sound within e =
     let c = caught_ride feed query stand ride next e in
-    let t = ride_facts_timed feed ride c.facts 604_799 (sound_trip feed ride.trip sound) c.is in
+    let t = ride_facts_timed feed ride c.facts most_time (sound_trip feed ride.trip sound) c.is in
     let ends : c.facts.arrival.0 ≤ℤ deadline query = subst (λ (s : Stand). s.at ≤ℤ deadline query) (sym c.ends) c.in_time in (
       day_bounds query.departure.0 stand.at c.facts.departure.0 c.facts.arrival.0 ride.day.0 c.way within.since c.catches t.forward t.arrives,
       day_until (deadline query) c.facts.departure.0 c.facts.arrival.0 ride.day.0 t.departs t.forward ends,
@@ -210,7 +212,7 @@ caught_day feed query stand ride next sound within e =
 pub caught_within : (feed : FeedRows) (query : Query) (stand : Stand) (ride : Ride) (next : Stand) → IsSoundFeed feed → IsWithin query stand.at → next_in_time feed query stand ride ≡ Some next → IsWithin query next.at
 caught_within feed query stand ride next sound within e =
     let c = caught_ride feed query stand ride next e in
-    let t = ride_facts_timed feed ride c.facts 604_799 (sound_trip feed ride.trip sound) c.is in
+    let t = ride_facts_timed feed ride c.facts most_time (sound_trip feed ride.trip sound) c.is in
     record { since = subst (λ (s : Stand). query.departure.0 ≤ℤ s.at) c.ends (onward query.departure.0 stand.at c.facts.departure.0 c.facts.arrival.0 c.way within.since c.catches t.forward); until = c.in_time }
   where
     onward : (from at departs arrives : ℤ) (way : ℕ) → from ≤ℤ at → (at +ℤ pos way) ≤ℤ departs → departs ≤ℤ arrives → from ≤ℤ arrives

@@ -9,6 +9,7 @@ use Rattle.std.proofs.lemmas.List.Folds.{Any-from_list_any, list_any-from_Any}
 use Rattle.std.proofs.lemmas.List.{get_or_default, map-append, length-map, length_push, append-nil}
 use Rattle.std.proofs.lemmas.List.Elements.{All-weaker, All-nil, All-cons, All-append, All-contains}
 use Rattle.std.proofs.Math.Seq.{take-append_seam}
+use Rattle.transit_base.specs.Limits.{most_time}
 use Rattle.feed_rows.specs.declared.fares.Triple.{Triple}
 use Rattle.feed_rows.specs.Rides.{ride_facts}
 use Rattle.feed_rows.specs.PriceTexts.{IsLeastPrice, IsUncovered}
@@ -56,7 +57,7 @@ after_of_timed feed query s (r ∷ rs) q e =
 pub step_later : (feed : FeedRows) (query : Query) (s : Stand) (r : Ride) (m : Stand) → IsSoundFeed feed → next_stand feed query s r ≡ Some m → s.at ≤ℤ m.at
 step_later feed query s r m sound e =
     let t = taken_of_next feed query s r m e in
-    let timed = ride_facts_timed feed r t.facts 604_799 (sound_trip feed r.trip sound) t.is in
+    let timed = ride_facts_timed feed r t.facts most_time (sound_trip feed r.trip sound) t.is in
     let way = filled_and-true (way_to feed query s t.facts.from) (λ (w : ℕ). int_le (s.at +ℤ pos w) t.facts.departure.0) t.caught in
     subst (λ (q : Stand). s.at ≤ℤ q.at) t.stands (onward s.at t.facts.departure.0 t.facts.arrival.0 way.value (from_test _ _ way.passes) timed.forward)
   where

@@ -6,6 +6,7 @@ use Rattle.feed_rows.specs.declared.journeys.Call.{Call}
 use Rattle.feed_rows.specs.declared.journeys.Query.{Query}
 use Rattle.feed_rows.specs.declared.journeys.Ride.{Ride}
 use Rattle.feed_rows.specs.FeedRows.{FeedRows}
+use Rattle.feed_rows.specs.Limits.{most_window}
 use Rattle.feed_rows.specs.JourneyStands.{Stand, stand_at_end, next_stand, way_to}
 use Rattle.feed_rows.specs.Rides.{ride_facts}
 use Rattle.plain_laws.specs.Plain.{when, filled_and}
@@ -24,11 +25,11 @@ if_in_time query stand = when (int_le stand.at (deadline query)) stand
 unfoldable pub next_in_time : FeedRows → Query → Stand → Ride → Option Stand
 next_in_time feed query stand ride = option_and_then (if_in_time query) (next_stand feed query stand ride)
 
--- the moment of departure lies in the years 1900 to 3000, and the window is at most three days
+-- the moment of departure lies in the years 1900 to 3000, and the window is at most the greatest that a query may say
 pub record IsUsualQuery (query : Query) : Type 0 where
   pub early : negsuc 2_208_988_799 ≤ℤ query.departure.0
   pub late : query.departure.0 ≤ℤ pos 32_504_284_800
-  pub window : query.window ≤ 259_200
+  pub window : query.window ≤ most_window
 
 -- one stands there no earlier than the query's departure and no later than its window ends
 pub record IsWithin (query : Query) (at : ℤ) : Type 0 where

@@ -1,5 +1,7 @@
 //! The rides that are caught from where a traveller stands, and end within the query's window.
 ghost use Rattle.std.specs.Prelude.{◌≡◌, ◌<◌, ◌≤◌, ◌+◌, ◌-◌, ◌^◌, ◌≤ℤ◌, ◌<ℤ◌, ◌+ℤ◌, pos, negsuc, length, All, IfOk, OnOk, IfSome, IfNone, IsSome, IsTrue, Contains, option_map, slice_get, slice_index_or, Some, None, true, false};
+ghost use Rattle.feed_rows.specs.Limits.{least_shift, most_shift};
+ghost use Rattle.transit_base.specs.Limits.{most_time};
 ghost use Rattle.feed_rows.specs.declared.journeys.Ride.{Ride};
 ghost use Rattle.feed_rows.specs.declared.journeys.Call.{Call};
 ghost use Rattle.feed_rows.specs.Calls.{calls_of};
@@ -54,8 +56,8 @@ fn facts_in_time(
     requires trip { ride.now.trip.0 < length timetable.now.trips }
     requires day_low { negsuc 799_999 ≤ℤ ride.now.day.0 }
     requires day_high { ride.now.day.0 ≤ℤ pos 3_000_000 }
-    requires shift_low { negsuc 699_999 ≤ℤ ride.now.shift }
-    requires shift_high { ride.now.shift ≤ℤ pos 700_000 }
+    requires shift_low { least_shift ≤ℤ ride.now.shift }
+    requires shift_high { ride.now.shift ≤ℤ most_shift }
     ensures next { option_map stand_at_end result ≡ next_in_time timetable.now query.now (stand_of standing) ride.now }
     ensures facts { IfSome result (λ facts. ride_facts timetable.now ride.now ≡ Some facts) }
 {
@@ -84,8 +86,8 @@ fn add_ride(
     requires trip { run.trip.0 < length timetable.now.trips }
     requires day_low { negsuc 799_999 ≤ℤ run.day.0 }
     requires day_high { run.day.0 ≤ℤ pos 3_000_000 }
-    requires shift_low { negsuc 699_999 ≤ℤ run.shift }
-    requires shift_high { run.shift ≤ℤ pos 700_000 }
+    requires shift_low { least_shift ≤ℤ run.shift }
+    requires shift_high { run.shift ≤ℤ most_shift }
     ensures { OnOk result (AddsCaught timetable.now query.now (stand_of standing) (IsRideOf run from to) rides.old.items rides.new.items) }
 {
     if from >= to {
@@ -119,8 +121,8 @@ fn add_from(
     requires trip { run.trip.0 < length timetable.now.trips }
     requires day_low { negsuc 799_999 ≤ℤ run.day.0 }
     requires day_high { run.day.0 ≤ℤ pos 3_000_000 }
-    requires shift_low { negsuc 699_999 ≤ℤ run.shift }
-    requires shift_high { run.shift ≤ℤ pos 700_000 }
+    requires shift_low { least_shift ≤ℤ run.shift }
+    requires shift_high { run.shift ≤ℤ most_shift }
     ensures { OnOk result (AddsCaught timetable.now query.now (stand_of standing) (IsFrom run from calls) rides.old.items rides.new.items) }
 {
     for to in 0..calls {
@@ -152,9 +154,9 @@ fn gets_there(
 fn departure_of(run: Run, call: &Call) -> Moment
     requires day_low { negsuc 799_999 ≤ℤ run.day.0 }
     requires day_high { run.day.0 ≤ℤ pos 3_000_000 }
-    requires shift_low { negsuc 699_999 ≤ℤ run.shift }
-    requires shift_high { run.shift ≤ℤ pos 700_000 }
-    requires time { call.now.departure ≤ 604_799 }
+    requires shift_low { least_shift ≤ℤ run.shift }
+    requires shift_high { run.shift ≤ℤ most_shift }
+    requires time { call.now.departure ≤ most_time }
     ensures { result.0 ≡ departure_of run call.now }
 {
     Moment::at(run.day, run.shift + i64::from(call.departure))
@@ -173,9 +175,9 @@ fn may_board(
     requires within { IsWithin query.now standing.at.0 }
     requires day_low { negsuc 799_999 ≤ℤ run.day.0 }
     requires day_high { run.day.0 ≤ℤ pos 3_000_000 }
-    requires shift_low { negsuc 699_999 ≤ℤ run.shift }
-    requires shift_high { run.shift ≤ℤ pos 700_000 }
-    requires time { call.now.departure ≤ 604_799 }
+    requires shift_low { least_shift ≤ℤ run.shift }
+    requires shift_high { run.shift ≤ℤ most_shift }
+    requires time { call.now.departure ≤ most_time }
     ensures { result ≡ may_board timetable.now query.now (stand_of standing) run call.now }
 {
     let departure = departure_of(run, call);
@@ -204,10 +206,10 @@ fn add_call(
     requires trip { run.trip.0 < length timetable.now.trips }
     requires day_low { negsuc 799_999 ≤ℤ run.day.0 }
     requires day_high { run.day.0 ≤ℤ pos 3_000_000 }
-    requires shift_low { negsuc 699_999 ≤ℤ run.shift }
-    requires shift_high { run.shift ≤ℤ pos 700_000 }
+    requires shift_low { least_shift ≤ℤ run.shift }
+    requires shift_high { run.shift ≤ℤ most_shift }
     requires calls { calls.now ≡ calls_of timetable.now run.trip }
-    requires times { All (λ (c : Call). c.departure ≤ 604_799) calls.now }
+    requires times { All (λ (c : Call). c.departure ≤ most_time) calls.now }
     requires inside { from < length calls.now }
     requires few { length calls.now < 2 ^ 32 }
     ensures { OnOk result (AddsCaught timetable.now query.now (stand_of standing) (IsAt run from) rides.old.items rides.new.items) }
@@ -240,8 +242,8 @@ fn add_run(
     requires trip { run.trip.0 < length timetable.now.trips }
     requires day_low { negsuc 799_999 ≤ℤ run.day.0 }
     requires day_high { run.day.0 ≤ℤ pos 3_000_000 }
-    requires shift_low { negsuc 699_999 ≤ℤ run.shift }
-    requires shift_high { run.shift ≤ℤ pos 700_000 }
+    requires shift_low { least_shift ≤ℤ run.shift }
+    requires shift_high { run.shift ≤ℤ most_shift }
     ensures { OnOk result (AddsCaught timetable.now query.now (stand_of standing) (IsOfRun run) rides.old.items rides.new.items) }
 {
     let calls = timetable.calls_of(run.trip);
@@ -258,8 +260,8 @@ fn run_of(trip: TripId, day: Day, shifts: &[i64], k: usize) -> Run
     ensures trip { result.trip ≡ trip }
     ensures day { result.day ≡ day }
     ensures shift { result.shift ≡ slice_index_or shifts.now k (pos 0) }
-    ensures low { negsuc 699_999 ≤ℤ result.shift }
-    ensures high { result.shift ≤ℤ pos 700_000 }
+    ensures low { least_shift ≤ℤ result.shift }
+    ensures high { result.shift ≤ℤ most_shift }
 {
     Run {
         trip,

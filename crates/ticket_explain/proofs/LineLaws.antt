@@ -1,9 +1,10 @@
 -- Dates and times that have no text.
-use Rattle.std.proofs.Common.{◌≡◌, refl, sym, ◌++◌, ℕ, ◌≤◌, false, List, [], ℤ, pos, negsuc, ◌+ℤ◌, ◌<ℤ◌, ◌≤ℤ◌, arith}
-use Rattle.std.specs.Prelude.{nat_lt}
+use Rattle.std.proofs.Common.{◌≡◌, refl, sym, ◌++◌, ℕ, ◌<◌, ◌≤◌, false, List, [], ℤ, pos, negsuc, ◌+ℤ◌, ◌-ℤ◌, ◌<ℤ◌, ◌≤ℤ◌, arith}
+use Rattle.std.specs.Prelude.{nat_le}
 use Rattle.std.proofs.lemmas.List.{append-nil}
 use Rattle.std.proofs.lemmas.Int.{ints}
 use Rattle.std.proofs.lemmas.Bool.Decides.{nat_tests}
+use Rattle.transit_base.specs.Limits.{most_time}
 use Rattle.transit_base.specs.Dates.{is_dated}
 use Rattle.transit_base.specs.DateTexts.{date_text, time_text}
 use Rattle.feed_rows.specs.EntryText.{service_time_text}
@@ -13,15 +14,15 @@ pub undated : (text : List ℕ) (day : ℤ) → is_dated day ≡ false → text 
 unfolding date_text
 undated text day dateless = rw dateless (sym (append-nil text))
 
-past_test : (seconds : ℕ) → 604_800 ≤ seconds → nat_lt seconds 604_800 ≡ false
+past_test : (seconds : ℕ) → most_time < seconds → nat_le seconds most_time ≡ false
 past_test seconds past = grind (arith, nat_tests)
 
 -- seconds past 167:59:59 have no text
-pub no_time : (seconds : ℕ) → 604_800 ≤ seconds → time_text seconds ≡ []
+pub no_time : (seconds : ℕ) → most_time < seconds → time_text seconds ≡ []
 unfolding time_text
 no_time seconds past = rw (past_test seconds past) refl
 
-pub untimed : (text : List ℕ) (seconds : ℕ) → 604_800 ≤ seconds → text ≡ text ++ time_text seconds
+pub untimed : (text : List ℕ) (seconds : ℕ) → most_time < seconds → text ≡ text ++ time_text seconds
 untimed text seconds past = rw (no_time seconds past) (sym (append-nil text))
 
 -- a second before the service day has no text, nor has one past its times
@@ -29,7 +30,7 @@ pub time_before : (second : ℤ) → second <ℤ pos 0 → service_time_text sec
 time_before (pos n) before = absurd (omega (arith, ints))
 time_before (negsuc n) before = refl
 
-pub time_past : (second : ℤ) → pos 604_800 ≤ℤ second → service_time_text second ≡ []
+pub time_past : (second : ℤ) → pos most_time <ℤ second → service_time_text second ≡ []
 time_past (pos n) past = no_time n (omega (arith, ints))
 time_past (negsuc n) past = refl
 
@@ -38,8 +39,8 @@ pub time_within : (second : ℤ) (n : ℕ) → pos n ≡ second → time_text n 
 time_within second n same = rw (← same) refl
 
 -- where a run is shifted by a week or more, its start is none of the service day's
-pub far_before : (shift : ℤ) (first : ℕ) → shift <ℤ negsuc 604_799 → first ≤ 604_799 → service_time_text (shift +ℤ pos first) ≡ []
+pub far_before : (shift : ℤ) (first : ℕ) → shift <ℤ (pos 0 -ℤ pos most_time) → first ≤ most_time → service_time_text (shift +ℤ pos first) ≡ []
 far_before shift first far small = time_before (shift +ℤ pos first) (omega (arith, ints))
 
-pub far_past : (shift : ℤ) (first : ℕ) → pos 604_800 ≤ℤ shift → service_time_text (shift +ℤ pos first) ≡ []
+pub far_past : (shift : ℤ) (first : ℕ) → pos most_time <ℤ shift → service_time_text (shift +ℤ pos first) ≡ []
 far_past shift first far = time_past (shift +ℤ pos first) (omega (arith, ints))

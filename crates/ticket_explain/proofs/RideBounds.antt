@@ -7,6 +7,8 @@ use Rattle.std.proofs.lemmas.Bool.Decides.{nat_tests}
 use Rattle.std.proofs.lemmas.Int.{ints}
 use Rattle.std.proofs.lemmas.Option.{slice_get_within}
 use Rattle.std.proofs.lemmas.List.Elements.{All-contains}
+use Rattle.feed_rows.specs.Limits.{least_shift, most_shift}
+use Rattle.transit_base.specs.Limits.{most_time}
 use Rattle.transit_base.specs.declared.numbers.ServiceId.{ServiceId}
 use Rattle.feed_rows.specs.declared.rows.ServiceRow.{ServiceRow}
 use Rattle.feed_rows.specs.declared.rows.ExceptionRow.{ExceptionRow}
@@ -72,15 +74,15 @@ near_ride feed ride facts sound e =
     let within : ride.trip.0 < length feed.trips = slice_get_within feed.trips ride.trip.0 row.value row.is in
     let day = near_active feed row.value.service ride.day.0 sound row.passes in
     let timed = sound_trip feed ride.trip sound in
-    let begins = first_departure_most feed ride.trip 604_799 timed.ends timed.times in
-    let bounds = is_shift_bounds feed ride.trip ride.shift 604_799 (omega arith) timed.runs begins is.shift in
+    let begins = first_departure_most feed ride.trip most_time timed.ends timed.times in
+    let bounds = is_shift_bounds feed ride.trip ride.shift most_time (omega arith) timed.runs begins is.shift in
     tests ride.trip.0 (length feed.trips) ride.day.0 ride.shift within day.low day.high bounds.0 bounds.1
   where
-    tests : (trip trips : ℕ) (day shift : ℤ) → trip < trips → negsuc 799_999 ≤ℤ day → day ≤ℤ pos 3_000_000 → (pos 0 -ℤ pos 604_799) ≤ℤ shift → shift <ℤ pos 604_799
-        → (nat_lt trip trips && int_le (negsuc 799_999) day && int_le day (pos 3_000_000) && int_le (negsuc 699_999) shift && int_le shift (pos 700_000)) ≡ true
+    tests : (trip trips : ℕ) (day shift : ℤ) → trip < trips → negsuc 799_999 ≤ℤ day → day ≤ℤ pos 3_000_000 → (pos 0 -ℤ pos most_time) ≤ℤ shift → shift <ℤ pos most_time
+        → (nat_lt trip trips && int_le (negsuc 799_999) day && int_le day (pos 3_000_000) && int_le least_shift shift && int_le shift most_shift) ≡ true
     tests trip trips day shift a b c d e =
-        let low : negsuc 699_999 ≤ℤ shift = omega (arith, ints) in
-        let high : shift ≤ℤ pos 700_000 = omega (arith, ints) in
+        let low : least_shift ≤ℤ shift = omega (arith, ints) in
+        let high : shift ≤ℤ most_shift = omega (arith, ints) in
         grind (arith, ints, nat_tests)
 
 -- so one that isn't has none

@@ -1,6 +1,7 @@
 -- Lines in parts: what stands before the last fields, and whether a line is written at all.
 use Rattle.std.specs.Prelude.{ℕ, ◌+◌, Bool, ◌&&◌, nat_lt, if◌then◌else◌, List, [], ◌∷◌, ◌++◌, length, Option, codes, decimal, ℤ, pos, negsuc, int_le, slice_get, option_map, option_and_then}
 use Rattle.std.specs.Option.{option_map_or, option_to_list}
+use Rattle.feed_rows.specs.Limits.{least_shift, most_shift}
 use Rattle.transit_base.specs.declared.numbers.StopId.{StopId}
 use Rattle.transit_base.specs.declared.numbers.ProductRowId.{ProductRowId}
 use Rattle.feed_rows.specs.declared.journeys.Ride.{Ride}
@@ -22,7 +23,7 @@ abbrev pub is_near : FeedRows → Ride → Bool
 is_near feed ride =
     nat_lt ride.trip.0 (length feed.trips)
     && int_le (negsuc 799_999) ride.day.0 && int_le ride.day.0 (pos 3_000_000)
-    && int_le (negsuc 699_999) ride.shift && int_le ride.shift (pos 700_000)
+    && int_le least_shift ride.shift && int_le ride.shift most_shift
 
 -- a word and its first fields
 abbrev pub head_text : List ℕ → List (List ℕ) → List ℕ

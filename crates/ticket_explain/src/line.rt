@@ -1,5 +1,6 @@
 //! The line of a text that is being written.
 ghost use Rattle.std.specs.Prelude.{◌≡◌, ◌<◌, ◌≤◌, ◌/◌, ◌++◌, ◌∷◌, [], pos, ◌+ℤ◌, OnOk, decimal};
+ghost use Rattle.transit_base.specs.Limits.{most_time};
 ghost use Rattle.transit_base.specs.Dates.{is_dated};
 ghost use Rattle.transit_base.specs.DateTexts.{two_digits, date_text, time_text, moment_text};
 ghost use Rattle.feed_rows.specs.MoneyText.{sign_text, decimals_text, units_of_whole, money_text};
@@ -8,7 +9,7 @@ ghost use Rattle.feed_rows.specs.EntryText.{service_time_text};
 use itoa::Buffer;
 use std::alloc::{AllocError, Global};
 use std::marker::Model;
-use transit_base::{Day, Moment, Money, Secs, date_text, time_text};
+use transit_base::{Day, MOST_TIME, Moment, Money, Secs, date_text, time_text};
 
 /// A line that is being written, so that its memory serves for the next line too. Contracts see it as its bytes.
 #[derive(Drop)]
@@ -136,7 +137,7 @@ impl Line {
         ensures { OnOk result (self.new ≡ self.old ++ 9 ∷ service_time_text second) }
     {
         self.bytes.push(b'\t')?;
-        if second < 0 || second >= 604_800 {
+        if second < 0 || second > i64::from(MOST_TIME) {
             return Ok(());
         }
         self.push_time(Secs(second as u32))
@@ -146,13 +147,13 @@ impl Line {
     /// the tab where it has no text.
     #[tactic(auto, using(crate::proofs::LineLaws::far_before, crate::proofs::LineLaws::far_past))]
     pub fn start_time(&mut self, shift: i64, first: u32) -> Result<(), AllocError>
-        requires { first ≤ 604_799 }
+        requires { first ≤ most_time }
         ensures { OnOk result (self.new ≡ self.old ++ 9 ∷ service_time_text (shift +ℤ pos first)) }
     {
-        if shift < -604_800 {
+        if shift < -i64::from(MOST_TIME) {
             return self.field(b"");
         }
-        if shift >= 604_800 {
+        if shift > i64::from(MOST_TIME) {
             return self.field(b"");
         }
         self.service_time(shift + i64::from(first))
@@ -189,7 +190,7 @@ impl Line {
     fn push_time(&mut self, seconds: Secs) -> Result<(), AllocError>
         ensures { OnOk result (self.new ≡ self.old ++ time_text seconds.0) }
     {
-        if seconds.0 >= 604_800 {
+        if seconds.0 > MOST_TIME {
             return Ok(());
         }
         self.bytes.extend_from_slice(time_text(seconds).bytes())

@@ -8,7 +8,8 @@ ghost use Rattle.feed_rows.specs.FareSums.{amount_of};
 ghost use Rattle.ticket_explain.specs.LineParts.{is_near};
 
 use feed_rows::{
-    Call, ChangeChoice, Choice, Feed, Journey, LegChoice, ProductRow, Ride, RideFacts,
+    Call, ChangeChoice, Choice, Feed, Journey, LEAST_SHIFT, LegChoice, MOST_SHIFT, ProductRow,
+    Ride, RideFacts,
 };
 use feed_timetable::Timetable;
 use transit_base::{Money, ProductRowId, StopId, TripId, XferId};
@@ -74,8 +75,8 @@ fn is_near(timetable: &Timetable, ride: &Ride) -> bool
     ride.trip.0 < timetable.trips()
         && -800_000 <= ride.day.0
         && ride.day.0 <= 3_000_000
-        && -700_000 <= ride.shift
-        && ride.shift <= 700_000
+        && LEAST_SHIFT <= ride.shift
+        && ride.shift <= MOST_SHIFT
 }
 
 /// Where and when a ride goes. None exactly where it is no ride of the feed.

@@ -1,5 +1,6 @@
 -- The texts of dates, times and moments.
-use Rattle.std.specs.Prelude.{ℕ, ◌+◌, ◌/◌, ◌%◌, nat_lt, if◌then◌else◌, List, [], ◌∷◌, ◌++◌, ℤ}
+use Rattle.std.specs.Prelude.{ℕ, ◌+◌, ◌/◌, ◌%◌, nat_lt, nat_le, if◌then◌else◌, List, [], ◌∷◌, ◌++◌, ℤ}
+use Rattle.transit_base.specs.Limits.{most_time}
 use Rattle.transit_base.specs.Moments.{civil_day, time_of_day}
 use Rattle.transit_base.specs.Dates.{CivilDate, date_of, is_dated}
 
@@ -28,9 +29,9 @@ abbrev pub clock_text : ℕ → List ℕ
 clock_text seconds =
     hours_text (seconds / 3600) ++ 58 ∷ two_digits (seconds / 60 % 60) ++ 58 ∷ two_digits (seconds % 60)
 
--- seconds below 604,800 as HH:MM:SS, with three digits of hours from 100 on; more seconds have no text
+-- seconds up to the greatest time as HH:MM:SS, with three digits of hours from 100 on; more seconds have no text
 unfoldable pub time_text : ℕ → List ℕ
-time_text seconds = if nat_lt seconds 604_800 then clock_text seconds else []
+time_text seconds = if nat_le seconds most_time then clock_text seconds else []
 
 -- a moment as YYYY-MM-DD HH:MM:SS
 abbrev pub moment_text : ℤ → List ℕ

@@ -1,3 +1,4 @@
 pub mod Moments
 pub mod Dates
 pub mod DateTexts
+pub mod Limits

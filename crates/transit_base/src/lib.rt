@@ -9,7 +9,7 @@ mod tests;
 mod texts;
 
 pub use calendar::{Day, day_of};
-pub use moments::{Moment, Money, Secs};
+pub use moments::{DAY_SECONDS, MOST_TIME, Moment, Money, Secs};
 pub use numbers::{
     AreaId, FrameId, LegGroupId, MediumId, NetworkId, ProductId, ProductRowId, RiderId, RouteId,
     RuleId, ServiceId, StopId, TripId, XferId,

@@ -4,6 +4,12 @@ ghost use Rattle.transit_base.specs.Moments.{moment_at, civil_day, time_of_day};
 
 use crate::calendar::Day;
 
+/// The seconds of a civil day.
+pub const DAY_SECONDS: u32 = 86_400;
+
+/// The greatest time of a trip in seconds: 167:59:59.
+pub const MOST_TIME: u32 = 604_799;
+
 /// A moment: seconds since 1970-01-01 00:00:00 on the one clock of a feed. Each civil day has 86,400 seconds, since
 /// time zones and clock changes are left out.
 #[derive(Clone, Copy, Debug, PartialEq, Eq, PartialOrd, Ord)]
@@ -27,7 +33,7 @@ impl Moment {
         requires seconds_high { seconds ≤ℤ pos 4_000_000 }
         ensures { result.0 ≡ moment_at day.0 seconds }
     {
-        Moment(day.0 * 86_400 + seconds)
+        Moment(day.0 * i64::from(DAY_SECONDS) + seconds)
     }
 
     /// The moment so many seconds later, which lies below 2^62 seconds.
@@ -42,13 +48,13 @@ impl Moment {
     pub fn day(self) -> Day
         ensures { result.0 ≡ civil_day self.0 }
     {
-        Day(self.0.div_euclid(86_400))
+        Day(self.0.div_euclid(i64::from(DAY_SECONDS)))
     }
 
     /// The seconds since 00:00:00 of the moment's civil day, from 0 to 86,399, before 1970 too.
     pub fn time_of_day(self) -> Secs
         ensures { result.0 ≡ time_of_day self.0 }
     {
-        Secs(self.0.rem_euclid(86_400) as u32)
+        Secs(self.0.rem_euclid(i64::from(DAY_SECONDS)) as u32)
     }
 }

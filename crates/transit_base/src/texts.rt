@@ -1,5 +1,6 @@
 //! Dates and times as text.
 ghost use Rattle.std.specs.Prelude.{◌≡◌, ◌<◌, ◌≤◌, ◌≤ℤ◌, ℕ, pos, negsuc, List, take};
+ghost use Rattle.transit_base.specs.Limits.{most_time};
 ghost use Rattle.transit_base.specs.DateTexts.{two_digits, date_text, time_text};
 
 use crate::calendar::Day;
@@ -60,10 +61,10 @@ pub fn date_text(day: Day) -> [u8; 10]
     ]
 }
 
-/// A time of fewer than 604,800 seconds, which are 168 hours, as `HH:MM:SS`, in ASCII. From 100 hours on the hours have
-/// three digits.
+/// A time up to [`MOST_TIME`](crate::MOST_TIME), as `HH:MM:SS`, in ASCII. From 100 hours on the hours have three
+/// digits.
 pub fn time_text(seconds: Secs) -> TimeText
-    requires { seconds.0 < 604_800 }
+    requires { seconds.0 ≤ most_time }
     ensures { result ≡ time_text seconds.0 }
 {
     let hours = seconds.0 / 3600;

@@ -1,4 +1,5 @@
 use Rattle.std.proofs.Common.{◌≡◌, ◌<◌, ◌≤◌, ◌∙◌, sym, subst, ap, length, All}
+use Rattle.transit_base.specs.Limits.{most_time}
 use Rattle.feed_rows.specs.FeedRows.{FeedRows}
 use Rattle.feed_rows.specs.declared.journeys.Call.{Call}
 use Rattle.feed_rows.specs.Calls.{calls_of}
@@ -19,4 +20,4 @@ pub returns-clause-times : goal.returns-clause-times
 returns-clause-times c =
     let asked = subst (λ (f : FeedRows). c.args.trip.0 < length f.trips) (sym c.self.view_is) c.requires in
     let is = at_trip c.self.inside.feed.now (calls_of c.self.inside.feed.now) _ c.args.trip _ c.self.invariant.calls asked c.group.ensures in
-    subst (All (λ (x : Call). (x.arrival ≤ 604_799) × (x.departure ≤ 604_799))) (sym is) (calls_small _ c.args.trip c.self.invariant.sound)
+    subst (All (λ (x : Call). (x.arrival ≤ most_time) × (x.departure ≤ most_time))) (sym is) (calls_small _ c.args.trip c.self.invariant.sound)
