@@ -7,7 +7,7 @@ ghost use Rattle.feed_faults.specs.FieldValues.{stop_kind};
 ghost use Rattle.feed_soundness.specs.AcceptedTables.{AreFormed};
 ghost use Rattle.feed_tables.specs.TableIds.{AreIdsOf};
 
-use feed_rows::{ColumnName, Id, StopRow, StopRows};
+use feed_rows::{ColumnName, Id, PLATFORM, StopRow, StopRows};
 use feed_tables::{IdIndex, NamedTable, TableIds, Tables, stop_kind};
 use feed_text::is_filled;
 use std::alloc::{AllocError, Global};
@@ -22,7 +22,7 @@ fn parent_of(table: &NamedTable, stops: &IdIndex, kind: u32, row: u32) -> Option
     ensures { result ≡ parent_of table.now row }
 {
     let parent = table.field(row, ColumnName::ParentStation);
-    if kind == 0 && is_filled(parent) {
+    if kind == u32::from(PLATFORM) && is_filled(parent) {
         Some(StopId(stops.number(parent)))
     } else {
         None

@@ -26,6 +26,7 @@ use Rattle.feed_rows.specs.declared.rows.ProductRow.{ProductRow}
 use Rattle.feed_rows.specs.declared.rows.LegRuleRow.{LegRuleRow}
 use Rattle.feed_rows.specs.declared.rows.Limit.{Limit}
 use Rattle.feed_rows.specs.declared.rows.TransferRuleRow.{TransferRuleRow}
+use Rattle.feed_rows.specs.Codes.{platform_type}
 use Rattle.feed_rows.specs.FeedRows.{FeedRows}
 use Rattle.feed_rows.specs.HeldFiles.{HeldFile}
 use Rattle.plain_laws.specs.Plain.{when, find_below, list_below, picks_below}
@@ -89,7 +90,7 @@ group_names t = with_column [] t.fare_leg_rules column.LegGroupId
 unfoldable pub parent_of : FileTable → ℕ → Option StopId
 parent_of stops row =
     let parent = field stops row column.ParentStation in
-    if stop_kind stops row == 0 then if_filled parent (record { 0 = row_number stops column.StopId parent }) else None
+    if stop_kind stops row == platform_type then if_filled parent (record { 0 = row_number stops column.StopId parent }) else None
 
 -- stops.txt
 unfoldable pub stop_row : FeedTables → ℕ → StopRow

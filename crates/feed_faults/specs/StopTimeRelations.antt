@@ -14,6 +14,7 @@ use Rattle.feed_faults.specs.FieldGrammars.{most_int}
 use Rattle.feed_faults.specs.FaultPlaces.{field_fault}
 use Rattle.feed_faults.specs.FeedTables.{FeedTables}
 use Rattle.feed_faults.specs.FieldValues.{int_or_past, stop_kind}
+use Rattle.feed_rows.specs.Codes.{platform_type}
 use Rattle.feed_faults.specs.RowKeys.{row_of, is_unknown, is_repeated}
 
 -- a stop time's trip, its place in the trip, and its times in seconds of the service day
@@ -95,7 +96,7 @@ do_times_decrease times row =
 
 -- a stop time is at a platform; an id of several rows is that of the earliest
 unfoldable pub is_at_platform : FeedTables → ℕ → Bool
-is_at_platform t row = filled_and (row_of t.stops StopId (field t.stop_times row StopId)) (λ stop. stop_kind t.stops stop == 0)
+is_at_platform t row = filled_and (row_of t.stops StopId (field t.stop_times row StopId)) (λ stop. stop_kind t.stops stop == platform_type)
 
 -- stop_times.txt
 unfoldable pub stop_time_fault : FeedTables → ℕ → Option FeedFault

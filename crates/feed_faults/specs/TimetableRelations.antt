@@ -10,6 +10,7 @@ use Rattle.feed_faults.specs.Records.{FileTable, field, is_filled}
 use Rattle.feed_faults.specs.FaultPlaces.{field_fault}
 use Rattle.feed_faults.specs.FeedTables.{FeedTables}
 use Rattle.feed_faults.specs.FieldValues.{day_or_past, stop_kind}
+use Rattle.feed_rows.specs.Codes.{platform_type, station_type}
 use Rattle.feed_faults.specs.RowKeys.{row_of, is_unknown, same_field, is_repeated, is_doubled}
 
 -- a platform or a station names a parent; of other kinds the parent isn't looked at (profile)
@@ -18,11 +19,11 @@ has_parent stops row = nat_lt (stop_kind stops row) 2 && is_filled (field stops 
 
 -- the parent of a row is a station; an id of several rows is that of the earliest
 unfoldable pub is_at_station : FileTable → ℕ → Bool
-is_at_station stops row = filled_and (row_of stops StopId (field stops row ParentStation)) (λ parent. stop_kind stops parent == 1)
+is_at_station stops row = filled_and (row_of stops StopId (field stops row ParentStation)) (λ parent. stop_kind stops parent == station_type)
 
 -- a parent is only for a platform, and is a station (stops.txt: parent_station)
 abbrev pub is_parent_good : FileTable → ℕ → Bool
-is_parent_good stops row = (stop_kind stops row == 0) && is_at_station stops row
+is_parent_good stops row = (stop_kind stops row == platform_type) && is_at_station stops row
 
 -- stops.txt
 unfoldable pub stop_fault : FeedTables → ℕ → Option FeedFault

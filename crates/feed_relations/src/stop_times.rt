@@ -11,7 +11,7 @@ ghost use Rattle.stop_order.specs.Numbered.{faults_at};
 ghost use Rattle.feed_relations.specs.JudgedBy.{AreCallsNamed, AreJudgedCalls, are_platforms, order_fault};
 
 use crate::places::field_fault;
-use feed_rows::{ColumnName, FaultKind, FeedFault, FileName, StopTimeRow};
+use feed_rows::{ColumnName, FaultKind, FeedFault, FileName, PLATFORM, StopTimeRow};
 use feed_tables::{NamedTable, Tables, stop_kind};
 use std::alloc::{AllocError, Global};
 use stop_order::{OrderFaults, order_faults};
@@ -32,7 +32,7 @@ fn platforms_of(alloc: Global, stops: &NamedTable) -> Result<Vec<bool>, AllocErr
 {
     let mut platforms = Vec::with_capacity(alloc, stops.rows() as usize)?;
     for row in 0..stops.rows() {
-        platforms.push(stop_kind(stops, row) == 0)?;
+        platforms.push(stop_kind(stops, row) == u32::from(PLATFORM))?;
     }
     Ok(platforms)
 }

@@ -9,7 +9,7 @@ ghost use Rattle.feed_faults.specs.FirstFault.{first_in_rows};
 ghost use Rattle.feed_faults.specs.TimetableRelations.{has_parent, is_at_station, stop_fault, route_fault, is_service_unknown, trip_fault, are_dates_reversed, service_fault};
 
 use crate::places::field_fault;
-use feed_rows::{ColumnName, FaultKind, FeedFault, FileName};
+use feed_rows::{ColumnName, FaultKind, FeedFault, FileName, PLATFORM, STATION};
 use feed_tables::{IdIndex, NamedTable, TableIds, Tables, stop_kind};
 use feed_text::{day_or_past, is_filled};
 use std::alloc::{AllocError, Global};
@@ -31,7 +31,7 @@ fn is_at_station(stops: &NamedTable, ids: &IdIndex, row: u32) -> bool
     ensures { result ≡ is_at_station stops.now row }
 {
     match ids.row_of(stops.field(row, ColumnName::ParentStation)) {
-        Some(parent) => stop_kind(stops, parent) == 1,
+        Some(parent) => stop_kind(stops, parent) == u32::from(STATION),
         None => false,
     }
 }
@@ -55,7 +55,7 @@ fn stop_fault(tables: &Tables, ids: &IdIndex, row: u32) -> Option<FeedFault>
     if ids.is_unknown(stops.field(row, ColumnName::ParentStation)) {
         return fault(ColumnName::ParentStation, FaultKind::UnknownReference);
     }
-    if stop_kind(stops, row) != 0 || !is_at_station(stops, ids, row) {
+    if stop_kind(stops, row) != u32::from(PLATFORM) || !is_at_station(stops, ids, row) {
         return fault(ColumnName::ParentStation, FaultKind::BadParent);
     }
     None

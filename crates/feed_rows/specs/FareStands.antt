@@ -9,6 +9,7 @@ use Rattle.feed_rows.specs.declared.fares.LegChoice.{LegChoice}
 use Rattle.feed_rows.specs.declared.fares.Choice.{Choice}
 use Rattle.feed_rows.specs.declared.fares.TransferFacts.{TransferFacts}
 use Rattle.feed_rows.specs.declared.journeys.LegFacts.{LegFacts}
+use Rattle.feed_rows.specs.Codes.{change_alone, includes_leg_after}
 use Rattle.feed_rows.specs.FeedRows.{FeedRows}
 use Rattle.feed_rows.specs.TransferRules.{FareLeg, change_between, same_group, is_arranged, run_start}
 use Rattle.feed_rows.specs.FareChoices.{chosen_leg, fare_leg, is_leg_choice, is_change_choice}
@@ -47,17 +48,17 @@ pub record IsRunAt (feed : FeedRows) (leg : ℕ → Option FareLeg) (i : ℕ) (r
 
 -- ---- amounts
 
--- the amount that a change of type 2 after leg n takes back: that of leg n where it is the first of its chain, else 0
+-- the amount that a change which alone is paid takes back after leg n: that of leg n where it is the first of its chain, else 0
 abbrev pub held_at : (ℕ → Option ℕ) → (ℕ → ℤ) → ℕ → ℤ
 held_at kind amount n = if starts_chain kind n then amount n else pos 0
 
 -- a change of this type makes the leg after it free
 abbrev pub frees_next : Option ℕ → Bool
-frees_next kind = filled_and kind (λ k. (k == 0) || (k == 2))
+frees_next kind = filled_and kind includes_leg_after
 
 -- a change of this type makes the leg before it free where that is the first of its chain
 abbrev pub frees_first : Option ℕ → Bool
-frees_first kind = filled_and kind (λ k. k == 2)
+frees_first kind = filled_and kind (λ k. k == change_alone)
 
 -- what is held after a change of this type: the amount of the leg after it, where the change isn't arranged
 abbrev pub next_held : Option ℕ → ℤ → ℤ
@@ -79,7 +80,7 @@ place_charge feed place = option_map_or (pick_amount feed) place (pos 0)
 
 -- ---- the state and the step
 
--- where the fares of some legs stand: the run of the last leg, what no later change takes back, and what a change of type 2 would
+-- where the fares of some legs stand: the run of the last leg, what no later change takes back, and what a change that alone is paid would
 pub record FareStand : Type 0 where
   pub run : Run
   pub paid : ℤ

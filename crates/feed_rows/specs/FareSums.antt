@@ -7,6 +7,7 @@ use Rattle.transit_base.specs.declared.numbers.RiderId.{RiderId}
 use Rattle.feed_rows.specs.declared.fares.ChangeChoice.{ChangeChoice}
 use Rattle.feed_rows.specs.declared.fares.Choice.{Choice}
 use Rattle.feed_rows.specs.declared.journeys.LegFacts.{LegFacts}
+use Rattle.feed_rows.specs.Codes.{change_alone, includes_leg_after}
 use Rattle.feed_rows.specs.FeedRows.{FeedRows}
 use Rattle.feed_rows.specs.FareChoices.{is_fare_choice}
 use Rattle.plain_laws.specs.Plain.{filled_and, sum_below, when}
@@ -23,16 +24,16 @@ unfoldable pub starts_chain : (ℕ → Option ℕ) → ℕ → Bool
 starts_chain kind zero = true
 starts_chain kind (suc before) = is_none (kind before)
 
--- leg i is included in the change that leads to it, which is of type 0 or 2
+-- leg i is included in the change that leads to it
 abbrev pub is_included_on_entry : (ℕ → Option ℕ) → ℕ → Bool
 is_included_on_entry kind zero = false
-is_included_on_entry kind (suc before) = filled_and (kind before) (λ k. (k == 0) || (k == 2))
+is_included_on_entry kind (suc before) = filled_and (kind before) includes_leg_after
 
--- leg i is included in the change that follows it, which is of type 2, where it is first of its chain
+-- leg i is included in the change that follows it, which alone is paid, where it is first of its chain
 abbrev pub is_included_on_leaving : (ℕ → Option ℕ) → ℕ → Bool
-is_included_on_leaving kind i = filled_and (kind i) (λ k. k == 2)
+is_included_on_leaving kind i = filled_and (kind i) (λ k. k == change_alone)
 
--- leg i is charged, unless it is entered by a change of type 0 or 2, or is first of its chain and left by one of type 2
+-- leg i is charged, unless the change that leads to it includes it, or it is first of its chain and left by one that alone is paid
 unfoldable pub is_charged : (ℕ → Option ℕ) → ℕ → Bool
 is_charged kind i = not (is_included_on_entry kind i || (starts_chain kind i && is_included_on_leaving kind i))
 

@@ -47,3 +47,4 @@ pub mod HeldFiles
 pub mod FaultCounts
 pub mod StopSets
 pub mod Limits
+pub mod Codes

@@ -6,6 +6,7 @@ use Rattle.feed_rows.specs.Limits.{most_rows}
 use Rattle.transit_base.specs.Limits.{most_time}
 use Rattle.transit_base.specs.declared.calendar.Day.{Day}
 use Rattle.feed_rows.specs.declared.rows.StopTimeRow.{StopTimeRow}
+use Rattle.feed_rows.specs.Codes.{platform_type, station_type}
 use Rattle.feed_rows.specs.FeedRows.{FeedRows}
 use Rattle.feed_rows.specs.Calls.{first_time, last_time}
 use Rattle.plain_laws.specs.Plain.{ForItem}
@@ -24,8 +25,8 @@ pub record AreSoundStops (feed : FeedRows) : Type 0 where
   pub kinds : All (λ s. s.kind ≤ 4) feed.stops
   pub parents : All (λ s. ForSome s.parent (λ p. p.0 < length feed.stops)) feed.stops
   -- a parent is a station, and only a platform has one
-  pub stations : All (λ s. ForSome s.parent (λ p. ForItem feed.stops p.0 (λ t. t.kind ≡ 1))) feed.stops
-  pub platforms : All (λ s. ForSome s.parent (λ p. s.kind ≡ 0)) feed.stops
+  pub stations : All (λ s. ForSome s.parent (λ p. ForItem feed.stops p.0 (λ t. t.kind ≡ station_type))) feed.stops
+  pub platforms : All (λ s. ForSome s.parent (λ p. s.kind ≡ platform_type)) feed.stops
 
 -- routes.txt
 pub record AreSoundRoutes (feed : FeedRows) : Type 0 where
@@ -59,7 +60,7 @@ pub record AreSoundStopTimes (feed : FeedRows) : Type 0 where
   pub few : length feed.stop_times ≤ most_rows
   pub trips : All (λ c. c.trip.0 < length feed.trips) feed.stop_times
   pub stops : All (λ c. c.stop.0 < length feed.stops) feed.stop_times
-  pub platforms : All (λ c. ForItem feed.stops c.stop.0 (λ s. s.kind ≡ 0)) feed.stop_times
+  pub platforms : All (λ c. ForItem feed.stops c.stop.0 (λ s. s.kind ≡ platform_type)) feed.stop_times
   pub sequences : All (λ c. c.sequence ≤ 2_147_483_647) feed.stop_times
   pub arrivals : All (λ c. ForSome c.arrival (λ s. s ≤ most_time)) feed.stop_times
   pub departures : All (λ c. ForSome c.departure (λ s. s ≤ most_time)) feed.stop_times

@@ -5,16 +5,17 @@ use Rattle.std.specs.Option.{option_or}
 use Rattle.transit_base.specs.declared.numbers.StopId.{StopId}
 use Rattle.feed_rows.specs.declared.rows.StopRow.{StopRow}
 use Rattle.feed_rows.specs.declared.rows.LinkRow.{LinkRow}
+use Rattle.feed_rows.specs.Codes.{platform_type, station_type}
 use Rattle.feed_rows.specs.FeedRows.{FeedRows}
 use Rattle.plain_laws.specs.Plain.{at_and, filled_and, ids_where}
 
 -- the stop is a platform
 abbrev pub is_platform : FeedRows → StopId → Bool
-is_platform feed stop = at_and feed.stops stop.0 (λ row. row.kind == 0)
+is_platform feed stop = at_and feed.stops stop.0 (λ row. row.kind == platform_type)
 
 -- the stop is a station
 abbrev pub is_station : FeedRows → StopId → Bool
-is_station feed stop = at_and feed.stops stop.0 (λ row. row.kind == 1)
+is_station feed stop = at_and feed.stops stop.0 (λ row. row.kind == station_type)
 
 -- the station of a platform, if it has one
 abbrev pub parent_of : FeedRows → StopId → Option StopId
@@ -22,7 +23,7 @@ parent_of feed stop = option_and_then (λ row. row.parent) (slice_get feed.stops
 
 -- the row is a platform of the station
 abbrev pub is_member : StopId → StopRow → Bool
-is_member station row = (row.kind == 0) && filled_and row.parent (λ parent. parent.0 == station.0)
+is_member station row = (row.kind == platform_type) && filled_and row.parent (λ parent. parent.0 == station.0)
 
 -- the platforms that a stop stands for: a platform for itself, a station for its platforms in file order
 unfoldable pub stop_set : FeedRows → StopId → List StopId

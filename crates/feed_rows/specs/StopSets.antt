@@ -5,6 +5,7 @@ use Rattle.std.specs.Prelude.{ℕ, ◌==◌, if◌then◌else◌, List, [], ◌�
 use Rattle.std.specs.Option.{option_map_or}
 use Rattle.transit_base.specs.declared.numbers.StopId.{StopId}
 use Rattle.feed_rows.specs.declared.rows.StopRow.{StopRow}
+use Rattle.feed_rows.specs.Codes.{platform_type}
 use Rattle.feed_rows.specs.FeedRows.{FeedRows}
 use Rattle.feed_rows.specs.StopLinks.{stop_set}
 use Rattle.plain_laws.specs.Plain.{list_below}
@@ -24,7 +25,7 @@ station_set None r i = []
 
 -- row r, as often as it belongs to the set of row i
 abbrev pub row_sets : StopRow → ℕ → ℕ → List StopId
-row_sets row r i = if row.kind == 0 then own_set r i ++ station_set row.parent r i else []
+row_sets row r i = if row.kind == platform_type then own_set r i ++ station_set row.parent r i else []
 
 -- the same of the row with this number, if there is one
 unfoldable pub row_sets_at : List StopRow → ℕ → ℕ → List StopId

@@ -12,6 +12,7 @@ use Rattle.transit_base.specs.declared.moments.Moment.{Moment}
 use Rattle.feed_rows.specs.declared.rows.TransferRuleRow.{TransferRuleRow}
 use Rattle.feed_rows.specs.declared.rows.Limit.{Limit}
 use Rattle.feed_rows.specs.declared.fares.TransferFacts.{TransferFacts}
+use Rattle.feed_rows.specs.Codes.{departure_to_arrival, departure_to_departure, arrival_to_arrival}
 use Rattle.feed_rows.specs.FeedRows.{FeedRows}
 use Rattle.plain_laws.specs.Plain.{empty_or, filled_and, ids_where}
 
@@ -30,16 +31,14 @@ unfoldable pub group_matches : FeedRows → (TransferRuleRow → Option LegGroup
 group_matches feed column (Some g) group = g.0 == group.0
 group_matches feed column None group = not (is_listed_group feed column group)
 
--- the moment from which a limit counts: the departure of the run's first leg for types 0 and 1, and its arrival for
--- types 2 and 3
+-- the moment from which a limit counts: the departure of the run's first leg, or its arrival
 abbrev pub counted_from : ℕ → TransferFacts → ℤ
 counted_from kind change =
-    if (kind == 0) || (kind == 1) then change.first_departure.0 else change.first_arrival.0
+    if (kind == departure_to_arrival) || (kind == departure_to_departure) then change.first_departure.0 else change.first_arrival.0
 
--- the moment to which a limit counts: the arrival of the leg after the change for types 0 and 3, and its departure for
--- types 1 and 2
+-- the moment to which a limit counts: the arrival of the leg after the change, or its departure
 abbrev pub counted_to : ℕ → TransferFacts → ℤ
-counted_to kind change = if (kind == 0) || (kind == 3) then change.next_arrival.0 else change.next_departure.0
+counted_to kind change = if (kind == departure_to_arrival) || (kind == arrival_to_arrival) then change.next_arrival.0 else change.next_departure.0
 
 -- the seconds that a limit of this type looks at
 abbrev pub elapsed : ℕ → TransferFacts → ℤ

@@ -29,8 +29,8 @@ pub use journeys::{
 };
 pub use names::{ColumnName, FileName};
 pub use rows::{
-    AreaRow, ExceptionRow, FrequencyRow, LegRuleRow, Limit, LinkRow, MediumRow, ProductRow,
-    RiderRow, RouteRow, ServiceRow, StopAreaRow, StopRow, StopTimeRow, TimeframeRow,
-    TransferRuleRow, TripRow,
+    AreaRow, ExceptionRow, FrequencyRow, LegRuleRow, Limit, LinkRow, MediumRow, PLATFORM,
+    ProductRow, RiderRow, RouteRow, STATION, ServiceRow, StopAreaRow, StopRow, StopTimeRow,
+    TimeframeRow, TransferRuleRow, TripRow,
 };
 pub use usage::{StopWord, UsageFault, WordRole};

@@ -5,6 +5,12 @@ use transit_base::{
     ServiceId, StopId, TripId,
 };
 
+/// The `location_type` of a platform, where vehicles are boarded.
+pub const PLATFORM: u8 = 0;
+
+/// The `location_type` of a station.
+pub const STATION: u8 = 1;
+
 /// A row of `stops.txt`: a platform, a station, or a place of another kind.
 #[derive(Debug, Drop)]
 pub struct StopRow {

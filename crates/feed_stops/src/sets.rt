@@ -4,7 +4,7 @@ ghost use Rattle.plain_laws.specs.Plain.{group_of};
 ghost use Rattle.feed_rows.specs.StopSets.{stop_sets, row_sets, row_sets_at};
 ghost use Rattle.plain_laws.specs.Plain.{joined_below};
 
-use feed_rows::{Feed, StopRow};
+use feed_rows::{Feed, PLATFORM, StopRow};
 use plain_laws::{Grouped, Groups};
 use std::alloc::{AllocError, Global};
 use transit_base::StopId;
@@ -38,7 +38,7 @@ fn memberships(alloc: Global, stops: &[StopRow]) -> Result<Vec<Grouped<StopId>>,
 fn push_row(members: &mut Vec<Grouped<StopId>>, stop: &StopRow, row: u32) -> Result<(), AllocError>
     ensures { OnOk result ((i : ℕ) → group_of members.new.items i ≡ group_of members.old.items i ++ row_sets stop.now row i) }
 {
-    if stop.kind == 0 {
+    if stop.kind == PLATFORM {
         push_member(members, row, StopId(row))?;
         if let Some(station) = stop.parent {
             push_member(members, station.0, StopId(row))?;

@@ -7,7 +7,7 @@ ghost use Rattle.plain_laws.specs.Plain.{filled_and, when};
 ghost use Rattle.feed_walks.specs.Places.{IsPlace, is_anew};
 ghost use Rattle.feed_walks.specs.Rules.{grouped_row, AreByTarget, AreRules};
 
-use feed_rows::{Feed, LinkRow};
+use feed_rows::{Feed, LinkRow, PLATFORM};
 use plain_laws::{Grouped, Groups};
 use std::alloc::{AllocError, Global};
 use transit_base::{Secs, StopId};
@@ -119,7 +119,7 @@ pub fn is_platform(feed: &Feed, stop: StopId) -> bool
     ensures { result ≡ linked.is_platform feed.now stop }
 {
     match feed.stops.items().get(stop.0 as usize) {
-        Some(row) => row.kind == 0,
+        Some(row) => row.kind == PLATFORM,
         None => false,
     }
 }

@@ -7,13 +7,14 @@ use Rattle.feed_rows.specs.declared.faults.FeedFault.{FeedFault}
 use Rattle.feed_rows.specs.declared.rows.StopRow.{StopRow}
 use Rattle.feed_rows.specs.declared.rows.StopTimeRow.{StopTimeRow}
 use Rattle.feed_rows.specs.declared.rows.LegRuleRow.{LegRuleRow}
+use Rattle.feed_rows.specs.Codes.{platform_type}
 use Rattle.feed_rows.specs.FeedRows.{FeedRows}
 use Rattle.plain_laws.specs.Plain.{when, first_of}
 use Rattle.feed_faults.specs.FaultPlaces.{file_fault}
 
 -- a stop is no platform, or has a parent
 abbrev pub is_unplanned_stop : StopRow → Bool
-is_unplanned_stop stop = not (stop.kind == 0) || is_some stop.parent
+is_unplanned_stop stop = not (stop.kind == platform_type) || is_some stop.parent
 
 -- a stop time lacks one of its times
 abbrev pub is_unplanned_stop_time : StopTimeRow → Bool

@@ -5,7 +5,7 @@ ghost use Rattle.feed_rows.specs.Queries.{named_stop, query_of};
 ghost use Rattle.plan_app.specs.Request.{request_of};
 
 use crate::request::OneRide;
-use feed_rows::{Feed, Query, StopWord, USUAL_WINDOW, UsageFault};
+use feed_rows::{Feed, PLATFORM, Query, STATION, StopWord, USUAL_WINDOW, UsageFault};
 use feed_timetable::Timetable;
 use transit_base::StopId;
 
@@ -14,7 +14,7 @@ fn is_endpoint(feed: &Feed, stop: StopId) -> bool
     ensures { result ≡ (is_platform feed.now stop || is_station feed.now stop) }
 {
     match feed.stops.items().get(stop.0 as usize) {
-        Some(row) => row.kind == 0 || row.kind == 1,
+        Some(row) => row.kind == PLATFORM || row.kind == STATION,
         None => false,
     }
 }

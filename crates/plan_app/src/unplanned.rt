@@ -4,13 +4,13 @@ ghost use Rattle.std.specs.List.{list_any};
 ghost use Rattle.feed_faults.specs.FaultPlaces.{file_fault};
 ghost use Rattle.plan_app.specs.Unplanned.{is_unplanned_stop, is_unplanned_stop_time, is_unplanned_rule, unplanned_fault};
 
-use feed_rows::{FaultKind, Feed, FeedFault, FileName, LegRuleRow, StopRow, StopTimeRow};
+use feed_rows::{FaultKind, Feed, FeedFault, FileName, LegRuleRow, PLATFORM, StopRow, StopTimeRow};
 
 // Whether a stop is no platform, or has a parent.
 fn is_unplanned_stop(stop: &StopRow) -> bool
     ensures { result ≡ is_unplanned_stop stop.now }
 {
-    stop.kind != 0 || stop.parent.is_some()
+    stop.kind != PLATFORM || stop.parent.is_some()
 }
 
 // Whether a stop time lacks one of its times.

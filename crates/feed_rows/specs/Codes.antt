@@ -1,0 +1,37 @@
+-- The numbers that stand for choices in columns, as plans read them. (GTFS Schedule Reference: stops.txt, location_type;
+-- fare_transfer_rules.txt, duration_limit_type and fare_transfer_type.)
+use Rattle.std.specs.Prelude.{ℕ, Bool, ◌||◌, ◌==◌}
+
+-- location_type: where vehicles are boarded, and what has such places
+abbrev pub platform_type : ℕ
+platform_type = 0
+
+abbrev pub station_type : ℕ
+station_type = 1
+
+-- duration_limit_type: from which moment of the run's first leg, and to which of the leg after the change
+abbrev pub departure_to_arrival : ℕ
+departure_to_arrival = 0
+
+abbrev pub departure_to_departure : ℕ
+departure_to_departure = 1
+
+abbrev pub arrival_to_departure : ℕ
+arrival_to_departure = 2
+
+abbrev pub arrival_to_arrival : ℕ
+arrival_to_arrival = 3
+
+-- fare_transfer_type: what is paid of the leg before, the change and the leg after: the first two, all three, or the change
+abbrev pub leg_before_and_change : ℕ
+leg_before_and_change = 0
+
+abbrev pub both_legs_and_change : ℕ
+both_legs_and_change = 1
+
+abbrev pub change_alone : ℕ
+change_alone = 2
+
+-- the leg after a change of this type is included in it
+abbrev pub includes_leg_after : ℕ → Bool
+includes_leg_after kind = (kind == leg_before_and_change) || (kind == change_alone)
