@@ -1,6 +1,6 @@
 //! A feed from the tables of its files.
 ghost use Rattle.std.specs.Prelude.{◌≡◌, IfOk};
-ghost use Rattle.feed_faults.specs.AcceptedFeed.{rows_of, rows_of_tables, stop_time_row};
+ghost use Rattle.feed_faults.specs.AcceptedFeed.{typed_rows, rows_of_tables, stop_time_row};
 ghost use Rattle.feed_tables.specs.TableIds.{AreIdsOf};
 ghost use Rattle.feed_tables.specs.UnbuiltFiles.{AreUnbuiltEmpty};
 ghost use Rattle.feed_soundness.specs.AcceptedTables.{AreFormed, AreRelated};
@@ -81,7 +81,7 @@ pub fn feed_of_tables(
     requires related { AreRelated tables.now }
     requires unbuilt { AreUnbuiltEmpty tables.now }
     requires ids { AreIdsOf tables.now ids.now }
-    requires stop_times { stop_times ≡ rows_of tables.now.stop_times (stop_time_row tables.now) }
+    requires stop_times { stop_times ≡ typed_rows tables.now.stop_times (stop_time_row tables.now) }
     ensures { IfOk result (λ feed. feed ≡ rows_of_tables tables.now) }
 {
     let names = Names::of(alloc, tables)?;

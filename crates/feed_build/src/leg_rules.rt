@@ -2,7 +2,7 @@
 ghost use Rattle.std.specs.Prelude.{◌≡◌, ◌<◌, IfOk};
 ghost use Rattle.feed_rows.specs.declared.names.ColumnName.TheVariants as column;
 ghost use Rattle.feed_faults.specs.Records.{row_count};
-ghost use Rattle.feed_faults.specs.AcceptedFeed.{if_filled, row_number, name_number, leg_rule_row, rows_of};
+ghost use Rattle.feed_faults.specs.AcceptedFeed.{if_filled, row_number, name_number, leg_rule_row, typed_rows};
 ghost use Rattle.feed_build.specs.FeedNames.{AreNamesOf};
 
 use crate::MOST_INT;
@@ -89,7 +89,7 @@ pub fn leg_rule_rows(
     names: &Names,
 ) -> Result<LegRuleRows, AllocError>
     requires names { AreNamesOf tables.now names.now }
-    ensures { IfOk result (λ rows. rows ≡ rows_of tables.now.fare_leg_rules (leg_rule_row tables.now)) }
+    ensures { IfOk result (λ rows. rows ≡ typed_rows tables.now.fare_leg_rules (leg_rule_row tables.now)) }
 {
     let areas = IdIndex::of(alloc, &tables.areas, ColumnName::AreaId)?;
     let mut rows = LegRuleRows::empty(alloc);

@@ -2,7 +2,7 @@
 ghost use Rattle.std.specs.Prelude.{◌≡◌, IfOk};
 ghost use Rattle.feed_tables.specs.UnbuiltFiles.{AreUnbuiltEmpty};
 ghost use Rattle.feed_soundness.specs.AcceptedTables.{AreFormed};
-ghost use Rattle.feed_faults.specs.AcceptedFeed.{rows_of, stop_time_row};
+ghost use Rattle.feed_faults.specs.AcceptedFeed.{typed_rows, stop_time_row};
 ghost use Rattle.feed_tables.specs.TableIds.{AreIdsOf};
 ghost use Rattle.feed_build.specs.FeedNames.{AreNamesOf};
 ghost use Rattle.feed_build.specs.FeedParts.{IsTimetableOf, AreFaresOf};
@@ -65,7 +65,7 @@ impl Timetable {
         requires formed { AreFormed tables.now }
         requires unbuilt { AreUnbuiltEmpty tables.now }
         requires ids { AreIdsOf tables.now ids.now }
-        requires stop_times { stop_times ≡ rows_of tables.now.stop_times (stop_time_row tables.now) }
+        requires stop_times { stop_times ≡ typed_rows tables.now.stop_times (stop_time_row tables.now) }
         requires names { AreNamesOf tables.now names.now }
         ensures { IfOk result (IsTimetableOf tables.now) }
     {

@@ -2,7 +2,7 @@
 ghost use Rattle.std.specs.Prelude.{◌≡◌, ◌<◌, IfOk};
 ghost use Rattle.feed_rows.specs.declared.names.ColumnName.TheVariants as column;
 ghost use Rattle.feed_faults.specs.Records.{row_count};
-ghost use Rattle.feed_faults.specs.AcceptedFeed.{if_filled, row_number, product_names, product_row, feed_currency, feed_decimals, rows_of};
+ghost use Rattle.feed_faults.specs.AcceptedFeed.{if_filled, row_number, product_names, product_row, feed_currency, feed_decimals, typed_rows};
 ghost use Rattle.feed_soundness.specs.AcceptedTables.{AreFormed};
 
 use crate::numbering::Numbering;
@@ -71,7 +71,7 @@ pub fn product_rows(
     products: &Numbering,
 ) -> Result<ProductRows, AllocError>
     requires products { products.now ≡ product_names tables.now }
-    ensures { IfOk result (λ rows. rows ≡ rows_of tables.now.fare_products (product_row tables.now)) }
+    ensures { IfOk result (λ rows. rows ≡ typed_rows tables.now.fare_products (product_row tables.now)) }
 {
     let riders = IdIndex::of(alloc, &tables.rider_categories, ColumnName::RiderCategoryId)?;
     let media = IdIndex::of(alloc, &tables.fare_media, ColumnName::FareMediaId)?;

@@ -2,7 +2,7 @@
 ghost use Rattle.std.specs.Prelude.{◌≡◌, ◌<◌, IfOk};
 ghost use Rattle.feed_rows.specs.declared.names.ColumnName.TheVariants as column;
 ghost use Rattle.feed_faults.specs.Records.{row_count};
-ghost use Rattle.feed_faults.specs.AcceptedFeed.{if_filled, name_number, network_names, network_of_route, route_row, rows_of};
+ghost use Rattle.feed_faults.specs.AcceptedFeed.{if_filled, name_number, network_names, network_of_route, route_row, typed_rows};
 ghost use Rattle.feed_soundness.specs.AcceptedTables.{AreFormed};
 
 use crate::numbering::Numbering;
@@ -72,7 +72,7 @@ pub fn route_rows(
 ) -> Result<RouteRows, AllocError>
     requires formed { AreFormed tables.now }
     requires networks { networks.now ≡ network_names tables.now }
-    ensures { IfOk result (λ routes. routes ≡ rows_of tables.now.routes (route_row tables.now)) }
+    ensures { IfOk result (λ routes. routes ≡ typed_rows tables.now.routes (route_row tables.now)) }
 {
     let members = IdIndex::of(alloc, &tables.route_networks, ColumnName::RouteId)?;
     let mut rows = RouteRows::empty(alloc);

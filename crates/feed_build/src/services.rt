@@ -1,7 +1,7 @@
 //! The rows of calendar.txt and calendar_dates.txt.
 ghost use Rattle.std.specs.Prelude.{◌≡◌, ◌<◌, IfOk};
 ghost use Rattle.feed_faults.specs.Records.{row_count};
-ghost use Rattle.feed_faults.specs.AcceptedFeed.{service_names, runs_on, service_row, exception_row, rows_of};
+ghost use Rattle.feed_faults.specs.AcceptedFeed.{service_names, runs_on_weekday, service_row, exception_row, typed_rows};
 
 use crate::numbering::Numbering;
 use feed_rows::{ColumnName, ExceptionRow, ExceptionRows, ServiceRow, ServiceRows};
@@ -13,7 +13,7 @@ use transit_base::ServiceId;
 // Whether a service runs on a weekday.
 fn runs_on(calendar: &NamedTable, row: u32, weekday: ColumnName) -> bool
     requires { row < row_count calendar.now }
-    ensures { result ≡ runs_on calendar.now row weekday }
+    ensures { result ≡ runs_on_weekday calendar.now row weekday }
 {
     int_or_past(calendar.field(row, weekday), 1) == 1
 }
@@ -52,7 +52,7 @@ pub fn service_rows(
     services: &Numbering,
 ) -> Result<ServiceRows, AllocError>
     requires services { services.now ≡ service_names tables.now }
-    ensures { IfOk result (λ rows. rows ≡ rows_of tables.now.calendar (service_row tables.now)) }
+    ensures { IfOk result (λ rows. rows ≡ typed_rows tables.now.calendar (service_row tables.now)) }
 {
     let mut rows = ServiceRows::empty(alloc);
     for row in 0..tables.calendar.rows() {
@@ -86,7 +86,7 @@ pub fn exception_rows(
     services: &Numbering,
 ) -> Result<ExceptionRows, AllocError>
     requires services { services.now ≡ service_names tables.now }
-    ensures { IfOk result (λ rows. rows ≡ rows_of tables.now.calendar_dates (exception_row tables.now)) }
+    ensures { IfOk result (λ rows. rows ≡ typed_rows tables.now.calendar_dates (exception_row tables.now)) }
 {
     let mut rows = ExceptionRows::empty(alloc);
     for row in 0..tables.calendar_dates.rows() {

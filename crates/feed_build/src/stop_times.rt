@@ -2,7 +2,7 @@
 ghost use Rattle.std.specs.Prelude.{◌≡◌, ◌<◌, ◌+◌, ℕ, IfOk};
 ghost use Rattle.feed_rows.specs.declared.names.ColumnName.TheVariants as column;
 ghost use Rattle.feed_faults.specs.Records.{row_count};
-ghost use Rattle.feed_faults.specs.AcceptedFeed.{permits, stop_time_row, rows_of};
+ghost use Rattle.feed_faults.specs.AcceptedFeed.{permits, stop_time_row, typed_rows};
 ghost use Rattle.feed_tables.specs.TableIds.{AreIdsOf};
 ghost use Rattle.feed_build.specs.CallTrips.{trip_of_call, IsTripBefore};
 
@@ -66,7 +66,7 @@ pub fn stop_time_rows(
     ids: &TableIds,
 ) -> Result<StopTimeRows, AllocError>
     requires { AreIdsOf tables.now ids.now }
-    ensures { IfOk result (λ calls. calls ≡ rows_of tables.now.stop_times (stop_time_row tables.now)) }
+    ensures { IfOk result (λ calls. calls ≡ typed_rows tables.now.stop_times (stop_time_row tables.now)) }
 {
     let mut rows = StopTimeRows::empty(alloc);
     let mut trip = TripId(0);

@@ -2,7 +2,7 @@
 ghost use Rattle.std.specs.Prelude.{◌≡◌, ◌<◌, IfOk};
 ghost use Rattle.feed_rows.specs.declared.names.ColumnName.TheVariants as column;
 ghost use Rattle.feed_faults.specs.Records.{row_count};
-ghost use Rattle.feed_faults.specs.AcceptedFeed.{parent_of, stop_row, rows_of};
+ghost use Rattle.feed_faults.specs.AcceptedFeed.{accepted_parent, stop_row, typed_rows};
 ghost use Rattle.feed_faults.specs.FieldValues.{stop_kind};
 ghost use Rattle.feed_soundness.specs.AcceptedTables.{AreFormed};
 ghost use Rattle.feed_tables.specs.TableIds.{AreIdsOf};
@@ -14,12 +14,12 @@ use std::alloc::{AllocError, Global};
 use transit_base::StopId;
 
 // The parent of a stop of this kind: the station that a platform names.
-#[tactic(auto, unfolding(feed_faults::specs::AcceptedFeed::parent_of))]
+#[tactic(auto, unfolding(feed_faults::specs::AcceptedFeed::accepted_parent))]
 fn parent_of(table: &NamedTable, stops: &IdIndex, kind: u32, row: u32) -> Option<StopId>
     requires within { row < row_count table.now }
     requires stops { stops.now ≡ record { table = table.now; name = column.StopId } }
     requires kind { kind ≡ stop_kind table.now row }
-    ensures { result ≡ parent_of table.now row }
+    ensures { result ≡ accepted_parent table.now row }
 {
     let parent = table.field(row, ColumnName::ParentStation);
     if kind == u32::from(PLATFORM) && is_filled(parent) {
@@ -58,7 +58,7 @@ fn stop_row(
 pub fn stop_rows(alloc: Global, tables: &Tables, ids: &TableIds) -> Result<StopRows, AllocError>
     requires formed { AreFormed tables.now }
     requires ids { AreIdsOf tables.now ids.now }
-    ensures { IfOk result (λ stops. stops ≡ rows_of tables.now.stops (stop_row tables.now)) }
+    ensures { IfOk result (λ stops. stops ≡ typed_rows tables.now.stops (stop_row tables.now)) }
 {
     let mut rows = StopRows::empty(alloc);
     for row in 0..tables.stops.rows() {

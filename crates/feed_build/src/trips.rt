@@ -2,7 +2,7 @@
 ghost use Rattle.std.specs.Prelude.{◌≡◌, ◌<◌, IfOk};
 ghost use Rattle.feed_rows.specs.declared.names.ColumnName.TheVariants as column;
 ghost use Rattle.feed_faults.specs.Records.{row_count};
-ghost use Rattle.feed_faults.specs.AcceptedFeed.{service_names, trip_row, rows_of};
+ghost use Rattle.feed_faults.specs.AcceptedFeed.{service_names, trip_row, typed_rows};
 ghost use Rattle.feed_soundness.specs.AcceptedTables.{AreFormed};
 ghost use Rattle.feed_tables.specs.TableIds.{AreIdsOf};
 
@@ -48,7 +48,7 @@ pub fn trip_rows(
     requires formed { AreFormed tables.now }
     requires ids { AreIdsOf tables.now ids.now }
     requires services { services.now ≡ service_names tables.now }
-    ensures { IfOk result (λ trips. trips ≡ rows_of tables.now.trips (trip_row tables.now)) }
+    ensures { IfOk result (λ trips. trips ≡ typed_rows tables.now.trips (trip_row tables.now)) }
 {
     let mut rows = TripRows::empty(alloc);
     for row in 0..tables.trips.rows() {

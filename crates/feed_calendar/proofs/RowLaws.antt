@@ -26,18 +26,18 @@ use Rattle.plain_laws.proofs.Laws.{groups_below-at, groups_below-past, list_any-
 use Rattle.feed_rows.specs.SoundFeed.{IsSoundFeed}
 use Rattle.feed_calendar.specs.declared.Calendar.{Calendar}
 use Rattle.feed_calendar.specs.BuiltCalendar.{IsCalendarOf}
-use Rattle.feed_calendar.specs.CalendarRows.{grouped_row, rows_of, is_on, AreInOrder}
+use Rattle.feed_calendar.specs.CalendarRows.{by_service, rows_of_service, is_on, AreInOrder}
 
 -- a test of some row of a group, where the rows are grouped by service
-group_any : (rows : List ServiceRow) (i : ℕ) (test : ServiceRow → Bool) → list_any test (group_of (map grouped_row rows) i) ≡ list_any (λ row. (row.service.0 == i) && test row) rows
+group_any : (rows : List ServiceRow) (i : ℕ) (test : ServiceRow → Bool) → list_any test (group_of (map by_service rows) i) ≡ list_any (λ row. (row.service.0 == i) && test row) rows
 group_any rows i test =
-    list_any-map test (λ (m : Grouped ServiceRow). m.item) (filter (λ m. m.group == i) (map grouped_row rows))
-    ∙ list_any-filter (λ (m : Grouped ServiceRow). test m.item) (λ m. m.group == i) (map grouped_row rows)
-    ∙ list_any-map (λ (m : Grouped ServiceRow). (m.group == i) && test m.item) grouped_row rows
+    list_any-map test (λ (m : Grouped ServiceRow). m.item) (filter (λ m. m.group == i) (map by_service rows))
+    ∙ list_any-filter (λ (m : Grouped ServiceRow). test m.item) (λ m. m.group == i) (map by_service rows)
+    ∙ list_any-map (λ (m : Grouped ServiceRow). (m.group == i) && test m.item) by_service rows
 
 -- the rows in groups tell whether a service is covered
-pub covered_by_groups : (feed : FeedRows) (groups : List (List ServiceRow)) (rows : List ServiceRow) (n : ℕ) → AreSoundServices feed → rows ≡ feed.services → n ≡ length feed.service_names → groups ≡ groups_below n (map grouped_row rows)
-    → (service : ServiceId) (day : ℤ) → list_any (λ row. covers row day) (rows_of groups service.0) ≡ is_covered feed service day
+pub covered_by_groups : (feed : FeedRows) (groups : List (List ServiceRow)) (rows : List ServiceRow) (n : ℕ) → AreSoundServices feed → rows ≡ feed.services → n ≡ length feed.service_names → groups ≡ groups_below n (map by_service rows)
+    → (service : ServiceId) (day : ℤ) → list_any (λ row. covers row day) (rows_of_service groups service.0) ≡ is_covered feed service day
 covered_by_groups feed groups rows n sound same count are service day = rw (are, same) (step (cases_lt service.0 n))
   where
     test : ServiceRow → Bool
@@ -49,9 +49,9 @@ covered_by_groups feed groups rows n sound same count are service day = rw (are,
         let other : ((get_or feed.services k d).service.0 == service.0) ≡ false = grind (arith, nat_tests, less, past, count) in
         rw other refl
 
-    step : (service.0 < n) ⊎ (n ≤ service.0) → list_any (λ row. covers row day) (rows_of (groups_below n (map grouped_row feed.services)) service.0) ≡ is_covered feed service day
-    step (inl lt) = rw (groups_below-at n (map grouped_row feed.services) service.0 lt) (group_any feed.services service.0 (λ row. covers row day))
-    step (inr past) = rw (groups_below-past n (map grouped_row feed.services) service.0 past) (sym (list_any_none (λ row. (row.service.0 == service.0) && covers row day) feed.services (none past)))
+    step : (service.0 < n) ⊎ (n ≤ service.0) → list_any (λ row. covers row day) (rows_of_service (groups_below n (map by_service feed.services)) service.0) ≡ is_covered feed service day
+    step (inl lt) = rw (groups_below-at n (map by_service feed.services) service.0 lt) (group_any feed.services service.0 (λ row. covers row day))
+    step (inr past) = rw (groups_below-past n (map by_service feed.services) service.0 past) (sym (list_any_none (λ row. (row.service.0 == service.0) && covers row day) feed.services (none past)))
 
 -- where the key of an exception is that of a service and a day, and where it isn't
 on_from_equal : (service : ServiceId) (day : ℤ) (row : ExceptionRow) → ordering_then (nat_cmp row.service.0 service.0) (int_cmp row.day.0 day) ≡ Equal → is_on service day row ≡ true
@@ -143,7 +143,7 @@ active_by_rows feed service day none =
 
 -- the calendar, from what each step of the building made
 pub built : (feed inside : FeedRows) (names : List (List ℕ)) (services : List ServiceRow) (exceptions : List ExceptionRow) (calendar : Calendar) → inside ≡ feed → IsSoundFeed inside → names ≡ inside.service_names → services ≡ inside.services → exceptions ≡ inside.exceptions
-    → calendar.rows ≡ groups_below (length names) (map grouped_row services) → IsPermutation exceptions calendar.exceptions.items → AreInOrder calendar.exceptions.items → IsCalendarOf feed calendar
+    → calendar.rows ≡ groups_below (length names) (map by_service services) → IsPermutation exceptions calendar.exceptions.items → AreInOrder calendar.exceptions.items → IsCalendarOf feed calendar
 built feed inside names services exceptions calendar view sound same_names same_services same_exceptions grouped moved sorted =
     subst (λ f. IsCalendarOf f calendar) view
     (record {

@@ -9,21 +9,21 @@ use Rattle.plain_laws.specs.declared.groups.Grouped.{Grouped}
 use Rattle.plain_laws.specs.Plain.{int_same}
 
 -- a row with its service
-abbrev pub grouped_row : ServiceRow → Grouped ServiceRow
-grouped_row row = record { group = row.service.0; item = row }
+abbrev pub by_service : ServiceRow → Grouped ServiceRow
+by_service row = record { group = row.service.0; item = row }
 
 -- the rows of a service
-abbrev pub rows_of : List (List ServiceRow) → ℕ → List ServiceRow
-rows_of rows service = unwrap_or (slice_get rows service) []
+abbrev pub rows_of_service : List (List ServiceRow) → ℕ → List ServiceRow
+rows_of_service rows service = unwrap_or (slice_get rows service) []
 
 -- the exception is of the service, on the day
 abbrev pub is_on : ServiceId → ℤ → ExceptionRow → Bool
 is_on service day row = (row.service.0 == service.0) && int_same row.day.0 day
 
 -- by what exceptions are sorted
-abbrev pub exception_key : ExceptionRow → ℕ × ℤ
-exception_key row = (row.service.0, row.day.0)
+abbrev pub service_day_key : ExceptionRow → ℕ × ℤ
+service_day_key row = (row.service.0, row.day.0)
 
 -- the exceptions stand by service, and those of a service by day
 abbrev pub AreInOrder : List ExceptionRow → Type 0
-AreInOrder rows = IsSortedByKey exception_key (λ x y. ordering_then (nat_cmp x.0 y.0) (int_cmp x.1 y.1)) rows
+AreInOrder rows = IsSortedByKey service_day_key (λ x y. ordering_then (nat_cmp x.0 y.0) (int_cmp x.1 y.1)) rows

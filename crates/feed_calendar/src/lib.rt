@@ -8,7 +8,7 @@ ghost use Rattle.feed_rows.specs.FeedRows.{FeedRows};
 ghost use Rattle.plain_laws.specs.Plain.{groups_below};
 ghost use Rattle.feed_rows.specs.ServiceDays.{weekday, covers, is_active};
 ghost use Rattle.plain_laws.specs.Plain.{at_and};
-ghost use Rattle.feed_calendar.specs.CalendarRows.{grouped_row, rows_of, is_on, AreInOrder};
+ghost use Rattle.feed_calendar.specs.CalendarRows.{by_service, rows_of_service, is_on, AreInOrder};
 ghost use Rattle.feed_calendar.specs.BuiltCalendar.{IsCalendarOf};
 
 use feed_rows::{ExceptionRow, Feed, ServiceRow};
@@ -59,7 +59,7 @@ fn rows_by_service(
     rows: &[ServiceRow],
     count: u32,
 ) -> Result<Groups<ServiceRow>, AllocError>
-    ensures { IfOk result (λ groups. groups ≡ groups_below count (map grouped_row rows.now)) }
+    ensures { IfOk result (λ groups. groups ≡ groups_below count (map by_service rows.now)) }
 {
     let members = grouped_rows(alloc, rows)?;
     let groups = Groups::of(alloc, members, count)?;
@@ -68,14 +68,14 @@ fn rows_by_service(
 
 /// The rows, each with its service.
 fn grouped_rows(alloc: Global, rows: &[ServiceRow]) -> Result<Vec<Grouped<ServiceRow>>, AllocError>
-    ensures { IfOk result (λ members. members.items ≡ map grouped_row rows.now) }
+    ensures { IfOk result (λ members. members.items ≡ map by_service rows.now) }
 {
     rows.iter().map(|row| grouped(row)).collect(alloc)
 }
 
 /// The row with its service.
 fn grouped(row: &ServiceRow) -> Grouped<ServiceRow>
-    ensures { result ≡ grouped_row row.now }
+    ensures { result ≡ by_service row.now }
 {
     Grouped {
         group: row.service.0,
@@ -105,7 +105,7 @@ fn exception_on(exceptions: &[ExceptionRow], service: ServiceId, day: Day) -> Op
 
 /// Whether a calendar row of the service covers the day.
 fn is_covered(rows: &Groups<ServiceRow>, service: ServiceId, day: Day) -> bool
-    ensures { result ≡ list_any (λ row. covers row day.0) (rows_of rows.now service.0) }
+    ensures { result ≡ list_any (λ row. covers row day.0) (rows_of_service rows.now service.0) }
 {
     rows.get(service.0 as usize)
         .iter()

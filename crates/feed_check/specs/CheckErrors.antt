@@ -5,6 +5,6 @@ use Rattle.feed_check.specs.declared.files.CheckError.{CheckError}
 use Rattle.feed_check.specs.declared.files.CheckError.TheVariants as error
 
 -- the error is this fault, or want of memory, which may come at any time
-abbrev pub IsErrorOf : Option FeedFault → CheckError → Type 0
-IsErrorOf fault (error.Fault found) = fault ≡ Some found
-IsErrorOf fault error.NoMemory = Unit {0}
+abbrev pub IsCheckErrorOf : Option FeedFault → CheckError → Type 0
+IsCheckErrorOf fault (error.Fault found) = fault ≡ Some found
+IsCheckErrorOf fault error.NoMemory = Unit {0}

@@ -11,11 +11,11 @@ use Rattle.feed_check.specs.BuiltFaults.{first_built_fault}
 
 -- why nothing was loaded, by what the folder tells that it holds, the count of its faults before and after, and whether its
 -- last call failed: a call failed, or the fault is the first of what is held, or want of memory
-abbrev pub GivesUp : LoadError → Option Contents → ℕ → ℕ → Bool → Type 0
-GivesUp error.ReadFault folder before now failed = Rose before now × (failed ≡ true)
-GivesUp (error.Fault fault) None before now failed = Stayed before now
-GivesUp (error.Fault fault) (Some folder) before now failed = Stayed before now × (first_built_fault (held folder) ≡ Some fault)
-GivesUp error.NoMemory folder before now failed = Stayed before now
+abbrev pub GivesUpLoading : LoadError → Option Contents → ℕ → ℕ → Bool → Type 0
+GivesUpLoading error.ReadFault folder before now failed = Rose before now × (failed ≡ true)
+GivesUpLoading (error.Fault fault) None before now failed = Stayed before now
+GivesUpLoading (error.Fault fault) (Some folder) before now failed = Stayed before now × (first_built_fault (held folder) ≡ Some fault)
+GivesUpLoading error.NoMemory folder before now failed = Stayed before now
 
 -- the feed is that of what the folder tells that it holds, which has no fault
 abbrev pub IsFeedOf : Option Contents → FeedRows → Type 0

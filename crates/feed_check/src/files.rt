@@ -4,7 +4,7 @@ ghost use Rattle.feed_faults.specs.AcceptedFeed.{feed_of};
 ghost use Rattle.folder_io.specs.KeptFiles.{AreWithin, held_in};
 ghost use Rattle.feed_check.specs.BuiltRows.{HasBuiltRows};
 ghost use Rattle.feed_check.specs.BuiltFaults.{first_built_fault};
-ghost use Rattle.feed_check.specs.CheckErrors.{IsErrorOf};
+ghost use Rattle.feed_check.specs.CheckErrors.{IsCheckErrorOf};
 
 use feed_build::{feed_of_tables, stop_time_rows};
 use feed_relations::first_relation_fault;
@@ -40,7 +40,7 @@ impl From<AllocError> for CheckError {
 #[tactic(auto, unfolding(crate::specs::BuiltFaults::first_built_fault))]
 pub fn check(alloc: Global, files: &Files) -> Result<Feed, CheckError>
     requires { AreWithin files.now }
-    ensures fault { IfErr result (IsErrorOf (first_built_fault (held_in files.now))) }
+    ensures fault { IfErr result (IsCheckErrorOf (first_built_fault (held_in files.now))) }
     ensures sound { OnOk result (first_built_fault (held_in files.now) ≡ None) }
     ensures feed { IfOk result (λ feed. feed ≡ feed_of (held_in files.now)) }
     ensures built { IfOk result HasBuiltRows }

@@ -2,7 +2,7 @@
 ghost use Rattle.std.specs.Prelude.{◌≡◌, ◌<◌, IfOk, IfErr, OnOk, IsTrue};
 ghost use Rattle.feed_rows.specs.FaultCounts.{Stayed};
 ghost use Rattle.feed_check.specs.BuiltRows.{HasBuiltRows};
-ghost use Rattle.feed_check.specs.LoadErrors.{GivesUp, IsFeedOf};
+ghost use Rattle.feed_check.specs.LoadErrors.{GivesUpLoading, IsFeedOf};
 
 use crate::files::{CheckError, check};
 use feed_rows::{Feed, FeedFault};
@@ -29,7 +29,7 @@ pub fn load<F: Folder>(alloc: Global, folder: &mut F) -> Result<Feed, LoadError>
     ensures feed { IfOk result (IsFeedOf (F.holds folder.old)) }
     ensures built { IfOk result HasBuiltRows }
     ensures ok { OnOk result (Stayed (F.faults folder.old) (F.faults folder.new)) }
-    ensures err { IfErr result (λ error. GivesUp error (F.holds folder.old) (F.faults folder.old) (F.faults folder.new) (F.failed folder.new)) }
+    ensures err { IfErr result (λ error. GivesUpLoading error (F.holds folder.old) (F.faults folder.old) (F.faults folder.new) (F.failed folder.new)) }
     ensures ends_at_fault { F.faults folder.old < F.faults folder.new → IsTrue (F.failed folder.new) }
     ensures holds { F.holds folder.new ≡ F.holds folder.old }
 {

@@ -5,7 +5,7 @@ use Rattle.std.specs.Fmt.{digits}
 use Rattle.jiff_core.specs.Calendar.{days_from_civil, day_count, days_of_years, days_of_months}
 use Rattle.transit_base.specs.DateTexts.{time_text}
 use Rattle.feed_rows.specs.HeldFiles.{HeldFile}
-use Rattle.feed_rows.specs.GeneratedFeed.{drawn, offset, hop, route_name, network_name, area_name, trip_time, row_text, stop_time_row, stops_file, routes_file, trips_file, calendar_file, areas_file, stop_areas_file, timeframes_file, fare_products_file, fare_leg_rules_file, fare_transfer_rules_file, generated, generated_plan}
+use Rattle.feed_rows.specs.GeneratedFeed.{drawn, offset, hop, route_name, network_name, area_name, trip_time, row_text, generated_stop_time_row, stops_file, routes_file, trips_file, calendar_file, areas_file, stop_areas_file, timeframes_file, fare_products_file, fare_leg_rules_file, fare_transfer_rules_file, generated, generated_plan}
 use Rattle.feed_rows.specs.declared.names.FileName.TheVariants as file
 
 -- a text with `;` for each line feed
@@ -149,7 +149,7 @@ some_routes = refl
 
 -- rows of stop times: at both ends of a trip, of the first and the last trip, and of routes both ways
 some_stop_times :
-    map (λ (at : ℕ × ℕ × ℕ). row_text (stop_time_row 7 16 (at.0) (at.1) (at.2)))
+    map (λ (at : ℕ × ℕ × ℕ). row_text (generated_stop_time_row 7 16 (at.0) (at.1) (at.2)))
     ((0, 0, 0) ∷ (0, 0, 15) ∷ (0, 23, 1) ∷ (1, 0, 0) ∷ (9, 10, 2) ∷ (15, 23, 15) ∷ (16, 0, 0) ∷ (16, 0, 15)
     ∷ (17, 9, 11) ∷ (30, 12, 7) ∷ (31, 23, 15) ∷ [])
     ≡ map lined

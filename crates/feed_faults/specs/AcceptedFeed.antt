@@ -87,8 +87,8 @@ unfoldable pub group_names : FeedTables → List (List ℕ)
 group_names t = with_column [] t.fare_leg_rules column.LegGroupId
 
 -- the parent of a platform; the field of another kind of stop isn't looked at
-unfoldable pub parent_of : FileTable → ℕ → Option StopId
-parent_of stops row =
+unfoldable pub accepted_parent : FileTable → ℕ → Option StopId
+accepted_parent stops row =
     let parent = field stops row column.ParentStation in
     if stop_kind stops row == platform_type then if_filled parent (record { 0 = row_number stops column.StopId parent }) else None
 
@@ -98,7 +98,7 @@ stop_row t row =
     record {
       id = field t.stops row column.StopId;
       kind = stop_kind t.stops row;
-      parent = parent_of t.stops row;
+      parent = accepted_parent t.stops row;
     }
 
 -- the network of a route: that of its own row, or else that of its row in route_networks.txt; the empty text where it has
@@ -148,8 +148,8 @@ stop_time_row t row =
     }
 
 -- a service runs on a weekday
-abbrev pub runs_on : FileTable → ℕ → ColumnName → Bool
-runs_on calendar row weekday = int_or_past 1 (field calendar row weekday) == 1
+abbrev pub runs_on_weekday : FileTable → ℕ → ColumnName → Bool
+runs_on_weekday calendar row weekday = int_or_past 1 (field calendar row weekday) == 1
 
 -- calendar.txt
 unfoldable pub service_row : FeedTables → ℕ → ServiceRow
@@ -157,9 +157,9 @@ service_row t row =
     let at = field t.calendar row in
     record {
       service = record { 0 = name_number (service_names t) (at column.ServiceId) };
-      days = runs_on t.calendar row column.Monday ∷ runs_on t.calendar row column.Tuesday ∷ runs_on t.calendar row column.Wednesday
-          ∷ runs_on t.calendar row column.Thursday ∷ runs_on t.calendar row column.Friday ∷ runs_on t.calendar row column.Saturday
-          ∷ runs_on t.calendar row column.Sunday ∷ [];
+      days = runs_on_weekday t.calendar row column.Monday ∷ runs_on_weekday t.calendar row column.Tuesday ∷ runs_on_weekday t.calendar row column.Wednesday
+          ∷ runs_on_weekday t.calendar row column.Thursday ∷ runs_on_weekday t.calendar row column.Friday ∷ runs_on_weekday t.calendar row column.Saturday
+          ∷ runs_on_weekday t.calendar row column.Sunday ∷ [];
       first = record { 0 = day_or_past (at column.StartDate) };
       last = record { 0 = day_or_past (at column.EndDate) };
     }
@@ -303,29 +303,29 @@ unfoldable pub feed_decimals : FileTable → ℕ
 feed_decimals products = option_map_or (λ currency. unwrap_or (currency_decimals currency) 4) (feed_currency products) 2
 
 -- what a row function gives at each row of a table
-abbrev pub rows_of : {X : Type 0} → FileTable → (ℕ → X) → List X
-rows_of table row = list_below (row_count table) row
+abbrev pub typed_rows : {X : Type 0} → FileTable → (ℕ → X) → List X
+typed_rows table row = list_below (row_count table) row
 
 -- the rows of these tables
 unfoldable pub rows_of_tables : FeedTables → FeedRows
 rows_of_tables t =
     record {
-      stops = rows_of t.stops (stop_row t);
-      routes = rows_of t.routes (route_row t);
-      trips = rows_of t.trips (trip_row t);
-      stop_times = rows_of t.stop_times (stop_time_row t);
-      services = rows_of t.calendar (service_row t);
-      exceptions = rows_of t.calendar_dates (exception_row t);
-      frequencies = rows_of t.frequencies (frequency_row t);
+      stops = typed_rows t.stops (stop_row t);
+      routes = typed_rows t.routes (route_row t);
+      trips = typed_rows t.trips (trip_row t);
+      stop_times = typed_rows t.stop_times (stop_time_row t);
+      services = typed_rows t.calendar (service_row t);
+      exceptions = typed_rows t.calendar_dates (exception_row t);
+      frequencies = typed_rows t.frequencies (frequency_row t);
       links = picks_below (row_count t.transfers) (λ row. not (is_passed_over t.transfers row)) (link_row t);
-      areas = rows_of t.areas (area_row t);
-      stop_areas = rows_of t.stop_areas (stop_area_row t);
-      timeframes = rows_of t.timeframes (timeframe_row t);
-      riders = rows_of t.rider_categories (rider_row t);
-      media = rows_of t.fare_media (medium_row t);
-      products = rows_of t.fare_products (product_row t);
-      leg_rules = rows_of t.fare_leg_rules (leg_rule_row t);
-      transfer_rules = rows_of t.fare_transfer_rules (transfer_rule_row t);
+      areas = typed_rows t.areas (area_row t);
+      stop_areas = typed_rows t.stop_areas (stop_area_row t);
+      timeframes = typed_rows t.timeframes (timeframe_row t);
+      riders = typed_rows t.rider_categories (rider_row t);
+      media = typed_rows t.fare_media (medium_row t);
+      products = typed_rows t.fare_products (product_row t);
+      leg_rules = typed_rows t.fare_leg_rules (leg_rule_row t);
+      transfer_rules = typed_rows t.fare_transfer_rules (transfer_rule_row t);
       service_names = service_names t;
       network_names = network_names t;
       frame_names = frame_names t;

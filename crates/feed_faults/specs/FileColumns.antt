@@ -50,8 +50,8 @@ amount = grammar.Amount
 abbrev pub any_time : Grammar
 any_time = grammar.Time most_time
 
-abbrev pub time_of_day : Grammar
-time_of_day = grammar.Time day_seconds
+abbrev pub day_time : Grammar
+day_time = grammar.Time day_seconds
 
 -- the columns of a file, in the order in which they are judged
 abbrev pub columns_of : FileName → List ColumnRule
@@ -76,7 +76,7 @@ columns_of file.StopAreas = must AreaId id ∷ must StopId id ∷ []
 columns_of file.Networks = must NetworkId id ∷ []
 columns_of file.RouteNetworks = must NetworkId id ∷ must RouteId id ∷ []
 columns_of file.Timeframes =
-    must TimeframeGroupId id ∷ may StartTime time_of_day ∷ may EndTime time_of_day ∷ must ServiceId id ∷ []
+    must TimeframeGroupId id ∷ may StartTime day_time ∷ may EndTime day_time ∷ must ServiceId id ∷ []
 columns_of file.RiderCategories = must RiderCategoryId id ∷ may IsDefaultFareCategory (int 0 1) ∷ []
 columns_of file.FareMedia = must FareMediaId id ∷ may FareMediaType (int 0 4) ∷ []
 columns_of file.FareProducts =

@@ -17,7 +17,7 @@ use Rattle.feed_faults.specs.StopTimeRelations.{stop_time_of, stop_times_of, sam
 use Rattle.feed_faults.specs.NetworkRelations.{same_start, frequency_fault, is_transfer_stop_unknown, transfer_fault, area_fault, stop_area_fault, has_own_networks, forbidden_fault, network_fault, route_network_fault}
 use Rattle.feed_faults.specs.FareRelations.{do_frames_overlap, is_bad_frame, timeframe_fault, rider_fault, medium_fault, same_product, is_currency_mixed, product_fault, is_network_unknown, leg_rule_fault, is_count_misplaced, is_limit_half, transfer_rule_fault}
 use Rattle.feed_faults.specs.FirstFault.{timetable_relation_fault, network_relation_fault, fare_relation_fault, first_fault}
-use Rattle.feed_faults.specs.AcceptedFeed.{place_of_name, with_name, service_names, network_names, frame_names, product_names, group_names, parent_of, stop_row, network_of_route, route_row, trip_row, stop_time_row, service_row, exception_row, frequency_row, link_row, area_row, stop_area_row, timeframe_row, rider_row, medium_row, product_row, leg_rule_row, limit_of, transfer_rule_row, feed_currency, feed_decimals, rows_of_tables, feed_of}
+use Rattle.feed_faults.specs.AcceptedFeed.{place_of_name, with_name, service_names, network_names, frame_names, product_names, group_names, accepted_parent, stop_row, network_of_route, route_row, trip_row, stop_time_row, service_row, exception_row, frequency_row, link_row, area_row, stop_area_row, timeframe_row, rider_row, medium_row, product_row, leg_rule_row, limit_of, transfer_rule_row, feed_currency, feed_decimals, rows_of_tables, feed_of}
 
 -- the grammars of fields
 unfoldable pub grammars_on_literals : ⊤
@@ -42,7 +42,7 @@ relations_on_literals = tt
 -- the rows of tables
 unfoldable pub rows_on_literals : ⊤
 unfolding grammars_on_literals column_of field is_passed_over int_or_past time_or_past day_or_past amount_or_past row_of
-    place_of_name with_name service_names network_names frame_names product_names group_names parent_of stop_row network_of_route route_row trip_row stop_time_row service_row exception_row frequency_row link_row area_row stop_area_row timeframe_row rider_row medium_row product_row leg_rule_row limit_of transfer_rule_row feed_currency feed_decimals rows_of_tables
+    place_of_name with_name service_names network_names frame_names product_names group_names accepted_parent stop_row network_of_route route_row trip_row stop_time_row service_row exception_row frequency_row link_row area_row stop_area_row timeframe_row rider_row medium_row product_row leg_rule_row limit_of transfer_rule_row feed_currency feed_decimals rows_of_tables
 rows_on_literals = tt
 
 -- the tables of bytes

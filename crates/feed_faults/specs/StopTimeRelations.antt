@@ -39,16 +39,16 @@ unfoldable pub stop_times_of : FileTable → List StopTime
 stop_times_of table = list_below (row_count table) (stop_time_of table)
 
 -- a stop time has at least one time
-abbrev pub is_timed : StopTime → Bool
-is_timed x = is_some x.arrival || is_some x.departure
+abbrev pub has_time : StopTime → Bool
+has_time x = is_some x.arrival || is_some x.departure
 
 -- its first time: the arrival, or else the departure
-abbrev pub first_time : StopTime → Option ℕ
-first_time x = option_or x.arrival x.departure
+abbrev pub first_filled : StopTime → Option ℕ
+first_filled x = option_or x.arrival x.departure
 
 -- its last time: the departure, or else the arrival
-abbrev pub last_time : StopTime → Option ℕ
-last_time x = option_or x.departure x.arrival
+abbrev pub last_filled : StopTime → Option ℕ
+last_filled x = option_or x.departure x.arrival
 
 -- both times are there, and the first is less than the second
 abbrev pub is_earlier : Option ℕ → Option ℕ → Bool
@@ -77,22 +77,22 @@ is_last times row = not (any_below (length times) (λ other. comes_before times 
 
 -- a trip's first or last stop time has neither time (stop_times.txt: arrival_time, departure_time)
 unfoldable pub is_end_time_missing : List StopTime → ℕ → Bool
-is_end_time_missing times row = at_and times row (λ x. not (is_timed x)) && (is_first times row || is_last times row)
+is_end_time_missing times row = at_and times row (λ x. not (has_time x)) && (is_first times row || is_last times row)
 
 -- a row is the nearest timed one before another
 unfoldable pub is_nearest_before : List StopTime → ℕ → ℕ → Bool
 is_nearest_before times near row =
-    comes_before times near row && at_and times near is_timed
+    comes_before times near row && at_and times near has_time
     && not (any_below (length times)
-    (λ other. comes_before times near other && comes_before times other row && at_and times other is_timed))
+    (λ other. comes_before times near other && comes_before times other row && at_and times other has_time))
 
 -- a timed row's last time is less than its first, or its first is less than the last time of the nearest timed row before
 -- it (stop_times.txt: arrival_time, departure_time)
 unfoldable pub do_times_decrease : List StopTime → ℕ → Bool
 do_times_decrease times row =
-    at_and times row (λ x. is_earlier (last_time x) (first_time x)
+    at_and times row (λ x. is_earlier (last_filled x) (first_filled x)
     || any_below (length times) (λ near. is_nearest_before times near row
-    && at_and times near (λ y. is_earlier (first_time x) (last_time y))))
+    && at_and times near (λ y. is_earlier (first_filled x) (last_filled y))))
 
 -- a stop time is at a platform; an id of several rows is that of the earliest
 unfoldable pub is_at_platform : FeedTables → ℕ → Bool

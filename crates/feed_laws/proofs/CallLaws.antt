@@ -10,7 +10,7 @@ use Rattle.feed_rows.specs.declared.journeys.Call.{Call}
 use Rattle.feed_rows.specs.FeedRows.{FeedRows}
 use Rattle.plain_laws.specs.Plain.{collect_below}
 use Rattle.feed_rows.specs.Calls.{first_time, last_time, is_timed, timed_before, time_between, filled_time, call_at, calls_of, trip_stop_times}
-use Rattle.feed_rows.specs.CallPass.{TimedGap, gap_after, gap_at, time_in, time_at, next_timed, call_in, pass_below, pass}
+use Rattle.feed_rows.specs.CallPass.{TimedGap, gap_after, gap_at, time_in, time_or_zero, next_timed, call_in, pass_below, pass}
 use Rattle.plain_laws.proofs.Laws.{collect_below_tells, IsCollected}
 use Rattle.feed_rows.specs.TimedTrips.{first_at, last_at, is_timed_at, HasTimedEnds}
 use Rattle.feed_laws.proofs.TimedLaws.{IsInGap, in_gap, timed_before_hit, timed_after_hit, timed_after_gap, timed_at, timed_row, untimed_row}
@@ -178,7 +178,7 @@ pass_below_more rows m row at = let e : m + 1 ≡ suc m = omega arith in rw (e, 
 -- a turn of the pass at a timed row: its own times, and a new gap
 pub record IsTimedTurn (rows : List StopTimeRow) (m : ℕ) (row : StopTimeRow) : Type 0 where
   pub calls : pass_below rows (m + 1) ≡ pass_below rows m ++ (record { stop = row.stop; sequence = row.sequence; arrival = unwrap_or (first_time row) 0; departure = unwrap_or (last_time row) 0; pickup = row.pickup; drop_off = row.drop_off }) ∷ []
-  pub gap : gap_at rows (m + 1) ≡ record { from = m; left = unwrap_or (last_time row) 0; to = next_timed rows m; reached = time_at first_time rows (next_timed rows m) }
+  pub gap : gap_at rows (m + 1) ≡ record { from = m; left = unwrap_or (last_time row) 0; to = next_timed rows m; reached = time_or_zero first_time rows (next_timed rows m) }
 
 pub timed_turn : (rows : List StopTimeRow) (m : ℕ) (d : StopTimeRow) → m < length rows → is_timed (get_or rows m d) ≡ true → IsTimedTurn rows m (get_or rows m d)
 timed_turn rows m d lt timed =

@@ -8,7 +8,7 @@ use Rattle.std.proofs.lemmas.Bool.Decides.{nat_tests}
 use Rattle.feed_rows.specs.declared.fares.TransferFacts.{TransferFacts}
 use Rattle.feed_rows.specs.FeedRows.{FeedRows}
 use Rattle.plain_laws.proofs.Laws.{least_of_some, any_of_any, same_test}
-use Rattle.feed_rows.specs.TransferRules.{AskedChange, asked_of, suffices, count_le, is_least_count, is_selected, is_selected_transfer, is_arranged}
+use Rattle.feed_rows.specs.TransferRules.{AskedChange, asked_change, suffices, count_le, is_least_count, is_selected, is_selected_transfer, is_arranged}
 
 -- ---- counts are ordered, an empty one last
 
@@ -40,6 +40,6 @@ is_selected-some feed change = same_test _ _
 
 -- a change is arranged exactly where some row suffices for it
 pub is_arranged-suffices : (feed : FeedRows) (change : TransferFacts) →
-    is_arranged feed change ≡ list_any (suffices feed (asked_of change)) feed.transfer_rules
+    is_arranged feed change ≡ list_any (suffices feed (asked_change change)) feed.transfer_rules
 unfolding is_arranged is_selected_transfer
-is_arranged-suffices feed change = is_selected-some feed (asked_of change)
+is_arranged-suffices feed change = is_selected-some feed (asked_change change)

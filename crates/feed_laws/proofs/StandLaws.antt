@@ -18,7 +18,7 @@ use Rattle.plain_laws.specs.Plain.{when}
 use Rattle.feed_rows.specs.TransferRules.{FareLeg, change_at}
 use Rattle.feed_rows.specs.FareChoices.{chosen_leg, fare_leg, is_leg_choice, is_change_choice, is_leg_paid, is_fare_choice}
 use Rattle.feed_rows.specs.FareSums.{amount_of, fare_sum, fare_price}
-use Rattle.feed_rows.specs.FareStands.{Run, change_to, next_run, IsRunAt, frees_next, frees_first, next_held, next_paid, place_kind, place_charge, FareStand, stand_price, stand_of_first, stand_of_next, first_stand, next_stand, stand_at, IsStandOf}
+use Rattle.feed_rows.specs.FareStands.{Run, change_to, next_run, IsRunAt, frees_next, frees_first, next_held, next_paid, place_kind, place_charge, FareStand, stand_price, stand_of_first, stand_of_next, first_fare_stand, next_fare_stand, stand_at, IsStandOf}
 use Rattle.plain_laws.proofs.Laws.{slice_get-append_left, slice_get-push_last, slice_get-old_item, slice_get-new_item}
 use Rattle.feed_laws.proofs.FareLaws.{run_of_first}
 use Rattle.feed_laws.proofs.SumLaws.{IsPushed, next_total, next_paid-total, fare_sum-push, fare_sum-first, held_at-push, held_at-first}
@@ -42,10 +42,10 @@ unfolding is_leg_paid
 leg_of_one feed leg pick rider = refl
 
 -- one leg is paid where fares stand somewhere after it
-pub first_stand-paid : (feed : FeedRows) (rider : Option RiderId) (leg : LegFacts) (pick : LegChoice) →
-    is_fare_choice feed (leg ∷ []) (choice_of_one pick) rider ≡ is_some (first_stand feed rider leg pick)
-unfolding first_stand
-first_stand-paid feed rider leg pick =
+pub first_fare_stand-paid : (feed : FeedRows) (rider : Option RiderId) (leg : LegFacts) (pick : LegChoice) →
+    is_fare_choice feed (leg ∷ []) (choice_of_one pick) rider ≡ is_some (first_fare_stand feed rider leg pick)
+unfolding first_fare_stand
+first_fare_stand-paid feed rider leg pick =
     is_fare_choice_by_places feed (leg ∷ []) (choice_of_one pick) rider 0 refl refl refl
     ∙ alone _ _ (leg_of_one feed leg pick rider)
     ∙ by (slice_get feed.leg_rules pick.rule.0) refl
@@ -67,11 +67,11 @@ first_stand-paid feed rider leg pick =
     by (Some rule) is = kept (is_leg_choice feed rider leg pick) _
 
 -- then they stand as the choice of that leg says
-pub first_stand-of : (feed : FeedRows) (rider : Option RiderId) (leg : LegFacts) (pick : LegChoice)
+pub first_fare_stand-of : (feed : FeedRows) (rider : Option RiderId) (leg : LegFacts) (pick : LegChoice)
     (stand : FareStand) →
-    first_stand feed rider leg pick ≡ Some stand → IsStandOf feed (leg ∷ []) (choice_of_one pick) 0 stand
-unfolding first_stand
-first_stand-of feed rider leg pick stand e = by (chosen_leg feed leg pick) refl e
+    first_fare_stand feed rider leg pick ≡ Some stand → IsStandOf feed (leg ∷ []) (choice_of_one pick) 0 stand
+unfolding first_fare_stand
+first_fare_stand-of feed rider leg pick stand e = by (chosen_leg feed leg pick) refl e
   where
     amount : ℤ
     amount = amount_of feed pick.product
@@ -116,10 +116,10 @@ module _ (feed : FeedRows) (rider : Option RiderId) (legs : List LegFacts) (leg 
       ∙ change_at_push feed legs leg choice.legs pick n stand.run next long pushed.legs is at.run
 
   -- the longer choice pays the longer legs where the one paid the others, and there is a step
-  pub next_stand-paid : is_fare_choice feed (legs ++ leg ∷ []) more rider
-      ≡ (is_fare_choice feed legs choice rider && is_some (next_stand feed rider stand leg pick place))
-  unfolding next_stand
-  next_stand-paid =
+  pub next_fare_stand-paid : is_fare_choice feed (legs ++ leg ∷ []) more rider
+      ≡ (is_fare_choice feed legs choice rider && is_some (next_fare_stand feed rider stand leg pick place))
+  unfolding next_fare_stand
+  next_fare_stand-paid =
       is_fare_choice-push feed legs leg choice place pick more rider n long pushed
       ∙ ap (λ (b : Bool). is_fare_choice feed legs choice rider && b) (by (slice_get feed.leg_rules pick.rule.0) refl)
     where
@@ -146,10 +146,10 @@ module _ (feed : FeedRows) (rider : Option RiderId) (legs : List LegFacts) (leg 
           ap (λ c. is_leg_choice feed rider leg pick && is_change_choice feed rider c place) same ∙ kept _ _
 
   -- and the step leads to where fares stand after the longer legs
-  pub next_stand-of : (stand' : FareStand) → next_stand feed rider stand leg pick place ≡ Some stand' →
+  pub next_fare_stand-of : (stand' : FareStand) → next_fare_stand feed rider stand leg pick place ≡ Some stand' →
       IsStandOf feed (legs ++ leg ∷ []) more (suc n) stand'
-  unfolding next_stand
-  next_stand-of stand' e = by (chosen_leg feed leg pick) refl e
+  unfolding next_fare_stand
+  next_fare_stand-of stand' e = by (chosen_leg feed leg pick) refl e
     where
       same_total : (s s' h h' : ℤ) (k : Option ℕ) (a c : ℤ) → s ≡ s' → h ≡ h' →
           next_total s h k a c ≡ next_total s' h' k a c
@@ -308,7 +308,7 @@ pub stand_at-push : (feed : FeedRows) (rider : Option RiderId) (legs : List LegF
     (choice : Choice) (place : Option ChangeChoice) (pick : LegChoice) (more : Choice) (n : ℕ) →
     length legs ≡ suc n → IsPushed choice place pick more n →
     stand_at feed rider (legs ++ leg ∷ []) more (suc n) ≡ option_and_then
-    (λ stand. next_stand feed rider stand leg pick place) (stand_at feed rider legs choice n)
+    (λ stand. next_fare_stand feed rider stand leg pick place) (stand_at feed rider legs choice n)
 stand_at-push feed rider legs leg choice place pick more n long pushed =
     let picks = pushed.legs in
     let places = pushed.changes in
@@ -328,16 +328,16 @@ Stepped feed rider legs choice n (Some stand) = (is_fare_choice feed legs choice
     × IsStandOf feed legs choice n stand
 
 stepped_first : (feed : FeedRows) (rider : Option RiderId) (leg : LegFacts) (pick : LegChoice) →
-    Stepped feed rider (leg ∷ []) (choice_of_one pick) 0 (first_stand feed rider leg pick)
-stepped_first feed rider leg pick = by (first_stand feed rider leg pick) refl
+    Stepped feed rider (leg ∷ []) (choice_of_one pick) 0 (first_fare_stand feed rider leg pick)
+stepped_first feed rider leg pick = by (first_fare_stand feed rider leg pick) refl
   where
-    by : (o : Option FareStand) → first_stand feed rider leg pick ≡ o →
+    by : (o : Option FareStand) → first_fare_stand feed rider leg pick ≡ o →
         Stepped feed rider (leg ∷ []) (choice_of_one pick) 0 o
-    by None is = first_stand-paid feed rider leg pick ∙ ap is_some is
+    by None is = first_fare_stand-paid feed rider leg pick ∙ ap is_some is
     by (Some stand) is = (
-      first_stand-paid feed rider leg pick
+      first_fare_stand-paid feed rider leg pick
           ∙ ap is_some is,
-      first_stand-of feed rider leg pick stand is,
+      first_fare_stand-of feed rider leg pick stand is,
     )
 
 stepped_next : (feed : FeedRows) (rider : Option RiderId) (legs : List LegFacts) (leg : LegFacts) (choice : Choice)
@@ -345,28 +345,28 @@ stepped_next : (feed : FeedRows) (rider : Option RiderId) (legs : List LegFacts)
     length legs ≡ suc n → IsPushed choice place pick more n → (o : Option FareStand) →
     Stepped feed rider legs choice n o →
     Stepped feed rider (legs ++ leg ∷ []) more (suc n)
-    (option_and_then (λ stand. next_stand feed rider stand leg pick place) o)
+    (option_and_then (λ stand. next_fare_stand feed rider stand leg pick place) o)
 stepped_next feed rider legs leg choice place pick more n long pushed None before =
     is_fare_choice-push feed legs leg choice place pick more rider n long pushed ∙ never _ _ before
   where
     never : (a b : Bool) → a ≡ false → (a && b) ≡ false
     never a b e = rw e refl
 stepped_next feed rider legs leg choice place pick more n long pushed (Some stand) before = by
-    (next_stand feed rider stand leg pick place) refl
+    (next_fare_stand feed rider stand leg pick place) refl
   where
-    paid : is_fare_choice feed (legs ++ leg ∷ []) more rider ≡ is_some (next_stand feed rider stand leg pick place)
+    paid : is_fare_choice feed (legs ++ leg ∷ []) more rider ≡ is_some (next_fare_stand feed rider stand leg pick place)
     paid =
-        next_stand-paid feed rider legs leg choice place pick more n stand long pushed before.1
+        next_fare_stand-paid feed rider legs leg choice place pick more n stand long pushed before.1
         ∙ and_true _ _ before.0
       where
         and_true : (a b : Bool) → a ≡ true → (a && b) ≡ b
         and_true a b e = rw e refl
 
-    by : (o : Option FareStand) → next_stand feed rider stand leg pick place ≡ o →
+    by : (o : Option FareStand) → next_fare_stand feed rider stand leg pick place ≡ o →
         Stepped feed rider (legs ++ leg ∷ []) more (suc n) o
     by None is = paid ∙ ap is_some is
     by (Some stand') is =
-        (paid ∙ ap is_some is, next_stand-of feed rider legs leg choice place pick more n stand long pushed before.1 stand' is)
+        (paid ∙ ap is_some is, next_fare_stand-of feed rider legs leg choice place pick more n stand long pushed before.1 stand' is)
 
 -- a choice with the right number of places pays the legs exactly where each step is right, and then fares stand as it says
 pub stepped : (feed : FeedRows) (rider : Option RiderId) (n : ℕ) (legs : List LegFacts) (picks : List LegChoice)
@@ -441,7 +441,7 @@ pub record IsStepFrom (feed : FeedRows) (rider : Option RiderId) (legs : List Le
   pub paid : is_fare_choice feed legs last.choice rider ≡ true
   pub before : StandsAfter feed rider legs last.choice n
   pub after : FareStand
-  pub step : next_stand feed rider before.stand leg last.pick last.place ≡ Some after
+  pub step : next_fare_stand feed rider before.stand leg last.pick last.place ≡ Some after
   pub of : IsStandOf feed (legs ++ leg ∷ []) more (suc n) after
 
 -- each choice that pays one more leg is such
@@ -458,7 +458,7 @@ step_of_paid feed rider legs leg more n long paid =
   where
     with_step : (last : HasLastPlaces more n) → is_fare_choice feed legs last.choice rider ≡ true →
         (before : StandsAfter feed rider legs last.choice n) →
-        (o : Option FareStand) → next_stand feed rider before.stand leg last.pick last.place ≡ o → is_some o ≡ true →
+        (o : Option FareStand) → next_fare_stand feed rider before.stand leg last.pick last.place ≡ o → is_some o ≡ true →
         IsStepFrom feed rider legs leg more n
     with_step last pays before None is some = absurd (cc)
     with_step last pays before (Some after) is some = record {
@@ -467,16 +467,16 @@ step_of_paid feed rider legs leg more n long paid =
       before = before;
       after = after;
       step = is;
-      of = next_stand-of feed rider legs leg last.choice last.place last.pick more n before.stand long last.pushed before.of after is;
+      of = next_fare_stand-of feed rider legs leg last.choice last.place last.pick more n before.stand long last.pushed before.of after is;
     }
 
     with_stand : (last : HasLastPlaces more n) → is_fare_choice feed legs last.choice rider ≡ true →
         StandsAfter feed rider legs last.choice n → IsStepFrom feed rider legs leg more n
     with_stand last pays before =
-        let whole = next_stand-paid feed rider legs leg last.choice last.place last.pick more n before.stand long last.pushed before.of in
-        with_step last pays before (next_stand feed rider before.stand leg last.pick last.place) refl
+        let whole = next_fare_stand-paid feed rider legs leg last.choice last.place last.pick more n before.stand long last.pushed before.of in
+        with_step last pays before (next_fare_stand feed rider before.stand leg last.pick last.place) refl
         (and_parts (is_fare_choice feed legs last.choice rider)
-        (is_some (next_stand feed rider before.stand leg last.pick last.place)) (sym whole ∙ paid)).1
+        (is_some (next_fare_stand feed rider before.stand leg last.pick last.place)) (sym whole ∙ paid)).1
 
     with_last : HasLastPlaces more n → IsStepFrom feed rider legs leg more n
     with_last last =
@@ -490,9 +490,9 @@ pub paid_of_step : (feed : FeedRows) (rider : Option RiderId) (legs : List LegFa
     (stand after : FareStand) →
     length legs ≡ suc n → IsPushed choice place pick more n → is_fare_choice feed legs choice rider ≡ true →
     IsStandOf feed legs choice n stand →
-    next_stand feed rider stand leg pick place ≡ Some after → is_fare_choice feed (legs ++ leg ∷ []) more rider ≡ true
+    next_fare_stand feed rider stand leg pick place ≡ Some after → is_fare_choice feed (legs ++ leg ∷ []) more rider ≡ true
 paid_of_step feed rider legs leg choice place pick more n stand after long pushed paid at step =
-    next_stand-paid feed rider legs leg choice place pick more n stand long pushed at ∙ both _ _ paid (ap is_some step)
+    next_fare_stand-paid feed rider legs leg choice place pick more n stand long pushed at ∙ both _ _ paid (ap is_some step)
   where
     both : (a b : Bool) → a ≡ true → b ≡ true → (a && b) ≡ true
     both a b e f = rw (e, f) refl

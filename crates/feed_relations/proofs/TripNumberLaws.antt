@@ -13,7 +13,7 @@ use Rattle.feed_faults.specs.FeedTables.{FeedTables}
 use Rattle.feed_faults.specs.FieldValues.{stop_kind}
 use Rattle.feed_faults.specs.RowKeys.{row_of, is_unknown}
 use Rattle.feed_faults.specs.StopTimeRelations.{stop_time_of, stop_times_of, is_at_platform}
-use Rattle.feed_faults.specs.AcceptedFeed.{row_number, rows_of, stop_time_row}
+use Rattle.feed_faults.specs.AcceptedFeed.{row_number, typed_rows, stop_time_row}
 use Rattle.stop_order.specs.declared.times.OrderFaults.{OrderFaults}
 use Rattle.stop_order.specs.Numbered.{no_time, numbered_at, named_time, named_times, IsOneTrip, no_faults, faults_at}
 use Rattle.feed_relations.specs.JudgedBy.{AreCallsNamed, are_platforms}
@@ -55,10 +55,10 @@ one_text table name a b filled known same = step (row_of table name a) refl (row
     step o ea None eb = absurd (let no' : true ≡ false = rw (filled, eb) at known in cc)
 
 -- the rows of stop_times.txt
-pub length_rows : (t : FeedTables) (rows : List StopTimeRow) → rows ≡ rows_of t.stop_times (stop_time_row t) → length rows ≡ row_count t.stop_times
+pub length_rows : (t : FeedTables) (rows : List StopTimeRow) → rows ≡ typed_rows t.stop_times (stop_time_row t) → length rows ≡ row_count t.stop_times
 length_rows t rows e = ap length e ∙ length-list_below (row_count t.stop_times) (stop_time_row t)
 
-pub row_is : (t : FeedTables) (rows : List StopTimeRow) (row : ℕ) (d : StopTimeRow) → rows ≡ rows_of t.stop_times (stop_time_row t) → row < row_count t.stop_times → get_or rows row d ≡ stop_time_row t row
+pub row_is : (t : FeedTables) (rows : List StopTimeRow) (row : ℕ) (d : StopTimeRow) → rows ≡ typed_rows t.stop_times (stop_time_row t) → row < row_count t.stop_times → get_or rows row d ≡ stop_time_row t row
 row_is t rows row d e lt = ap (λ xs. get_or xs row d) e ∙ get_or-list_below (row_count t.stop_times) (stop_time_row t) row d lt
 
 -- the stop of a row is a platform where its number is that of one
@@ -87,7 +87,7 @@ module _ (t : FeedTables) (named : AreCallsNamed t) where
   text row = field t.stop_times row TripId
 
   abbrev rows : List StopTimeRow
-  rows = rows_of t.stop_times (stop_time_row t)
+  rows = typed_rows t.stop_times (stop_time_row t)
 
   trip_is : (row : ℕ) → row < row_count t.stop_times → (numbered_at rows row).trip.0 ≡ row_number t.trips TripId (text row)
   unfolding stop_time_row

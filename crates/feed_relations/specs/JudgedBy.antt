@@ -10,7 +10,7 @@ use Rattle.feed_faults.specs.Records.{FileTable, row_count, field, is_filled}
 use Rattle.feed_faults.specs.FaultPlaces.{field_fault}
 use Rattle.feed_faults.specs.FieldValues.{stop_kind}
 use Rattle.feed_faults.specs.RowKeys.{is_unknown}
-use Rattle.feed_faults.specs.AcceptedFeed.{rows_of, stop_time_row}
+use Rattle.feed_faults.specs.AcceptedFeed.{typed_rows, stop_time_row}
 use Rattle.feed_faults.specs.StopTimeRelations.{stop_times_of}
 use Rattle.stop_order.specs.declared.times.OrderFaults.{OrderFaults}
 use Rattle.stop_order.specs.Numbered.{no_faults, faults_at}
@@ -52,7 +52,7 @@ are_platforms stops = list_below (row_count stops) (λ row. stop_kind stops row 
 -- stop times: by their rows, the platforms, and what is wrong with each row whose trip is there
 pub record AreJudgedCalls (t : FeedTables) (calls : JudgedCalls) : Type 0 where
   pub named : AreCallsNamed t
-  pub rows : calls.rows.now ≡ rows_of t.stop_times (stop_time_row t)
+  pub rows : calls.rows.now ≡ typed_rows t.stop_times (stop_time_row t)
   pub platforms : calls.platforms.items ≡ are_platforms t.stops
   pub count : length calls.faults.items ≡ row_count t.stop_times
   pub faults : (row : ℕ) → row < row_count t.stop_times → is_unknown t.trips column.TripId (field t.stop_times row column.TripId) ≡ false

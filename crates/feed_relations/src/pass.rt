@@ -1,7 +1,7 @@
 //! The files in their order.
 ghost use Rattle.std.specs.Prelude.{◌≡◌, IfOk};
 ghost use Rattle.feed_faults.specs.FirstFault.{timetable_relation_fault, network_relation_fault, fare_relation_fault, first_relation_fault};
-ghost use Rattle.feed_faults.specs.AcceptedFeed.{rows_of, stop_time_row};
+ghost use Rattle.feed_faults.specs.AcceptedFeed.{typed_rows, stop_time_row};
 ghost use Rattle.feed_tables.specs.UnbuiltFiles.{AreUnbuiltEmpty};
 ghost use Rattle.feed_tables.specs.TableIds.{AreIdsOf};
 ghost use Rattle.feed_relations.specs.JudgedBy.{AreCallsNamed};
@@ -25,7 +25,7 @@ fn timetable_relation_fault(
 ) -> Result<Option<FeedFault>, AllocError>
     requires ids { AreIdsOf tables.now ids.now }
     requires named { AreCallsNamed tables.now }
-    requires stop_times { stop_times.now ≡ rows_of tables.now.stop_times (stop_time_row tables.now) }
+    requires stop_times { stop_times.now ≡ typed_rows tables.now.stop_times (stop_time_row tables.now) }
     ensures { IfOk result (λ fault. fault ≡ timetable_relation_fault tables.now) }
 {
     if let Some(fault) = stops_fault(tables, ids) {
@@ -74,7 +74,7 @@ pub fn first_relation_fault(
     requires unbuilt { AreUnbuiltEmpty tables.now }
     requires ids { AreIdsOf tables.now ids.now }
     requires named { AreCallsNamed tables.now }
-    requires stop_times { stop_times.now ≡ rows_of tables.now.stop_times (stop_time_row tables.now) }
+    requires stop_times { stop_times.now ≡ typed_rows tables.now.stop_times (stop_time_row tables.now) }
     ensures { IfOk result (λ fault. fault ≡ first_relation_fault tables.now) }
 {
     if let Some(fault) = timetable_relation_fault(alloc, tables, ids, stop_times)? {

@@ -5,7 +5,7 @@ ghost use Rattle.feed_faults.specs.Records.{row_count, field};
 ghost use Rattle.feed_faults.specs.RowKeys.{is_unknown};
 ghost use Rattle.feed_faults.specs.FirstFault.{first_in_rows};
 ghost use Rattle.feed_faults.specs.StopTimeRelations.{stop_times_of, is_at_platform, stop_time_fault};
-ghost use Rattle.feed_faults.specs.AcceptedFeed.{rows_of, stop_time_row};
+ghost use Rattle.feed_faults.specs.AcceptedFeed.{typed_rows, stop_time_row};
 ghost use Rattle.feed_tables.specs.RowLimits.{row_limit};
 ghost use Rattle.stop_order.specs.Numbered.{faults_at};
 ghost use Rattle.feed_relations.specs.JudgedBy.{AreCallsNamed, AreJudgedCalls, are_platforms, order_fault};
@@ -44,7 +44,7 @@ fn judged_calls<'t>(
     rows: &'t [StopTimeRow],
 ) -> Result<JudgedCalls<'t>, AllocError>
     requires named { AreCallsNamed tables.now }
-    requires rows { rows.now ≡ rows_of tables.now.stop_times (stop_time_row tables.now) }
+    requires rows { rows.now ≡ typed_rows tables.now.stop_times (stop_time_row tables.now) }
     ensures { IfOk result (AreJudgedCalls tables.now) }
 {
     let _few = tables.stop_times.rows();
@@ -159,7 +159,7 @@ pub fn stop_times_fault(
     rows: &[StopTimeRow],
 ) -> Result<Option<FeedFault>, AllocError>
     requires named { AreCallsNamed tables.now }
-    requires rows { rows.now ≡ rows_of tables.now.stop_times (stop_time_row tables.now) }
+    requires rows { rows.now ≡ typed_rows tables.now.stop_times (stop_time_row tables.now) }
     ensures { IfOk result (λ fault. fault ≡ first_in_rows tables.now.stop_times (stop_time_fault tables.now)) }
 {
     let calls = judged_calls(alloc, tables, rows)?;

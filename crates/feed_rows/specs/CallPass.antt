@@ -17,8 +17,8 @@ pub record TimedGap : Type 0 where
   pub reached : ℕ
 
 -- a time of the row at a position, and 0 where it has none
-abbrev pub time_at : (StopTimeRow → Option ℕ) → List StopTimeRow → ℕ → ℕ
-time_at time rows p = unwrap_or (option_and_then time (slice_get rows p)) 0
+abbrev pub time_or_zero : (StopTimeRow → Option ℕ) → List StopTimeRow → ℕ → ℕ
+time_or_zero time rows p = unwrap_or (option_and_then time (slice_get rows p)) 0
 
 -- the next timed position after position p, and the number of rows where there is none
 abbrev pub next_timed : List StopTimeRow → ℕ → ℕ
@@ -29,9 +29,9 @@ abbrev pub gap_after : List StopTimeRow → ℕ → TimedGap
 gap_after rows p =
     record {
       from = p;
-      left = time_at last_time rows p;
+      left = time_or_zero last_time rows p;
       to = next_timed rows p;
-      reached = time_at first_time rows (next_timed rows p);
+      reached = time_or_zero first_time rows (next_timed rows p);
     }
 
 -- the gap that is carried to position m; none has begun before position 0

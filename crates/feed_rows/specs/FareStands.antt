@@ -48,7 +48,8 @@ pub record IsRunAt (feed : FeedRows) (leg : ℕ → Option FareLeg) (i : ℕ) (r
 
 -- ---- amounts
 
--- the amount that a change which alone is paid takes back after leg n: that of leg n where it is the first of its chain, else 0
+-- the amount that a change which alone is paid takes back after leg n: that of leg n where it is the first of its chain,
+-- else 0
 abbrev pub held_at : (ℕ → Option ℕ) → (ℕ → ℤ) → ℕ → ℤ
 held_at kind amount n = if starts_chain kind n then amount n else pos 0
 
@@ -80,7 +81,8 @@ place_charge feed place = option_map_or (pick_amount feed) place (pos 0)
 
 -- ---- the state and the step
 
--- where the fares of some legs stand: the run of the last leg, what no later change takes back, and what a change that alone is paid would
+-- where the fares of some legs stand: the run of the last leg, what no later change takes back, and what a change that
+-- alone is paid would
 pub record FareStand : Type 0 where
   pub run : Run
   pub paid : ℤ
@@ -104,15 +106,15 @@ stand_of_next feed stand next pick place =
     }
 
 -- where fares stand after a first leg; nowhere where the choice isn't one for it
-unfoldable pub first_stand : FeedRows → Option RiderId → LegFacts → LegChoice → Option FareStand
-first_stand feed rider leg pick =
+unfoldable pub first_fare_stand : FeedRows → Option RiderId → LegFacts → LegChoice → Option FareStand
+first_fare_stand feed rider leg pick =
     option_and_then
     (λ first. when (is_leg_choice feed rider leg pick) (stand_of_first feed first pick))
     (chosen_leg feed leg pick)
 
 -- where fares stand after one more leg; nowhere where its choice or the place of the change to it isn't right
-unfoldable pub next_stand : FeedRows → Option RiderId → FareStand → LegFacts → LegChoice → Option ChangeChoice → Option FareStand
-next_stand feed rider stand leg pick place =
+unfoldable pub next_fare_stand : FeedRows → Option RiderId → FareStand → LegFacts → LegChoice → Option ChangeChoice → Option FareStand
+next_fare_stand feed rider stand leg pick place =
     option_and_then
     (λ next. when
     (is_leg_choice feed rider leg pick && is_change_choice feed rider (change_to stand.run next) place)
@@ -122,10 +124,10 @@ next_stand feed rider stand leg pick place =
 -- where fares stand after leg i, step by step; nowhere where a leg or a change up to it isn't paid
 abbrev pub stand_at : FeedRows → Option RiderId → List LegFacts → Choice → ℕ → Option FareStand
 stand_at feed rider legs choice zero =
-    option_and_then (λ leg. option_and_then (first_stand feed rider leg) (slice_get choice.legs 0)) (slice_get legs 0)
+    option_and_then (λ leg. option_and_then (first_fare_stand feed rider leg) (slice_get choice.legs 0)) (slice_get legs 0)
 stand_at feed rider legs choice (suc i) =
     option_and_then (λ stand. option_and_then (λ leg. option_and_then (λ pick. option_and_then
-    (next_stand feed rider stand leg pick)
+    (next_fare_stand feed rider stand leg pick)
     (slice_get choice.changes i)) (slice_get choice.legs (suc i))) (slice_get legs (suc i)))
     (stand_at feed rider legs choice i)
 

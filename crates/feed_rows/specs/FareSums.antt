@@ -33,7 +33,8 @@ is_included_on_entry kind (suc before) = filled_and (kind before) includes_leg_a
 abbrev pub is_included_on_leaving : (ℕ → Option ℕ) → ℕ → Bool
 is_included_on_leaving kind i = filled_and (kind i) (λ k. k == change_alone)
 
--- leg i is charged, unless the change that leads to it includes it, or it is first of its chain and left by one that alone is paid
+-- leg i is charged, unless the change that leads to it includes it, or it is first of its chain and left by a change that
+-- alone is paid
 unfoldable pub is_charged : (ℕ → Option ℕ) → ℕ → Bool
 is_charged kind i = not (is_included_on_entry kind i || (starts_chain kind i && is_included_on_leaving kind i))
 

@@ -3,8 +3,8 @@ use Rattle.feed_rows.specs.declared.feed.Feed.TheInside.{Inside}
 use Rattle.feed_rows.specs.FeedRows.{FeedRows}
 
 -- the fields as one record
-abbrev pub rows_of : Inside → FeedRows
-rows_of fields =
+abbrev pub rows_inside : Inside → FeedRows
+rows_inside fields =
     record {
       stops = fields.stops;
       routes = fields.routes;

@@ -97,8 +97,8 @@ trips_file lines =
     (joined_below (2 * lines) (λ i. list_below 24 (λ k. route_name lines i ∷ codes "W" ∷ trip_name lines i k ∷ [])))
 
 -- the row of trip k of route i at position p, where it arrives and departs at once
-abbrev pub stop_time_row : ℕ → ℕ → ℕ → ℕ → ℕ → List (List ℕ)
-stop_time_row seed lines i k p =
+abbrev pub generated_stop_time_row : ℕ → ℕ → ℕ → ℕ → ℕ → List (List ℕ)
+generated_stop_time_row seed lines i k p =
     let time = time_text (trip_time seed i k p) in
     trip_name lines i k ∷ route_stop lines i p ∷ decimal p ∷ time ∷ time ∷ []
 
@@ -106,7 +106,7 @@ stop_time_row seed lines i k p =
 unfoldable pub stop_times_file : ℕ → ℕ → List ℕ
 stop_times_file seed lines =
     file_of (column.TripId ∷ column.StopId ∷ column.StopSequence ∷ column.ArrivalTime ∷ column.DepartureTime ∷ [])
-    (joined_below (2 * lines) (λ i. joined_below 24 (λ k. list_below lines (stop_time_row seed lines i k))))
+    (joined_below (2 * lines) (λ i. joined_below 24 (λ k. list_below lines (generated_stop_time_row seed lines i k))))
 
 -- calendar.txt: the service runs on each day of 2025
 unfoldable pub calendar_file : List ℕ
@@ -134,21 +134,21 @@ timeframes_file =
     ∷ (codes "off" ∷ codes "09:00:00" ∷ codes "24:00:00" ∷ codes "W" ∷ []) ∷ [])
 
 -- a product and its amount in euros
-abbrev pub product_row : List ℕ → List ℕ → List (List ℕ)
-product_row product amount = product ∷ codes "EUR" ∷ amount ∷ []
+abbrev pub generated_product_row : List ℕ → List ℕ → List (List ℕ)
+generated_product_row product amount = product ∷ codes "EUR" ∷ amount ∷ []
 
 -- fare_products.txt
 unfoldable pub fare_products_file : List ℕ
 fare_products_file =
     file_of (column.FareProductId ∷ column.Currency ∷ column.Amount ∷ [])
-    (product_row (codes "bus_peak") (codes "2.00")
-    ∷ product_row (codes "bus_off") (codes "1.00")
-    ∷ product_row (codes "tram") (codes "1.50")
-    ∷ product_row (codes "rail_far") (codes "3.00")
-    ∷ product_row (codes "rail_near") (codes "2.00")
-    ∷ product_row (codes "change") (codes "0.50")
-    ∷ product_row (codes "bonus") (codes "-0.30")
-    ∷ product_row (codes "combi") (codes "2.20") ∷ [])
+    (generated_product_row (codes "bus_peak") (codes "2.00")
+    ∷ generated_product_row (codes "bus_off") (codes "1.00")
+    ∷ generated_product_row (codes "tram") (codes "1.50")
+    ∷ generated_product_row (codes "rail_far") (codes "3.00")
+    ∷ generated_product_row (codes "rail_near") (codes "2.00")
+    ∷ generated_product_row (codes "change") (codes "0.50")
+    ∷ generated_product_row (codes "bonus") (codes "-0.30")
+    ∷ generated_product_row (codes "combi") (codes "2.20") ∷ [])
 
 -- fare_leg_rules.txt: buses by the time of day, trams alike, and trains by where they arrive
 unfoldable pub fare_leg_rules_file : List ℕ

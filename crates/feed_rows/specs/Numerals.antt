@@ -14,6 +14,6 @@ within least most None = None
 within least most (Some n) = when (nat_le least n && nat_le n most) n
 
 -- the number, where it is at most this
-abbrev pub at_most : ℕ → Option ℕ → Option ℕ
-at_most most None = None
-at_most most (Some n) = when (nat_le n most) n
+abbrev pub when_at_most : ℕ → Option ℕ → Option ℕ
+when_at_most most None = None
+when_at_most most (Some n) = when (nat_le n most) n

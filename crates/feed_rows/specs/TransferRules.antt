@@ -56,8 +56,8 @@ pub record AskedChange : Type 0 where
   pub holds : Limit → Bool
 
 -- a change between legs whose moments are known: its limits hold by the seconds elapsed
-abbrev pub asked_of : TransferFacts → AskedChange
-asked_of change = record { from = change.from; to = change.to; count = change.count; holds = limit_holds change }
+abbrev pub asked_change : TransferFacts → AskedChange
+asked_change change = record { from = change.from; to = change.to; count = change.count; holds = limit_holds change }
 
 -- the row is a candidate for the change: its groups match, and its limit is empty or holds
 unfoldable pub is_candidate : FeedRows → AskedChange → TransferRuleRow → Bool
@@ -87,7 +87,7 @@ is_selected feed change row = suffices feed change row && is_least_count feed ch
 
 -- the row is selected for the change by the moments of its legs
 unfoldable pub is_selected_transfer : FeedRows → TransferFacts → TransferRuleRow → Bool
-is_selected_transfer feed change row = is_selected feed (asked_of change) row
+is_selected_transfer feed change row = is_selected feed (asked_change change) row
 
 -- the rows that are selected for a change, in file order
 abbrev pub selected_transfers : FeedRows → TransferFacts → List XferId

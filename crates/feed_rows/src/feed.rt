@@ -103,9 +103,9 @@ impl Model for Feed {
     ghost Value = { FeedRows };
 
     ghost use Rattle.feed_rows.specs.SoundFeed.{IsSoundFeed};
-    ghost use Rattle.feed_rows.specs.Feed.{rows_of};
+    ghost use Rattle.feed_rows.specs.Feed.{rows_inside};
 
-    ghost view = { rows_of };
+    ghost view = { rows_inside };
 
-    ghost invariant = { λ fields. IsSoundFeed (rows_of fields) };
+    ghost invariant = { λ fields. IsSoundFeed (rows_inside fields) };
 }

@@ -9,14 +9,14 @@ use Rattle.feed_rows.specs.declared.rows.LinkRow.{LinkRow}
 use Rattle.feed_rows.specs.FeedRows.{FeedRows}
 use Rattle.feed_examples.specs.BaseFeed.{base}
 use Rattle.feed_examples.specs.BaseFeed.{call}
-use Rattle.feed_samples.specs.SampleRows.{stop_row}
+use Rattle.feed_samples.specs.SampleRows.{sample_stop}
 
 -- A, B, C; the station P with the platforms P1 and P2; the station Q with Q1 and Q2
 abbrev pub varied_stops : List StopRow
 varied_stops =
-    stop_row (codes "A") 0 None ∷ stop_row (codes "B") 0 None ∷ stop_row (codes "C") 0 None
-    ∷ stop_row (codes "P") 1 None ∷ stop_row (codes "P1") 0 (Some (record { 0 = 3 })) ∷ stop_row (codes "P2") 0 (Some (record { 0 = 3 }))
-    ∷ stop_row (codes "Q") 1 None ∷ stop_row (codes "Q1") 0 (Some (record { 0 = 6 })) ∷ stop_row (codes "Q2") 0 (Some (record { 0 = 6 })) ∷ []
+    sample_stop (codes "A") 0 None ∷ sample_stop (codes "B") 0 None ∷ sample_stop (codes "C") 0 None
+    ∷ sample_stop (codes "P") 1 None ∷ sample_stop (codes "P1") 0 (Some (record { 0 = 3 })) ∷ sample_stop (codes "P2") 0 (Some (record { 0 = 3 }))
+    ∷ sample_stop (codes "Q") 1 None ∷ sample_stop (codes "Q1") 0 (Some (record { 0 = 6 })) ∷ sample_stop (codes "Q2") 0 (Some (record { 0 = 6 })) ∷ []
 
 -- T3 out of order, with a call at B that has no time and where riders may not board
 abbrev pub varied_stop_times : List StopTimeRow
@@ -43,13 +43,13 @@ varied_frequencies =
     record { trip = record { 0 = 2 }; start = 30000; end = 33600; headway = 1800 } ∷ record { trip = record { 0 = 1 }; start = 28800; end = 29400; headway = 600 } ∷ []
 
 -- a row of transfers.txt
-abbrev pub link_row : ℕ → ℕ → Bool → ℕ → LinkRow
-link_row from to forbidden seconds = record { from = record { 0 = from }; to = record { 0 = to }; forbidden = forbidden; seconds = seconds }
+abbrev pub sample_link : ℕ → ℕ → Bool → ℕ → LinkRow
+sample_link from to forbidden seconds = record { from = record { 0 = from }; to = record { 0 = to }; forbidden = forbidden; seconds = seconds }
 
 -- 300 seconds within P; no change at A, nor from Q1 to Q2; from B to C 120 seconds by the earlier row; and from B to A 240
 abbrev pub varied_links : List LinkRow
 varied_links =
-    link_row 3 3 false 300 ∷ link_row 0 0 true 0 ∷ link_row 1 2 false 120 ∷ link_row 1 2 false 60 ∷ link_row 7 8 true 0 ∷ link_row 1 0 false 240 ∷ []
+    sample_link 3 3 false 300 ∷ sample_link 0 0 true 0 ∷ sample_link 1 2 false 120 ∷ sample_link 1 2 false 60 ∷ sample_link 7 8 true 0 ∷ sample_link 1 0 false 240 ∷ []
 
 -- the base feed with stations, a calendar row, rows of transfers, frequency rows and a call without a time
 unfoldable pub varied_rows : FeedRows

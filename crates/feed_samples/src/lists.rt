@@ -1,7 +1,7 @@
 //! Lists of rows, from tables in the code.
 ghost use Rattle.std.specs.Prelude.{◌≡◌, ◌≤◌, ◌++◌, ◌∷◌, [], true, length, IfOk, OnOk, None, Some};
 ghost use Rattle.feed_examples.specs.BaseFeed.{call};
-ghost use Rattle.feed_samples.specs.SampleRows.{stop_row, trip_row};
+ghost use Rattle.feed_samples.specs.SampleRows.{sample_stop, sample_trip};
 
 use feed_rows::{Id, NameList, StopRow, StopRows, StopTimeRow, TripRow, TripRows};
 use plain_laws::ItemList;
@@ -48,7 +48,7 @@ pub fn push_stop(
 ) -> Result<(), AllocError>
     requires some { 1 ≤ length id.now }
     requires short { length id.now ≤ 255 }
-    ensures { OnOk result (stops.new ≡ stops.old ++ stop_row id.now kind parent ∷ []) }
+    ensures { OnOk result (stops.new ≡ stops.old ++ sample_stop id.now kind parent ∷ []) }
 {
     let id = Id::copy_of(alloc, id)?;
     stops.push(StopRow { id, kind, parent })
@@ -66,7 +66,7 @@ pub fn push_trip(
 ) -> Result<(), AllocError>
     requires some { 1 ≤ length id.now }
     requires short { length id.now ≤ 255 }
-    ensures { OnOk result (trips.new ≡ trips.old ++ trip_row id.now route ∷ []) }
+    ensures { OnOk result (trips.new ≡ trips.old ++ sample_trip id.now route ∷ []) }
 {
     let id = Id::copy_of(alloc, id)?;
     trips.push(TripRow {

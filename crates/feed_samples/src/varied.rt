@@ -1,6 +1,6 @@
 //! A feed with stations, rows of transfers, a calendar row, frequency rows and a call without a time.
 ghost use Rattle.std.specs.Prelude.{◌≡◌, ◌∷◌, [], codes, IfOk};
-ghost use Rattle.feed_samples.specs.VariedRows.{varied_rows, varied_stops, varied_stop_times, varied_services, varied_exceptions, varied_frequencies, varied_links, link_row};
+ghost use Rattle.feed_samples.specs.VariedRows.{varied_rows, varied_stops, varied_stop_times, varied_services, varied_exceptions, varied_frequencies, varied_links, sample_link};
 
 use crate::base::{routes, stops, tariff_rows, trips};
 use crate::lists::{call, list_of, push_name, push_stop};
@@ -166,7 +166,7 @@ fn frequencies(alloc: Global) -> Result<FrequencyRows, AllocError>
 
 /// A row of `transfers.txt`.
 fn link(from: u32, to: u32, forbidden: bool, seconds: u32) -> LinkRow
-    ensures { result ≡ link_row from to forbidden seconds }
+    ensures { result ≡ sample_link from to forbidden seconds }
 {
     LinkRow {
         from: StopId(from),

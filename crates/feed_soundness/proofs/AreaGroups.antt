@@ -9,7 +9,7 @@ use Rattle.feed_rows.specs.SoundNames.{IsIdText}
 use Rattle.feed_rows.specs.SoundFares.{AreSoundAreas, AreSoundStopAreas, AreSoundTimeframes, AreSoundRiders, AreSoundMedia}
 use Rattle.feed_rows.specs.TimeGrammar.{time_value}
 use Rattle.feed_faults.specs.Records.{FileTable, row_count, field, is_filled}
-use Rattle.feed_faults.specs.FileColumns.{time_of_day}
+use Rattle.feed_faults.specs.FileColumns.{day_time}
 use Rattle.feed_faults.specs.FeedTables.{FeedTables}
 use Rattle.feed_faults.specs.FieldValues.{frame_start, frame_end}
 use Rattle.feed_faults.specs.RowKeys.{is_unknown, is_repeated, is_doubled, same_field}
@@ -161,7 +161,7 @@ module _ (t : FeedTables) (formed : AreFormed t) (related : AreRelated t) where
         services = All-list_below (λ f. f.service.0 < length (service_names t)) (row_count t.timeframes) (timeframe_row t) (λ i lt. (frame_service i lt).within);
         ordered = All-list_below (λ f. f.start < f.end) (row_count t.timeframes) (timeframe_row t) (frame_ordered t related);
         ends = All-list_below (λ f. f.end ≤ day_seconds) (row_count t.timeframes) (timeframe_row t)
-            (λ i lt. end_small t.timeframes i (may_at file.Timeframes t.timeframes i 2 column.EndTime time_of_day formed.timeframes lt refl));
+            (λ i lt. end_small t.timeframes i (may_at file.Timeframes t.timeframes i 2 column.EndTime day_time formed.timeframes lt refl));
         apart = AllPairs-list_below (λ f g. f.frame.0 ≡ g.frame.0 → f.service.0 ≡ g.service.0 → (f.end ≤ g.start) ⊎ (g.end ≤ f.start)) (row_count t.timeframes) (timeframe_row t) frames_apart;
       }
 

@@ -9,7 +9,7 @@ use Rattle.plain_laws.proofs.Laws.{any_below_tells, none_any, rest_fails, length
 use Rattle.feed_faults.specs.Records.{FileTable, row_count, field}
 use Rattle.feed_faults.specs.FieldGrammars.{most_int}
 use Rattle.feed_faults.specs.FieldValues.{int_or_past}
-use Rattle.feed_faults.specs.StopTimeRelations.{StopTime, stop_time_of, stop_times_of, is_timed, first_time, last_time, is_earlier, same_place, comes_before, is_first, is_last, is_end_time_missing, is_nearest_before, do_times_decrease}
+use Rattle.feed_faults.specs.StopTimeRelations.{StopTime, stop_time_of, stop_times_of, has_time, first_filled, last_filled, is_earlier, same_place, comes_before, is_first, is_last, is_end_time_missing, is_nearest_before, do_times_decrease}
 use Rattle.feed_soundness.proofs.CallOrder.{AtMost, AreRows, never_falls, rank_rises}
 
 -- a time that isn't earlier
@@ -17,14 +17,14 @@ not_earlier : (a b : Option ℕ) → is_earlier b a ≡ false → AtMost a b
 not_earlier a b e x is y ends = let test : is_earlier (Some y) (Some x) ≡ false = rw (is, ends) at e in ltb-false y x test
 
 -- a timed row has a first and a last time
-timed_first : (x : StopTime) → is_timed x ≡ true → is_some (first_time x) ≡ true
+timed_first : (x : StopTime) → has_time x ≡ true → is_some (first_filled x) ≡ true
 timed_first x e = step x.arrival x.departure e
   where
     step : (a b : Option ℕ) → is_some a || is_some b ≡ true → is_some (option_or a b) ≡ true
     step None b e = e
     step (Some a) b e = refl
 
-timed_last : (x : StopTime) → is_timed x ≡ true → is_some (last_time x) ≡ true
+timed_last : (x : StopTime) → has_time x ≡ true → is_some (last_filled x) ≡ true
 timed_last x e = step x.arrival x.departure e
   where
     step : (a b : Option ℕ) → is_some a || is_some b ≡ true → is_some (option_or b a) ≡ true
@@ -32,14 +32,14 @@ timed_last x e = step x.arrival x.departure e
     step (Some a) None e = refl
     step None None e = absurd (cc)
 
-pub first_timed : (x : StopTime) → is_some (first_time x) ≡ true → is_timed x ≡ true
+pub first_timed : (x : StopTime) → is_some (first_filled x) ≡ true → has_time x ≡ true
 first_timed x e = step x.arrival x.departure e
   where
     step : (a b : Option ℕ) → is_some (option_or a b) ≡ true → is_some a || is_some b ≡ true
     step None b e = e
     step (Some a) b e = refl
 
-pub last_timed : (x : StopTime) → is_some (last_time x) ≡ true → is_timed x ≡ true
+pub last_timed : (x : StopTime) → is_some (last_filled x) ≡ true → has_time x ≡ true
 last_timed x e = step x.arrival x.departure e
   where
     step : (a b : Option ℕ) → is_some (option_or b a) ≡ true → is_some a || is_some b ≡ true
@@ -108,35 +108,35 @@ module _ (table : FileTable) where
   unfolding stop_times_of
   times_get i lt = slice_get-list_below (row_count table) (stop_time_of table) i lt
 
-  timed_at : (i : ℕ) → i < row_count table → at_and (stop_times_of table) i is_timed ≡ is_timed (stop_time_of table i)
+  timed_at : (i : ℕ) → i < row_count table → at_and (stop_times_of table) i has_time ≡ has_time (stop_time_of table i)
   timed_at i lt = rw (times_get i lt) refl
 
   -- where a row's times don't decrease, they rise within it
-  rises_within : (i : ℕ) → i < row_count table → do_times_decrease (stop_times_of table) i ≡ false → AtMost (first_time (stop_time_of table i)) (last_time (stop_time_of table i))
+  rises_within : (i : ℕ) → i < row_count table → do_times_decrease (stop_times_of table) i ≡ false → AtMost (first_filled (stop_time_of table i)) (last_filled (stop_time_of table i))
   unfolding do_times_decrease
   rises_within i lt e =
       let x = stop_time_of table i in
-      let falls = any_below (length (stop_times_of table)) (λ near. is_nearest_before (stop_times_of table) near i && at_and (stop_times_of table) near (λ y. is_earlier (first_time x) (last_time y))) in
-      not_earlier (first_time x) (last_time x) (or_parts (is_earlier (last_time x) (first_time x)) falls (rw (times_get i lt) at e)).0
+      let falls = any_below (length (stop_times_of table)) (λ near. is_nearest_before (stop_times_of table) near i && at_and (stop_times_of table) near (λ y. is_earlier (first_filled x) (last_filled y))) in
+      not_earlier (first_filled x) (last_filled x) (or_parts (is_earlier (last_filled x) (first_filled x)) falls (rw (times_get i lt) at e)).0
 
   -- and from the nearest timed row before it
-  rises_between : (i j : ℕ) → i < row_count table → j < row_count table → do_times_decrease (stop_times_of table) j ≡ false → comes_before (stop_times_of table) i j ≡ true → at_and (stop_times_of table) i is_timed ≡ true
-      → any_below (row_count table) (λ o. comes_before (stop_times_of table) i o && comes_before (stop_times_of table) o j && at_and (stop_times_of table) o is_timed) ≡ false → AtMost (last_time (stop_time_of table i)) (first_time (stop_time_of table j))
+  rises_between : (i j : ℕ) → i < row_count table → j < row_count table → do_times_decrease (stop_times_of table) j ≡ false → comes_before (stop_times_of table) i j ≡ true → at_and (stop_times_of table) i has_time ≡ true
+      → any_below (row_count table) (λ o. comes_before (stop_times_of table) i o && comes_before (stop_times_of table) o j && at_and (stop_times_of table) o has_time) ≡ false → AtMost (last_filled (stop_time_of table i)) (first_filled (stop_time_of table j))
   unfolding do_times_decrease is_nearest_before
   rises_between i j lt within e earlier timed none =
       let times = stop_times_of table in
       let x = stop_time_of table j in
-      let test = λ (near : ℕ). is_nearest_before times near j && at_and times near (λ y. is_earlier (first_time x) (last_time y)) in
-      let falls = (or_parts (is_earlier (last_time x) (first_time x)) (any_below (length times) test) (rw (times_get j within) at e)).1 in
+      let test = λ (near : ℕ). is_nearest_before times near j && at_and times near (λ y. is_earlier (first_filled x) (last_filled y)) in
+      let falls = (or_parts (is_earlier (last_filled x) (first_filled x)) (any_below (length times) test) (rw (times_get j within) at e)).1 in
       let here = none_any test (length times) i falls (rw times_length lt) in
-      let clear = not_from_false (any_below (length times) (λ o. comes_before times i o && comes_before times o j && at_and times o is_timed)) (rw times_length none) in
-      let is_nearest = and_from (comes_before times i j && at_and times i is_timed) _ (and_from (comes_before times i j) (at_and times i is_timed) earlier timed) clear in
-      let rises = rest_fails (is_nearest_before times i j) (at_and times i (λ y. is_earlier (first_time x) (last_time y))) here is_nearest in
-      not_earlier (last_time (stop_time_of table i)) (first_time x) (rw (times_get i lt) at rises)
+      let clear = not_from_false (any_below (length times) (λ o. comes_before times i o && comes_before times o j && at_and times o has_time)) (rw times_length none) in
+      let is_nearest = and_from (comes_before times i j && at_and times i has_time) _ (and_from (comes_before times i j) (at_and times i has_time) earlier timed) clear in
+      let rises = rest_fails (is_nearest_before times i j) (at_and times i (λ y. is_earlier (first_filled x) (last_filled y))) here is_nearest in
+      not_earlier (last_filled (stop_time_of table i)) (first_filled x) (rw (times_get i lt) at rises)
 
   -- the rows are in their order
   rows_ordered : ((i : ℕ) → i < row_count table → do_times_decrease (stop_times_of table) i ≡ false)
-      → AreRows (row_count table) (comes_before (stop_times_of table)) rank (λ i. first_time (stop_time_of table i)) (λ i. last_time (stop_time_of table i)) (λ i. at_and (stop_times_of table) i is_timed)
+      → AreRows (row_count table) (comes_before (stop_times_of table)) rank (λ i. first_filled (stop_time_of table i)) (λ i. last_filled (stop_time_of table i)) (λ i. at_and (stop_times_of table) i has_time)
   rows_ordered rising =
       record {
         ranked = before_ranked;
@@ -147,14 +147,14 @@ module _ (table : FileTable) where
       }
 
   -- where no row's times decrease, they rise within each row
-  pub times_within : ((i : ℕ) → i < row_count table → do_times_decrease (stop_times_of table) i ≡ false) → (i : ℕ) → i < row_count table → AtMost (first_time (stop_time_of table i)) (last_time (stop_time_of table i))
+  pub times_within : ((i : ℕ) → i < row_count table → do_times_decrease (stop_times_of table) i ≡ false) → (i : ℕ) → i < row_count table → AtMost (first_filled (stop_time_of table i)) (last_filled (stop_time_of table i))
   times_within rising i lt = rises_within i lt (rising i lt)
 
   -- and from a row to each of greater sequence
-  pub times_between : ((i : ℕ) → i < row_count table → do_times_decrease (stop_times_of table) i ≡ false) → (i j : ℕ) → i < row_count table → j < row_count table → trip_text i ≡ trip_text j → sequence_at i < sequence_at j → AtMost (last_time (stop_time_of table i)) (first_time (stop_time_of table j))
+  pub times_between : ((i : ℕ) → i < row_count table → do_times_decrease (stop_times_of table) i ≡ false) → (i j : ℕ) → i < row_count table → j < row_count table → trip_text i ≡ trip_text j → sequence_at i < sequence_at j → AtMost (last_filled (stop_time_of table i)) (first_filled (stop_time_of table j))
   times_between rising i j lt within same less x is =
       let timed = last_timed (stop_time_of table i) (rw is refl) in
-      never_falls (row_count table) (comes_before (stop_times_of table)) rank (λ k. first_time (stop_time_of table k)) (λ k. last_time (stop_time_of table k)) (λ k. at_and (stop_times_of table) k is_timed) (rows_ordered rising)
+      never_falls (row_count table) (comes_before (stop_times_of table)) rank (λ k. first_filled (stop_time_of table k)) (λ k. last_filled (stop_time_of table k)) (λ k. at_and (stop_times_of table) k has_time) (rows_ordered rising)
       (suc (rank j)) i j lt within (omega arith) (timed_at i lt ∙ timed) (before_from_less i j lt within same less) x is
 
   -- the first row of a trip, and the last of it
@@ -187,13 +187,13 @@ module _ (table : FileTable) where
           order found.0 within told.trip told.order
 
   -- a first or last row has a time
-  pub end_timed : (i : ℕ) → i < row_count table → is_end_time_missing (stop_times_of table) i ≡ false → (is_first (stop_times_of table) i || is_last (stop_times_of table) i) ≡ true → is_timed (stop_time_of table i) ≡ true
+  pub end_timed : (i : ℕ) → i < row_count table → is_end_time_missing (stop_times_of table) i ≡ false → (is_first (stop_times_of table) i || is_last (stop_times_of table) i) ≡ true → has_time (stop_time_of table i) ≡ true
   unfolding is_end_time_missing
-  end_timed i lt e ends = step (and_cases (not (is_timed (stop_time_of table i))) (is_first (stop_times_of table) i || is_last (stop_times_of table) i) (rw (times_get i lt) at e))
+  end_timed i lt e ends = step (and_cases (not (has_time (stop_time_of table i))) (is_first (stop_times_of table) i || is_last (stop_times_of table) i) (rw (times_get i lt) at e))
     where
-      step : (not (is_timed (stop_time_of table i)) ≡ false) ⊎ ((is_first (stop_times_of table) i || is_last (stop_times_of table) i) ≡ false) → is_timed (stop_time_of table i) ≡ true
-      step (inl timed) = not-false (is_timed (stop_time_of table i)) timed
+      step : (not (has_time (stop_time_of table i)) ≡ false) ⊎ ((is_first (stop_times_of table) i || is_last (stop_times_of table) i) ≡ false) → has_time (stop_time_of table i) ≡ true
+      step (inl timed) = not-false (has_time (stop_time_of table i)) timed
       step (inr neither) = let both : true ≡ false = sym ends ∙ neither in absurd (cc)
 
-  pub end_times : (i : ℕ) → i < row_count table → is_end_time_missing (stop_times_of table) i ≡ false → (is_first (stop_times_of table) i || is_last (stop_times_of table) i) ≡ true → (is_some (first_time (stop_time_of table i)) ≡ true) × (is_some (last_time (stop_time_of table i)) ≡ true)
+  pub end_times : (i : ℕ) → i < row_count table → is_end_time_missing (stop_times_of table) i ≡ false → (is_first (stop_times_of table) i || is_last (stop_times_of table) i) ≡ true → (is_some (first_filled (stop_time_of table i)) ≡ true) × (is_some (last_filled (stop_time_of table i)) ≡ true)
   end_times i lt e ends = let timed = end_timed i lt e ends in (timed_first (stop_time_of table i) timed, timed_last (stop_time_of table i) timed)

@@ -16,7 +16,7 @@ use Rattle.feed_faults.specs.FeedTables.{FeedTables}
 use Rattle.feed_faults.specs.FieldValues.{stop_kind}
 use Rattle.feed_faults.specs.RowKeys.{is_unknown, is_doubled}
 use Rattle.feed_faults.specs.TimetableRelations.{has_parent, is_at_station, is_parent_good, stop_fault}
-use Rattle.feed_faults.specs.AcceptedFeed.{row_number, parent_of, stop_row, rows_of_tables}
+use Rattle.feed_faults.specs.AcceptedFeed.{row_number, accepted_parent, stop_row, rows_of_tables}
 use Rattle.feed_soundness.specs.AcceptedTables.{AreFormed, AreRelated}
 use Rattle.plain_laws.proofs.Laws.{length-list_below, All-list_below, AllPairs-list_below, get_or-list_below, rest_fails, none_first}
 use Rattle.feed_soundness.proofs.FieldLaws.{may_at}
@@ -67,8 +67,8 @@ parent_known t row related lt kind filled =
     known t.stops column.StopId (field t.stops row column.ParentStation) filled
     (rest_fails (has_parent t.stops row) (is_unknown t.stops column.StopId (field t.stops row column.ParentStation)) (related_stop t row (related.stops row lt)).known (names_parent t row kind filled))
 
-pub parent_told : (t : FeedTables) (row : ℕ) → AreRelated t → row < row_count t.stops → ForSome (parent_of t.stops row) (IsParent t row)
-unfolding parent_of
+pub parent_told : (t : FeedTables) (row : ℕ) → AreRelated t → row < row_count t.stops → ForSome (accepted_parent t.stops row) (IsParent t row)
+unfolding accepted_parent
 parent_told t row related lt parent e = step (stop_kind t.stops row == 0) refl
   where
     step : (b : Bool) → (stop_kind t.stops row == 0) ≡ b → IsParent t row parent

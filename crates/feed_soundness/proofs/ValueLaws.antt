@@ -12,8 +12,8 @@ use Rattle.std.proofs.lemmas.List.Elements.{All-nil, All-cons}
 use Rattle.std.proofs.lemmas.Option.{none-some, same_Some, cond_some}
 use Rattle.transit_base.specs.Dates.{is_date, is_dated, day_number}
 use Rattle.feed_laws.proofs.DateLaws.{is_dated-day_number}
-use Rattle.feed_rows.specs.Numerals.{number_value, at_most}
-use Rattle.feed_rows.specs.TimeGrammar.{time_at, time_value, clock_seconds}
+use Rattle.feed_rows.specs.Numerals.{number_value, when_at_most}
+use Rattle.feed_rows.specs.TimeGrammar.{time_with_colon, time_value, clock_seconds}
 use Rattle.plain_laws.specs.Plain.{when, int_same}
 use Rattle.feed_rows.specs.SoundNames.{IsIdText}
 use Rattle.feed_rows.specs.SoundTimetable.{IsCalendarDay}
@@ -101,7 +101,7 @@ unfolding count_value int_value number_value
 count_filled [] n e = absurd (none-some n e)
 count_filled (c ∷ cs) n e = refl
 
-at_most_good : (most : ℕ) (o : Option ℕ) → ForSome (at_most most o) (λ n. n ≤ most)
+at_most_good : (most : ℕ) (o : Option ℕ) → ForSome (when_at_most most o) (λ n. n ≤ most)
 at_most_good most None n e = absurd (none-some n e)
 at_most_good most (Some k) n e = let both = cond_some (nat_le k most) k n e in let le = leb-true k most both.0 in let is = both.1 in omega arith
 
@@ -115,9 +115,9 @@ pub time_good : (most : ℕ) (text : List ℕ) → ForSome (time_value most text
 unfolding time_value
 time_good most text =
     let colon = length text - 6 in
-    let clock = clock_seconds (at_most 167 (number_value (take colon text))) (at_most 59 (number_value (slice_range text (colon + 1) (colon + 3)))) (at_most 59 (number_value (drop (colon + 4) text))) in
-    if_good (nat_le 7 (length text) && nat_le (length text) 9) (time_at colon most text) most
-    (if_good ((slice_index text colon == 58) && (slice_index text (colon + 3) == 58)) (at_most most clock) most (at_most_good most clock))
+    let clock = clock_seconds (when_at_most 167 (number_value (take colon text))) (when_at_most 59 (number_value (slice_range text (colon + 1) (colon + 3)))) (when_at_most 59 (number_value (drop (colon + 4) text))) in
+    if_good (nat_le 7 (length text) && nat_le (length text) 9) (time_with_colon colon most text) most
+    (if_good ((slice_index text colon == 58) && (slice_index text (colon + 3) == 58)) (when_at_most most clock) most (at_most_good most clock))
 
 pub time_past_good : (most : ℕ) (text : List ℕ) → is_some (time_value most text) ≡ true → time_or_past most text ≤ most
 unfolding time_or_past

@@ -12,7 +12,7 @@ use Rattle.std.proofs.lemmas.Cmp.{nat_list_cmp_total}
 use Rattle.std.proofs.lemmas.Map.Text.{is_eq-slice_cmp}
 use Rattle.std.proofs.lemmas.Slice.Eq.{bytes_eq-Decides}
 use Rattle.feed_tables.specs.declared.id_rows.IdRow.{IdRow}
-use Rattle.feed_tables.specs.OrderedRows.{prefix_below, prefix_of, AreBytes, IsPrefixed, is_before}
+use Rattle.feed_tables.specs.OrderedRows.{prefix_below, prefix_of, AreBytes, IsPrefixed, is_id_before}
 
 -- one more byte
 pub prefix_next : (n : ℕ) (text : List ℕ) → prefix_below (n + 1) text ≡ prefix_below n text * 256 + get_or text n 0
@@ -76,7 +76,7 @@ unfolding prefix_of
 prefix_of_rises = prefix_rises 8
 
 -- texts of numbers that differ are told apart by these
-pub told_by_prefix : (entry : IdRow) (prefix : ℕ) (id : List ℕ) → IsPrefixed entry → AreBytes id → prefix ≡ prefix_of id → is_before entry prefix id ≡ is_lt (slice_cmp nat_cmp entry.id.now id)
+pub told_by_prefix : (entry : IdRow) (prefix : ℕ) (id : List ℕ) → IsPrefixed entry → AreBytes id → prefix ≡ prefix_of id → is_id_before entry prefix id ≡ is_lt (slice_cmp nat_cmp entry.id.now id)
 told_by_prefix entry prefix id is bytes number = step (cases_eq entry.prefix prefix) (slice_cmp nat_cmp entry.id.now id) refl
   where
     same_test : entry.prefix ≡ prefix → (entry.prefix == prefix) ≡ true
@@ -97,7 +97,7 @@ told_by_prefix entry prefix id is bytes number = step (cases_eq entry.prefix pre
     back : slice_cmp nat_cmp entry.id.now id ≡ Greater → slice_cmp nat_cmp id entry.id.now ≡ Less
     back e = nat_list_cmp_total.antisymm id entry.id.now ∙ ap ordering_reverse e
 
-    step : (entry.prefix ≡ prefix) ⊎ (entry.prefix ≡ prefix → ⊥) → (o : Ordering) → slice_cmp nat_cmp entry.id.now id ≡ o → is_before entry prefix id ≡ is_lt (slice_cmp nat_cmp entry.id.now id)
+    step : (entry.prefix ≡ prefix) ⊎ (entry.prefix ≡ prefix → ⊥) → (o : Ordering) → slice_cmp nat_cmp entry.id.now id ≡ o → is_id_before entry prefix id ≡ is_lt (slice_cmp nat_cmp entry.id.now id)
     step (inl same) o e = rw (same_test same) refl
     step (inr apart) Less e =
         let up = prefix_of_rises entry.id.now id is.bytes e in
@@ -110,6 +110,6 @@ told_by_prefix entry prefix id is bytes number = step (cases_eq entry.prefix pre
         rw (other_test apart, e) (more_test (omega arith))
 
 -- so rows that are parted by their ids are so by the numbers that these begin with
-pub tests_parted : (rows : List IdRow) (prefix : ℕ) (id : List ℕ) → ((k : ℕ) (d : IdRow) → k < length rows → is_before (get_or rows k d) prefix id ≡ is_lt (slice_cmp nat_cmp (get_or rows k d).id.now id))
-    → IsPartitionedBy (λ (entry : IdRow). is_lt (slice_cmp nat_cmp entry.id.now id)) rows → IsPartitionedBy (λ (entry : IdRow). is_before entry prefix id) rows
+pub tests_parted : (rows : List IdRow) (prefix : ℕ) (id : List ℕ) → ((k : ℕ) (d : IdRow) → k < length rows → is_id_before (get_or rows k d) prefix id ≡ is_lt (slice_cmp nat_cmp (get_or rows k d).id.now id))
+    → IsPartitionedBy (λ (entry : IdRow). is_lt (slice_cmp nat_cmp entry.id.now id)) rows → IsPartitionedBy (λ (entry : IdRow). is_id_before entry prefix id) rows
 tests_parted rows prefix id told parted i j d le within before = told i d (omega arith) ∙ parted i j d le within (sym (told j d within) ∙ before)

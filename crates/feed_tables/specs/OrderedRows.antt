@@ -49,8 +49,8 @@ pub record IsPlaceOf (rows : List IdRow) (id : List ℕ) (place : ℕ) : Type 0 
   pub from : (k : ℕ) (d : IdRow) → place ≤ k → k < length rows → is_lt (slice_cmp nat_cmp (slice_index_or rows k d).id.now id) ≡ false
 
 -- the id of a row is less than one that begins with this number, as it is told by their numbers first
-abbrev pub is_before : IdRow → ℕ → List ℕ → Bool
-is_before entry prefix id = if entry.prefix == prefix then is_lt (slice_cmp nat_cmp entry.id.now id) else nat_lt entry.prefix prefix
+abbrev pub is_id_before : IdRow → ℕ → List ℕ → Bool
+is_id_before entry prefix id = if entry.prefix == prefix then is_lt (slice_cmp nat_cmp entry.id.now id) else nat_lt entry.prefix prefix
 
 -- the row at a place, where its id is this one
 abbrev pub row_at : List IdRow → ℕ → List ℕ → Option ℕ

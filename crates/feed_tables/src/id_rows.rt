@@ -3,7 +3,7 @@ ghost use Rattle.std.specs.Prelude.{◌≡◌, ◌≤◌, length, slice_index, A
 ghost use Rattle.std.specs.Cmp.Lexicographic.{slice_cmp};
 ghost use Rattle.std.specs.Ordering.{nat_cmp, is_lt};
 ghost use Rattle.feed_faults.specs.Records.{row_count};
-ghost use Rattle.feed_tables.specs.OrderedRows.{prefix_of, IsPrefixed, AreIdRows, AreOrderedRows, IsNotAfter, IsPlaceOf, is_before, row_at};
+ghost use Rattle.feed_tables.specs.OrderedRows.{prefix_of, IsPrefixed, AreIdRows, AreOrderedRows, IsNotAfter, IsPlaceOf, is_id_before, row_at};
 
 use crate::named::NamedTable;
 use feed_rows::ColumnName;
@@ -86,7 +86,7 @@ fn is_less(id: &[u8], other: &[u8]) -> bool
 
 // Whether the id of a row stands before one that begins with this number.
 fn is_before(entry: &IdRow, prefix: u64, id: &[u8]) -> bool
-    ensures { result ≡ is_before entry.now prefix id.now }
+    ensures { result ≡ is_id_before entry.now prefix id.now }
 {
     if entry.prefix == prefix {
         return is_less(entry.id, id);

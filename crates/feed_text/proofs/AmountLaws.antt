@@ -9,7 +9,7 @@ use Rattle.std.proofs.Math.Nat.{le-mul_of_pos_right}
 use Rattle.std.proofs.lemmas.Bool.Decides.{nat_tests}
 use Rattle.std.proofs.lemmas.Str.Parse.{digits_value_short, numerals_by_value, tells_all_ascii_digits}
 use Rattle.plain_laws.specs.Plain.{when}
-use Rattle.feed_rows.specs.Numerals.{number_value, at_most}
+use Rattle.feed_rows.specs.Numerals.{number_value, when_at_most}
 use Rattle.feed_faults.specs.FieldGrammars.{minor_units, if_between, most_amount}
 use Rattle.feed_text.proofs.DigitLaws.{bounded_none}
 
@@ -20,7 +20,7 @@ digits_pass (b ∷ bs) = ap (λ (x : Bool). is_ascii_digit b && x) (digits_pass 
 
 -- one to three digits are a number of at most 999
 pub three_digits : (bs : List ℕ) → list_all is_ascii_digit bs ≡ true → 1 ≤ length bs → length bs ≤ 3
-    → at_most 999 (number_value bs) ≡ Some (digits_value 10 bs)
+    → when_at_most 999 (number_value bs) ≡ Some (digits_value 10 bs)
 unfolding number_value
 three_digits bs d some few =
     let all : all_ascii_digits bs ≡ true = rw (← digits_pass bs) d in
@@ -56,8 +56,8 @@ tens (suc (suc (suc zero))) le = omega arith
 tens (suc (suc (suc (suc d)))) le = absurd (omega (arith, le))
 
 -- a number of whole units past 2^64 is too great an amount
-pub too_many_units : (d f : ℕ) (n : Option ℕ) → d ≤ 3 → None ≡ at_most (2 ^ 64 - 1) n
-    → None ≡ at_most 1000000000000 (minor_units d n (Some f))
+pub too_many_units : (d f : ℕ) (n : Option ℕ) → d ≤ 3 → None ≡ when_at_most (2 ^ 64 - 1) n
+    → None ≡ when_at_most 1000000000000 (minor_units d n (Some f))
 too_many_units d f None le e = refl
 too_many_units d f (Some w) le e =
     let great = bounded_none w (2 ^ 64 - 1) e in
@@ -79,12 +79,12 @@ one_less n true e = let yes : nat_le n 999999999999 ≡ true = grind (arith, nat
 one_less n false e = let no : nat_le n 999999999999 ≡ false = grind (arith, nat_tests, e) in rw no refl
 
 -- what is at most 10^12 lies between its opposite and itself, with either sign
-pub positive_between : (o : Option ℕ) → if_between (neg_ℤ most_amount) most_amount (option_map pos o) ≡ option_map pos (at_most 1000000000000 o)
+pub positive_between : (o : Option ℕ) → if_between (neg_ℤ most_amount) most_amount (option_map pos o) ≡ option_map pos (when_at_most 1000000000000 o)
 positive_between None = refl
 positive_between (Some n) = chosen pos n (nat_le n 1000000000000)
 
 pub negative_between : (o : Option ℕ)
-    → if_between (neg_ℤ most_amount) most_amount (option_map (λ n. neg_ℤ (pos n)) o) ≡ option_map (λ n. neg_ℤ (pos n)) (at_most 1000000000000 o)
+    → if_between (neg_ℤ most_amount) most_amount (option_map (λ n. neg_ℤ (pos n)) o) ≡ option_map (λ n. neg_ℤ (pos n)) (when_at_most 1000000000000 o)
 negative_between None = refl
 negative_between (Some zero) = refl
 negative_between (Some (suc n)) =

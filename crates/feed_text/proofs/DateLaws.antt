@@ -9,7 +9,7 @@ use Rattle.jiff_core.specs.Calendar.{days_in_month}
 use Rattle.jiff_core.proofs.CalendarLemmas.{days_in_month_bounds}
 use Rattle.transit_base.specs.Dates.{is_date, day_number}
 use Rattle.plain_laws.specs.Plain.{when}
-use Rattle.feed_rows.specs.Numerals.{number_value, at_most}
+use Rattle.feed_rows.specs.Numerals.{number_value, when_at_most}
 use Rattle.feed_rows.specs.WordValues.{day_value}
 use Rattle.feed_faults.specs.FieldGrammars.{date_value}
 
@@ -38,19 +38,19 @@ no_day y m d e =
     let past : nat_le d (days_in_month (pos y) m) ≡ false = grind (arith, nat_tests, e, bound) in
     rw past (and_false (nat_le 1 y && nat_le y 9999 && nat_le 1 m && nat_le m 12 && nat_le 1 d))
 
-fitting : (n most : ℕ) → nat_le n most ≡ true → at_most most (Some n) ≡ Some n
+fitting : (n most : ℕ) → nat_le n most ≡ true → when_at_most most (Some n) ≡ Some n
 fitting n most e = rw e refl
 
-with_day : (y m d : ℕ) (fits : Bool) → nat_le d 31 ≡ fits → day_value (Some y) (Some m) (Some d) ≡ day_value (Some y) (Some m) (at_most 31 (Some d))
+with_day : (y m d : ℕ) (fits : Bool) → nat_le d 31 ≡ fits → day_value (Some y) (Some m) (Some d) ≡ day_value (Some y) (Some m) (when_at_most 31 (Some d))
 with_day y m d true e = rw (fitting d 31 e) refl
 with_day y m d false e = rw (no_day y m d e, e) refl
 
-with_month : (y m d : ℕ) (fits : Bool) → nat_le m 12 ≡ fits → day_value (Some y) (Some m) (Some d) ≡ day_value (Some y) (at_most 12 (Some m)) (at_most 31 (Some d))
+with_month : (y m d : ℕ) (fits : Bool) → nat_le m 12 ≡ fits → day_value (Some y) (Some m) (Some d) ≡ day_value (Some y) (when_at_most 12 (Some m)) (when_at_most 31 (Some d))
 with_month y m d true e = rw (fitting m 12 e) (with_day y m d (nat_le d 31) refl)
 with_month y m d false e = rw (no_month y m d e, e) refl
 
 with_year : (y m d : ℕ) (fits : Bool) → nat_le y 9999 ≡ fits
-    → day_value (Some y) (Some m) (Some d) ≡ day_value (at_most 9999 (Some y)) (at_most 12 (Some m)) (at_most 31 (Some d))
+    → day_value (Some y) (Some m) (Some d) ≡ day_value (when_at_most 9999 (Some y)) (when_at_most 12 (Some m)) (when_at_most 31 (Some d))
 with_year y m d true e = rw (fitting y 9999 e) (with_month y m d (nat_le m 12) refl)
 with_year y m d false e = rw (no_year y m d e, e) refl
 
@@ -64,10 +64,10 @@ no_month_text None d = refl
 no_month_text (Some y) d = refl
 
 -- numbers past those of any date name no day
-pub day_bounded : (y m d : Option ℕ) → day_value y m d ≡ day_value (at_most 9999 y) (at_most 12 m) (at_most 31 d)
+pub day_bounded : (y m d : Option ℕ) → day_value y m d ≡ day_value (when_at_most 9999 y) (when_at_most 12 m) (when_at_most 31 d)
 day_bounded None m d = refl
-day_bounded (Some y) None d = rw (no_month_text (at_most 9999 (Some y)) (at_most 31 d)) refl
-day_bounded (Some y) (Some m) None = rw (no_day_text (at_most 9999 (Some y)) (at_most 12 (Some m))) refl
+day_bounded (Some y) None d = rw (no_month_text (when_at_most 9999 (Some y)) (when_at_most 31 d)) refl
+day_bounded (Some y) (Some m) None = rw (no_day_text (when_at_most 9999 (Some y)) (when_at_most 12 (Some m))) refl
 day_bounded (Some y) (Some m) (Some d) = with_year y m d (nat_le y 9999) refl
 
 by_digits : (y m d : ℕ) (a b c : Bool) → when ((a && (b && c)) && is_date y m d) (day_number y m d) ≡ day_value (when a y) (when b m) (when c d)

@@ -8,7 +8,7 @@ use Rattle.std.proofs.lemmas.Bool.Decides.{nat_tests}
 use Rattle.std.proofs.lemmas.Int.Digits.{digits_value_more}
 use Rattle.std.proofs.lemmas.Str.Parse.{digits_value-take-le}
 use Rattle.plain_laws.specs.Plain.{when}
-use Rattle.feed_rows.specs.Numerals.{number_value, at_most}
+use Rattle.feed_rows.specs.Numerals.{number_value, when_at_most}
 use Rattle.std.proofs.lemmas.Bool.{and_parts, and_from, and_right}
 
 -- digits, and one more
@@ -27,22 +27,22 @@ not_all (b ∷ bs) zero lt d = ap (λ (x : Bool). x && all_ascii_digits bs) d
 not_all (b ∷ bs) (suc i) lt d = and_right (is_ascii_digit b) (all_ascii_digits bs) (not_all bs i (omega arith) d)
 
 -- a text with another byte is no number
-pub no_number : (bs : List ℕ) (n i : ℕ) → i < length bs → is_ascii_digit (get_or bs i 0) ≡ false → None ≡ at_most n (number_value bs)
+pub no_number : (bs : List ℕ) (n i : ℕ) → i < length bs → is_ascii_digit (get_or bs i 0) ≡ false → None ≡ when_at_most n (number_value bs)
 unfolding number_value
 no_number bs n i lt d = rw (not_all bs i lt d) refl
 
 -- nor is the empty text
-pub empty_number : (bs : List ℕ) (n : ℕ) → length bs ≡ 0 → None ≡ at_most n (number_value bs)
+pub empty_number : (bs : List ℕ) (n : ℕ) → length bs ≡ 0 → None ≡ when_at_most n (number_value bs)
 unfolding number_value
 empty_number [] n e = refl
 empty_number (b ∷ bs) n e = absurd (omega (arith, e))
 
-dropped : (b : Bool) (n v : ℕ) → n < v → None ≡ at_most n (when b v)
+dropped : (b : Bool) (n v : ℕ) → n < v → None ≡ when_at_most n (when b v)
 dropped true n v h = let no : nat_le v n ≡ false = grind (arith, nat_tests) in rw no refl
 dropped false n v h = refl
 
 -- a number that is too great from some digit on
-pub too_large : (bs : List ℕ) (n i : ℕ) → n < digits_value 10 (take i bs) → None ≡ at_most n (number_value bs)
+pub too_large : (bs : List ℕ) (n i : ℕ) → n < digits_value 10 (take i bs) → None ≡ when_at_most n (number_value bs)
 unfolding number_value
 too_large bs n i h =
     dropped (all_ascii_digits bs && nat_lt 0 (length bs)) n (digits_value 10 bs)
@@ -50,7 +50,7 @@ too_large bs n i h =
 
 -- a number that fits
 pub whole : (bs : List ℕ) (n v : ℕ) → all_ascii_digits bs ≡ true → 0 < length bs → v ≡ digits_value 10 bs → v ≤ n
-    → Some v ≡ at_most n (number_value bs)
+    → Some v ≡ when_at_most n (number_value bs)
 unfolding number_value
 whole bs n v a lt e h =
     let some : nat_lt 0 (length bs) ≡ true = grind (arith, nat_tests) in
@@ -62,14 +62,14 @@ by_test a n true t e = absurd (cc)
 by_test a n false t e = grind (arith, nat_tests)
 
 -- what a bounded value says
-pub bounded_none : (a n : ℕ) → None ≡ at_most n (Some a) → n < a
+pub bounded_none : (a n : ℕ) → None ≡ when_at_most n (Some a) → n < a
 bounded_none a n e = by_test a n (nat_le a n) refl e
 
 kept : (a n w : ℕ) (b : Bool) → nat_le a n ≡ b → Some w ≡ when b a → (w ≡ a) × (a ≤ n)
 kept a n w true t e = (cc, grind (arith, nat_tests))
 kept a n w false t e = absurd (cc)
 
-pub bounded_some : (a n w : ℕ) → Some w ≡ at_most n (Some a) → (w ≡ a) × (a ≤ n)
+pub bounded_some : (a n w : ℕ) → Some w ≡ when_at_most n (Some a) → (w ≡ a) × (a ≤ n)
 bounded_some a n w e = kept a n w (nat_le a n) refl e
 
 digit_is : (c : ℕ) → is_ascii_digit c ≡ true → digit_value c ≡ c - 48

@@ -3,7 +3,7 @@ ghost use Rattle.std.specs.Prelude.{◌≡◌, true, ◌==◌, ◌≤◌, ◌<�
 ghost use Rattle.std.specs.List.{list_all};
 ghost use Rattle.std.specs.Str.Parse.{digits_value};
 ghost use Rattle.std.specs.Char.{is_ascii_digit};
-ghost use Rattle.feed_rows.specs.Numerals.{number_value, at_most};
+ghost use Rattle.feed_rows.specs.Numerals.{number_value, when_at_most};
 ghost use Rattle.feed_faults.specs.FieldGrammars.{point_place, fraction_value, minor_units, unsigned_amount, amount_value};
 
 use crate::numbers::{number_of, small_number_of};
@@ -105,7 +105,7 @@ fn fraction_of(digits: &[u8], decimals: u8) -> Option<u32>
 fn units_of(whole: &[u8], fraction: u32, decimals: u8) -> Option<u64>
     requires decimals { decimals ≤ 3 }
     requires fraction { fraction ≤ 999_000 }
-    ensures value { result ≡ at_most 1_000_000_000_000 (minor_units decimals (number_value whole.now) (Some fraction)) }
+    ensures value { result ≡ when_at_most 1_000_000_000_000 (minor_units decimals (number_value whole.now) (Some fraction)) }
     ensures bound { IfSome result (λ v. v ≤ 1_000_000_000_000) }
 {
     let number = number_of(whole)?;
@@ -120,7 +120,7 @@ fn units_of(whole: &[u8], fraction: u32, decimals: u8) -> Option<u64>
 #[tactic(auto, unfolding(feed_faults::specs::FieldGrammars::unsigned_amount), using(crate::proofs::AmountLaws::no_fraction))]
 fn unsigned_amount_of(text: &[u8], decimals: u8) -> Option<u64>
     requires { decimals ≤ 3 }
-    ensures value { result ≡ at_most 1_000_000_000_000 (unsigned_amount decimals text.now) }
+    ensures value { result ≡ when_at_most 1_000_000_000_000 (unsigned_amount decimals text.now) }
     ensures bound { IfSome result (λ v. v ≤ 1_000_000_000_000) }
 {
     let Some(place) = point_of(text) else {

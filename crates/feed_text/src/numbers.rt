@@ -1,20 +1,20 @@
 //! Integers and times, as fields write them.
 ghost use Rattle.std.specs.Prelude.{◌≡◌, ◌+◌, ◌-◌, ◌*◌, ◌^◌, ◌≤◌, ◌<◌, IfSome, Some, None, pos, neg_ℤ};
-ghost use Rattle.feed_rows.specs.Numerals.{number_value, at_most};
+ghost use Rattle.feed_rows.specs.Numerals.{number_value, when_at_most};
 ghost use Rattle.feed_rows.specs.TimeGrammar.{time_value};
 ghost use Rattle.feed_faults.specs.FieldGrammars.{signed_value, if_between, int_value, count_value};
 
 // The number with one more digit, where it stays below 2^64.
 fn with_digit(value: u64, digit: u8) -> Option<u64>
     requires { digit ≤ 9 }
-    ensures { result ≡ at_most (2 ^ 64 - 1) (Some (value * 10 + digit)) }
+    ensures { result ≡ when_at_most (2 ^ 64 - 1) (Some (value * 10 + digit)) }
 {
     value.checked_mul(10)?.checked_add(u64::from(digit))
 }
 
 // The number that one or more digits write, where it is below 2^64.
 pub(crate) fn number_of(text: &[u8]) -> Option<u64>
-    ensures { result ≡ at_most (2 ^ 64 - 1) (number_value text.now) }
+    ensures { result ≡ when_at_most (2 ^ 64 - 1) (number_value text.now) }
 {
     if text.is_empty() {
         return None;
@@ -31,7 +31,7 @@ pub(crate) fn number_of(text: &[u8]) -> Option<u64>
 
 // The number that one or more digits write, where it is at most this.
 pub(crate) fn small_number_of(text: &[u8], most: u32) -> Option<u32>
-    ensures value { result ≡ at_most most (number_value text.now) }
+    ensures value { result ≡ when_at_most most (number_value text.now) }
     ensures bound { IfSome result (λ v. v ≤ most) }
 {
     let value = number_of(text)?;

@@ -19,7 +19,7 @@ use Rattle.feed_laws.proofs.CallLaws.{calls_of-pass}
 use Rattle.feed_laws.proofs.SoundTrips.{sound_ends, sound_rise, calls_apart}
 use Rattle.feed_trips.specs.declared.together.Stretch.{Stretch}
 use Rattle.feed_trips.specs.Tables.{trip_calls}
-use Rattle.feed_trips.specs.Stretches.{no_stretch, rows_of, rows_at, IsStretch, AreStretches, AreTimed, IsScattered}
+use Rattle.feed_trips.specs.Stretches.{no_stretch, rows_of_stretch, rows_at, IsStretch, AreStretches, AreTimed, IsScattered}
 use Rattle.std.proofs.lemmas.List.Sorted.{All-permutation, length_permutation}
 use Rattle.feed_laws.proofs.TimedLaws.{next_timed_hit, next_timed_end, untimed_more, is_timed_at_row}
 use Rattle.feed_trips.specs.Tables.{IsInOrder}
@@ -144,7 +144,7 @@ rows_are feed trips t stretches are lt =
     let s = get_or stretches t no_stretch in
     let is = are.each t lt in
     let size = length-take (s.to - s.from) (drop s.from rows) in
-    sym (in_order_already (rows_of rows s) (λ k d below.
+    sym (in_order_already (rows_of_stretch rows s) (λ k d below.
     let inside : s.from + (k + 1) < s.to = omega (arith, size) in
     let next : s.from + (k + 1) ≡ (s.from + k) + 1 = omega arith in
     rw (range_at rows s.from s.to k d (omega arith), range_at rows s.from s.to (k + 1) d inside, next) (is.rise (s.from + k) d (omega arith) (omega arith)))) ∙ ap in_sequence (stretch_rows rows trips t stretches are lt)
@@ -202,7 +202,7 @@ sorted_few feed rows sound moved =
     omega arith
 
 -- the rows of a stretch are of its trip
-own_trip : (rows : List StopTimeRow) (n trip : ℕ) (s : Stretch) → IsStretch rows n trip s → All (λ r. (r.trip.0 == trip) ≡ true) (rows_of rows s)
+own_trip : (rows : List StopTimeRow) (n trip : ℕ) (s : Stretch) → IsStretch rows n trip s → All (λ r. (r.trip.0 == trip) ≡ true) (rows_of_stretch rows s)
 own_trip rows n trip s is = subst (All (λ (r : StopTimeRow). (r.trip.0 == trip) ≡ true)) (sym is.are) (filter_passes (λ (r : StopTimeRow). r.trip.0 == trip) (take n rows))
 
 -- a range that isn't empty begins with its first item

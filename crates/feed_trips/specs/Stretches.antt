@@ -9,17 +9,17 @@ abbrev pub no_stretch : Stretch
 no_stretch = record { from = 0; to = 0 }
 
 -- the rows of a stretch
-abbrev pub rows_of : List StopTimeRow → Stretch → List StopTimeRow
-rows_of rows s = slice_range rows s.from s.to
+abbrev pub rows_of_stretch : List StopTimeRow → Stretch → List StopTimeRow
+rows_of_stretch rows s = slice_range rows s.from s.to
 
 abbrev pub rows_at : List StopTimeRow → List Stretch → ℕ → List StopTimeRow
-rows_at rows stretches trip = rows_of rows (slice_index_or stretches trip no_stretch)
+rows_at rows stretches trip = rows_of_stretch rows (slice_index_or stretches trip no_stretch)
 
 -- of the first n rows those of the trip are those of the stretch, and their sequences don't fall
 pub record IsStretch (rows : List StopTimeRow) (n trip : ℕ) (s : Stretch) : Type 0 where
   pub forward : s.from ≤ s.to
   pub ends : s.to ≤ n
-  pub are : rows_of rows s ≡ filter (λ r. r.trip.0 == trip) (take n rows)
+  pub are : rows_of_stretch rows s ≡ filter (λ r. r.trip.0 == trip) (take n rows)
   pub rise : (k : ℕ) (d : StopTimeRow) → s.from ≤ k → k + 1 < s.to → (slice_index_or rows k d).sequence ≤ (slice_index_or rows (k + 1) d).sequence
 
 -- the same of the trips with the numbers below trips, each with its stretch

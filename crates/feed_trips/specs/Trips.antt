@@ -7,8 +7,8 @@ use Rattle.feed_trips.specs.Tables.{trip_calls, trip_runs}
 use Rattle.feed_trips.specs.NamedTrips.{AreNamedInOrder}
 
 -- the feed that the tables are of
-abbrev pub feed_of : Inside → FeedRows
-feed_of fields = fields.feed.now
+abbrev pub feed_inside : Inside → FeedRows
+feed_inside fields = fields.feed.now
 
 -- the tables have the calls, the frequency rows and the ids of the trips of a feed without a fault
 pub record AreTablesOf (feed : FeedRows) (fields : Inside) : Type 0 where

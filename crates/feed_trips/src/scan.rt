@@ -1,7 +1,7 @@
 //! The next stop time that has a time.
 ghost use Rattle.std.specs.Prelude.{◌≡◌, ◌<◌, ◌≤◌, length};
 ghost use Rattle.feed_rows.specs.Calls.{first_time as first_time_of};
-ghost use Rattle.feed_rows.specs.CallPass.{next_timed, time_at};
+ghost use Rattle.feed_rows.specs.CallPass.{next_timed, time_or_zero};
 
 use feed_rows::StopTimeRow;
 use trip_order::{first_time, is_timed};
@@ -23,7 +23,7 @@ pub fn next_position(rows: &[StopTimeRow], position: usize) -> usize
 
 // When the row at a position is reached, in seconds of the service day; 0 where it has no time.
 pub fn first_time_at(rows: &[StopTimeRow], position: usize) -> u32
-    ensures { result ≡ time_at first_time_of rows.now position }
+    ensures { result ≡ time_or_zero first_time_of rows.now position }
 {
     match rows.get(position) {
         Some(row) => first_time(*row).unwrap_or(0),

@@ -36,11 +36,11 @@ impl<'f> Model for Trips<'f> {
 
     ghost Value = { FeedRows };
 
-    ghost use Rattle.feed_trips.specs.Trips.{feed_of, AreTablesOf};
+    ghost use Rattle.feed_trips.specs.Trips.{feed_inside, AreTablesOf};
 
-    ghost view = { feed_of };
+    ghost view = { feed_inside };
 
-    ghost invariant = { λ fields. AreTablesOf (feed_of fields) fields };
+    ghost invariant = { λ fields. AreTablesOf (feed_inside fields) fields };
 }
 
 impl<'f> Trips<'f> {

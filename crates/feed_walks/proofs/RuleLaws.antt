@@ -10,7 +10,7 @@ use Rattle.feed_rows.specs.declared.rows.LinkRow.{LinkRow}
 use Rattle.plain_laws.specs.declared.groups.Grouped.{Grouped}
 use Rattle.plain_laws.specs.Plain.{group_of, groups_below}
 use Rattle.plain_laws.proofs.Laws.{same_ties, group_rises, groups_below-at, groups_below-past, find_none, find-filter, filter-filter, filter-map}
-use Rattle.feed_walks.specs.Rules.{grouped_row, AreByTarget, rows_from, AreRules}
+use Rattle.feed_walks.specs.Rules.{by_start, AreByTarget, rows_from, AreRules}
 
 -- what a stable sort by the rows' targets gives
 pub by_target : (old new : List (Grouped LinkRow)) → IsNonDecreasingBy (λ (m : Grouped LinkRow). m.item.to.0) new → IsPermutation old new → IsStableByKey (λ (m : Grouped LinkRow). m.item.to.0) nat_cmp old new → AreByTarget old new
@@ -21,15 +21,15 @@ by_target old new rises moved stable =
     target i = record { group = 0; item = record { from = record { 0 = 0 }; to = record { 0 = i }; forbidden = false; seconds = 0 } }
 
 -- rows that are grouped and taken out are as before
-items-grouped : (rows : List LinkRow) → map (λ m. m.item) (map grouped_row rows) ≡ rows
+items-grouped : (rows : List LinkRow) → map (λ m. m.item) (map by_start rows) ≡ rows
 items-grouped [] = refl
 items-grouped (row ∷ rows) = ap (λ rest. row ∷ rest) (items-grouped rows)
 
 -- the rows of a group to one stop
-group_to : (links : List LinkRow) (members : List (Grouped LinkRow)) (i j : ℕ) → AreByTarget (map grouped_row links) members → filter (λ row. row.to.0 == j) (group_of members i) ≡ filter (λ row. (row.from.0 == i) && (row.to.0 == j)) links
+group_to : (links : List LinkRow) (members : List (Grouped LinkRow)) (i j : ℕ) → AreByTarget (map by_start links) members → filter (λ row. row.to.0 == j) (group_of members i) ≡ filter (λ row. (row.from.0 == i) && (row.to.0 == j)) links
 group_to links members i j by =
     filter-map (λ (row : LinkRow). row.to.0 == j) (λ (m : Grouped LinkRow). m.item) (filter (λ m. m.group == i) members)
-    ∙ ap (map (λ m. m.item)) (filter-filter (λ (m : Grouped LinkRow). m.item.to.0 == j) (λ m. m.group == i) members ∙ filter_agree (λ m. (m.item.to.0 == j) && (m.group == i)) (λ m. (m.group == i) && (m.item.to.0 == j)) (λ m. turned (m.item.to.0 == j) (m.group == i)) members ∙ sym (filter-filter (λ (m : Grouped LinkRow). m.group == i) (λ m. m.item.to.0 == j) members) ∙ ap (filter (λ m. m.group == i)) (by.same j) ∙ filter-filter (λ (m : Grouped LinkRow). m.group == i) (λ m. m.item.to.0 == j) (map grouped_row links) ∙ filter-map (λ (m : Grouped LinkRow). (m.group == i) && (m.item.to.0 == j)) grouped_row links)
+    ∙ ap (map (λ m. m.item)) (filter-filter (λ (m : Grouped LinkRow). m.item.to.0 == j) (λ m. m.group == i) members ∙ filter_agree (λ m. (m.item.to.0 == j) && (m.group == i)) (λ m. (m.group == i) && (m.item.to.0 == j)) (λ m. turned (m.item.to.0 == j) (m.group == i)) members ∙ sym (filter-filter (λ (m : Grouped LinkRow). m.group == i) (λ m. m.item.to.0 == j) members) ∙ ap (filter (λ m. m.group == i)) (by.same j) ∙ filter-filter (λ (m : Grouped LinkRow). m.group == i) (λ m. m.item.to.0 == j) (map by_start links) ∙ filter-map (λ (m : Grouped LinkRow). (m.group == i) && (m.item.to.0 == j)) by_start links)
     ∙ items-grouped (filter (λ row. (row.from.0 == i) && (row.to.0 == j)) links)
   where
     turned : (a b : Bool) → (a && b) ≡ (b && a)
@@ -39,7 +39,7 @@ group_to links members i j by =
     turned false false = refl
 
 -- the rows in groups, each by the stops that they lead to
-pub rules_from_groups : (links : List LinkRow) (old members : List (Grouped LinkRow)) (rules : List (List LinkRow)) (n : ℕ) → All (λ row. row.from.0 < n) links → old ≡ map grouped_row links → AreByTarget old members → rules ≡ groups_below n members → AreRules links rules
+pub rules_from_groups : (links : List LinkRow) (old members : List (Grouped LinkRow)) (rules : List (List LinkRow)) (n : ℕ) → All (λ row. row.from.0 < n) links → old ≡ map by_start links → AreByTarget old members → rules ≡ groups_below n members → AreRules links rules
 rules_from_groups links old members rules n within is by are =
     record {
       rises = λ i. ⊎_elim

@@ -5,8 +5,8 @@ use Rattle.feed_rows.specs.declared.rows.LinkRow.{LinkRow}
 use Rattle.plain_laws.specs.declared.groups.Grouped.{Grouped}
 
 -- a row with the stop that it leads from
-abbrev pub grouped_row : LinkRow → Grouped LinkRow
-grouped_row row = record { group = row.from.0; item = row }
+abbrev pub by_start : LinkRow → Grouped LinkRow
+by_start row = record { group = row.from.0; item = row }
 
 -- the rows stand by the stops that they lead to, and those to one stop as before
 pub record AreByTarget (old new : List (Grouped LinkRow)) : Type 0 where

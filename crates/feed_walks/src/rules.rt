@@ -5,7 +5,7 @@ ghost use Rattle.feed_rows.specs.FeedRows.{FeedRows};
 ghost use Rattle.feed_rows.specs.StopLinks as linked;
 ghost use Rattle.plain_laws.specs.Plain.{filled_and, when};
 ghost use Rattle.feed_walks.specs.Places.{IsPlace, is_anew};
-ghost use Rattle.feed_walks.specs.Rules.{grouped_row, AreByTarget, AreRules};
+ghost use Rattle.feed_walks.specs.Rules.{by_start, AreByTarget, AreRules};
 
 use feed_rows::{Feed, LinkRow, PLATFORM};
 use plain_laws::{Grouped, Groups};
@@ -25,14 +25,14 @@ pub fn rules_of(alloc: Global, links: &[LinkRow], count: u32) -> Result<Groups<L
 
 /// The rows, each with the stop that it leads from.
 fn grouped_rows(alloc: Global, links: &[LinkRow]) -> Result<Vec<Grouped<LinkRow>>, AllocError>
-    ensures { IfOk result (λ rows. rows.items ≡ map grouped_row links.now) }
+    ensures { IfOk result (λ rows. rows.items ≡ map by_start links.now) }
 {
     links.iter().map(|row| grouped(row)).collect(alloc)
 }
 
 /// The row with the stop that it leads from.
 fn grouped(row: &LinkRow) -> Grouped<LinkRow>
-    ensures { result ≡ grouped_row row.now }
+    ensures { result ≡ by_start row.now }
 {
     Grouped {
         group: row.from.0,

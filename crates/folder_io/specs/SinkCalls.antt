@@ -15,9 +15,9 @@ Writes None after piece answer = after ≡ None
 Writes (Some before) after piece wrote.All = after ≡ Some (before ++ piece)
 Writes (Some before) after piece wrote.Failed = (kept : ℕ) × (after ≡ Some (before ++ take kept piece))
 
--- whether a piece fits what is left of a room of so many bytes behind what was written
-abbrev pub fits : ℕ → List ℕ → List ℕ → Bool
-fits room written piece = nat_le (length piece) (room - length written)
+-- whether a piece has_room_for what is left of a room of so many bytes behind what was written
+abbrev pub has_room_for : ℕ → List ℕ → List ℕ → Bool
+has_room_for room written piece = nat_le (length piece) (room - length written)
 
 -- what a write answers that goes well, and one that doesn't
 abbrev pub wrote_of : Bool → Wrote

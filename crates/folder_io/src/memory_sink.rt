@@ -66,7 +66,7 @@ fn cut_of(cuts: &[Cut], call: u64) -> Option<Cut>
 impl Sink for MemSink {
     ghost use Rattle.std.specs.Prelude.{◌≡◌, ◌<◌, ◌≤◌, ◌-◌, ◌^◌, ◌++◌, Some, length};
     ghost use Rattle.folder_io.specs.FolderCalls.{CountsFault};
-    ghost use Rattle.folder_io.specs.SinkCalls.{is_failed_write, Writes, fits};
+    ghost use Rattle.folder_io.specs.SinkCalls.{is_failed_write, Writes, has_room_for};
     ghost use Rattle.folder_io.specs.CutWrites.{next_cut, after_write, cut_answer, kept_bytes};
     ghost use Rattle.folder_io.specs.MemorySink.{memory_written, memory_room, memory_cuts, memory_sink_failed, memory_sink_faults};
 
@@ -79,8 +79,8 @@ impl Sink for MemSink {
     /// Failed exactly where a cut names the write, which keeps so much of the piece as the cut says, or where the piece
     /// doesn't fit what is left of the room, which keeps nothing of it. Takes no memory.
     fn write(&mut self, piece: &[u8]) -> Wrote
-        ensures answer { result ≡ cut_answer (fits (memory_room self.old) (memory_written self.old) piece.now) (next_cut (memory_cuts self.old)) }
-        ensures bytes { memory_written self.new ≡ memory_written self.old ++ kept_bytes (fits (memory_room self.old) (memory_written self.old) piece.now) (next_cut (memory_cuts self.old)) piece.now }
+        ensures answer { result ≡ cut_answer (has_room_for (memory_room self.old) (memory_written self.old) piece.now) (next_cut (memory_cuts self.old)) }
+        ensures bytes { memory_written self.new ≡ memory_written self.old ++ kept_bytes (has_room_for (memory_room self.old) (memory_written self.old) piece.now) (next_cut (memory_cuts self.old)) piece.now }
         ensures cuts { memory_cuts self.new ≡ after_write (memory_cuts self.old) }
         ensures room { memory_room self.new ≡ memory_room self.old }
         ensures counts { CountsFault (is_failed_write result) (memory_sink_faults self.old) (memory_sink_faults self.new) }

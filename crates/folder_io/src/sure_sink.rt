@@ -35,7 +35,7 @@ impl SureSink {
 impl Sink for SureSink {
     ghost use Rattle.std.specs.Prelude.{◌≡◌, ◌<◌, ◌≤◌, ◌-◌, ◌^◌, ◌++◌, Some, length};
     ghost use Rattle.folder_io.specs.FolderCalls.{CountsFault};
-    ghost use Rattle.folder_io.specs.SinkCalls.{is_failed_write, Writes, fits, whole_or_none, wrote_of};
+    ghost use Rattle.folder_io.specs.SinkCalls.{is_failed_write, Writes, has_room_for, whole_or_none, wrote_of};
     ghost use Rattle.folder_io.specs.SureSink.{sure_written, sure_room, sure_failed, sure_faults};
 
     ghost written = { λ sink. Some (sure_written sink) };
@@ -46,8 +46,8 @@ impl Sink for SureSink {
 
     /// All exactly where the piece fits what is left of the room; else nothing of it is kept. Takes no memory.
     fn write(&mut self, piece: &[u8]) -> Wrote
-        ensures answer { result ≡ wrote_of (fits (sure_room self.old) (sure_written self.old) piece.now) }
-        ensures bytes { sure_written self.new ≡ sure_written self.old ++ whole_or_none (fits (sure_room self.old) (sure_written self.old) piece.now) piece.now }
+        ensures answer { result ≡ wrote_of (has_room_for (sure_room self.old) (sure_written self.old) piece.now) }
+        ensures bytes { sure_written self.new ≡ sure_written self.old ++ whole_or_none (has_room_for (sure_room self.old) (sure_written self.old) piece.now) piece.now }
         ensures room { sure_room self.new ≡ sure_room self.old }
         ensures counts { CountsFault (is_failed_write result) (sure_faults self.old) (sure_faults self.new) }
         ensures never_falls { sure_faults self.old ≤ sure_faults self.new }

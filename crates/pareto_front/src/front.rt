@@ -1,6 +1,6 @@
 //! Lists in which none is as good as another.
 ghost use Rattle.std.specs.Prelude.{◌≡◌, ◌⊎◌, ℕ, ◌<◌, ◌≤◌, Bool, true, false, not, [], length, filter, slice_index_or, All, Contains, OnOk, OnErr};
-ghost use Rattle.pareto_front.specs.Fronts.{covers, CoversAll, IsFront};
+ghost use Rattle.pareto_front.specs.Fronts.{has_as_good, CoversAll, IsFront};
 
 use std::alloc::{AllocError, Global};
 use std::marker::Model;
@@ -53,7 +53,7 @@ impl<E: Ranked> Front<E> {
 
     /// Whether some member is at most the item.
     pub fn covers(&self, item: &E) -> bool
-        ensures { result ≡ covers E.at_most self.now item.now }
+        ensures { result ≡ has_as_good E.at_most self.now item.now }
     {
         self.kept.iter().any(|member| member.is_at_most(item))
     }
@@ -85,7 +85,7 @@ impl<E: Ranked> Front<E> {
     /// # Errors
     /// Want of memory.
     pub fn offer(&mut self, item: E) -> Result<(), AllocError>
-        ensures covered { OnOk result (covers E.at_most self.new item ≡ true) }
+        ensures covered { OnOk result (has_as_good E.at_most self.new item ≡ true) }
         ensures still { OnOk result (CoversAll E.at_most self.old self.new) }
         ensures from { OnOk result (All (λ x. Contains self.old x ⊎ (x ≡ item)) self.new) }
         ensures err { OnErr result (All (Contains self.old) self.new) }

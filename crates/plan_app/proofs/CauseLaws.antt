@@ -14,7 +14,7 @@ use Rattle.feed_faults.specs.AcceptedFeed.{feed_of}
 use Rattle.feed_rows.specs.CommandTexts.{usage_line, refused_line, check_text}
 use Rattle.feed_rows.specs.declared.usage.UsageFault.TheVariants as usage
 use Rattle.feed_check.specs.BuiltFaults.{first_built_fault}
-use Rattle.feed_check.specs.LoadErrors.{GivesUp, IsFeedOf}
+use Rattle.feed_check.specs.LoadErrors.{GivesUpLoading, IsFeedOf}
 use Rattle.feed_check.specs.declared.folder.LoadError.TheVariants as error
 use Rattle.plan_app.specs.Due.{IsAskedOver, IsDue, IsWrong, IsNameFault, IsFirstFault, IsFileFault, IsPlanFault}
 use Rattle.plan_app.specs.OneRideWords.{asked_of}
@@ -87,13 +87,13 @@ wrong_explained words o answer none reads told =
     text_explained words o (status.Usage usage.WrongWords) (usage_line usage.WrongWords) answer (inl (record { wrong = wrong; is_fault = refl }), refl) reads told
 
 -- the first fault of what the folder holds, which doesn't fail
-first_fault : (holds : Option Contents) (fault : FeedFault) (before now : ℕ) (failed : Bool) → GivesUp (error.Fault fault) holds before now failed
+first_fault : (holds : Option Contents) (fault : FeedFault) (before now : ℕ) (failed : Bool) → GivesUpLoading (error.Fault fault) holds before now failed
     → IsFirstFault holds fault × Stayed before now
 first_fault None fault before now failed up = (tt, up)
 first_fault (Some contents) fault before now failed up = (up.1, up.0)
 
 pub fault_explained : (words : List (List ℕ)) (o : Outside) (request : Request) (fault : FeedFault) (failed : Bool) (answer : Status)
-    → Some request ≡ asked_of words → GivesUp (error.Fault fault) o.holds o.reads o.reads_after failed
+    → Some request ≡ asked_of words → GivesUpLoading (error.Fault fault) o.holds o.reads o.reads_after failed
     → AnswersText (refused_line fault) (status.Refused fault) (sink_side o) answer → Explains words o answer
 fault_explained words o request fault failed answer asked up told =
     let first = first_fault o.holds fault o.reads o.reads_after failed up in

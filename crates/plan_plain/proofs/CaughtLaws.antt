@@ -32,7 +32,7 @@ use Rattle.feed_laws.proofs.RideLaws.{ride_facts_tells, ride_facts_timed}
 use Rattle.feed_laws.proofs.SoundTrips.{sound_trip}
 use Rattle.plan_plain.specs.declared.caught.Run.{Run}
 use Rattle.plan_plain.specs.declared.caught.CaughtRide.{CaughtRide}
-use Rattle.plan_plain.specs.InTime.{next_in_time, if_in_time, deadline, IsUsualQuery, IsWithin, AddsCaught, HasCaught, HasRide, IsRight, IsOfRun, IsRideOf, IsFrom, IsAt, IsBefore, HasShift, IsOnTrip, IsOnDay, IsOnDays, gets_there, may_board, first_day, day_after}
+use Rattle.plan_plain.specs.InTime.{next_in_time, if_in_time, deadline, IsUsualQuery, IsWithinWindow, AddsCaught, HasCaught, HasRide, IsRight, IsOfRun, IsRideOf, IsFrom, IsAt, IsBefore, HasShift, IsOnTrip, IsOnDay, IsOnDays, gets_there, may_board, first_day, day_after}
 
 -- a ride that is caught in time, with its facts and the way to it
 pub record IsCaughtRide (feed : FeedRows) (query : Query) (stand : Stand) (ride : Ride) (next : Stand) : Type 0 where
@@ -198,7 +198,7 @@ day_until until departs arrives day begins forward ends =
     let parts = moment_at-parts until in let bound = time_of_day_bound until in omega (arith, ints)
 
 -- it runs on one of the days from 13 before the civil day of the query's departure to the last of the window
-pub caught_day : (feed : FeedRows) (query : Query) (stand : Stand) (ride : Ride) (next : Stand) → IsSoundFeed feed → IsWithin query stand.at → next_in_time feed query stand ride ≡ Some next →
+pub caught_day : (feed : FeedRows) (query : Query) (stand : Stand) (ride : Ride) (next : Stand) → IsSoundFeed feed → IsWithinWindow query stand.at → next_in_time feed query stand ride ≡ Some next →
     (first_day query ≤ℤ ride.day.0) × (ride.day.0 <ℤ day_after query)
 caught_day feed query stand ride next sound within e =
     let c = caught_ride feed query stand ride next e in
@@ -209,7 +209,7 @@ caught_day feed query stand ride next sound within e =
     )
 
 -- where one stands after it is within the window too
-pub caught_within : (feed : FeedRows) (query : Query) (stand : Stand) (ride : Ride) (next : Stand) → IsSoundFeed feed → IsWithin query stand.at → next_in_time feed query stand ride ≡ Some next → IsWithin query next.at
+pub caught_within : (feed : FeedRows) (query : Query) (stand : Stand) (ride : Ride) (next : Stand) → IsSoundFeed feed → IsWithinWindow query stand.at → next_in_time feed query stand ride ≡ Some next → IsWithinWindow query next.at
 caught_within feed query stand ride next sound within e =
     let c = caught_ride feed query stand ride next e in
     let t = ride_facts_timed feed ride c.facts most_time (sound_trip feed ride.trip sound) c.is in
@@ -323,7 +323,7 @@ adds_day feed query stand first day old mid new since before adds =
     split d low high = ⊎_elim (λ lt. inl (low, lt)) (λ ge. inr (between d day high ge)) (by d day (int_le day d) refl)
 
 -- all days
-pub has_caught : (feed : FeedRows) (query : Query) (stand : Stand) (day : ℤ) (rides : List CaughtRide) → IsSoundFeed feed → IsWithin query stand.at → day_after query ≤ℤ day →
+pub has_caught : (feed : FeedRows) (query : Query) (stand : Stand) (day : ℤ) (rides : List CaughtRide) → IsSoundFeed feed → IsWithinWindow query stand.at → day_after query ≤ℤ day →
     AddsCaught feed query stand (IsOnDays (first_day query) day) [] rides → HasCaught feed query stand rides
 has_caught feed query stand day rides sound within past adds ride next e =
     let days = caught_day feed query stand ride next sound within e in

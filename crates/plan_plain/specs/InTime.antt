@@ -32,7 +32,7 @@ pub record IsUsualQuery (query : Query) : Type 0 where
   pub window : query.window ≤ most_window
 
 -- one stands there no earlier than the query's departure and no later than its window ends
-pub record IsWithin (query : Query) (at : ℤ) : Type 0 where
+pub record IsWithinWindow (query : Query) (at : ℤ) : Type 0 where
   pub since : query.departure.0 ≤ℤ at
   pub until : at ≤ℤ deadline query
 

@@ -11,7 +11,7 @@ use Rattle.feed_rows.specs.Journeys.{stands_for}
 use Rattle.feed_rows.specs.Rides.{ride_facts}
 use Rattle.plain_laws.specs.Plain.{when, after}
 use Rattle.feed_rows.specs.ParetoTriples.{at_most}
-use Rattle.pareto_front.specs.Fronts.{covers, CoversAll}
+use Rattle.pareto_front.specs.Fronts.{has_as_good, CoversAll}
 use Rattle.plan_plain.specs.InTime.{next_in_time, deadline}
 use Rattle.plan_plain.specs.declared.caught.CaughtRide.{CaughtRide}
 
@@ -21,7 +21,7 @@ rides_of path = map (λ (c : CaughtRide). c.ride) path
 
 -- some entry of the list has a triple that is at most that of this entry
 abbrev pub covers_entry : List Entry → Entry → Type 0
-covers_entry entries entry = covers (λ (a : Entry) (b : Entry). at_most a.triple b.triple) entries entry ≡ true
+covers_entry entries entry = has_as_good (λ (a : Entry) (b : Entry). at_most a.triple b.triple) entries entry ≡ true
 
 -- the entry is one of the query, from this first stop, with these rides
 pub record HasRides (feed : FeedRows) (query : Query) (first : StopId) (rides : List Ride) (entry : Entry) : Type 0 where
@@ -48,7 +48,7 @@ pub record GoesOn (feed : FeedRows) (query : Query) (first : StopId) (path : Lis
   pub goes : after (next_in_time feed query) stand rest ≡ Some end
   pub has : HasRides feed query first (path ++ rest) entry
 
--- the new list covers what the old one covered, and each entry of this part; its members stay entries of the query
+-- the new list has_as_good what the old one covered, and each entry of this part; its members stay entries of the query
 pub record Gains (feed : FeedRows) (query : Query) (Part : Entry → Type 0) (old new : List Entry) : Type 0 where
   pub still : CoversAll (λ (a : Entry) (b : Entry). at_most a.triple b.triple) old new
   pub right : All (IsEntry feed query) old → All (IsEntry feed query) new

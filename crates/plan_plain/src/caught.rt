@@ -9,7 +9,7 @@ ghost use Rattle.feed_rows.specs.Rides.{runs_on, ride_facts};
 ghost use Rattle.feed_rows.specs.JourneyStands.{stand_at_end};
 ghost use Rattle.feed_rows.specs.Shifts.{shifts_of};
 ghost use Rattle.feed_timetable.specs.Standings.{stand_of, AreShifts};
-ghost use Rattle.plan_plain.specs.InTime.{next_in_time, if_in_time, deadline, IsUsualQuery, IsWithin, AddsCaught, HasCaught, IsRight, IsRideOf, IsFrom, IsAt, IsBefore, HasShift, IsOnTrip, IsOnDay, IsOnDays, IsOfRun, gets_there, departure_of, may_board, first_day, day_after};
+ghost use Rattle.plan_plain.specs.InTime.{next_in_time, if_in_time, deadline, IsUsualQuery, IsWithinWindow, AddsCaught, HasCaught, IsRight, IsRideOf, IsFrom, IsAt, IsBefore, HasShift, IsOnTrip, IsOnDay, IsOnDays, IsOfRun, gets_there, departure_of, may_board, first_day, day_after};
 
 use feed_rows::{Call, Query, Ride, RideFacts};
 use feed_timetable::{Standing, Timetable};
@@ -52,7 +52,7 @@ fn facts_in_time(
     ride: &Ride,
 ) -> Option<RideFacts>
     requires usual { IsUsualQuery query.now }
-    requires within { IsWithin query.now standing.at.0 }
+    requires within { IsWithinWindow query.now standing.at.0 }
     requires trip { ride.now.trip.0 < length timetable.now.trips }
     requires day_low { negsuc 799_999 ≤ℤ ride.now.day.0 }
     requires day_high { ride.now.day.0 ≤ℤ pos 3_000_000 }
@@ -82,7 +82,7 @@ fn add_ride(
     rides: &mut Vec<CaughtRide>,
 ) -> Result<(), AllocError>
     requires usual { IsUsualQuery query.now }
-    requires within { IsWithin query.now standing.at.0 }
+    requires within { IsWithinWindow query.now standing.at.0 }
     requires trip { run.trip.0 < length timetable.now.trips }
     requires day_low { negsuc 799_999 ≤ℤ run.day.0 }
     requires day_high { run.day.0 ≤ℤ pos 3_000_000 }
@@ -117,7 +117,7 @@ fn add_from(
     rides: &mut Vec<CaughtRide>,
 ) -> Result<(), AllocError>
     requires usual { IsUsualQuery query.now }
-    requires within { IsWithin query.now standing.at.0 }
+    requires within { IsWithinWindow query.now standing.at.0 }
     requires trip { run.trip.0 < length timetable.now.trips }
     requires day_low { negsuc 799_999 ≤ℤ run.day.0 }
     requires day_high { run.day.0 ≤ℤ pos 3_000_000 }
@@ -141,7 +141,7 @@ fn gets_there(
     by: Moment,
 ) -> bool
     requires usual { IsUsualQuery query.now }
-    requires within { IsWithin query.now standing.at.0 }
+    requires within { IsWithinWindow query.now standing.at.0 }
     ensures { result ≡ gets_there timetable.now query.now (stand_of standing) stop by.0 }
 {
     match timetable.way_to(query, standing, stop) {
@@ -172,7 +172,7 @@ fn may_board(
     call: &Call,
 ) -> bool
     requires usual { IsUsualQuery query.now }
-    requires within { IsWithin query.now standing.at.0 }
+    requires within { IsWithinWindow query.now standing.at.0 }
     requires day_low { negsuc 799_999 ≤ℤ run.day.0 }
     requires day_high { run.day.0 ≤ℤ pos 3_000_000 }
     requires shift_low { least_shift ≤ℤ run.shift }
@@ -202,7 +202,7 @@ fn add_call(
     rides: &mut Vec<CaughtRide>,
 ) -> Result<(), AllocError>
     requires usual { IsUsualQuery query.now }
-    requires within { IsWithin query.now standing.at.0 }
+    requires within { IsWithinWindow query.now standing.at.0 }
     requires trip { run.trip.0 < length timetable.now.trips }
     requires day_low { negsuc 799_999 ≤ℤ run.day.0 }
     requires day_high { run.day.0 ≤ℤ pos 3_000_000 }
@@ -238,7 +238,7 @@ fn add_run(
     rides: &mut Vec<CaughtRide>,
 ) -> Result<(), AllocError>
     requires usual { IsUsualQuery query.now }
-    requires within { IsWithin query.now standing.at.0 }
+    requires within { IsWithinWindow query.now standing.at.0 }
     requires trip { run.trip.0 < length timetable.now.trips }
     requires day_low { negsuc 799_999 ≤ℤ run.day.0 }
     requires day_high { run.day.0 ≤ℤ pos 3_000_000 }
@@ -281,7 +281,7 @@ fn add_trip(
     rides: &mut Vec<CaughtRide>,
 ) -> Result<(), AllocError>
     requires usual { IsUsualQuery query.now }
-    requires within { IsWithin query.now standing.at.0 }
+    requires within { IsWithinWindow query.now standing.at.0 }
     requires trip { trip.0 < length timetable.now.trips }
     requires day_low { negsuc 799_999 ≤ℤ day.0 }
     requires day_high { day.0 ≤ℤ pos 3_000_000 }
@@ -306,7 +306,7 @@ fn add_day(
     rides: &mut Vec<CaughtRide>,
 ) -> Result<(), AllocError>
     requires usual { IsUsualQuery query.now }
-    requires within { IsWithin query.now standing.at.0 }
+    requires within { IsWithinWindow query.now standing.at.0 }
     requires day_low { negsuc 799_999 ≤ℤ day.0 }
     requires day_high { day.0 ≤ℤ pos 3_000_000 }
     ensures { OnOk result (AddsCaught timetable.now query.now (stand_of standing) (λ (ride : Ride). ride.day.0 ≡ day.0) rides.old.items rides.new.items) }
@@ -349,7 +349,7 @@ pub fn rides_from(
     standing: Standing,
 ) -> Result<Vec<CaughtRide>, AllocError>
     requires usual { IsUsualQuery query.now }
-    requires within { IsWithin query.now standing.at.0 }
+    requires within { IsWithinWindow query.now standing.at.0 }
     ensures all { IfOk result (λ rides. HasCaught timetable.now query.now (stand_of standing) rides.items) }
     ensures right { IfOk result (λ rides. All (IsRight timetable.now query.now (stand_of standing)) rides.items) }
 {

@@ -8,7 +8,7 @@ ghost use Rattle.feed_rows.specs.Rides.{ride_facts};
 ghost use Rattle.feed_rows.specs.StopLinks.{stop_set};
 ghost use Rattle.plain_laws.specs.Plain.{after};
 ghost use Rattle.plan_plain.specs.declared.caught.CaughtRide.{CaughtRide};
-ghost use Rattle.plan_plain.specs.InTime.{next_in_time, IsUsualQuery, IsWithin};
+ghost use Rattle.plan_plain.specs.InTime.{next_in_time, IsUsualQuery, IsWithinWindow};
 ghost use Rattle.plan_plain.specs.Prices.{HasPlainFares};
 ghost use Rattle.plan_plain.specs.Searches.{rides_of, IsBestAt, EndsAt, HasRides, GoesOn, Gains, StartsAt, IsSearched, arrival_in_time};
 ghost use Rattle.transit_base.specs.declared.moments.Moment.{Moment};
@@ -42,7 +42,7 @@ fn arrival_in_time(
     last: StopId,
 ) -> Option<Moment>
     requires usual { IsUsualQuery query.now }
-    requires within { IsWithin query.now standing.at.0 }
+    requires within { IsWithinWindow query.now standing.at.0 }
     ensures { option_map (λ (moment : Moment). moment.0) result ≡ arrival_in_time timetable.now query.now (stand_of standing) last }
 {
     let arrival = timetable.end_arrival(query, standing, last)?;
@@ -63,7 +63,7 @@ fn best_at(
     path: &[CaughtRide],
 ) -> Result<Option<Entry>, AllocError>
     requires usual { IsUsualQuery query.now }
-    requires within { IsWithin query.now standing.at.0 }
+    requires within { IsWithinWindow query.now standing.at.0 }
     requires plain { HasPlainFares timetable.now }
     requires searched { IsSearched timetable.now query.now first (stand_of standing) path.now }
     requires ends { IsTrue (stands_for timetable.now query.now.to last) }
@@ -103,7 +103,7 @@ fn offer_at(
     front: &mut Front<Entry>,
 ) -> Result<(), AllocError>
     requires usual { IsUsualQuery query.now }
-    requires within { IsWithin query.now standing.at.0 }
+    requires within { IsWithinWindow query.now standing.at.0 }
     requires plain { HasPlainFares timetable.now }
     requires searched { IsSearched timetable.now query.now first (stand_of standing) path.now }
     requires ends { IsTrue (stands_for timetable.now query.now.to last) }
@@ -131,7 +131,7 @@ fn offer_ends(
     front: &mut Front<Entry>,
 ) -> Result<(), AllocError>
     requires usual { IsUsualQuery query.now }
-    requires within { IsWithin query.now standing.at.0 }
+    requires within { IsWithinWindow query.now standing.at.0 }
     requires plain { HasPlainFares timetable.now }
     requires searched { IsSearched timetable.now query.now first (stand_of standing) path.now }
     requires few { length path.now ≤ query.now.rides }
@@ -159,7 +159,7 @@ fn explore(
     front: &mut Front<Entry>,
 ) -> Result<(), AllocError>
     requires usual { IsUsualQuery query.now }
-    requires within { IsWithin query.now standing.at.0 }
+    requires within { IsWithinWindow query.now standing.at.0 }
     requires plain { HasPlainFares timetable.now }
     requires searched { IsSearched timetable.now query.now first (stand_of standing) path.old.items }
     requires few { length path.old.items + left ≡ query.now.rides }

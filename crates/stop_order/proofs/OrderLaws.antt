@@ -5,12 +5,12 @@ use Rattle.std.proofs.lemmas.Bool.{cases_Bool, cases_eq, cases_lt, and_parts, an
 use Rattle.plain_laws.specs.Plain.{at_and, any_below}
 use Rattle.plain_laws.proofs.Laws.{IsLast, last_below_tells, last_below_some, any_below_hit, any_below_tells, length-list_below, same_test, at_and-list_below}
 use Rattle.feed_faults.specs.RowKeys.{is_repeated}
-use Rattle.feed_faults.specs.StopTimeRelations.{StopTime, is_timed, is_earlier, first_time, last_time, same_place, comes_before, is_first, is_last, is_end_time_missing, is_nearest_before, do_times_decrease}
+use Rattle.feed_faults.specs.StopTimeRelations.{StopTime, has_time, is_earlier, first_filled, last_filled, same_place, comes_before, is_first, is_last, is_end_time_missing, is_nearest_before, do_times_decrease}
 use Rattle.feed_rows.specs.declared.rows.StopTimeRow.{StopTimeRow}
 use Rattle.trip_order.specs.declared.keys.PlaceKey.{PlaceKey}
 use Rattle.stop_order.specs.Numbered.{numbered_at, named_time, named_times, IsOneTrip, faults_at, first_of_times, last_of_times}
 use Rattle.trip_order.specs.Order.{key_at, AreSorted, Precedes}
-use Rattle.stop_order.specs.Order.{goes_on, repeats, goes_further, is_timed_place, latest_timed, falls_behind, place_faults}
+use Rattle.stop_order.specs.Order.{continues_trip, repeats, goes_further, is_timed_place, latest_timed, falls_behind, place_faults}
 use Rattle.stop_order.proofs.PlaceLaws.{Before, trip, sequence, timed, comes_hit, comes_told_first, comes_told_last, same_hit, same_told, timed_alike}
 
 -- the last timed place is one of the places
@@ -129,8 +129,8 @@ module _ (times : List StopTimeRow) (keys : List PlaceKey) (are : AreSorted time
   inside k lt = rw size (within k lt)
 
   -- the first of a trip
-  pub first_is : is_first rows (row p) ≡ not (goes_on keys p)
-  unfolding is_first goes_on
+  pub first_is : is_first rows (row p) ≡ not (continues_trip keys p)
+  unfolding is_first continues_trip
   first_is = ap not (same_test (any_below (length rows) (λ other. comes_before rows other (row p))) (nat_lt 0 p && ((key_at keys (p - 1)).trip == (key_at keys p).trip))
       (λ some.
       let found = any_below_tells (λ other. comes_before rows other (row p)) (length rows) some in
@@ -166,7 +166,7 @@ module _ (times : List StopTimeRow) (keys : List PlaceKey) (are : AreSorted time
 
   -- a repeated place of a trip
   pub repeated_is : is_repeated (same_place rows) (row p) ≡ repeats keys p
-  unfolding repeats goes_on
+  unfolding repeats continues_trip
   repeated_is = same_test (any_below (row p) (same_place rows (row p))) (nat_lt 0 p && ((key_at keys (p - 1)).trip == (key_at keys p).trip) && ((key_at keys (p - 1)).sequence == (key_at keys p).sequence))
       (λ some.
       let found = any_below_tells (same_place rows (row p)) (row p) some in
@@ -198,15 +198,15 @@ module _ (times : List StopTimeRow) (keys : List PlaceKey) (are : AreSorted time
       any_below_hit (same_place rows (row p)) (row p) (row (p - 1)) ahead same)
 
   -- a place is timed where its row is
-  timed_is : (k : ℕ) → k < length keys → at_and rows (row k) is_timed ≡ is_timed_place times keys k
+  timed_is : (k : ℕ) → k < length keys → at_and rows (row k) has_time ≡ is_timed_place times keys k
   timed_is k lt = timed times text (row k) (within k lt)
 
   -- timed between a row and this one, and nearest to this one
   abbrev between_test : ℕ → ℕ → Bool
-  between_test e other = comes_before rows e other && comes_before rows other (row p) && at_and rows other is_timed
+  between_test e other = comes_before rows e other && comes_before rows other (row p) && at_and rows other has_time
 
   abbrev nearest_test : ℕ → Bool
-  nearest_test e = comes_before rows e (row p) && at_and rows e is_timed && not (any_below (length rows) (between_test e))
+  nearest_test e = comes_before rows e (row p) && at_and rows e has_time && not (any_below (length rows) (between_test e))
 
   -- no row is timed between the last timed place and this one
   none_between : (q : ℕ) → q < p → IsLast (is_timed_place times keys) p q → IsHere q → any_below (length rows) (between_test (row q)) ≡ false
@@ -215,7 +215,7 @@ module _ (times : List StopTimeRow) (keys : List PlaceKey) (are : AreSorted time
       let found = any_below_tells (between_test (row q)) (length rows) some in
       let at = place found.0 found.1 in
       let is : between_test (row q) (row at.0) ≡ true = rw at.2 found.2 in
-      let outer = and_parts (comes_before rows (row q) (row at.0) && comes_before rows (row at.0) (row p)) (at_and rows (row at.0) is_timed) is in
+      let outer = and_parts (comes_before rows (row q) (row at.0) && comes_before rows (row at.0) (row p)) (at_and rows (row at.0) has_time) is in
       let inner = and_parts (comes_before rows (row q) (row at.0)) (comes_before rows (row at.0) (row p)) outer.0 in
       let after = comes_last q at.0 (omega arith) at.1 here inner.0 in
       let ahead = comes_first at.0 p at.1 below refl inner.1 in
@@ -238,8 +238,8 @@ module _ (times : List StopTimeRow) (keys : List PlaceKey) (are : AreSorted time
   nearest_told e small is =
       let at = place e small in
       let is' : nearest_test (row at.0) ≡ true = rw at.2 is in
-      let outer = and_parts (comes_before rows (row at.0) (row p) && at_and rows (row at.0) is_timed) (not (any_below (length rows) (between_test (row at.0)))) is' in
-      let inner = and_parts (comes_before rows (row at.0) (row p)) (at_and rows (row at.0) is_timed) outer.0 in
+      let outer = and_parts (comes_before rows (row at.0) (row p) && at_and rows (row at.0) has_time) (not (any_below (length rows) (between_test (row at.0)))) is' in
+      let inner = and_parts (comes_before rows (row at.0) (row p)) (at_and rows (row at.0) has_time) outer.0 in
       let two = comes_first at.0 p at.1 below refl inner.0 in
       let timed' = sym (timed_is at.0 at.1) ∙ inner.1 in
       let found = last_below_some (is_timed_place times keys) p at.0 two.1 timed' in
@@ -269,10 +269,10 @@ module _ (times : List StopTimeRow) (keys : List PlaceKey) (are : AreSorted time
 
   -- a test of the nearest timed row
   abbrev behind_test : ℕ → Bool
-  behind_test e = is_nearest_before rows e (row p) && at_and rows e (λ y. is_earlier (first_at (row p)) (last_time y))
+  behind_test e = is_nearest_before rows e (row p) && at_and rows e (λ y. is_earlier (first_at (row p)) (last_filled y))
 
-  at_row : (r : ℕ) → r < length times → at_and rows r (λ y. is_earlier (first_at (row p)) (last_time y)) ≡ is_earlier (first_at (row p)) (last_at r)
-  at_row r lt = at_and-list_below (length times) (named_time times text) r (λ y. is_earlier (first_at (row p)) (last_time y)) lt
+  at_row : (r : ℕ) → r < length times → at_and rows r (λ y. is_earlier (first_at (row p)) (last_filled y)) ≡ is_earlier (first_at (row p)) (last_at r)
+  at_row r lt = at_and-list_below (length times) (named_time times text) r (λ y. is_earlier (first_at (row p)) (last_filled y)) lt
 
   falls_from : (latest : Option ℕ) (q r : ℕ) → latest ≡ Some q → IsHere q → row q ≡ r → is_earlier (first_at (row p)) (last_at r) ≡ true → falls_behind times keys p latest ≡ true
   unfolding falls_behind
@@ -285,7 +285,7 @@ module _ (times : List StopTimeRow) (keys : List PlaceKey) (are : AreSorted time
   behind_is = same_test (any_below (length rows) behind_test) (falls_behind times keys p (latest_timed times keys p))
       (λ some.
       let found = any_below_tells behind_test (length rows) some in
-      let two = and_parts (nearest_test found.0) (at_and rows found.0 (λ y. is_earlier (first_at (row p)) (last_time y))) found.2 in
+      let two = and_parts (nearest_test found.0) (at_and rows found.0 (λ y. is_earlier (first_at (row p)) (last_filled y))) found.2 in
       let near = nearest_told found.0 found.1 two.0 in
       let small = found.1 in
       let late = sym (at_row found.0 (omega (arith, size))) ∙ two.1 in
@@ -300,21 +300,21 @@ module _ (times : List StopTimeRow) (keys : List PlaceKey) (are : AreSorted time
           let two = and_parts ((key_at keys q).trip == (key_at keys p).trip) (is_earlier (first_at (row p)) (last_at (row q))) behind in
           let near = nearest_hit q last (eqb-true (key_at keys q).trip (key_at keys p).trip two.0) in
           let small : q < length keys = omega arith in
-          any_below_hit behind_test (length rows) (row q) (inside q small) (and_from (nearest_test (row q)) (at_and rows (row q) (λ y. is_earlier (first_at (row p)) (last_time y))) near (at_row (row q) (within q small) ∙ two.1))
+          any_below_hit behind_test (length rows) (row q) (inside q small) (and_from (nearest_test (row q)) (at_and rows (row q) (λ y. is_earlier (first_at (row p)) (last_filled y))) near (at_row (row q) (within q small) ∙ two.1))
 
   -- times decrease at a place
   pub decreases_is : do_times_decrease rows (row p) ≡ is_earlier (last_at (row p)) (first_at (row p)) || falls_behind times keys p (latest_timed times keys p)
   unfolding do_times_decrease
   decreases_is =
-      at_and-list_below (length times) (named_time times text) (row p) (λ x. is_earlier (last_time x) (first_time x)
-      || any_below (length rows) (λ near. is_nearest_before rows near (row p) && at_and rows near (λ y. is_earlier (first_time x) (last_time y)))) (within p below)
+      at_and-list_below (length times) (named_time times text) (row p) (λ x. is_earlier (last_filled x) (first_filled x)
+      || any_below (length rows) (λ near. is_nearest_before rows near (row p) && at_and rows near (λ y. is_earlier (first_filled x) (last_filled y)))) (within p below)
       ∙ ap (λ (b : Bool). is_earlier (last_at (row p)) (first_at (row p)) || b) behind_is
 
   -- the end of a trip lacks its time
-  pub missing_is : is_end_time_missing rows (row p) ≡ not (is_timed_place times keys p) && (not (goes_on keys p) || not (goes_further keys p))
+  pub missing_is : is_end_time_missing rows (row p) ≡ not (is_timed_place times keys p) && (not (continues_trip keys p) || not (goes_further keys p))
   unfolding is_end_time_missing
   missing_is =
-      ap (λ (b : Bool). b && (is_first rows (row p) || is_last rows (row p))) (at_and-list_below (length times) (named_time times text) (row p) (λ x. not (is_timed x)) (within p below))
+      ap (λ (b : Bool). b && (is_first rows (row p) || is_last rows (row p))) (at_and-list_below (length times) (named_time times text) (row p) (λ x. not (has_time x)) (within p below))
       ∙ ap (λ (b : Bool). not b && (is_first rows (row p) || is_last rows (row p))) (timed_alike times text (row p))
       ∙ rw (first_is, last_is) refl
 

@@ -6,7 +6,7 @@ use Rattle.std.proofs.lemmas.Bool.{and_parts, and_from, eqb-true, eq-eqb}
 use Rattle.std.proofs.lemmas.Bool.Decides.{nat_tests}
 use Rattle.plain_laws.specs.Plain.{at_and}
 use Rattle.plain_laws.proofs.Laws.{at_and-list_below, bytes_eq-true, eq-bytes_eq}
-use Rattle.feed_faults.specs.StopTimeRelations.{StopTime, is_timed, both_and, same_place, comes_before}
+use Rattle.feed_faults.specs.StopTimeRelations.{StopTime, has_time, both_and, same_place, comes_before}
 use Rattle.feed_rows.specs.declared.rows.StopTimeRow.{StopTimeRow}
 use Rattle.stop_order.specs.Numbered.{numbered_at, named_time, named_times, IsOneTrip, is_set}
 
@@ -39,11 +39,11 @@ module _ (times : List StopTimeRow) (text : ℕ → List ℕ) where
       at_and-list_below (length times) (named_time times text) a (λ x. at_and (named_times times text) b (λ y. test x y)) la
       ∙ at_and-list_below (length times) (named_time times text) b (λ y. test (named_time times text a) y) lb
 
-  pub timed_alike : (a : ℕ) → is_timed (named_time times text a) ≡ is_set (numbered_at times a)
+  pub timed_alike : (a : ℕ) → has_time (named_time times text a) ≡ is_set (numbered_at times a)
   timed_alike a = some_time (numbered_at times a).arrival (numbered_at times a).departure
 
-  pub timed : (a : ℕ) → a < length times → at_and (named_times times text) a is_timed ≡ is_set (numbered_at times a)
-  timed a lt = at_and-list_below (length times) (named_time times text) a is_timed lt ∙ timed_alike a
+  pub timed : (a : ℕ) → a < length times → at_and (named_times times text) a has_time ≡ is_set (numbered_at times a)
+  timed a lt = at_and-list_below (length times) (named_time times text) a has_time lt ∙ timed_alike a
 
   module _ (row : ℕ) (within : row < length times) (one : IsOneTrip times text row) where
     -- a row of the trip has its text

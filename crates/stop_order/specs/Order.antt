@@ -9,16 +9,16 @@ use Rattle.stop_order.specs.declared.times.OrderFaults.{OrderFaults}
 use Rattle.stop_order.specs.Numbered.{is_set, first_of_times, last_of_times}
 
 -- the row at a place
-abbrev pub time_at : List StopTimeRow → List PlaceKey → ℕ → StopTimeRow
-time_at times keys place = numbered_at times (key_at keys place).row
+abbrev pub stop_time_at : List StopTimeRow → List PlaceKey → ℕ → StopTimeRow
+stop_time_at times keys place = numbered_at times (key_at keys place).row
 
 -- the place before has the trip of this one
-unfoldable pub goes_on : List PlaceKey → ℕ → Bool
-goes_on keys place = nat_lt 0 place && ((key_at keys (place - 1)).trip == (key_at keys place).trip)
+unfoldable pub continues_trip : List PlaceKey → ℕ → Bool
+continues_trip keys place = nat_lt 0 place && ((key_at keys (place - 1)).trip == (key_at keys place).trip)
 
 -- and its sequence
 unfoldable pub repeats : List PlaceKey → ℕ → Bool
-repeats keys place = goes_on keys place && ((key_at keys (place - 1)).sequence == (key_at keys place).sequence)
+repeats keys place = continues_trip keys place && ((key_at keys (place - 1)).sequence == (key_at keys place).sequence)
 
 -- the place after has the trip of this one
 unfoldable pub goes_further : List PlaceKey → ℕ → Bool
@@ -26,7 +26,7 @@ goes_further keys place = nat_lt (place + 1) (length keys) && ((key_at keys (pla
 
 -- a place is timed
 abbrev pub is_timed_place : List StopTimeRow → List PlaceKey → ℕ → Bool
-is_timed_place times keys place = is_set (time_at times keys place)
+is_timed_place times keys place = is_set (stop_time_at times keys place)
 
 -- the last timed place before this one
 unfoldable pub latest_timed : List StopTimeRow → List PlaceKey → ℕ → Option ℕ
@@ -36,14 +36,14 @@ latest_timed times keys place = last_below place (is_timed_place times keys)
 unfoldable pub falls_behind : List StopTimeRow → List PlaceKey → ℕ → Option ℕ → Bool
 falls_behind times keys place latest =
     filled_and latest (λ q. ((key_at keys q).trip == (key_at keys place).trip)
-    && is_earlier (first_of_times (time_at times keys place)) (last_of_times (time_at times keys q)))
+    && is_earlier (first_of_times (stop_time_at times keys place)) (last_of_times (stop_time_at times keys q)))
 
 -- what is wrong at a place, as its neighbours tell it
 unfoldable pub place_faults : List StopTimeRow → List PlaceKey → ℕ → OrderFaults
 place_faults times keys place =
     record {
       is_repeated = repeats keys place;
-      is_end_time_missing = not (is_timed_place times keys place) && (not (goes_on keys place) || not (goes_further keys place));
-      do_times_decrease = is_earlier (last_of_times (time_at times keys place)) (first_of_times (time_at times keys place))
+      is_end_time_missing = not (is_timed_place times keys place) && (not (continues_trip keys place) || not (goes_further keys place));
+      do_times_decrease = is_earlier (last_of_times (stop_time_at times keys place)) (first_of_times (stop_time_at times keys place))
           || falls_behind times keys place (latest_timed times keys place);
     }

@@ -2,7 +2,7 @@
 ghost use Rattle.std.specs.Prelude.{◌≡◌, ◌<◌, ◌+◌, ◌^◌, ℕ, List, get_or, length, IfOk, IfSome, Option};
 ghost use Rattle.trip_order.specs.Order.{AreSorted};
 ghost use Rattle.stop_order.specs.Numbered.{named_times, IsOneTrip, faults_at, no_faults};
-ghost use Rattle.stop_order.specs.Order.{time_at, goes_on, repeats, goes_further, falls_behind, latest_timed, place_faults};
+ghost use Rattle.stop_order.specs.Order.{stop_time_at, continues_trip, repeats, goes_further, falls_behind, latest_timed, place_faults};
 
 use crate::times::{OrderFaults, is_earlier};
 use feed_rows::StopTimeRow;
@@ -14,22 +14,22 @@ use trip_order::{PlaceKey, first_time, is_timed, last_time, sorted_keys};
 fn time_of(times: &[StopTimeRow], keys: &[PlaceKey], place: usize) -> StopTimeRow
     requires sorted { AreSorted times.now keys.now }
     requires within { place < length keys.now }
-    ensures { result ≡ time_at times.now keys.now place }
+    ensures { result ≡ stop_time_at times.now keys.now place }
 {
     times[keys[place].row as usize]
 }
 
 // Whether the place before has the trip of this one.
-#[tactic(auto, unfolding(crate::specs::Order::goes_on))]
+#[tactic(auto, unfolding(crate::specs::Order::continues_trip))]
 fn goes_on(keys: &[PlaceKey], place: usize) -> bool
     requires { place < length keys.now }
-    ensures { result ≡ goes_on keys.now place }
+    ensures { result ≡ continues_trip keys.now place }
 {
     place > 0 && keys[place - 1].trip == keys[place].trip
 }
 
 // Whether it has its sequence, too.
-#[tactic(auto, unfolding(crate::specs::Order::repeats, crate::specs::Order::goes_on))]
+#[tactic(auto, unfolding(crate::specs::Order::repeats, crate::specs::Order::continues_trip))]
 fn repeats(keys: &[PlaceKey], place: usize) -> bool
     requires { place < length keys.now }
     ensures { result ≡ repeats keys.now place }

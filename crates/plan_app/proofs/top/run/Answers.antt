@@ -1,6 +1,6 @@
 use Rattle.std.proofs.Common.{refl, sym, ap, subst, ◌∙◌}
 use Rattle.std.specs.Prelude.{Some}
-use Rattle.feed_check.specs.LoadErrors.{GivesUp}
+use Rattle.feed_check.specs.LoadErrors.{GivesUpLoading}
 use Rattle.feed_rows.specs.CommandTexts.{refused_line}
 use Rattle.plan_app.specs.Outcomes.{AnswersText}
 use Rattle.plan_app.specs.declared.status.Status.TheVariants as status
@@ -14,7 +14,7 @@ returns-in_default-clause-causes g c =
 
 pub returns-in-Err-Fault-clause-causes : goal.returns-in-Err-Fault-clause-causes
 returns-in-Err-Fault-clause-causes g c =
-    fault_explained c.args.words.now (outside (g.F.Folder.holds c.args.folder.now) (g.F.Folder.faults c.args.folder.now) (g.F.Folder.faults c.load.new.folder) (g.S.Sink.written c.args.sink.now) (g.S.Sink.written c.answer_refused.new.sink) (g.S.Sink.faults c.args.sink.now) (g.S.Sink.faults c.answer_refused.new.sink)) (asked_request c.in-Some.asked) c.in-Err-Fault.fault (g.F.Folder.failed c.load.new.folder) c.answer_refused.result c.in-Some.ensures.value (subst (λ e. GivesUp e (g.F.Folder.holds c.args.folder.now) (g.F.Folder.faults c.args.folder.now) (g.F.Folder.faults c.load.new.folder) (g.F.Folder.failed c.load.new.folder)) c.in-Err-Fault.field-0-is c.in-Err-Fault.ensures.err) (subst (λ f. AnswersText (refused_line f) (status.Refused f) (sink_side (outside (g.F.Folder.holds c.args.folder.now) (g.F.Folder.faults c.args.folder.now) (g.F.Folder.faults c.load.new.folder) (g.S.Sink.written c.args.sink.now) (g.S.Sink.written c.answer_refused.new.sink) (g.S.Sink.faults c.args.sink.now) (g.S.Sink.faults c.answer_refused.new.sink))) c.answer_refused.result) c.in-Err-Fault.fault-is c.answer_refused.ensures.told)
+    fault_explained c.args.words.now (outside (g.F.Folder.holds c.args.folder.now) (g.F.Folder.faults c.args.folder.now) (g.F.Folder.faults c.load.new.folder) (g.S.Sink.written c.args.sink.now) (g.S.Sink.written c.answer_refused.new.sink) (g.S.Sink.faults c.args.sink.now) (g.S.Sink.faults c.answer_refused.new.sink)) (asked_request c.in-Some.asked) c.in-Err-Fault.fault (g.F.Folder.failed c.load.new.folder) c.answer_refused.result c.in-Some.ensures.value (subst (λ e. GivesUpLoading e (g.F.Folder.holds c.args.folder.now) (g.F.Folder.faults c.args.folder.now) (g.F.Folder.faults c.load.new.folder) (g.F.Folder.failed c.load.new.folder)) c.in-Err-Fault.field-0-is c.in-Err-Fault.ensures.err) (subst (λ f. AnswersText (refused_line f) (status.Refused f) (sink_side (outside (g.F.Folder.holds c.args.folder.now) (g.F.Folder.faults c.args.folder.now) (g.F.Folder.faults c.load.new.folder) (g.S.Sink.written c.args.sink.now) (g.S.Sink.written c.answer_refused.new.sink) (g.S.Sink.faults c.args.sink.now) (g.S.Sink.faults c.answer_refused.new.sink))) c.answer_refused.result) c.in-Err-Fault.fault-is c.answer_refused.ensures.told)
 
 pub returns-in-Check-clause-causes : goal.returns-in-Check-clause-causes
 returns-in-Check-clause-causes g c =
