@@ -29,6 +29,21 @@ pub record IsLast (test : ℕ → Bool) (n i : ℕ) : Type 0 where
 abbrev pub NonePass : (ℕ → Bool) → ℕ → Type 0
 NonePass test n = (k : ℕ) → k < n → test k ≡ false
 
+-- a number is found, and it is so, or none is found, and that is so
+abbrev pub IsFound : Option ℕ → (ℕ → Type 0) → Type 0 → Type 0
+IsFound found is none = ((i : ℕ) × (found ≡ Some i) × is i) ⊎ ((found ≡ None) × none)
+
+module _ {found : Option ℕ} {is : ℕ → Type 0} {none : Type 0} where
+  -- what is found is so
+  found_is : {i : ℕ} → IsFound found is none → found ≡ Some i → is i
+  found_is (inl there) e = subst is (same_Some _ _ (sym there.1 ∙ e)) there.2
+  found_is {i} (inr nothing) e = absurd (none-some i (sym nothing.0 ∙ e))
+
+  -- where it can't be that none is found, one is
+  some_found : IsFound found is none → (none → (i : ℕ) × (found ≡ Some i) × is i) → (i : ℕ) × (found ≡ Some i) × is i
+  some_found (inl there) never = there
+  some_found (inr nothing) never = never nothing.1
+
 -- where none passes, none is found
 pub find_below_none : (test : ℕ → Bool) (n : ℕ) → NonePass test n → find_below n test ≡ None
 find_below_none test zero none = refl
@@ -48,12 +63,11 @@ find_below_hit test (suc n) i first = step (λ lt. find_below_hit test n i (reco
         rw (find_below_none test n (λ k lt. first.earlier k (omega arith)), here) (ap Some same)
 
 -- the first that passes, or none
-pub find_below_cases : (test : ℕ → Bool) (n : ℕ) → ((i : ℕ) × (find_below n test ≡ Some i) × IsFirst test n i) ⊎ ((find_below n test ≡ None) × NonePass test n)
+pub find_below_cases : (test : ℕ → Bool) (n : ℕ) → IsFound (find_below n test) (IsFirst test n) (NonePass test n)
 find_below_cases test zero = inr (refl, λ k lt. absurd (omega arith))
 find_below_cases test (suc n) = step (find_below_cases test n) (cases_Bool (test n))
   where
-    step : ((i : ℕ) × (find_below n test ≡ Some i) × IsFirst test n i) ⊎ ((find_below n test ≡ None) × NonePass test n) → (test n ≡ true) ⊎ (test n ≡ false) →
-        ((i : ℕ) × (find_below (suc n) test ≡ Some i) × IsFirst test (suc n) i) ⊎ ((find_below (suc n) test ≡ None) × NonePass test (suc n))
+    step : IsFound (find_below n test) (IsFirst test n) (NonePass test n) → (test n ≡ true) ⊎ (test n ≡ false) → IsFound (find_below (suc n) test) (IsFirst test (suc n)) (NonePass test (suc n))
     step (inl found) here =
         let first = found.2 in
         let within = first.within in
@@ -68,19 +82,11 @@ find_below_cases test (suc n) = step (find_below_cases test n) (cases_Bool (test
 
 -- what is found is the first that passes
 pub find_below_tells : (test : ℕ → Bool) (n i : ℕ) → find_below n test ≡ Some i → IsFirst test n i
-find_below_tells test n i e = step (find_below_cases test n)
-  where
-    step : ((i : ℕ) × (find_below n test ≡ Some i) × IsFirst test n i) ⊎ ((find_below n test ≡ None) × NonePass test n) → IsFirst test n i
-    step (inl found) = subst (IsFirst test n) (same_Some _ _ (sym found.1 ∙ e)) found.2
-    step (inr none) = absurd (none-some i (sym none.0 ∙ e))
+find_below_tells test n i = found_is (find_below_cases test n)
 
 -- where one passes, one is found
 pub find_below_some : (test : ℕ → Bool) (n k : ℕ) → k < n → test k ≡ true → (i : ℕ) × (find_below n test ≡ Some i) × IsFirst test n i
-find_below_some test n k lt here = step (find_below_cases test n)
-  where
-    step : ((i : ℕ) × (find_below n test ≡ Some i) × IsFirst test n i) ⊎ ((find_below n test ≡ None) × NonePass test n) → (i : ℕ) × (find_below n test ≡ Some i) × IsFirst test n i
-    step (inl found) = found
-    step (inr none) = absurd (let no : true ≡ false = sym here ∙ none.1 k lt in cc)
+find_below_some test n k lt here = some_found (find_below_cases test n) (λ none. absurd (let no : true ≡ false = sym here ∙ none k lt in cc))
 
 -- tests that agree below n find the same
 pub find_below-same : (test other : ℕ → Bool) (n : ℕ) → ((k : ℕ) → k < n → test k ≡ other k) → find_below n test ≡ find_below n other
@@ -106,12 +112,11 @@ last_below_hit test (suc n) i last = step (λ lt. last_below_hit test n i (recor
         rw here (ap Some same)
 
 -- the last that passes, or none
-pub last_below_cases : (test : ℕ → Bool) (n : ℕ) → ((i : ℕ) × (last_below n test ≡ Some i) × IsLast test n i) ⊎ ((last_below n test ≡ None) × NonePass test n)
+pub last_below_cases : (test : ℕ → Bool) (n : ℕ) → IsFound (last_below n test) (IsLast test n) (NonePass test n)
 last_below_cases test zero = inr (refl, λ k lt. absurd (omega arith))
 last_below_cases test (suc n) = step (last_below_cases test n) (cases_Bool (test n))
   where
-    step : ((i : ℕ) × (last_below n test ≡ Some i) × IsLast test n i) ⊎ ((last_below n test ≡ None) × NonePass test n) → (test n ≡ true) ⊎ (test n ≡ false) →
-        ((i : ℕ) × (last_below (suc n) test ≡ Some i) × IsLast test (suc n) i) ⊎ ((last_below (suc n) test ≡ None) × NonePass test (suc n))
+    step : IsFound (last_below n test) (IsLast test n) (NonePass test n) → (test n ≡ true) ⊎ (test n ≡ false) → IsFound (last_below (suc n) test) (IsLast test (suc n)) (NonePass test (suc n))
     step before (inl here) =
         let last : IsLast test (suc n) n = record { within = omega arith; passes = here; later = λ k from to. absurd (omega arith) } in
         inl (n, last_below_hit test (suc n) n last, last)
@@ -131,19 +136,11 @@ last_below_cases test (suc n) = step (last_below_cases test n) (cases_Bool (test
 
 -- what is found is the last that passes
 pub last_below_tells : (test : ℕ → Bool) (n i : ℕ) → last_below n test ≡ Some i → IsLast test n i
-last_below_tells test n i e = step (last_below_cases test n)
-  where
-    step : ((i : ℕ) × (last_below n test ≡ Some i) × IsLast test n i) ⊎ ((last_below n test ≡ None) × NonePass test n) → IsLast test n i
-    step (inl found) = subst (IsLast test n) (same_Some _ _ (sym found.1 ∙ e)) found.2
-    step (inr none) = absurd (none-some i (sym none.0 ∙ e))
+last_below_tells test n i = found_is (last_below_cases test n)
 
 -- where one passes, there is a last
 pub last_below_some : (test : ℕ → Bool) (n k : ℕ) → k < n → test k ≡ true → (i : ℕ) × (last_below n test ≡ Some i) × IsLast test n i
-last_below_some test n k lt here = step (last_below_cases test n)
-  where
-    step : ((i : ℕ) × (last_below n test ≡ Some i) × IsLast test n i) ⊎ ((last_below n test ≡ None) × NonePass test n) → (i : ℕ) × (last_below n test ≡ Some i) × IsLast test n i
-    step (inl found) = found
-    step (inr none) = absurd (let no : true ≡ false = sym here ∙ none.1 k lt in cc)
+last_below_some test n k lt here = some_found (last_below_cases test n) (λ none. absurd (let no : true ≡ false = sym here ∙ none k lt in cc))
 
 -- some number passes where this one does
 pub any_below_hit : (test : ℕ → Bool) (n k : ℕ) → k < n → test k ≡ true → any_below n test ≡ true
