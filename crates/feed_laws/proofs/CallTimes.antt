@@ -13,7 +13,7 @@ use Rattle.feed_rows.specs.CallPass.{TimedGap, time_in}
 use Rattle.feed_rows.specs.Calls.{last_time, first_time, is_timed, time_between, timed_before, calls_of, trip_stop_times, first_departure}
 use Rattle.feed_rows.specs.TimedTrips.{first_at, last_at, is_timed_at, HasTimedEnds, DoTimesRise, AreTimesAtMost, DoTimesEndBy}
 use Rattle.feed_laws.proofs.SequenceLaws.{trip_stop_times_all}
-use Rattle.feed_laws.proofs.TimedLaws.{timed_within, IsTimedBefore, IsTimedAfter, timed_before_hit, timed_before_tells, timed_after_hit, timed_at, untimed_row}
+use Rattle.feed_laws.proofs.TimedLaws.{timed_within, IsTimedBefore, IsTimedAfter, timed_before_hit, timed_before_tells, timed_after_hit, timed_at, last_timed, timed_where}
 use Rattle.plain_laws.proofs.Laws.{last_below_some}
 use Rattle.feed_laws.proofs.CallLaws.{HasOwnTimes, HasFilledTime, IsAround, calls_of_row}
 
@@ -109,26 +109,10 @@ around_rises rows m gap rise around =
 
 -- a position with a time is timed
 pub last_at_timed : (rows : List StopTimeRow) (m t : ℕ) → last_at rows m ≡ Some t → is_timed_at rows m ≡ true
-last_at_timed rows m t e = step (slice_get rows m) refl
-  where
-    tell : (row : StopTimeRow) → last_time row ≡ Some t → (is_timed row ≡ true) ⊎ (is_timed row ≡ false) → is_timed row ≡ true
-    tell row at (inl timed) = timed
-    tell row at (inr untimed) = absurd (none-some t (sym (untimed_row row untimed).1 ∙ at))
-
-    step : (o : Option StopTimeRow) → slice_get rows m ≡ o → is_timed_at rows m ≡ true
-    step None none = absurd (none-some t (rw none at e))
-    step (Some row) at = rw at (tell row (rw at at e) (cases_Bool (is_timed row)))
+last_at_timed = timed_where last_time last_timed
 
 pub first_at_timed : (rows : List StopTimeRow) (m t : ℕ) → first_at rows m ≡ Some t → is_timed_at rows m ≡ true
-first_at_timed rows m t e = step (slice_get rows m) refl
-  where
-    tell : (row : StopTimeRow) → first_time row ≡ Some t → (is_timed row ≡ true) ⊎ (is_timed row ≡ false) → is_timed row ≡ true
-    tell row at (inl timed) = timed
-    tell row at (inr untimed) = absurd (none-some t (sym (untimed_row row untimed).0 ∙ at))
-
-    step : (o : Option StopTimeRow) → slice_get rows m ≡ o → is_timed_at rows m ≡ true
-    step None none = absurd (none-some t (rw none at e))
-    step (Some row) at = rw at (tell row (rw at at e) (cases_Bool (is_timed row)))
+first_at_timed = timed_where first_time (λ row timed. timed)
 
 -- times don't fall where none is less than that of the nearest timed row before
 pub record DoTimesRiseByNearest (rows : List StopTimeRow) : Type 0 where

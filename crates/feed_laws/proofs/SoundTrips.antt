@@ -16,7 +16,7 @@ use Rattle.feed_rows.specs.SoundTimetable.{AreSoundStopTimes, AreOrderedCalls, I
 use Rattle.feed_rows.specs.SoundFeed.{IsSoundFeed}
 use Rattle.plain_laws.proofs.Laws.{All-slice_get, Contains-filter}
 use Rattle.feed_laws.proofs.SequenceLaws.{IsBefore, AreCallsApart, IsPermutation-in_sequence, in_sequence_members, in_sequence_sorted, trip_stop_times_all, trip_stop_times_strict}
-use Rattle.feed_laws.proofs.TimedLaws.{untimed_row}
+use Rattle.feed_laws.proofs.TimedLaws.{last_timed}
 use Rattle.feed_laws.proofs.CallTimes.{trip_times_most}
 
 -- the rows of a trip are its own
@@ -58,21 +58,6 @@ row_at feed trip m row at =
 pub calls_apart : (feed : FeedRows) → AreOrderedCalls feed → AreCallsApart feed
 calls_apart feed sound = sound.no_doubles
 
--- a row with a first time is timed, and so is one with a last time
-timed_first : (row : StopTimeRow) → IsSome (first_time row) → is_timed row ≡ true
-timed_first row some = step (cases_Bool (is_timed row))
-  where
-    step : (is_timed row ≡ true) ⊎ (is_timed row ≡ false) → is_timed row ≡ true
-    step (inl timed) = timed
-    step (inr untimed) = let none = (untimed_row row untimed).0 in absurd (let no : false ≡ true = rw none at some in cc)
-
-timed_last : (row : StopTimeRow) → IsSome (last_time row) → is_timed row ≡ true
-timed_last row some = step (cases_Bool (is_timed row))
-  where
-    step : (is_timed row ≡ true) ⊎ (is_timed row ≡ false) → is_timed row ≡ true
-    step (inl timed) = timed
-    step (inr untimed) = let none = (untimed_row row untimed).1 in absurd (let no : false ≡ true = rw none at some in cc)
-
 -- rows of a trip don't fall, from position to position
 not_after : (feed : FeedRows) (trip : TripId) (i j : ℕ) (d : StopTimeRow) → i ≤ j → j < length (trip_stop_times feed trip) → (get_or (trip_stop_times feed trip) i d).sequence ≤ (get_or (trip_stop_times feed trip) j d).sequence
 not_after feed trip i j d le within = step (cases_eq i j)
@@ -102,7 +87,7 @@ sound_ends feed trip sound = record { first = λ some. first some (at 0 some).0 
     first some row got =
         let is = row_at feed trip 0 row got in
         let begins : IsFirstCall feed row = λ k d lt same. least (get_or feed.stop_times k d) (trip_rows_all feed trip (get_or feed.stop_times k d) (Contains-get_or feed.stop_times k d lt) (same ∙ is.own)) in
-        let timed = timed_first row (All-contains (λ (c : StopTimeRow). IsFirstCall feed c → IsSome (first_time c)) feed.stop_times row sound.firsts is.member begins) in
+        let timed = All-contains (λ (c : StopTimeRow). IsFirstCall feed c → IsSome (first_time c)) feed.stop_times row sound.firsts is.member begins in
         rw got timed
       where
         least : (other : StopTimeRow) → Contains rows other → row.sequence ≤ other.sequence
@@ -114,7 +99,7 @@ sound_ends feed trip sound = record { first = λ some. first some (at 0 some).0 
     last some row got =
         let is = row_at feed trip (length rows - 1) row got in
         let ends : IsLastCall feed row = λ k d lt same. most (get_or feed.stop_times k d) (trip_rows_all feed trip (get_or feed.stop_times k d) (Contains-get_or feed.stop_times k d lt) (same ∙ is.own)) in
-        let timed = timed_last row (All-contains (λ (c : StopTimeRow). IsLastCall feed c → IsSome (last_time c)) feed.stop_times row sound.lasts is.member ends) in
+        let timed = last_timed row (All-contains (λ (c : StopTimeRow). IsLastCall feed c → IsSome (last_time c)) feed.stop_times row sound.lasts is.member ends) in
         rw got timed
       where
         most : (other : StopTimeRow) → Contains rows other → other.sequence ≤ row.sequence

@@ -1,9 +1,9 @@
 -- The timed rows of a trip: the nearest before and after a position, and how they go on from position to position.
 use Rattle.std.proofs.Common.{◌≡◌, refl, sym, ◌∙◌, ap, ℕ, suc, ◌+◌, ◌-◌, ◌<◌, ◌≤◌, ◌⊎◌, inl, inr, ⊎_elim, Bool, true, false, ◌&&◌, nat_lt, List, length, get_or, arith}
-use Rattle.std.specs.Prelude.{Option, Some, None, slice_get}
-use Rattle.std.proofs.lemmas.Bool.{cases_lt, cases_eq, and_parts, and_from}
+use Rattle.std.specs.Prelude.{Option, Some, None, IsSome, slice_get, option_and_then}
+use Rattle.std.proofs.lemmas.Bool.{cases_lt, cases_eq, cases_Bool, and_parts, and_from}
 use Rattle.std.proofs.lemmas.Bool.Decides.{nat_tests}
-use Rattle.std.proofs.lemmas.Option.{slice_get_past, slice_get-get_or}
+use Rattle.std.proofs.lemmas.Option.{slice_get_past, slice_get-get_or, none-some}
 use Rattle.feed_rows.specs.declared.rows.StopTimeRow.{StopTimeRow}
 use Rattle.feed_rows.specs.Calls.{first_time, last_time, is_timed, timed_before, timed_after}
 use Rattle.feed_rows.specs.CallPass.{next_timed}
@@ -196,6 +196,23 @@ untimed_row row untimed = step row.arrival row.departure refl refl
     step (Some a) d p q = let no : true ≡ false = rw p at untimed in absurd (cc)
     step None (Some d) p q = let no : true ≡ false = rw (p, q) at untimed in absurd (cc)
     step None None p q = (rw (p, q) refl, rw (q, p) refl)
+
+-- a row with a last time is timed, as is one with a first time by what it is to be timed
+pub last_timed : (row : StopTimeRow) → IsSome (last_time row) → is_timed row ≡ true
+last_timed row some = step (cases_Bool (is_timed row))
+  where
+    step : (is_timed row ≡ true) ⊎ (is_timed row ≡ false) → is_timed row ≡ true
+    step (inl timed) = timed
+    step (inr untimed) = let none = (untimed_row row untimed).1 in absurd (let no : false ≡ true = rw none at some in cc)
+
+-- a position whose row has a time of the kind is timed, where each row with such a time is
+pub timed_where : (time : StopTimeRow → Option ℕ) → ((row : StopTimeRow) → IsSome (time row) → is_timed row ≡ true) →
+    (rows : List StopTimeRow) (m t : ℕ) → option_and_then time (slice_get rows m) ≡ Some t → is_timed_at rows m ≡ true
+timed_where time timed rows m t e = step (slice_get rows m) refl
+  where
+    step : (o : Option StopTimeRow) → slice_get rows m ≡ o → is_timed_at rows m ≡ true
+    step None none = absurd (none-some t (rw none at e))
+    step (Some row) at = let is : time row ≡ Some t = rw at at e in rw at (timed row (rw is refl))
 
 -- the times at a timed position
 pub timed_at : (rows : List StopTimeRow) (m : ℕ) → is_timed_at rows m ≡ true → (first : ℕ) × (last : ℕ) × (first_at rows m ≡ Some first) × (last_at rows m ≡ Some last)
