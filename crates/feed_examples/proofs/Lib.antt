@@ -17,6 +17,7 @@ pub mod GeneratedAnswers
 pub mod GeneratedChecks
 pub mod GeneratedStopTimes
 pub mod NameChecks
+pub mod NameTexts
 pub mod PlainPlans
 pub mod PriceRides
 pub mod PriceWords

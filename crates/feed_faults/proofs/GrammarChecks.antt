@@ -22,7 +22,7 @@ ids = refl
 small_integers : AreRead (int_value (pos 0) (pos 4))
     ((codes "0", Some (pos 0)) ∷ (codes "4", Some (pos 4)) ∷ (codes "5", None) ∷ (codes "-0", Some (pos 0)) ∷ (codes "-00", Some (pos 0))
     ∷ (codes "04", Some (pos 4)) ∷ (replicate 40 48 ++ codes "3", Some (pos 3)) ∷ (codes "-1", None) ∷ (codes "+3", None) ∷ (codes "", None)
-    ∷ (codes "-", None) ∷ (codes "--1", None) ∷ (codes " 3", None) ∷ (codes "3 ", None) ∷ (codes "3.0", None) ∷ (codes "3a", None) ∷ [])
+    ∷ (codes "-", None) ∷ (codes "--1", None) ∷ (codes " 3", None) ∷ (codes "3 ", None) ∷ (codes "1 2", None) ∷ (codes "3.0", None) ∷ (codes "3a", None) ∷ [])
 unfolding grammars_on_literals
 small_integers = refl
 
@@ -42,11 +42,11 @@ counts = refl
 
 -- times of at most 167:59:59
 times : AreRead (time_value 604799)
-    ((codes "08:00:00", Some 28800) ∷ (codes "8:00:00", Some 28800) ∷ (codes "008:00:00", Some 28800) ∷ (codes "0008:00:00", None)
+    ((codes "08:05:09", Some 29109) ∷ (codes "8:00:00", Some 28800) ∷ (codes "008:00:00", Some 28800) ∷ (codes "0008:00:00", None)
     ∷ (codes "24:00:00", Some 86400) ∷ (codes "25:10:00", Some 90600) ∷ (codes "99:59:59", Some 359999) ∷ (codes "167:59:59", Some 604799)
     ∷ (codes "168:00:00", None) ∷ (codes "08:60:00", None) ∷ (codes "08:00:60", None) ∷ (codes "08:59:59", Some 32399) ∷ (codes "09:0", None)
     ∷ (codes "8:0:00", None) ∷ (codes ":00:00", None) ∷ (codes "08:00", None) ∷ (codes "08:00:0", None) ∷ (codes "08:00:000", None)
-    ∷ (codes "-8:00:00", None) ∷ (codes "+8:00:00", None) ∷ (codes "08-00:00", None) ∷ (codes "08:00-00", None) ∷ (codes "08:00:00 ", None)
+    ∷ (codes "-8:00:00", None) ∷ (codes "+8:00:00", None) ∷ (codes "08-00:00", None) ∷ (codes "08-00-00", None) ∷ (codes "08:00-00", None) ∷ (codes "08:00:00 ", None)
     ∷ (codes "0a:00:00", None) ∷ (codes "", None) ∷ [])
 unfolding grammars_on_literals
 times = refl
@@ -68,7 +68,7 @@ dates : AreRead date_value
     ∷ (codes "00010101", Some (day_number 1 1 1)) ∷ (codes "00000101", None) ∷ (codes "99991231", Some (day_number 9999 12 31))
     ∷ (codes "20240229", Some (day_number 2024 2 29)) ∷ (codes "20250229", None) ∷ (codes "19000229", None) ∷ (codes "20000229", Some (day_number 2000 2 29))
     ∷ (codes "20251301", None) ∷ (codes "20250001", None) ∷ (codes "20250600", None) ∷ (codes "2025060", None) ∷ (codes "202506020", None)
-    ∷ (codes "2025-6-2", None) ∷ (codes "-2025602", None) ∷ (codes "", None) ∷ [])
+    ∷ (codes "2025-6-2", None) ∷ (codes "2025 602", None) ∷ (codes "-2025602", None) ∷ (codes "", None) ∷ [])
 unfolding grammars_on_literals
 dates = refl
 
@@ -84,7 +84,7 @@ currencies = refl
 amounts_of_two : AreRead (amount_value 2)
     ((codes "2.50", Some (pos 250)) ∷ (codes "2.5", Some (pos 250)) ∷ (codes "2.500", Some (pos 250)) ∷ (codes "2.505", None) ∷ (codes "2", Some (pos 200))
     ∷ (codes "5.", None) ∷ (codes ".5", None) ∷ (codes "-.5", None) ∷ (codes "-2.05", Some (negsuc 204)) ∷ (codes "-0.00", Some (pos 0)) ∷ (codes "-0", Some (pos 0))
-    ∷ (codes "0.05", Some (pos 5)) ∷ (codes "0.005", None) ∷ (codes "1.2.3", None) ∷ (codes "1,50", None) ∷ (codes "+5", None) ∷ (codes "", None) ∷ (codes "-", None)
+    ∷ (codes "0.05", Some (pos 5)) ∷ (codes "-0.05", Some (negsuc 4)) ∷ (codes "0.005", None) ∷ (codes "1.2.3", None) ∷ (codes "1,50", None) ∷ (codes "+5", None) ∷ (codes "", None) ∷ (codes "-", None)
     ∷ (codes ".", None) ∷ (codes " 5", None) ∷ (codes "1.-5", None) ∷ (codes "2.5" ++ replicate 40 48, Some (pos 250)) ∷ (replicate 40 48 ++ codes "7", Some (pos 700))
     ∷ (codes "10000000000.00", Some (pos 1000000000000)) ∷ (codes "10000000000.01", None) ∷ (codes "-10000000000", Some (negsuc 999999999999)) ∷ (codes "-10000000000.01", None) ∷ [])
 unfolding grammars_on_literals

@@ -1,5 +1,6 @@
 pub mod Folders
 pub mod GrammarChecks
+pub mod ColumnEdges
 pub mod BaseFeed
 pub mod Expected
 pub mod WorkedFaults
