@@ -2,7 +2,5 @@
 #![tactic(auto)]
 
 mod columns;
-#[cfg(test)]
-mod tests;
 
 pub use columns::{ColumnRule, EmptyField, Grammar, columns_of};

@@ -8,8 +8,6 @@ mod ids;
 mod journeys;
 mod names;
 mod rows;
-#[cfg(test)]
-mod tests;
 mod usage;
 
 pub use fares::{

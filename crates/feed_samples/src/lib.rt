@@ -3,8 +3,6 @@
 
 mod base;
 mod lists;
-#[cfg(test)]
-mod tests;
 mod varied;
 
 pub use base::base_feed;

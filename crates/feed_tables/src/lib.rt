@@ -13,8 +13,6 @@ mod named;
 mod reading;
 mod rows;
 mod tables;
-#[cfg(test)]
-mod tests;
 
 pub use files::MOST_ROWS;
 pub use ids::TableIds;

@@ -10,8 +10,6 @@ mod ids;
 mod numbers;
 mod reading;
 mod table;
-#[cfg(test)]
-mod tests;
 mod values;
 
 pub use amounts::amount_of;

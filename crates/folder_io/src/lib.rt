@@ -15,8 +15,6 @@ mod sure_folder;
 mod sure_sink;
 mod system_folder;
 mod system_sink;
-#[cfg(test)]
-mod tests;
 
 pub use count_sink::CountSink;
 pub use files::{ByteText, FileBytes, Files};

@@ -3,7 +3,5 @@
 
 mod entries;
 mod front;
-#[cfg(test)]
-mod tests;
 
 pub use front::{Front, Ranked};

@@ -5,8 +5,6 @@
 mod groups;
 mod lists;
 mod parts;
-#[cfg(test)]
-mod tests;
 
 pub use groups::{Grouped, Groups};
 pub use lists::{AscendingList, ItemList};

@@ -2,8 +2,6 @@
 #![tactic(auto)]
 
 mod pass;
-#[cfg(test)]
-mod tests;
 mod times;
 
 pub use pass::order_faults;

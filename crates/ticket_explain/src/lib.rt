@@ -5,8 +5,6 @@ mod entries;
 mod line;
 mod lookups;
 mod rides;
-#[cfg(test)]
-mod tests;
 mod text;
 mod tickets;
 mod travel;

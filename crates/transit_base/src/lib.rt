@@ -4,8 +4,6 @@
 mod calendar;
 mod moments;
 mod numbers;
-#[cfg(test)]
-mod tests;
 mod texts;
 
 pub use calendar::{Day, day_of};

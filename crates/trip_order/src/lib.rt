@@ -4,8 +4,6 @@
 
 mod keys;
 mod stretches;
-#[cfg(test)]
-mod tests;
 mod times;
 
 pub use keys::{PlaceKey, sorted_keys};

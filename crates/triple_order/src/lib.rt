@@ -11,9 +11,6 @@ ghost use Rattle.feed_rows.specs.JourneyEntries.{IsMinimal, IsExactAnswer};
 
 use feed_rows::Triple;
 
-#[cfg(test)]
-mod tests;
-
 // Whether each part of the one is at most the other's.
 fn has_parts_at_most(one: Triple, other: Triple) -> bool
     ensures { result ≡ at_most one other }

@@ -2,9 +2,9 @@
 ghost use Rattle.std.specs.Prelude.{◌≡◌};
 ghost use Rattle.feed_calendar.specs.BuiltCalendar.{IsCalendarOf};
 
-use crate::{base_feed, varied_feed};
 use feed_calendar::Calendar;
 use feed_rows::{Feed, Ride, RideFacts, Shifts};
+use feed_samples::{base_feed, varied_feed};
 use feed_stops::{Stops, stop_sets};
 use feed_trips::Trips;
 use feed_walks::{Step, Walks};
@@ -202,7 +202,11 @@ fn check_rides(rt: &impl Abort, alloc: Global, feed: &Feed) -> Result<(), AllocE
             to,
         };
         let facts = facts_of(rt, feed, &calendar, &trips, &ride);
-        assert_eq!(rt; numbers_of(facts), want, "of {ride:?}");
+        assert_eq!(rt;
+            numbers_of(facts),
+            want,
+            "of trip {trip} on day {day} from {from} to {to}"
+        );
     }
     Ok(())
 }

@@ -2,11 +2,11 @@
 ghost use Rattle.std.specs.Prelude.{IfOk, IsTrue};
 ghost use Rattle.folder_io.specs.KeptFiles.{are_whole};
 
-use crate::{
+use feed_rows::FileName;
+use folder_io::{
     ByteText, CountSink, Cut, DirFolder, FileBytes, Files, MemFolder, MemSink, ReadError, Sink,
     StdSink, SureFolder, SureSink, Wrote, read_file, read_files,
 };
-use feed_rows::FileName;
 use std::alloc::{AllocError, Global};
 use std::fs;
 use std::test::Fail;

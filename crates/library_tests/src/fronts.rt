@@ -1,6 +1,6 @@
 // The members that are left of offers of an arrival and a price each.
-use crate::Front;
 use feed_rows::{ChangeChoices, Choice, Entry, Journey, LegChoices, RideList, Triple};
+use pareto_front::Front;
 use std::alloc::Global;
 use std::test::Fail;
 use transit_base::{Moment, Money, StopId};
