@@ -15,7 +15,7 @@ use folder_io::Files;
 use std::alloc::{AllocError, Global};
 
 /// Why files make no feed.
-#[derive(Clone, Copy, Debug, PartialEq, Eq)]
+#[derive(Clone, Copy, PartialEq, Eq)]
 pub enum CheckError {
     /// The first fault of the files.
     Fault(FeedFault),

@@ -10,7 +10,7 @@ use folder_io::{Folder, ReadError, read_files};
 use std::alloc::Global;
 
 /// Why a folder gives no feed.
-#[derive(Clone, Copy, Debug, PartialEq, Eq)]
+#[derive(Clone, Copy, PartialEq, Eq)]
 pub enum LoadError {
     /// A call of the folder failed: its count of faults rose.
     ReadFault,

@@ -6,7 +6,7 @@ use feed_rows::{ColumnName, FileName};
 use transit_base::{DAY_SECONDS, MOST_TIME};
 
 /// What the fields of a column are, where they are filled.
-#[derive(Clone, Copy, Debug, PartialEq, Eq)]
+#[derive(Clone, Copy, PartialEq, Eq)]
 pub enum Grammar {
     /// 1 to 255 bytes without tab, line feed and carriage return.
     Id,
@@ -25,7 +25,7 @@ pub enum Grammar {
 }
 
 /// What an empty field of a column is.
-#[derive(Clone, Copy, Debug, PartialEq, Eq)]
+#[derive(Clone, Copy, PartialEq, Eq)]
 pub enum EmptyField {
     /// No fault. The column itself may be absent too.
     Fine,
@@ -36,7 +36,7 @@ pub enum EmptyField {
 }
 
 /// A column of a file, and how its fields are judged.
-#[derive(Clone, Copy, Debug, PartialEq, Eq)]
+#[derive(Clone, Copy, PartialEq, Eq)]
 pub struct ColumnRule {
     pub name: ColumnName,
     pub empty: EmptyField,

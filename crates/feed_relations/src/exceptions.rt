@@ -17,7 +17,7 @@ use std::alloc::{AllocError, Global};
 use std::collections::BTreeSet;
 
 // The service of an exception, as the earliest row of it, and its day.
-#[derive(Clone, Copy, Debug, PartialEq, Eq, PartialOrd, Ord)]
+#[derive(Clone, Copy, PartialEq, Eq, PartialOrd, Ord)]
 pub struct ExceptionKey {
     pub service: u32,
     pub day: i64,

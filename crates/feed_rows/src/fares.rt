@@ -13,7 +13,7 @@ pub type RuleList = ItemList<RuleId>;
 pub type XferList = ItemList<XferId>;
 
 /// What transfer rules look at in a change between two legs.
-#[derive(Clone, Copy, Debug)]
+#[derive(Clone, Copy)]
 pub struct TransferFacts {
     /// The leg group of the leg before the change.
     pub from: LegGroupId,
@@ -32,14 +32,14 @@ pub struct TransferFacts {
 }
 
 /// The rule and the product row chosen for a leg.
-#[derive(Clone, Copy, Debug)]
+#[derive(Clone, Copy)]
 pub struct LegChoice {
     pub rule: RuleId,
     pub product: ProductRowId,
 }
 
 /// The rule chosen for an arranged change, and its product row, where the rule has a product.
-#[derive(Clone, Copy, Debug)]
+#[derive(Clone, Copy)]
 pub struct ChangeChoice {
     pub rule: XferId,
     pub product: Option<ProductRowId>,
@@ -59,7 +59,7 @@ pub struct Choice {
 }
 
 /// What journeys are compared by.
-#[derive(Clone, Copy, Debug, PartialEq, Eq)]
+#[derive(Clone, Copy, PartialEq, Eq)]
 pub struct Triple {
     /// The final arrival.
     pub arrival: Moment,

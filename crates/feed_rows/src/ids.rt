@@ -5,7 +5,7 @@ use std::alloc::{AllocError, Global};
 use std::marker::Model;
 
 /// An id of a feed: a text of 1 to 255 bytes. Contracts see it as its bytes.
-#[derive(Debug, Drop)]
+#[derive(Drop)]
 pub struct Id {
     text: Vec<u8>,
 }

@@ -11,7 +11,7 @@ pub const LEAST_SHIFT: i64 = -700_000;
 pub const MOST_SHIFT: i64 = 700_000;
 
 /// What a traveller asks: the journeys from a stop to a stop from a moment on.
-#[derive(Clone, Copy, Debug)]
+#[derive(Clone, Copy)]
 pub struct Query {
     /// A platform, or a station, which stands for its platforms.
     pub from: StopId,
@@ -28,7 +28,7 @@ pub struct Query {
 }
 
 /// A call of a trip at a stop, with its times filled in.
-#[derive(Clone, Copy, Debug)]
+#[derive(Clone, Copy)]
 pub struct Call {
     pub stop: StopId,
     /// The `stop_sequence`.
@@ -44,7 +44,7 @@ pub struct Call {
 }
 
 /// A ride: a trip on a service day, from one of its calls to a later one.
-#[derive(Clone, Copy, Debug)]
+#[derive(Clone, Copy)]
 pub struct Ride {
     pub trip: TripId,
     /// The service day.
@@ -58,7 +58,7 @@ pub struct Ride {
 }
 
 /// Where and when a ride goes.
-#[derive(Clone, Copy, Debug)]
+#[derive(Clone, Copy)]
 pub struct RideFacts {
     /// The boarding stop.
     pub from: StopId,

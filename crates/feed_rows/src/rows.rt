@@ -12,7 +12,7 @@ pub const PLATFORM: u8 = 0;
 pub const STATION: u8 = 1;
 
 /// A row of `stops.txt`: a platform, a station, or a place of another kind.
-#[derive(Debug, Drop)]
+#[derive(Drop)]
 pub struct StopRow {
     pub id: Id,
     /// The `location_type`, from 0 to 4: 0 is a platform and 1 a station.
@@ -22,7 +22,7 @@ pub struct StopRow {
 }
 
 /// A row of `routes.txt`.
-#[derive(Debug, Drop)]
+#[derive(Drop)]
 pub struct RouteRow {
     pub id: Id,
     /// The route's fare network, of its own row or of `route_networks.txt`.
@@ -30,7 +30,7 @@ pub struct RouteRow {
 }
 
 /// A row of `trips.txt`.
-#[derive(Debug, Drop)]
+#[derive(Drop)]
 pub struct TripRow {
     pub id: Id,
     pub route: RouteId,
@@ -38,7 +38,7 @@ pub struct TripRow {
 }
 
 /// A row of `stop_times.txt`.
-#[derive(Clone, Copy, Debug)]
+#[derive(Clone, Copy)]
 pub struct StopTimeRow {
     pub trip: TripId,
     pub stop: StopId,
@@ -55,7 +55,7 @@ pub struct StopTimeRow {
 }
 
 /// A row of `calendar.txt`.
-#[derive(Clone, Copy, Debug)]
+#[derive(Clone, Copy)]
 pub struct ServiceRow {
     pub service: ServiceId,
     /// Whether the service runs on a weekday, from Monday to Sunday.
@@ -67,7 +67,7 @@ pub struct ServiceRow {
 }
 
 /// A row of `calendar_dates.txt`.
-#[derive(Clone, Copy, Debug)]
+#[derive(Clone, Copy)]
 pub struct ExceptionRow {
     pub service: ServiceId,
     pub day: Day,
@@ -76,7 +76,7 @@ pub struct ExceptionRow {
 }
 
 /// A row of `frequencies.txt`.
-#[derive(Clone, Copy, Debug)]
+#[derive(Clone, Copy)]
 pub struct FrequencyRow {
     pub trip: TripId,
     /// The first departure from the trip's first stop, in seconds of the service day.
@@ -88,7 +88,7 @@ pub struct FrequencyRow {
 }
 
 /// A row of `transfers.txt` that is not passed over.
-#[derive(Clone, Copy, Debug)]
+#[derive(Clone, Copy)]
 pub struct LinkRow {
     pub from: StopId,
     pub to: StopId,
@@ -99,20 +99,20 @@ pub struct LinkRow {
 }
 
 /// A row of `areas.txt`.
-#[derive(Debug, Drop)]
+#[derive(Drop)]
 pub struct AreaRow {
     pub id: Id,
 }
 
 /// A row of `stop_areas.txt`.
-#[derive(Clone, Copy, Debug)]
+#[derive(Clone, Copy)]
 pub struct StopAreaRow {
     pub area: AreaId,
     pub stop: StopId,
 }
 
 /// A row of `timeframes.txt`.
-#[derive(Clone, Copy, Debug)]
+#[derive(Clone, Copy)]
 pub struct TimeframeRow {
     pub frame: FrameId,
     /// The first second of the day that belongs to it.
@@ -123,7 +123,7 @@ pub struct TimeframeRow {
 }
 
 /// A row of `rider_categories.txt`.
-#[derive(Debug, Drop)]
+#[derive(Drop)]
 pub struct RiderRow {
     pub id: Id,
     /// Whether the category is marked as the default one.
@@ -131,13 +131,13 @@ pub struct RiderRow {
 }
 
 /// A row of `fare_media.txt`.
-#[derive(Debug, Drop)]
+#[derive(Drop)]
 pub struct MediumRow {
     pub id: Id,
 }
 
 /// A row of `fare_products.txt`.
-#[derive(Clone, Copy, Debug)]
+#[derive(Clone, Copy)]
 pub struct ProductRow {
     pub product: ProductId,
     pub rider: Option<RiderId>,
@@ -147,7 +147,7 @@ pub struct ProductRow {
 }
 
 /// A row of `fare_leg_rules.txt`.
-#[derive(Clone, Copy, Debug)]
+#[derive(Clone, Copy)]
 pub struct LegRuleRow {
     pub group: Option<LegGroupId>,
     pub network: Option<NetworkId>,
@@ -161,7 +161,7 @@ pub struct LegRuleRow {
 }
 
 /// How long after a leg a transfer rule still holds.
-#[derive(Clone, Copy, Debug)]
+#[derive(Clone, Copy)]
 pub struct Limit {
     pub seconds: u32,
     /// The `duration_limit_type`, from 0 to 3: which two moments the seconds lie between.
@@ -169,7 +169,7 @@ pub struct Limit {
 }
 
 /// A row of `fare_transfer_rules.txt`.
-#[derive(Clone, Copy, Debug)]
+#[derive(Clone, Copy)]
 pub struct TransferRuleRow {
     pub from: Option<LegGroupId>,
     pub to: Option<LegGroupId>,

@@ -3,7 +3,7 @@ ghost use Rattle.std.specs.Prelude.{◌≡◌};
 ghost use Rattle.feed_rows.specs.UsageFaults.{usage_text};
 
 /// A word that names a stop.
-#[derive(Clone, Copy, Debug, PartialEq, Eq)]
+#[derive(Clone, Copy, PartialEq, Eq)]
 pub enum StopWord {
     /// `FROM`, where a journey starts.
     From,
@@ -12,7 +12,7 @@ pub enum StopWord {
 }
 
 /// A fault of the words of a command, or of the names that they give. The words that name rides are numbered from 1.
-#[derive(Clone, Copy, Debug, PartialEq, Eq)]
+#[derive(Clone, Copy, PartialEq, Eq)]
 pub enum UsageFault {
     /// The words are not those of a command.
     WrongWords,
@@ -70,7 +70,7 @@ impl UsageFault {
 }
 
 /// What a word behind the command is.
-#[derive(Clone, Copy, Debug, PartialEq, Eq)]
+#[derive(Clone, Copy, PartialEq, Eq)]
 pub enum WordRole {
     /// `--name`, where the next word is the option's value.
     OptionName,

@@ -10,7 +10,7 @@ use feed_rows::ColumnName;
 use std::alloc::{AllocError, Global};
 
 // A row, its id, and the number that the id begins with, by which most ids are told apart.
-#[derive(Clone, Copy, Debug)]
+#[derive(Clone, Copy)]
 pub struct IdRow<'t> {
     pub prefix: u64,
     pub id: &'t [u8],

@@ -2,7 +2,7 @@
 use transit_base::{Moment, StopId};
 
 /// Where a traveller stands, since when, and whether no ride was taken yet.
-#[derive(Clone, Copy, Debug)]
+#[derive(Clone, Copy)]
 pub struct Standing {
     pub stop: StopId,
     pub at: Moment,

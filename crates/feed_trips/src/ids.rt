@@ -8,7 +8,7 @@ use std::alloc::{AllocError, Global};
 use transit_base::TripId;
 
 // A trip and its id.
-#[derive(Clone, Copy, Debug)]
+#[derive(Clone, Copy)]
 pub struct NamedTrip<'f> {
     pub id: &'f [u8],
     pub trip: TripId,

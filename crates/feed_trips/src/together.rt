@@ -13,7 +13,7 @@ use plain_laws::{Groups, push_end};
 use std::alloc::{AllocError, Global};
 
 /// Where the rows of a trip stand: from a place, and up to the place after the last.
-#[derive(Clone, Copy, Debug)]
+#[derive(Clone, Copy)]
 pub struct Stretch {
     pub from: usize,
     pub to: usize,

@@ -5,7 +5,7 @@ use crate::{Sink, Wrote};
 
 /// A sink that keeps its count of faults, which is the constant 0, and nothing else: it never fails, and doesn't tell what
 /// was written.
-#[derive(Debug, Drop)]
+#[derive(Drop)]
 pub struct CountSink {
     faults: u64,
     ghost no_fault: { faults ≡ 0 },

@@ -3,7 +3,7 @@ ghost use Rattle.std.specs.Prelude.{◌≡◌, ◌<◌, ◌≤◌, ◌^◌, true
 ghost use Rattle.feed_rows.specs.FaultCounts.{Rose};
 
 // How many calls of an object failed, and whether its last call did. Past its last value the count stands there.
-#[derive(Debug, Drop)]
+#[derive(Drop)]
 pub(crate) struct FaultCount {
     pub(crate) count: u64,
     pub(crate) failed: bool,

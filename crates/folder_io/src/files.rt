@@ -7,7 +7,7 @@ use std::alloc::{AllocError, Global};
 use std::marker::Model;
 
 /// Bytes that are kept. Contracts see them as a list.
-#[derive(Debug, Drop)]
+#[derive(Drop)]
 pub struct ByteText {
     bytes: Vec<u8>,
 }
@@ -49,7 +49,7 @@ impl ByteText {
 }
 
 /// What is known of a file.
-#[derive(Debug, Drop)]
+#[derive(Drop)]
 pub enum FileBytes {
     /// The folder doesn't hold the file.
     Absent,
@@ -61,7 +61,7 @@ pub enum FileBytes {
 
 /// What is known of each file of a feed. Contracts see it as the list of what is known, in the order of
 /// [`FileName::ALL`].
-#[derive(Debug, Drop)]
+#[derive(Drop)]
 pub struct Files {
     files: [FileBytes; 18],
 }

@@ -2,7 +2,7 @@
 ghost use Rattle.std.specs.Prelude.{◌≡◌, ◌<◌, ◌≤◌, ◌^◌, ◌-◌, Bool, true, ℕ, List, Option, length};
 
 /// What an open answers.
-#[derive(Clone, Copy, Debug, PartialEq, Eq)]
+#[derive(Clone, Copy, PartialEq, Eq)]
 pub enum Opened {
     /// The file is open, and is read from its first byte.
     Present,
@@ -15,7 +15,7 @@ pub enum Opened {
 }
 
 /// What a read answers.
-#[derive(Clone, Copy, Debug, PartialEq, Eq)]
+#[derive(Clone, Copy, PartialEq, Eq)]
 pub enum Piece {
     /// So many bytes, at least one, stand at the start of the room.
     Got(usize),

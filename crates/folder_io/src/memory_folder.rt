@@ -7,7 +7,7 @@ use crate::{Files, Folder, Opened, Piece, SureFolder};
 use std::alloc::{AllocError, Global};
 
 /// A folder in memory that tells what it holds, and whose opens and reads fail where lists say so, and nowhere else.
-#[derive(Debug, Drop)]
+#[derive(Drop)]
 pub struct MemFolder {
     folder: SureFolder,
     failing_opens: Vec<u32>,

@@ -8,7 +8,7 @@ use crate::{Sink, Wrote};
 use std::alloc::{AllocError, Global};
 
 /// A write that fails.
-#[derive(Clone, Copy, Debug, PartialEq, Eq)]
+#[derive(Clone, Copy, PartialEq, Eq)]
 pub struct Cut {
     /// The number of the write, counted from 1.
     pub call: u32,
@@ -18,7 +18,7 @@ pub struct Cut {
 
 /// A sink in memory that tells what was written. A write fails where a list says so or where the piece doesn't fit what is
 /// left of the room, and nowhere else.
-#[derive(Debug, Drop)]
+#[derive(Drop)]
 pub struct MemSink {
     room: Room,
     cuts: Vec<Cut>,

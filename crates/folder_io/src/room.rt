@@ -4,7 +4,7 @@ ghost use Rattle.std.specs.Prelude.{◌≡◌, ◌≤◌, ◌-◌, ◌++◌, [],
 use std::alloc::{AllocError, Global};
 
 // Bytes in room that was reserved for them, so that putting more there takes no memory.
-#[derive(Debug, Drop)]
+#[derive(Drop)]
 pub(crate) struct Room {
     bytes: Vec<u8>,
     size: usize,

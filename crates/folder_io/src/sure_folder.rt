@@ -6,7 +6,7 @@ use crate::{FileBytes, Files, Folder, Opened, Piece};
 use feed_rows::FileName;
 
 /// A folder in memory that tells what it holds and never fails: its count of faults is the constant 0.
-#[derive(Debug, Drop)]
+#[derive(Drop)]
 pub struct SureFolder {
     files: Files,
     current: Option<FileName>,

@@ -7,7 +7,7 @@ use crate::{Sink, Wrote};
 use std::alloc::{AllocError, Global};
 
 /// A sink in memory that tells what was written, and fails only where a piece doesn't fit what is left of its room.
-#[derive(Debug, Drop)]
+#[derive(Drop)]
 pub struct SureSink {
     room: Room,
     faults: FaultCount,

@@ -10,7 +10,7 @@ use feed_text::{day_of_parts, time_of};
 use transit_base::{Day, Moment};
 
 /// What a command's words ask for.
-#[derive(Clone, Copy, Debug)]
+#[derive(Clone, Copy)]
 pub(crate) enum Asked<'a> {
     /// Whether the feed is accepted.
     Check,
@@ -19,7 +19,7 @@ pub(crate) enum Asked<'a> {
 }
 
 /// A plan of at most one ride within a day.
-#[derive(Clone, Copy, Debug)]
+#[derive(Clone, Copy)]
 pub(crate) struct OneRide<'a> {
     /// The id of the stop where it starts.
     pub from: &'a str,

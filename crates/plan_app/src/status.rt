@@ -2,7 +2,7 @@
 use feed_rows::{FeedFault, UsageFault};
 
 /// The answer of a command.
-#[derive(Clone, Copy, Debug, PartialEq, Eq)]
+#[derive(Clone, Copy, PartialEq, Eq)]
 pub enum Status {
     /// The command's whole text was written.
     Answered,

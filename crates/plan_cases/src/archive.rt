@@ -5,7 +5,7 @@ use std::alloc::{AllocError, Global};
 use std::str;
 
 /// A section: its name, and all lines behind the line that names it.
-#[derive(Debug, Drop)]
+#[derive(Drop)]
 pub(crate) struct Section {
     name: String,
     lines: Vec<u8>,
@@ -26,7 +26,7 @@ impl Section {
 }
 
 /// The sections of a text, in order.
-#[derive(Debug, Drop)]
+#[derive(Drop)]
 pub(crate) struct Archive {
     sections: Vec<Section>,
 }

@@ -21,7 +21,7 @@ const SECTIONS: [&str; 7] = [
 ];
 
 /// The text that must come.
-#[derive(Debug, Drop)]
+#[derive(Drop)]
 pub(crate) enum Wanted {
     /// This very text.
     Text(Vec<u8>),

@@ -5,7 +5,7 @@ use folder_io::Cut;
 use std::fmt;
 
 /// A call that fails, by its number among its like, counted from 1.
-#[derive(Clone, Copy, Debug)]
+#[derive(Clone, Copy)]
 pub(crate) enum FailingCall {
     Open(u32),
     Read(u32),

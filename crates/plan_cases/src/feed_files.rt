@@ -26,14 +26,14 @@ const UNOPENED: [&str; 13] = [
 ];
 
 // A file: its name, and its bytes.
-#[derive(Debug, Drop)]
+#[derive(Drop)]
 struct FeedFile {
     name: FileName,
     bytes: Vec<u8>,
 }
 
 /// Files of a feed. Of two of one name the later one counts.
-#[derive(Debug, Drop)]
+#[derive(Drop)]
 pub(crate) struct FeedFiles {
     files: Vec<FeedFile>,
 }

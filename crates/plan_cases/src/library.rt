@@ -9,7 +9,7 @@ use std::fs;
 use std::rt::Files;
 
 /// A folder with the folders `cases` and `feeds`, whose files are `NAME.txtar`.
-#[derive(Debug, Drop)]
+#[derive(Drop)]
 pub(crate) struct Library {
     folder: String,
 }

@@ -15,14 +15,14 @@ use std::fmt;
 const ROOM: u32 = 1_048_576;
 
 /// What a run came to.
-#[derive(Debug, Drop)]
+#[derive(Drop)]
 pub(crate) struct Outcome {
     status: u8,
     text: Vec<u8>,
 }
 
 /// A run that came to something else than its case says.
-#[derive(Debug, Drop)]
+#[derive(Drop)]
 pub(crate) struct Difference {
     call: Option<FailingCall>,
     came: Outcome,

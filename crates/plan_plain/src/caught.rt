@@ -17,7 +17,7 @@ use std::alloc::{AllocError, Global};
 use transit_base::{Day, Moment, Secs, StopId, TripId};
 
 /// A run: a trip on a service day, with the shift of one of its runs.
-#[derive(Clone, Copy, Debug)]
+#[derive(Clone, Copy)]
 pub struct Run {
     pub trip: TripId,
     pub day: Day,
@@ -25,7 +25,7 @@ pub struct Run {
 }
 
 /// A ride that is caught, and where and when it goes.
-#[derive(Clone, Copy, Debug)]
+#[derive(Clone, Copy)]
 pub struct CaughtRide {
     pub ride: Ride,
     pub facts: RideFacts,

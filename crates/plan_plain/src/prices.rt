@@ -21,14 +21,14 @@ pub struct Priced {
 }
 
 /// What decides which tickets a ride may have: its fare network, and the rider's category.
-#[derive(Clone, Copy, Debug)]
+#[derive(Clone, Copy)]
 pub struct Fare {
     pub network: Option<NetworkId>,
     pub rider: Option<RiderId>,
 }
 
 /// A rule and a product row for a ride, and the row's amount.
-#[derive(Clone, Copy, Debug)]
+#[derive(Clone, Copy)]
 pub struct Ticket {
     pub pick: LegChoice,
     pub amount: Money,

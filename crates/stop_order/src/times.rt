@@ -3,7 +3,7 @@ ghost use Rattle.std.specs.Prelude.{◌≡◌};
 ghost use Rattle.feed_faults.specs.StopTimeRelations.{is_earlier};
 
 /// What is wrong with a stop time among those of its trip.
-#[derive(Clone, Copy, Debug, PartialEq, Eq)]
+#[derive(Clone, Copy, PartialEq, Eq)]
 pub struct OrderFaults {
     /// An earlier row has its trip and its sequence.
     pub is_repeated: bool,

@@ -9,7 +9,7 @@ use jiff_core::civil::Date as PlainDate;
 use std::marker::Model;
 
 /// A time as text, `HH:MM:SS`: eight bytes below 100 hours, and nine from there on.
-#[derive(Debug, Drop)]
+#[derive(Drop)]
 pub struct TimeText {
     bytes: [u8; 9],
     used: usize,

@@ -10,7 +10,7 @@ use feed_rows::StopTimeRow;
 use std::alloc::{AllocError, Global};
 
 /// Where a stop time stands in the order.
-#[derive(Clone, Copy, Debug, PartialEq, Eq, PartialOrd, Ord)]
+#[derive(Clone, Copy, PartialEq, Eq, PartialOrd, Ord)]
 pub struct PlaceKey {
     /// The number of its trip.
     pub trip: u32,

@@ -8,7 +8,7 @@ use crate::keys::PlaceKey;
 use std::alloc::{AllocError, Global};
 
 // Neighbours of one trip: from a place, and up to the place after the last.
-#[derive(Clone, Copy, Debug, PartialEq, Eq, PartialOrd, Ord)]
+#[derive(Clone, Copy, PartialEq, Eq, PartialOrd, Ord)]
 struct Stretch {
     trip: u32,
     from: usize,
