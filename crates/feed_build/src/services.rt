@@ -10,12 +10,18 @@ use feed_text::{day_or_past, int_or_past};
 use std::alloc::{AllocError, Global};
 use transit_base::ServiceId;
 
+// A weekday of `calendar.txt` on which the service runs.
+const SERVICE_AVAILABLE: u32 = 1;
+
+// The `exception_type` of a date on which the service is added.
+const SERVICE_ADDED: u32 = 1;
+
 // Whether a service runs on a weekday.
 fn runs_on(calendar: &NamedTable, row: u32, weekday: ColumnName) -> bool
     requires { row < row_count calendar.now }
     ensures { result ≡ runs_on_weekday calendar.now row weekday }
 {
-    int_or_past(calendar.field(row, weekday), 1) == 1
+    int_or_past(calendar.field(row, weekday), 1) == SERVICE_AVAILABLE
 }
 
 // A row of calendar.txt.
@@ -72,7 +78,7 @@ fn exception_row(tables: &Tables, services: &Numbering, row: u32) -> ExceptionRo
     ExceptionRow {
         service: ServiceId(services.number(table.field(row, ColumnName::ServiceId))),
         day: day_or_past(table.field(row, ColumnName::Date)),
-        added: int_or_past(table.field(row, ColumnName::ExceptionType), 2) == 1,
+        added: int_or_past(table.field(row, ColumnName::ExceptionType), 2) == SERVICE_ADDED,
     }
 }
 

@@ -13,11 +13,14 @@ use feed_text::{int_or_past, optional_int, time_of};
 use std::alloc::{AllocError, Global};
 use transit_base::{MOST_TIME, StopId, TripId};
 
-// Whether a pickup or drop-off type permits: 1 forbids, and 0, 2, 3 and empty permit.
+// The `pickup_type` or `drop_off_type` of a stop where riders may not board, or alight.
+const NOT_AVAILABLE: u32 = 1;
+
+// Whether a pickup or drop-off type permits: one type forbids, and the others and an empty field permit.
 fn permits(text: &[u8]) -> bool
     ensures { result ≡ permits text.now }
 {
-    optional_int(text, 3) != 1
+    optional_int(text, 3) != NOT_AVAILABLE
 }
 
 // The trip of a row, where `before` is that of the row before it: the rows of a trip mostly follow one another, so an id is

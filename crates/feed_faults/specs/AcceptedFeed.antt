@@ -26,7 +26,7 @@ use Rattle.feed_rows.specs.declared.rows.ProductRow.{ProductRow}
 use Rattle.feed_rows.specs.declared.rows.LegRuleRow.{LegRuleRow}
 use Rattle.feed_rows.specs.declared.rows.Limit.{Limit}
 use Rattle.feed_rows.specs.declared.rows.TransferRuleRow.{TransferRuleRow}
-use Rattle.feed_rows.specs.Codes.{platform_type}
+use Rattle.feed_rows.specs.Codes.{platform_type, not_available, service_available, service_added, change_forbidden, default_category}
 use Rattle.feed_rows.specs.FeedRows.{FeedRows}
 use Rattle.feed_rows.specs.HeldFiles.{HeldFile}
 use Rattle.plain_laws.specs.Plain.{when, find_below, list_below, picks_below}
@@ -129,9 +129,9 @@ trip_row t row =
       service = record { 0 = name_number (service_names t) (at column.ServiceId) };
     }
 
--- a pickup or drop-off type permits: 1 forbids, and 0, 2, 3 and empty permit
+-- a pickup or drop-off type permits: one type forbids, and the others and an empty field permit
 abbrev pub permits : List ℕ → Bool
-permits text = not (optional_int 3 text == 1)
+permits text = not (optional_int 3 text == not_available)
 
 -- stop_times.txt
 unfoldable pub stop_time_row : FeedTables → ℕ → StopTimeRow
@@ -149,7 +149,7 @@ stop_time_row t row =
 
 -- a service runs on a weekday
 abbrev pub runs_on_weekday : FileTable → ℕ → ColumnName → Bool
-runs_on_weekday calendar row weekday = int_or_past 1 (field calendar row weekday) == 1
+runs_on_weekday calendar row weekday = int_or_past 1 (field calendar row weekday) == service_available
 
 -- calendar.txt
 unfoldable pub service_row : FeedTables → ℕ → ServiceRow
@@ -171,7 +171,7 @@ exception_row t row =
     record {
       service = record { 0 = name_number (service_names t) (at column.ServiceId) };
       day = record { 0 = day_or_past (at column.Date) };
-      added = int_or_past 2 (at column.ExceptionType) == 1;
+      added = int_or_past 2 (at column.ExceptionType) == service_added;
     }
 
 -- frequencies.txt
@@ -192,7 +192,7 @@ link_row t row =
     record {
       from = record { 0 = row_number t.stops column.StopId (at column.FromStopId) };
       to = record { 0 = row_number t.stops column.StopId (at column.ToStopId) };
-      forbidden = optional_int 5 (at column.TransferType) == 3;
+      forbidden = optional_int 5 (at column.TransferType) == change_forbidden;
       seconds = optional_int most_int (at column.MinTransferTime);
     }
 
@@ -225,7 +225,7 @@ unfoldable pub rider_row : FeedTables → ℕ → RiderRow
 rider_row t row =
     record {
       id = field t.rider_categories row column.RiderCategoryId;
-      default = optional_int 1 (field t.rider_categories row column.IsDefaultFareCategory) == 1;
+      default = optional_int 1 (field t.rider_categories row column.IsDefaultFareCategory) == default_category;
     }
 
 -- fare_media.txt

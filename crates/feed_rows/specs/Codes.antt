@@ -1,5 +1,7 @@
--- The numbers that stand for choices in columns, as plans read them. (GTFS Schedule Reference: stops.txt, location_type;
--- fare_transfer_rules.txt, duration_limit_type and fare_transfer_type.)
+-- The numbers that stand for choices in columns, where a rule reads them. (GTFS Schedule Reference: stops.txt, location_type;
+-- stop_times.txt, pickup_type and drop_off_type; calendar.txt; calendar_dates.txt, exception_type; transfers.txt,
+-- transfer_type; rider_categories.txt, is_default_fare_category; fare_transfer_rules.txt, duration_limit_type and
+-- fare_transfer_type.)
 use Rattle.std.specs.Prelude.{ℕ, Bool, ◌||◌, ◌==◌}
 
 -- location_type: where vehicles are boarded, and what has such places
@@ -8,6 +10,26 @@ platform_type = 0
 
 abbrev pub station_type : ℕ
 station_type = 1
+
+-- pickup_type and drop_off_type: riders may not board, or alight
+abbrev pub not_available : ℕ
+not_available = 1
+
+-- a day of the week: the service runs
+abbrev pub service_available : ℕ
+service_available = 1
+
+-- exception_type: the service is added on the date
+abbrev pub service_added : ℕ
+service_added = 1
+
+-- transfer_type: no change between the two
+abbrev pub change_forbidden : ℕ
+change_forbidden = 3
+
+-- is_default_fare_category: the category of riders who name none
+abbrev pub default_category : ℕ
+default_category = 1
 
 -- duration_limit_type: from which moment of the run's first leg, and to which of the leg after the change
 abbrev pub departure_to_arrival : ℕ
