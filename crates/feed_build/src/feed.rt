@@ -4,41 +4,30 @@ ghost use Rattle.feed_faults.specs.AcceptedFeed.{typed_rows, rows_of_tables, sto
 ghost use Rattle.feed_tables.specs.TableIds.{AreIdsOf};
 ghost use Rattle.feed_tables.specs.UnbuiltFiles.{AreUnbuiltEmpty};
 ghost use Rattle.feed_soundness.specs.AcceptedTables.{AreFormed, AreRelated};
-ghost use Rattle.feed_build.specs.FeedNames.{AreNamesOf};
+ghost use Rattle.feed_build.specs.FeedNames.{AreNamesOf, AreListsOf};
 ghost use Rattle.feed_build.specs.FeedParts.{IsTimetableOf, AreFaresOf};
 
-use crate::names::Names;
+use crate::names::{NameLists, Names};
 use crate::parts::{Fares, Timetable};
 use crate::products::{feed_currency, feed_decimals};
 use feed_rows::{ColumnName, Feed, StopTimeRows};
 use feed_tables::{TableIds, Tables};
 use std::alloc::{AllocError, Global};
 
-// The feed of these rows and names.
+// The feed of these rows and lists of names.
 #[tactic(auto, unfolding(feed_faults::specs::AcceptedFeed::rows_of_tables))]
-fn joined(
-    alloc: Global,
-    tables: &Tables,
-    names: &Names,
-    timetable: Timetable,
-    fares: Fares,
-) -> Result<Feed, AllocError>
+fn joined(tables: &Tables, names: NameLists, timetable: Timetable, fares: Fares) -> Feed
     requires formed { AreFormed tables.now }
     requires related { AreRelated tables.now }
-    requires names { AreNamesOf tables.now names.now }
+    requires names { AreListsOf tables.now names }
     requires timetable { IsTimetableOf tables.now timetable }
     requires fares { AreFaresOf tables.now fares }
-    ensures { IfOk result (λ feed. feed ≡ rows_of_tables tables.now) }
+    ensures { result ≡ rows_of_tables tables.now }
 {
     let has_priority = tables.fare_leg_rules.has(ColumnName::RulePriority);
     let currency = feed_currency(tables);
     let decimals = feed_decimals(tables);
-    let service_names = names.services.ids(alloc)?;
-    let network_names = names.networks.ids(alloc)?;
-    let frame_names = names.frames.ids(alloc)?;
-    let product_names = names.products.ids(alloc)?;
-    let group_names = names.groups.ids(alloc)?;
-    Ok(Feed {
+    Feed {
         stops: timetable.stops,
         routes: timetable.routes,
         trips: timetable.trips,
@@ -55,15 +44,56 @@ fn joined(
         products: fares.products,
         leg_rules: fares.leg_rules,
         transfer_rules: fares.transfer_rules,
-        service_names,
-        network_names,
-        frame_names,
-        product_names,
-        group_names,
+        service_names: names.services,
+        network_names: names.networks,
+        frame_names: names.frames,
+        product_names: names.products,
+        group_names: names.groups,
         has_priority,
         currency,
         decimals,
-    })
+    }
+}
+
+// The feed of these names and rows of the timetable.
+fn feed_with(
+    alloc: Global,
+    tables: &Tables,
+    names: &Names,
+    lists: NameLists,
+    timetable: Timetable,
+) -> Result<Feed, AllocError>
+    requires formed { AreFormed tables.now }
+    requires related { AreRelated tables.now }
+    requires unbuilt { AreUnbuiltEmpty tables.now }
+    requires names { AreNamesOf tables.now names.now }
+    requires lists { AreListsOf tables.now lists }
+    requires timetable { IsTimetableOf tables.now timetable }
+    ensures { IfOk result (λ feed. feed ≡ rows_of_tables tables.now) }
+{
+    let fares = Fares::of(alloc, tables, names)?;
+    Ok(joined(tables, lists, timetable, fares))
+}
+
+// The feed of these names and rows of stop_times.txt.
+fn feed_by_names(
+    alloc: Global,
+    tables: &Tables,
+    ids: &TableIds,
+    names: &Names,
+    stop_times: StopTimeRows,
+) -> Result<Feed, AllocError>
+    requires formed { AreFormed tables.now }
+    requires related { AreRelated tables.now }
+    requires unbuilt { AreUnbuiltEmpty tables.now }
+    requires ids { AreIdsOf tables.now ids.now }
+    requires names { AreNamesOf tables.now names.now }
+    requires stop_times { stop_times ≡ typed_rows tables.now.stop_times (stop_time_row tables.now) }
+    ensures { IfOk result (λ feed. feed ≡ rows_of_tables tables.now) }
+{
+    let timetable = Timetable::of(alloc, tables, ids, names, stop_times)?;
+    let lists = NameLists::of(alloc, names)?;
+    feed_with(alloc, tables, names, lists, timetable)
 }
 
 /// The feed of tables in which both passes find no fault: the typed rows of each file, with row numbers in place of ids, and
@@ -85,7 +115,5 @@ pub fn feed_of_tables(
     ensures { IfOk result (λ feed. feed ≡ rows_of_tables tables.now) }
 {
     let names = Names::of(alloc, tables)?;
-    let timetable = Timetable::of(alloc, tables, ids, &names, stop_times)?;
-    let fares = Fares::of(alloc, tables, &names)?;
-    joined(alloc, tables, &names, timetable, fares)
+    feed_by_names(alloc, tables, ids, &names, stop_times)
 }

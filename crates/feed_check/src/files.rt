@@ -1,6 +1,9 @@
 //! The feed that files make.
 ghost use Rattle.std.specs.Prelude.{◌≡◌, IfOk, IfErr, OnOk, None};
-ghost use Rattle.feed_faults.specs.AcceptedFeed.{feed_of};
+ghost use Rattle.feed_faults.specs.AcceptedFeed.{feed_of, rows_of_tables};
+ghost use Rattle.feed_faults.specs.FirstFault.{first_relation_fault};
+ghost use Rattle.feed_tables.specs.UnbuiltFiles.{AreUnbuiltEmpty};
+ghost use Rattle.feed_soundness.specs.AcceptedTables.{AreFormed};
 ghost use Rattle.folder_io.specs.KeptFiles.{AreWithin, held_in};
 ghost use Rattle.feed_check.specs.BuiltRows.{HasBuiltRows};
 ghost use Rattle.feed_check.specs.BuiltFaults.{first_built_fault};
@@ -34,6 +37,22 @@ impl From<AllocError> for CheckError {
     }
 }
 
+// The feed of tables whose files have no fault by themselves. `Fault` is exactly the first fault of the files among each other.
+fn related_feed(alloc: Global, tables: &Tables) -> Result<Feed, CheckError>
+    requires formed { AreFormed tables.now }
+    requires unbuilt { AreUnbuiltEmpty tables.now }
+    ensures fault { IfErr result (IsCheckErrorOf (first_relation_fault tables.now)) }
+    ensures sound { OnOk result (first_relation_fault tables.now ≡ None) }
+    ensures feed { IfOk result (λ feed. feed ≡ rows_of_tables tables.now) }
+{
+    let ids = TableIds::of(alloc, tables)?;
+    let stop_times = stop_time_rows(alloc, tables, &ids)?;
+    if let Some(fault) = first_relation_fault(alloc, tables, &ids, stop_times.items())? {
+        return Err(CheckError::Fault(fault));
+    }
+    Ok(feed_of_tables(alloc, tables, &ids, stop_times)?)
+}
+
 /// The feed of files that have no fault. `Fault` is exactly their first fault: of each file by itself, in the order of the
 /// files, and then of the files among each other. A file whose rows aren't read yet is a fault, `NotBuilt`, where it has a
 /// byte.
@@ -50,10 +69,5 @@ pub fn check(alloc: Global, files: &Files) -> Result<Feed, CheckError>
         Err(TextError::Fault(fault)) => return Err(CheckError::Fault(fault)),
         Err(TextError::NoMemory) => return Err(CheckError::NoMemory),
     };
-    let ids = TableIds::of(alloc, &tables)?;
-    let stop_times = stop_time_rows(alloc, &tables, &ids)?;
-    if let Some(fault) = first_relation_fault(alloc, &tables, &ids, stop_times.items())? {
-        return Err(CheckError::Fault(fault));
-    }
-    Ok(feed_of_tables(alloc, &tables, &ids, stop_times)?)
+    related_feed(alloc, &tables)
 }
