@@ -1,6 +1,12 @@
 -- Files that are read piece by piece, and one by one.
 use mathlib.Core.Path.{fun_ext}
-use Rattle.std.proofs.Common.{◌≡◌, ap, ℕ, zero, suc, List, [], ◌∷◌, ◌++◌, Option, Some, None, refl, ◌∙◌, map, unwrap_or, slice_get, All, arith}
+use Rattle.std.proofs.Common.{◌≡◌, ap, ℕ, zero, suc, List, [], ◌∷◌, ◌++◌, Option, Some, None, refl, ◌∙◌, map, unwrap_or, slice_get, slice_set, get_or, All, arith, true, false, length, take, drop, ◌+◌, ◌<◌, ◌≤◌, append_assoc, length-append, length-take, append-nil, nat_lt}
+use Rattle.std.specs.Prelude.{option_map}
+use Rattle.std.proofs.lemmas.List.{take-append-le, take-append-drop, take_more, take_more_set, map-append}
+use Rattle.std.proofs.Math.Seq.{drop-append_seam}
+use Rattle.std.proofs.lemmas.Bool.Decides.{nat_tests}
+use Rattle.folder_io.specs.declared.folder.Opened.TheVariants as opened
+use Rattle.folder_io.specs.declared.folder.Piece.TheVariants as piece
 use Rattle.feed_rows.specs.declared.names.FileName.{FileName}
 use Rattle.feed_rows.specs.declared.names.FileName.TheVariants as file
 use Rattle.feed_rows.specs.Names.{file_text}
@@ -8,9 +14,9 @@ use Rattle.feed_rows.specs.HeldFiles.{HeldFile, held_within, held, most_bytes}
 use Rattle.folder_io.specs.declared.files.FileBytes.{FileBytes}
 use Rattle.folder_io.specs.declared.files.FileBytes.TheVariants as kept
 use Rattle.folder_io.specs.FilePlaces.{all_files, place}
-use Rattle.folder_io.specs.FolderCalls.{Contents}
+use Rattle.folder_io.specs.FolderCalls.{Contents, Finds, Opens, Takes}
 use Rattle.folder_io.specs.KeptFiles.{held_of, IsWithin, AreWithin}
-use Rattle.folder_io.specs.FileReading.{AreRead}
+use Rattle.folder_io.specs.FileReading.{AreRead, IsRead, StopsPast}
 
 -- the bytes so far and what is left are the file
 abbrev pub IsWhole : Option (List ℕ) → Option (List ℕ) → List ℕ → Type 0
@@ -27,10 +33,79 @@ IsSoFar (Some folder) name left bytes = IsWhole (folder name) left bytes
 abbrev pub held_under : Contents → FileName → HeldFile
 held_under folder name = held_within most_bytes (folder (file_text name))
 
+-- a piece behind the bytes so far
+pub piece_put : (bytes more room rest : List ℕ) (n : ℕ) → more ≡ bytes ++ take n (room ++ rest) → n ≤ length room → (more ≡ bytes ++ take n room) × (length more ≡ length bytes + n)
+piece_put bytes more room rest n e le =
+    let put : more ≡ bytes ++ take n room = e ∙ ap (λ piece. bytes ++ piece) (take-append-le n room rest le) in
+    (put, omega (arith, ap length put, length-append bytes (take n room), length-take n room, le))
+
+-- nothing is read of a file that was opened
+opened_whole : (under left : Option (List ℕ)) → Finds under left opened.Present → IsWhole under left []
+opened_whole None left finds = absurd finds
+opened_whole (Some all) left finds = rw finds refl
+
+pub opened_so_far : (holds : Option Contents) (name bytes : List ℕ) (left : Option (List ℕ)) → Opens holds name left opened.Present → bytes ≡ [] → IsSoFar holds name left bytes
+opened_so_far None name bytes left finds none = tt
+opened_so_far (Some folder) name bytes left finds none = rw none (opened_whole (folder name) left finds)
+
+-- one piece more
+more_whole : (under left later : Option (List ℕ)) (bytes more room : List ℕ) (n : ℕ) → IsWhole under left bytes → Takes left later room (piece.Got n) → more ≡ bytes ++ take n room → IsWhole under later more
+more_whole None left later bytes more room n so_far takes put = absurd so_far
+more_whole (Some all) None later bytes more room n so_far takes put = absurd so_far
+more_whole (Some all) (Some rest) later bytes more room n so_far takes put =
+    rw (takes.2, put, takes.1, append_assoc, take-append-drop n rest) so_far
+
+pub more_so_far : (holds : Option Contents) (name bytes more room : List ℕ) (left later : Option (List ℕ)) (n : ℕ) → IsSoFar holds name left bytes → Takes left later room (piece.Got n) → more ≡ bytes ++ take n room → IsSoFar holds name later more
+more_so_far None name bytes more room left later n so_far takes put = tt
+more_so_far (Some folder) name bytes more room left later n so_far takes put = more_whole (folder name) left later bytes more room n so_far takes put
+
+-- a file that isn't there
+absent_held : (under left : Option (List ℕ)) (limit : ℕ) → Finds under left opened.Absent → HeldFile.Missing ≡ held_within limit under
+absent_held None left limit finds = refl
+absent_held (Some all) left limit finds = absurd finds
+
+pub absent_read : (holds : Option Contents) (name : List ℕ) (left : Option (List ℕ)) (limit : ℕ) → Opens holds name left opened.Absent → IsRead holds name limit kept.Absent × StopsPast holds name limit left kept.Absent
+absent_read None name left limit finds = (tt, tt)
+absent_read (Some folder) name left limit finds = (absent_held (folder name) left limit finds, tt)
+
+-- a file that is read to its end
+end_held : (under left later : Option (List ℕ)) (bytes room : List ℕ) (limit : ℕ) → IsWhole under left bytes → Takes left later room piece.End → length bytes ≤ limit → HeldFile.Bytes bytes ≡ held_within limit under
+end_held None left later bytes room limit so_far takes le = absurd so_far
+end_held (Some all) None later bytes room limit so_far takes le = absurd so_far
+end_held (Some all) (Some rest) later bytes room limit so_far takes le =
+    let same : all ≡ bytes = (rw takes.0 at so_far) ∙ append-nil bytes in
+    let fits : nat_lt limit (length bytes) ≡ false = grind (arith, nat_tests, le) in
+    rw (same, fits) refl
+
+pub end_read : (holds : Option Contents) (name bytes room : List ℕ) (left later : Option (List ℕ)) (limit : ℕ) → IsSoFar holds name left bytes → Takes left later room piece.End → length bytes ≤ limit
+    → IsRead holds name limit (kept.Bytes bytes) × StopsPast holds name limit later (kept.Bytes bytes)
+end_read None name bytes room left later limit so_far takes le = (tt, tt)
+end_read (Some folder) name bytes room left later limit so_far takes le = (end_held (folder name) left later bytes room limit so_far takes le, tt)
+
+-- a file that is too large, of which so many bytes and one were read
+large_held : (under left : Option (List ℕ)) (bytes : List ℕ) (limit : ℕ) → IsWhole under left bytes → limit + 1 ≡ length bytes → (HeldFile.TooLarge ≡ held_within limit under) × (left ≡ option_map (drop (limit + 1)) under)
+large_held None left bytes limit so_far size = absurd so_far
+large_held (Some all) None bytes limit so_far size = absurd so_far
+large_held (Some all) (Some rest) bytes limit so_far size =
+    let long : nat_lt limit (length all) ≡ true = grind (arith, nat_tests, ap length so_far, length-append bytes rest, size) in
+    (rw long refl, rw (size, so_far, drop-append_seam bytes rest) refl)
+
+pub large_read : (holds : Option Contents) (name bytes : List ℕ) (left : Option (List ℕ)) (limit : ℕ) → IsSoFar holds name left bytes → limit + 1 ≡ length bytes → IsRead holds name limit kept.TooLarge × StopsPast holds name limit left kept.TooLarge
+large_read None name bytes left limit so_far size = (tt, tt)
+large_read (Some folder) name bytes left limit so_far size = large_held (folder name) left bytes limit so_far size
+
 -- the files so far are those that are held, where that is told
 abbrev pub AreReadSoFar : Option Contents → List FileName → List FileBytes → Type 0
 AreReadSoFar None names files = Unit {0}
 AreReadSoFar (Some folder) names files = map held_of files ≡ map (held_under folder) names
+
+-- one file more
+pub more_read : (holds : Option Contents) (files : List FileBytes) (i : ℕ) (bytes : FileBytes) (d : FileName) → i < length all_files → i < length files
+    → AreReadSoFar holds (take i all_files) (take i files) → IsRead holds (file_text (get_or all_files i d)) most_bytes bytes
+    → AreReadSoFar holds (take (i + 1) all_files) (take (i + 1) (slice_set files i bytes))
+more_read None files i bytes d named lt so_far read = tt
+more_read (Some folder) files i bytes d named lt so_far read =
+    rw (take_more_set files i bytes lt, take_more all_files i d named, map-append held_of (take i files) (bytes ∷ []), map-append (held_under folder) (take i all_files) (get_or all_files i d ∷ []), so_far, read) refl
 
 -- what is held of one of the files that are kept, by the list of what is held of all
 held_of_place : (files : List FileBytes) (i : ℕ) → held_of (unwrap_or (slice_get files i) kept.Absent) ≡ unwrap_or (slice_get (map held_of files) i) HeldFile.Missing

@@ -1,7 +1,10 @@
-use Rattle.std.proofs.Common.{◌≡◌, take, arith}
+use Rattle.std.proofs.Common.{◌≡◌, ◌∙◌, take, arith}
 use Rattle.std.proofs.lemmas.List.{take_all}
+use Rattle.std.proofs.lemmas.List.Elements.{All-set}
+use Rattle.feed_rows.specs.HeldFiles.{most_bytes}
+use Rattle.folder_io.specs.KeptFiles.{IsWithin}
 use Rattle.folder_io.specs.FilePlaces.{all_files}
-use Rattle.folder_io.proofs.FilesRead.{all_read, each_within}
+use Rattle.folder_io.proofs.FilesRead.{all_read, each_within, more_read}
 use Rattle.folder_io.proofs.reading.read_files.Goals as goal
 
 pub returns-clause-files : goal.returns-clause-files
@@ -12,3 +15,16 @@ returns-clause-files g c =
 
 pub returns-clause-within : goal.returns-clause-within
 returns-clause-within g c = each_within c.loop-i.files c.loop-i.invariant.within
+
+pub loop-i-preserved : goal.loop-i-preserved
+loop-i-preserved g c =
+    let before = c.loop-i.invariant in
+    let read = c.in_ok-bytes.ensures in
+    record {
+      stayed = read.ok ∙ before.stayed;
+      holds = read.holds ∙ before.holds;
+      size = c.put_at.ensures.size;
+      within = rw c.put_at.ensures.value (All-set (IsWithin most_bytes) c.loop-i.files c.loop-i.i c.in_ok-bytes.bytes read.within before.within);
+      held = rw c.put_at.ensures.value
+          (more_read (g.F.Folder.holds c.args.folder.now) c.loop-i.files c.loop-i.i c.in_ok-bytes.bytes _ c.loop-i-test.true (omega (arith, before.size, c.loop-i-test.true)) before.held (rw before.holds at read.bytes));
+    }
