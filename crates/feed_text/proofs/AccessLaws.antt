@@ -1,5 +1,5 @@
 -- Reading in a table whose rows are kept flat among its fields.
-use Rattle.std.proofs.Common.{◌≡◌, ℕ, ◌+◌, ◌-◌, ◌<◌, ◌≤◌, List, [], ◌∷◌, length, take, drop, get_or, refl, ◌∙◌, arith, length-drop, length-take}
+use Rattle.std.proofs.Common.{◌≡◌, ℕ, ◌+◌, ◌-◌, ◌<◌, ◌≤◌, List, [], length, take, drop, get_or, refl, arith, length-drop, length-take}
 use Rattle.std.proofs.lemmas.List.{get_or-take, get_or-drop, get_or_past}
 use Rattle.plain_laws.specs.Plain.{parts, Rise, start_of}
 use Rattle.plain_laws.proofs.Laws.{part_at, rise_at}

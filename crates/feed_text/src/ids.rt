@@ -26,46 +26,25 @@ fn are_capitals(text: &[u8]) -> bool
     text.iter().all(|b| *b >= b'A' && *b <= b'Z')
 }
 
-// Whether a code is of a currency without decimals.
-fn is_whole(text: &[u8]) -> bool
-    ensures { result ≡ is_among whole_currencies text.now }
-{
-    text == b"BIF".as_slice()
-        || text == b"CLP".as_slice()
-        || text == b"DJF".as_slice()
-        || text == b"GNF".as_slice()
-        || text == b"ISK".as_slice()
-        || text == b"JPY".as_slice()
-        || text == b"KMF".as_slice()
-        || text == b"KRW".as_slice()
-        || text == b"PYG".as_slice()
-        || text == b"RWF".as_slice()
-        || text == b"UGX".as_slice()
-        || text == b"VND".as_slice()
-        || text == b"VUV".as_slice()
-        || text == b"XAF".as_slice()
-        || text == b"XOF".as_slice()
-        || text == b"XPF".as_slice()
-}
+// The codes of currencies without decimals.
+const WHOLE_CURRENCIES: [[u8; 3]; 16] = [
+    *b"BIF", *b"CLP", *b"DJF", *b"GNF", *b"ISK", *b"JPY", *b"KMF", *b"KRW", *b"PYG", *b"RWF",
+    *b"UGX", *b"VND", *b"VUV", *b"XAF", *b"XOF", *b"XPF",
+];
 
-// Whether a code is of a currency of three decimals.
-fn has_three_decimals(text: &[u8]) -> bool
-    ensures { result ≡ is_among three_decimal_currencies text.now }
-{
-    text == b"BHD".as_slice()
-        || text == b"IQD".as_slice()
-        || text == b"JOD".as_slice()
-        || text == b"KWD".as_slice()
-        || text == b"LYD".as_slice()
-        || text == b"OMR".as_slice()
-        || text == b"TND".as_slice()
-}
+// The codes of currencies of three decimals.
+const THREE_DECIMAL_CURRENCIES: [[u8; 3]; 7] = [
+    *b"BHD", *b"IQD", *b"JOD", *b"KWD", *b"LYD", *b"OMR", *b"TND",
+];
 
-// Whether a code is of a unit that is no currency here.
-fn is_unit(text: &[u8]) -> bool
-    ensures { result ≡ is_among unit_codes text.now }
+// The codes of units that are no currencies here.
+const UNIT_CODES: [[u8; 3]; 3] = [*b"CLF", *b"UYI", *b"UYW"];
+
+// Whether the text is one of these codes.
+fn is_among(codes: &[[u8; 3]], text: &[u8]) -> bool
+    ensures { result ≡ is_among codes.now text.now }
 {
-    text == b"CLF".as_slice() || text == b"UYI".as_slice() || text == b"UYW".as_slice()
+    codes.iter().any(|code| text == code.as_slice())
 }
 
 /// The decimals of a currency, 0, 2 or 3, by its code: three letters A to Z. None exactly where the text is no code of a
@@ -75,13 +54,13 @@ pub fn currency_of(text: &[u8]) -> Option<u8>
     ensures value { result ≡ currency_decimals text.now }
     ensures bound { IfSome result (λ decimals. decimals ≤ 3) }
 {
-    if text.len() != 3 || !are_capitals(text) || is_unit(text) {
+    if text.len() != 3 || !are_capitals(text) || is_among(&UNIT_CODES, text) {
         return None;
     }
-    if is_whole(text) {
+    if is_among(&WHOLE_CURRENCIES, text) {
         return Some(0);
     }
-    if has_three_decimals(text) {
+    if is_among(&THREE_DECIMAL_CURRENCIES, text) {
         return Some(3);
     }
     Some(2)

@@ -1,4 +1,4 @@
-use Rattle.std.proofs.Common.{◌≡◌, ◌++◌, ◌∷◌, [], ◌∙◌, ap, arith, sym}
+use Rattle.std.proofs.Common.{◌++◌, ◌∷◌, [], ◌∙◌, ap, arith, sym}
 use Rattle.csv.specs.Records.{fields_of}
 use Rattle.feed_text.proofs.FieldLaws.{not_there, one_more}
 use Rattle.feed_text.proofs.flat.push_fields.Goals as goal

@@ -1,7 +1,7 @@
 use Rattle.std.proofs.Common.{ℕ, List, [], arith, length, ◌≡◌, ◌<◌, ◌+◌, get_or, sym, ap, ◌∙◌}
 use Rattle.std.proofs.lemmas.Option.{get_or_from_slice_get}
 use Rattle.plain_laws.specs.Plain.{start_of}
-use Rattle.plain_laws.proofs.Laws.{length_parts, rise_at}
+use Rattle.plain_laws.proofs.Laws.{length_parts}
 use Rattle.feed_text.proofs.AccessLaws.{field_there, field_short}
 use Rattle.feed_text.proofs.table.Table.field_at.Goals as goal
 
