@@ -8,11 +8,21 @@ use feed_rows::ColumnName;
 use std::alloc::{AllocError, Global};
 
 /// The rows of stops.txt, routes.txt and trips.txt by their ids, which many rows of other files name.
-#[derive(Drop)]
 pub struct TableIds<'t> {
     pub stops: IdIndex<'t>,
     pub routes: IdIndex<'t>,
     pub trips: IdIndex<'t>,
+}
+
+// Written out, so that what lets go of the rows needn't look into them.
+impl<'t> Drop for TableIds<'t> {
+    fn drop(self) {
+        let TableIds {
+            stops: _,
+            routes: _,
+            trips: _,
+        } = self;
+    }
 }
 
 impl<'t> TableIds<'t> {
