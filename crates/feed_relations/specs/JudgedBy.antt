@@ -32,6 +32,12 @@ pub record AreProductIds (t : FeedTables) (ids : ProductIds) : Type 0 where
   pub riders : ids.riders ≡ record { table = t.rider_categories; name = column.RiderCategoryId }
   pub media : ids.media ≡ record { table = t.fare_media; name = column.FareMediaId }
 
+-- the keys of products: by their own rows
+pub record AreKeyIds (table : FileTable) (ids : ProductIds) : Type 0 where
+  pub products : ids.products ≡ record { table = table; name = column.FareProductId }
+  pub product_riders : ids.product_riders ≡ record { table = table; name = column.RiderCategoryId }
+  pub product_media : ids.product_media ≡ record { table = table; name = column.FareMediaId }
+
 -- the rules of legs
 pub record AreRuleIds (t : FeedTables) (ids : RuleIds) : Type 0 where
   pub routes : ids.routes ≡ record { table = t.routes; name = column.NetworkId }

@@ -9,7 +9,7 @@ ghost use Rattle.feed_relations.specs.RowNumbers.{exception_key};
 ghost use Rattle.feed_relations.specs.SeenKeys.{AreSeen, same_exception_key};
 
 use crate::files::first_row;
-use crate::places::field_fault;
+use crate::places::found_fault;
 use feed_rows::{ColumnName, FaultKind, FeedFault, FileName};
 use feed_tables::{IdIndex, NamedTable, Tables};
 use feed_text::day_or_past;
@@ -62,12 +62,12 @@ pub fn exceptions_fault(alloc: Global, tables: &Tables) -> Result<Option<FeedFau
     let mut seen = BTreeSet::new(alloc);
     for row in 0..dates.rows() {
         if !put_exception(&mut seen, dates, &services, row)? {
-            return Ok(Some(field_fault(
+            return Ok(found_fault(
                 FileName::CalendarDates,
                 row,
                 ColumnName::Date,
                 FaultKind::DoubledKey,
-            )));
+            ));
         }
     }
     Ok(None)

@@ -8,10 +8,10 @@ ghost use Rattle.feed_faults.specs.FareRelations.{same_product, is_currency_mixe
 ghost use Rattle.feed_tables.specs.RowLimits.{row_limit};
 ghost use Rattle.feed_relations.specs.RowNumbers.{product_key};
 ghost use Rattle.feed_relations.specs.SeenKeys.{AreSeen, same_product_key};
-ghost use Rattle.feed_relations.specs.JudgedBy.{AreProductIds};
+ghost use Rattle.feed_relations.specs.JudgedBy.{AreKeyIds, AreProductIds};
 
-use crate::files::first_row;
-use crate::places::field_fault;
+use crate::files::{first_row, two_indexes};
+use crate::places::found_fault;
 use feed_rows::{ColumnName, FaultKind, FeedFault, FileName};
 use feed_tables::{IdIndex, NamedTable, Tables};
 use std::alloc::{AllocError, Global};
@@ -37,12 +37,11 @@ pub struct ProductIds<'t> {
 
 // The product, the rider category and the medium of a row.
 #[tactic(auto, unfolding(crate::specs::RowNumbers::product_key))]
-fn product_key(tables: &Tables, ids: &ProductIds, row: u32) -> ProductKey
-    requires ids { AreProductIds tables.now ids.now }
-    requires within { row < row_count tables.now.fare_products }
-    ensures { result ≡ product_key tables.now.fare_products row }
+fn product_key(products: &NamedTable, ids: &ProductIds, row: u32) -> ProductKey
+    requires ids { AreKeyIds products.now ids.now }
+    requires within { row < row_count products.now }
+    ensures { result ≡ product_key products.now row }
 {
-    let products = &tables.fare_products;
     ProductKey {
         product: first_row(&ids.products, products, ColumnName::FareProductId, row),
         rider: first_row(
@@ -79,24 +78,43 @@ fn product_fault(
     ensures { result ≡ product_fault tables.now row }
 {
     let products = &tables.fare_products;
-    let fault = |column, kind| Some(field_fault(FileName::FareProducts, row, column, kind));
     if ids
         .riders
         .is_unknown(products.field(row, ColumnName::RiderCategoryId))
     {
-        return fault(ColumnName::RiderCategoryId, FaultKind::UnknownReference);
+        return found_fault(
+            FileName::FareProducts,
+            row,
+            ColumnName::RiderCategoryId,
+            FaultKind::UnknownReference,
+        );
     }
     if ids
         .media
         .is_unknown(products.field(row, ColumnName::FareMediaId))
     {
-        return fault(ColumnName::FareMediaId, FaultKind::UnknownReference);
+        return found_fault(
+            FileName::FareProducts,
+            row,
+            ColumnName::FareMediaId,
+            FaultKind::UnknownReference,
+        );
     }
     if has_same_before {
-        return fault(ColumnName::FareProductId, FaultKind::DoubledKey);
+        return found_fault(
+            FileName::FareProducts,
+            row,
+            ColumnName::FareProductId,
+            FaultKind::DoubledKey,
+        );
     }
     if is_currency_mixed(products, row) {
-        return fault(ColumnName::Currency, FaultKind::MixedCurrency);
+        return found_fault(
+            FileName::FareProducts,
+            row,
+            ColumnName::Currency,
+            FaultKind::MixedCurrency,
+        );
     }
     None
 }
@@ -107,10 +125,20 @@ fn product_ids<'t>(alloc: Global, tables: &'t Tables) -> Result<ProductIds<'t>, 
 {
     let own = &tables.fare_products;
     let products = IdIndex::of(alloc, own, ColumnName::FareProductId)?;
-    let product_riders = IdIndex::of(alloc, own, ColumnName::RiderCategoryId)?;
-    let product_media = IdIndex::of(alloc, own, ColumnName::FareMediaId)?;
-    let riders = IdIndex::of(alloc, &tables.rider_categories, ColumnName::RiderCategoryId)?;
-    let media = IdIndex::of(alloc, &tables.fare_media, ColumnName::FareMediaId)?;
+    let (product_riders, product_media) = two_indexes(
+        alloc,
+        own,
+        ColumnName::RiderCategoryId,
+        own,
+        ColumnName::FareMediaId,
+    )?;
+    let (riders, media) = two_indexes(
+        alloc,
+        &tables.rider_categories,
+        ColumnName::RiderCategoryId,
+        &tables.fare_media,
+        ColumnName::FareMediaId,
+    )?;
     Ok(ProductIds {
         products,
         product_riders,
@@ -123,31 +151,44 @@ fn product_ids<'t>(alloc: Global, tables: &'t Tables) -> Result<ProductIds<'t>, 
 // Puts the product, the rider category and the medium of a row among those of the rows before it, and says whether they are new.
 fn put_product(
     seen: &mut BTreeSet<ProductKey>,
-    tables: &Tables,
+    products: &NamedTable,
     ids: &ProductIds,
     row: u32,
 ) -> Result<bool, AllocError>
-    requires ids { AreProductIds tables.now ids.now }
-    requires within { row < row_count tables.now.fare_products }
-    requires seen { AreSeen same_product_key seen.old (product_key tables.now.fare_products) row }
-    ensures new { IfOk result (λ new. new ≡ not (is_repeated (same_product tables.now.fare_products) row)) }
-    ensures seen { OnOk result (AreSeen same_product_key seen.new (product_key tables.now.fare_products) (row + 1)) }
+    requires ids { AreKeyIds products.now ids.now }
+    requires within { row < row_count products.now }
+    requires seen { AreSeen same_product_key seen.old (product_key products.now) row }
+    ensures new { IfOk result (λ new. new ≡ not (is_repeated (same_product products.now) row)) }
+    ensures seen { OnOk result (AreSeen same_product_key seen.new (product_key products.now) (row + 1)) }
 {
-    Ok(seen.insert(product_key(tables, ids, row))?)
+    Ok(seen.insert(product_key(products, ids, row))?)
 }
 
-// The first fault of the rows of fare_products.txt.
+// The first fault of the rows of fare_products.txt, by the rows that they name.
 #[tactic(auto, using(plain_laws::proofs::Laws::firsts))]
-pub fn products_fault(alloc: Global, tables: &Tables) -> Result<Option<FeedFault>, AllocError>
+fn first_product_fault(
+    alloc: Global,
+    tables: &Tables,
+    ids: &ProductIds,
+) -> Result<Option<FeedFault>, AllocError>
+    requires { AreProductIds tables.now ids.now }
     ensures { IfOk result (λ fault. fault ≡ first_in_rows tables.now.fare_products (product_fault tables.now)) }
 {
-    let ids = product_ids(alloc, tables)?;
+    let products = &tables.fare_products;
     let mut seen = BTreeSet::new(alloc);
-    for row in 0..tables.fare_products.rows() {
-        let is_new = put_product(&mut seen, tables, &ids, row)?;
-        if let Some(fault) = product_fault(tables, &ids, row, !is_new) {
+    for row in 0..products.rows() {
+        let is_new = put_product(&mut seen, products, ids, row)?;
+        if let Some(fault) = product_fault(tables, ids, row, !is_new) {
             return Ok(Some(fault));
         }
     }
     Ok(None)
+}
+
+// The first fault of the rows of fare_products.txt.
+pub fn products_fault(alloc: Global, tables: &Tables) -> Result<Option<FeedFault>, AllocError>
+    ensures { IfOk result (λ fault. fault ≡ first_in_rows tables.now.fare_products (product_fault tables.now)) }
+{
+    let ids = product_ids(alloc, tables)?;
+    first_product_fault(alloc, tables, &ids)
 }

@@ -10,7 +10,7 @@ ghost use Rattle.feed_tables.specs.RowLimits.{row_limit};
 ghost use Rattle.stop_order.specs.Numbered.{faults_at};
 ghost use Rattle.feed_relations.specs.JudgedBy.{AreCallsNamed, AreJudgedCalls, are_platforms, order_fault};
 
-use crate::places::field_fault;
+use crate::places::found_fault;
 use feed_rows::{ColumnName, FaultKind, FeedFault, FileName, PLATFORM, StopTimeRow};
 use feed_tables::{NamedTable, Tables, stop_kind};
 use std::alloc::{AllocError, Global};
@@ -116,16 +116,30 @@ fn order_fault(tables: &Tables, calls: &JudgedCalls, row: u32) -> Option<FeedFau
     requires known { is_unknown tables.now.trips column.TripId (field tables.now.stop_times row column.TripId) ≡ false }
     ensures { result ≡ order_fault (faults_at (stop_times_of tables.now.stop_times) row) row }
 {
-    let fault = |column, kind| Some(field_fault(FileName::StopTimes, row, column, kind));
     let faults = faults_in_trip(tables, calls, row);
     if faults.is_repeated {
-        return fault(ColumnName::StopSequence, FaultKind::DoubledKey);
+        return found_fault(
+            FileName::StopTimes,
+            row,
+            ColumnName::StopSequence,
+            FaultKind::DoubledKey,
+        );
     }
     if faults.is_end_time_missing {
-        return fault(ColumnName::ArrivalTime, FaultKind::EndTimeMissing);
+        return found_fault(
+            FileName::StopTimes,
+            row,
+            ColumnName::ArrivalTime,
+            FaultKind::EndTimeMissing,
+        );
     }
     if faults.do_times_decrease {
-        return fault(ColumnName::ArrivalTime, FaultKind::TimesDecrease);
+        return found_fault(
+            FileName::StopTimes,
+            row,
+            ColumnName::ArrivalTime,
+            FaultKind::TimesDecrease,
+        );
     }
     None
 }
@@ -138,21 +152,48 @@ fn stop_time_fault(tables: &Tables, calls: &JudgedCalls, row: u32) -> Option<Fee
     requires few { row < row_limit }
     ensures { result ≡ stop_time_fault tables.now row }
 {
-    let fault = |column, kind| Some(field_fault(FileName::StopTimes, row, column, kind));
     if is_trip_unknown(tables, calls, row) {
-        return fault(ColumnName::TripId, FaultKind::UnknownReference);
+        return found_fault(
+            FileName::StopTimes,
+            row,
+            ColumnName::TripId,
+            FaultKind::UnknownReference,
+        );
     }
     if is_stop_unknown(tables, calls, row) {
-        return fault(ColumnName::StopId, FaultKind::UnknownReference);
+        return found_fault(
+            FileName::StopTimes,
+            row,
+            ColumnName::StopId,
+            FaultKind::UnknownReference,
+        );
     }
     if !is_at_platform(tables, calls, row) {
-        return fault(ColumnName::StopId, FaultKind::WrongStopKind);
+        return found_fault(
+            FileName::StopTimes,
+            row,
+            ColumnName::StopId,
+            FaultKind::WrongStopKind,
+        );
     }
     order_fault(tables, calls, row)
 }
 
-// The first fault of the rows of stop_times.txt, each of which names a trip and a stop.
+// The first fault of the rows of stop_times.txt, by what they are judged by.
 #[tactic(auto, using(plain_laws::proofs::Laws::firsts))]
+fn first_stop_time_fault(tables: &Tables, calls: &JudgedCalls) -> Option<FeedFault>
+    requires { AreJudgedCalls tables.now calls.now }
+    ensures { result ≡ first_in_rows tables.now.stop_times (stop_time_fault tables.now) }
+{
+    for row in 0..tables.stop_times.rows() {
+        if let Some(fault) = stop_time_fault(tables, calls, row) {
+            return Some(fault);
+        }
+    }
+    None
+}
+
+// The first fault of the rows of stop_times.txt, each of which names a trip and a stop.
 pub fn stop_times_fault(
     alloc: Global,
     tables: &Tables,
@@ -163,10 +204,5 @@ pub fn stop_times_fault(
     ensures { IfOk result (λ fault. fault ≡ first_in_rows tables.now.stop_times (stop_time_fault tables.now)) }
 {
     let calls = judged_calls(alloc, tables, rows)?;
-    for row in 0..tables.stop_times.rows() {
-        if let Some(fault) = stop_time_fault(tables, &calls, row) {
-            return Ok(Some(fault));
-        }
-    }
-    Ok(None)
+    Ok(first_stop_time_fault(tables, &calls))
 }

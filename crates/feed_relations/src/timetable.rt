@@ -8,7 +8,8 @@ ghost use Rattle.feed_relations.specs.JudgedBy.{AreServiceIds};
 ghost use Rattle.feed_faults.specs.FirstFault.{first_in_rows};
 ghost use Rattle.feed_faults.specs.TimetableRelations.{has_parent, is_at_station, stop_fault, route_fault, is_service_unknown, trip_fault, are_dates_reversed, service_fault};
 
-use crate::places::field_fault;
+use crate::files::two_indexes;
+use crate::places::found_fault;
 use feed_rows::{ColumnName, FaultKind, FeedFault, FileName, PLATFORM, STATION};
 use feed_tables::{IdIndex, NamedTable, TableIds, Tables, stop_kind};
 use feed_text::{day_or_past, is_filled};
@@ -45,18 +46,32 @@ fn stop_fault(tables: &Tables, ids: &IdIndex, row: u32) -> Option<FeedFault>
     ensures { result ≡ stop_fault tables.now row }
 {
     let stops = &tables.stops;
-    let fault = |column, kind| Some(field_fault(FileName::Stops, row, column, kind));
     if ids.is_doubled(row) {
-        return fault(ColumnName::StopId, FaultKind::DoubledKey);
+        return found_fault(
+            FileName::Stops,
+            row,
+            ColumnName::StopId,
+            FaultKind::DoubledKey,
+        );
     }
     if !has_parent(stops, row) {
         return None;
     }
     if ids.is_unknown(stops.field(row, ColumnName::ParentStation)) {
-        return fault(ColumnName::ParentStation, FaultKind::UnknownReference);
+        return found_fault(
+            FileName::Stops,
+            row,
+            ColumnName::ParentStation,
+            FaultKind::UnknownReference,
+        );
     }
     if stop_kind(stops, row) != u32::from(PLATFORM) || !is_at_station(stops, ids, row) {
-        return fault(ColumnName::ParentStation, FaultKind::BadParent);
+        return found_fault(
+            FileName::Stops,
+            row,
+            ColumnName::ParentStation,
+            FaultKind::BadParent,
+        );
     }
     None
 }
@@ -85,12 +100,12 @@ fn route_fault(tables: &Tables, ids: &IdIndex, row: u32) -> Option<FeedFault>
 {
     let _routes = &tables.routes;
     if ids.is_doubled(row) {
-        return Some(field_fault(
+        return found_fault(
             FileName::Routes,
             row,
             ColumnName::RouteId,
             FaultKind::DoubledKey,
-        ));
+        );
     }
     None
 }
@@ -137,16 +152,30 @@ fn trip_fault(tables: &Tables, ids: &TableIds, services: &ServiceIds, row: u32) 
     ensures { result ≡ trip_fault tables.now row }
 {
     let trips = &tables.trips;
-    let fault = |column, kind| Some(field_fault(FileName::Trips, row, column, kind));
     if ids.trips.is_doubled(row) {
-        return fault(ColumnName::TripId, FaultKind::DoubledKey);
+        return found_fault(
+            FileName::Trips,
+            row,
+            ColumnName::TripId,
+            FaultKind::DoubledKey,
+        );
     }
     if ids.routes.is_unknown(trips.field(row, ColumnName::RouteId)) {
-        return fault(ColumnName::RouteId, FaultKind::UnknownReference);
+        return found_fault(
+            FileName::Trips,
+            row,
+            ColumnName::RouteId,
+            FaultKind::UnknownReference,
+        );
     }
     let service = trips.field(row, ColumnName::ServiceId);
     if is_service_unknown(tables, &services.weekly, &services.dates, service) {
-        return fault(ColumnName::ServiceId, FaultKind::UnknownReference);
+        return found_fault(
+            FileName::Trips,
+            row,
+            ColumnName::ServiceId,
+            FaultKind::UnknownReference,
+        );
     }
     None
 }
@@ -155,13 +184,32 @@ fn trip_fault(tables: &Tables, ids: &TableIds, services: &ServiceIds, row: u32) 
 fn service_ids<'t>(alloc: Global, tables: &'t Tables) -> Result<ServiceIds<'t>, AllocError>
     ensures { IfOk result (λ services. AreServiceIds tables.now services) }
 {
-    let weekly = IdIndex::of(alloc, &tables.calendar, ColumnName::ServiceId)?;
-    let dates = IdIndex::of(alloc, &tables.calendar_dates, ColumnName::ServiceId)?;
+    let (weekly, dates) = two_indexes(
+        alloc,
+        &tables.calendar,
+        ColumnName::ServiceId,
+        &tables.calendar_dates,
+        ColumnName::ServiceId,
+    )?;
     Ok(ServiceIds { weekly, dates })
 }
 
-// The first fault of the rows of trips.txt.
+// The first fault of the rows of trips.txt, by the rows that they name.
 #[tactic(auto, using(plain_laws::proofs::Laws::firsts))]
+fn first_trip_fault(tables: &Tables, ids: &TableIds, services: &ServiceIds) -> Option<FeedFault>
+    requires ids { AreIdsOf tables.now ids.now }
+    requires services { AreServiceIds tables.now services.now }
+    ensures { result ≡ first_in_rows tables.now.trips (trip_fault tables.now) }
+{
+    for row in 0..tables.trips.rows() {
+        if let Some(fault) = trip_fault(tables, ids, services, row) {
+            return Some(fault);
+        }
+    }
+    None
+}
+
+// The first fault of the rows of trips.txt.
 pub fn trips_fault(
     alloc: Global,
     tables: &Tables,
@@ -171,12 +219,7 @@ pub fn trips_fault(
     ensures { IfOk result (λ fault. fault ≡ first_in_rows tables.now.trips (trip_fault tables.now)) }
 {
     let services = service_ids(alloc, tables)?;
-    for row in 0..tables.trips.rows() {
-        if let Some(fault) = trip_fault(tables, ids, &services, row) {
-            return Ok(Some(fault));
-        }
-    }
-    Ok(None)
+    Ok(first_trip_fault(tables, ids, &services))
 }
 
 // Whether the last day of a row lies before its first.
@@ -197,26 +240,43 @@ fn service_fault(tables: &Tables, ids: &IdIndex, row: u32) -> Option<FeedFault>
     requires few { row < row_limit }
     ensures { result ≡ service_fault tables.now row }
 {
-    let fault = |column, kind| Some(field_fault(FileName::Calendar, row, column, kind));
     if ids.is_doubled(row) {
-        return fault(ColumnName::ServiceId, FaultKind::DoubledKey);
+        return found_fault(
+            FileName::Calendar,
+            row,
+            ColumnName::ServiceId,
+            FaultKind::DoubledKey,
+        );
     }
     if are_dates_reversed(&tables.calendar, row) {
-        return fault(ColumnName::EndDate, FaultKind::DatesReversed);
+        return found_fault(
+            FileName::Calendar,
+            row,
+            ColumnName::EndDate,
+            FaultKind::DatesReversed,
+        );
+    }
+    None
+}
+
+// The first fault of the rows of calendar.txt, by its rows.
+#[tactic(auto, using(plain_laws::proofs::Laws::firsts))]
+fn first_service_fault(tables: &Tables, ids: &IdIndex) -> Option<FeedFault>
+    requires { ids.now ≡ record { table = tables.now.calendar; name = column.ServiceId } }
+    ensures { result ≡ first_in_rows tables.now.calendar (service_fault tables.now) }
+{
+    for row in 0..tables.calendar.rows() {
+        if let Some(fault) = service_fault(tables, ids, row) {
+            return Some(fault);
+        }
     }
     None
 }
 
 // The first fault of the rows of calendar.txt.
-#[tactic(auto, using(plain_laws::proofs::Laws::firsts))]
 pub fn services_fault(alloc: Global, tables: &Tables) -> Result<Option<FeedFault>, AllocError>
     ensures { IfOk result (λ fault. fault ≡ first_in_rows tables.now.calendar (service_fault tables.now)) }
 {
     let ids = IdIndex::of(alloc, &tables.calendar, ColumnName::ServiceId)?;
-    for row in 0..tables.calendar.rows() {
-        if let Some(fault) = service_fault(tables, &ids, row) {
-            return Ok(Some(fault));
-        }
-    }
-    Ok(None)
+    Ok(first_service_fault(tables, &ids))
 }

@@ -9,7 +9,7 @@ use Rattle.feed_relations.proofs.products.put_product.Goals as goal
 
 pub returns-clause-new : goal.returns-clause-new
 returns-clause-new c =
-    let products = c.args.tables.now.fare_products in
+    let products = c.args.products.now in
     let key = product_key products c.args.row in
     c.in_ok-insert.ensures.added
     ∙ ap (λ k. not (list_any (same_product_key k) c.args.seen.now.keys)) c.product_key.ensures
@@ -18,4 +18,4 @@ returns-clause-new c =
 pub returns-clause-seen : goal.returns-clause-seen
 returns-clause-seen c =
     let put = subst (λ (key : ProductKey). (k : ProductKey) → list_any (same_product_key k) c.insert.new.self.keys ≡ cond (same_product_key key k) true (list_any (same_product_key k) c.args.seen.now.keys)) c.product_key.ensures c.in_ok-insert.ensures.updates.0 in
-    seen_more same_product_key c.args.seen.now c.insert.new.self (product_key c.args.tables.now.fare_products) c.args.row product_turn c.requires.seen put
+    seen_more same_product_key c.args.seen.now c.insert.new.self (product_key c.args.products.now) c.args.row product_turn c.requires.seen put
