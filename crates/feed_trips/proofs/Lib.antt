@@ -5,3 +5,4 @@ pub mod NameLaws
 pub mod TableLaws
 pub mod StretchLaws
 pub mod TripLaws
+pub mod RideLaws

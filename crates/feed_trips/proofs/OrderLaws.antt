@@ -1,10 +1,10 @@
 -- Rows in order, as sorts leave them.
-use Rattle.std.proofs.Common.{◌≡◌, refl, sym, ◌∙◌, ap, subst, ℕ, zero, suc, ◌+◌, ◌<◌, ◌≤◌, ◌⊎◌, inl, inr, List, [], ◌∷◌, ◌++◌, length, get_or, take, map, AllPairs, IsPermutation, arith}
-use Rattle.std.specs.List.Sorted.{IsNonDecreasing, IsNonDecreasingBy}
-use Rattle.std.proofs.lemmas.Bool.{cases_eq}
+use Rattle.std.proofs.Common.{◌≡◌, refl, sym, ◌∙◌, ap, subst, ℕ, zero, suc, ◌+◌, ◌<◌, ◌≤◌, ◌*◌, ◌^◌, List, [], ◌∷◌, ◌++◌, length, take, map, AllPairs, IsPermutation, arith}
 use Rattle.std.proofs.lemmas.List.{length-map, get_or-map, map-append, take_more}
 use Rattle.std.proofs.lemmas.List.Sorted.{IsPermutation-map}
 use Rattle.std.proofs.Math.Seq.{take-length}
+use mir.Syntax.{w64}
+use mir.Val.{Fits}
 use Rattle.plain_laws.specs.Plain.{list_below}
 use Rattle.feed_rows.specs.declared.rows.StopTimeRow.{StopTimeRow}
 use Rattle.feed_trips.specs.Tables.{IsInOrder}
@@ -22,6 +22,14 @@ rows_of_keys rows (suc n) le =
     let e : n + 1 ≡ suc n = omega arith in
     let more : take (suc n) rows ≡ take n rows ++ numbered_at rows n ∷ [] = rw e at (take_more rows n no_time (omega arith)) in
     map-append (row_of rows) (list_below n (key_of rows)) (key_of rows n ∷ []) ∙ ap (λ xs. xs ++ numbered_at rows n ∷ []) (rows_of_keys rows n (omega arith)) ∙ sym more
+
+-- a row of so few is at a place that fits
+pub row_fits : {n : ℕ} (row : ℕ) → row < n → n < 2 ^ 32 → Fits w64 (row * 32)
+row_fits row lt few = omega arith
+
+-- the rows of the first keys with one more
+pub rows_more : (rows : List StopTimeRow) (keys : List PlaceKey) (i : ℕ) → i < length keys → map (row_of rows) (take i keys) ++ row_of rows (key_at keys i) ∷ [] ≡ map (row_of rows) (take (i + 1) keys)
+rows_more rows keys i lt = sym (ap (map (row_of rows)) (take_more keys i no_key lt) ∙ map-append (row_of rows) (take i keys) (key_at keys i ∷ []))
 
 -- the rows of sorted keys are all rows
 pub moved_by_keys : (rows : List StopTimeRow) (keys : List PlaceKey) → AreSorted rows keys → IsPermutation rows (map (row_of rows) keys)

@@ -1,19 +1,39 @@
 -- The shifts of a trip from its frequency rows in any order.
-use Rattle.std.proofs.Common.{◌≡◌, refl, sym, ◌∙◌, ◌<◌, Bool, true, false, ◌&&◌, ◌==◌, List, [], ◌∷◌, length, ℤ, pos, ◌+ℤ◌, ◌-ℤ◌, flat_map, arith}
+use Rattle.std.proofs.Common.{◌≡◌, refl, sym, ◌∙◌, ap, ℕ, ◌+◌, ◌<◌, get_or, take, map, ◌++◌, append_assoc, add-one, ◌*◌, Bool, true, false, ◌&&◌, ◌==◌, List, [], ◌∷◌, length, ℤ, pos, ◌+ℤ◌, ◌-ℤ◌, flat_map, arith}
 use Rattle.std.specs.List.{list_any}
+use Rattle.std.proofs.lemmas.List.{append-nil, map-append, take_more}
+use Rattle.std.proofs.lemmas.List.Concat.{flat_map-append}
+use mir.Syntax.{w32}
+use mir.Val.{Fits}
 use Rattle.transit_base.specs.declared.numbers.TripId.{TripId}
 use Rattle.feed_rows.specs.declared.rows.FrequencyRow.{FrequencyRow}
 use Rattle.feed_rows.specs.FeedRows.{FeedRows}
-use Rattle.plain_laws.specs.Plain.{int_same}
+use Rattle.plain_laws.specs.Plain.{int_same, list_below}
 use Rattle.feed_rows.specs.Calls.{first_departure}
-use Rattle.feed_rows.specs.Shifts.{run_starts, ascending_of, has_frequencies, shifts_of, is_run_start, is_shift}
-use Rattle.feed_laws.proofs.ShiftLaws.{ascending_of_ascending, list_any-ascending_of, list_any-run_starts, run_starts_counted, shifts_of_only}
+use Rattle.feed_rows.specs.Shifts.{run_starts, run_count, ascending_of, has_frequencies, shifts_of, is_run_start, is_shift}
+use Rattle.feed_laws.proofs.ShiftLaws.{ascending_of_ascending, list_any-ascending_of, list_any-run_starts, run_count_tells, shifts_of_only}
 use Rattle.plain_laws.proofs.Laws.{list_any-map, list_any-flat_map, list_any_same}
-use Rattle.feed_trips.specs.Runs.{AreRunsOf, shifts_against}
+use Rattle.feed_trips.specs.Runs.{AreRunsOf, IsSoundRun, shifts_against}
 use Rattle.feed_laws.proofs.RideLaws.{is_ride_by_shift}
 
--- the starts of a row's runs by their count
-pub ruleset starts_by_count = (run_starts_counted)
+-- the start of a run of a row is a small number, and so is its distance from the row's
+pub start_fits : (row : FrequencyRow) (run : ℕ) → IsSoundRun row → run < run_count row → Fits w32 (row.start + run * row.headway)
+start_fits row run sound lt =
+    let before = (run_count_tells row run lt).1 in
+    let end = sound.end in
+    omega (arith, before, end)
+
+pub run_fits : (row : FrequencyRow) (run : ℕ) → IsSoundRun row → run < run_count row → Fits w32 (run * row.headway)
+run_fits row run sound lt =
+    let before = (run_count_tells row run lt).1 in
+    let end = sound.end in
+    omega (arith, before, end)
+
+-- the shifts of the first runs with one more
+pub shifts_on : (old : List ℤ) (first : ℕ) (start : ℕ → ℕ) (n : ℕ) → (old ++ map (λ s. pos s -ℤ pos first) (list_below n start)) ++ (pos (start n) -ℤ pos first) ∷ [] ≡ old ++ map (λ s. pos s -ℤ pos first) (list_below (n + 1) start)
+shifts_on old first start n =
+    let shift : ℕ → ℤ = λ s. pos s -ℤ pos first in
+    append_assoc old (map shift (list_below n start)) (shift (start n) ∷ []) ∙ ap (λ xs. old ++ xs) (sym (ap (λ k. map shift (list_below k start)) (add-one n) ∙ map-append shift (list_below n start) (start n ∷ [])))
 
 true_right : (b : Bool) → (b && true) ≡ b
 true_right true = refl
@@ -71,6 +91,14 @@ shifts_of_rows feed trip rows are some =
     ∙ list_any-flat_map (λ start. int_same z (pos start -ℤ pos first)) run_starts rows
     ∙ list_any_same (λ (f : FrequencyRow). list_any (λ start. int_same z (pos start -ℤ pos first)) (run_starts f)) (λ (f : FrequencyRow). is_run_start f (z +ℤ pos first)) rows (λ f. list_any-run_starts f z first)
     ∙ sym (is_shift_rows feed trip rows z are some)))
+
+-- the shifts of the first rows with one more
+pub shifts_more : (first : ℕ) (rows : List FrequencyRow) (i : ℕ) (d : FrequencyRow) → i < length rows → shifts_against first (take i rows) ++ map (λ start. pos start -ℤ pos first) (run_starts (get_or rows i d)) ≡ shifts_against first (take (i + 1) rows)
+shifts_more first rows i d lt =
+    let shift : ℕ → ℤ = λ start. pos start -ℤ pos first in
+    let row = get_or rows i d in
+    sym (ap (shifts_against first) (take_more rows i d lt) ∙ ap (map shift) (flat_map-append run_starts (take i rows) (row ∷ []) ∙ ap (λ xs. flat_map run_starts (take i rows) ++ xs) (append-nil (run_starts row)))
+    ∙ map-append shift (flat_map run_starts (take i rows)) (run_starts row))
 
 -- what the numbers of a trip's runs are put in order by
 pub ruleset ascending_runs = (ascending_of_ascending)

@@ -2,12 +2,11 @@
 use Rattle.std.proofs.Common.{◌≡◌, ◌≢◌, refl, sym, ◌∙◌, ap, subst, ℕ, zero, suc, ◌+◌, ◌-◌, ◌<◌, ◌≤◌, ◌⊎◌, inl, inr, Bool, ◌==◌, List, [], ◌∷◌, ◌++◌, length, get_or, take, drop, filter, arith, slice_set, get_or-set_other, get_or-set_same, ⊎_elim, All, AllPairs, IsPermutation, append_assoc, true, ◌^◌}
 use Rattle.std.specs.Prelude.{slice_range}
 use Rattle.std.proofs.lemmas.Bool.{cases_eq, eq-eqb, ne_eqb, le-leb, cases_lt, eqb-true}
-use Rattle.std.proofs.lemmas.List.{get_or-take, get_or-drop, length-take, length-drop, length-append, take_all, append-nil, get_or-replicate, length-replicate}
+use Rattle.std.proofs.lemmas.List.{get_or-take, get_or-drop, length-take, length-drop, take_all, append-nil, get_or-replicate, length-replicate, get_or_default}
 use Rattle.std.proofs.lemmas.List.Elements.{filter-append, filter_passes}
 use Rattle.std.proofs.Math.Seq.{take-suc, drop-cons}
 use Rattle.std.proofs.Math.ListN.{replicate, length-set}
 use Rattle.feed_rows.specs.declared.rows.StopTimeRow.{StopTimeRow}
-use Rattle.feed_rows.specs.declared.journeys.Call.{Call}
 use Rattle.feed_rows.specs.FeedRows.{FeedRows}
 use Rattle.feed_rows.specs.Calls.{in_its_place, in_sequence, trip_stop_times, calls_of}
 use Rattle.feed_rows.specs.CallPass.{pass}
@@ -19,7 +18,7 @@ use Rattle.feed_laws.proofs.CallLaws.{calls_of-pass}
 use Rattle.feed_laws.proofs.SoundTrips.{sound_ends, sound_rise, calls_apart}
 use Rattle.feed_trips.specs.declared.together.Stretch.{Stretch}
 use Rattle.feed_trips.specs.Tables.{trip_calls}
-use Rattle.feed_trips.specs.Stretches.{no_stretch, rows_of_stretch, rows_at, IsStretch, AreStretches, AreTimed, IsScattered}
+use Rattle.feed_trips.specs.Stretches.{no_stretch, rows_of_stretch, rows_at, IsStretch, AreStretches, AreTimed, IsApart, IsScattered}
 use Rattle.std.proofs.lemmas.List.Sorted.{All-permutation, length_permutation}
 use Rattle.feed_laws.proofs.TimedLaws.{next_timed_hit, next_timed_end, untimed_more, is_timed_at_row}
 use Rattle.feed_trips.specs.Tables.{IsInOrder}
@@ -154,6 +153,34 @@ pub sorted_are : (feed : FeedRows) (rows : List StopTimeRow) (trips t : ℕ) (st
     → rows_at rows stretches t ≡ trip_stop_times feed (record { 0 = t })
 sorted_are feed rows trips t stretches sound moved up are lt =
     stretch_rows rows trips t stretches are lt ∙ trip_stop_times_of_sorted feed rows (record { 0 = t }) (calls_apart feed sound.calls) moved up
+
+-- a row's trip has a stretch
+pub trip_stretched : (rows : List StopTimeRow) (place trips : ℕ) (stretches : List Stretch) (d : StopTimeRow) → place < length rows → All (λ (r : StopTimeRow). r.trip.0 < trips) rows → AreStretches rows place trips stretches → (get_or rows place d).trip.0 < length stretches
+trip_stretched rows place trips stretches d lt few are = rw are.count (few place d lt)
+
+-- a place before is within the rows too
+pub place_before : {n : ℕ} (place : ℕ) → place < n → place - 1 < n
+place_before place lt = omega arith
+
+-- a row that doesn't lengthen the stretch of its trip, which has begun, lies apart from it
+pub lies_apart : (rows : List StopTimeRow) (place trips : ℕ) (stretches : List Stretch) (d : StopTimeRow) (s : Stretch) → place < length rows → All (λ (r : StopTimeRow). r.trip.0 < trips) rows → AreStretches rows place trips stretches
+    → get_or stretches (get_or rows place d).trip.0 no_stretch ≡ s → (s.from ≡ s.to → ⊥) → (s.to ≡ place → (get_or rows place d).sequence < (get_or rows (place - 1) d).sequence) → IsApart rows place stretches
+lies_apart rows place trips stretches d s lt few are at some falls =
+    let forward = rw at at (are.each (get_or rows place d).trip.0 (few place d lt)).forward in
+    let begun : s.from < s.to = omega (arith, forward, some) in
+    record {
+      begun = λ e. rw (get_or_default rows place e d lt, at) begun;
+      apart = λ e here. rw (get_or_default rows place e d lt, get_or_default rows (place - 1) e d (place_before place lt)) (falls (rw (get_or_default rows place e d lt, at) at here));
+    }
+
+-- the rows of a file are of its trips, and few
+pub file_within : (feed : FeedRows) (rows : List StopTimeRow) (trips : ℕ) → IsSoundFeed feed → rows ≡ feed.stop_times → trips ≡ length feed.trips → All (λ (r : StopTimeRow). r.trip.0 < trips) rows
+file_within feed rows trips sound same many = rw (same, many) sound.stop_times.trips
+
+pub file_few : (feed : FeedRows) (rows : List StopTimeRow) → IsSoundFeed feed → rows ≡ feed.stop_times → length rows < 2 ^ 32
+file_few feed rows sound same =
+    let few = sound.stop_times.few in
+    rw same (omega arith)
 
 module _ (feed : FeedRows) (rows : List StopTimeRow) (stretches : List Stretch) (sound : IsSoundFeed feed) (are : AreStretches rows (length rows) (length feed.trips) stretches)
     (own : (t : ℕ) → t < length feed.trips → rows_at rows stretches t ≡ trip_stop_times feed (record { 0 = t })) where

@@ -14,7 +14,6 @@ use trip_order::sorted_keys;
 ///
 /// # Errors
 /// Want of memory.
-#[tactic(auto, using(trip_order::specs::Order::row_within))]
 pub fn sorted_stop_times(
     alloc: Global,
     rows: &[StopTimeRow],

@@ -35,14 +35,20 @@ fn runs_in(row: &FrequencyRow) -> u32
     (row.end.saturating_sub(row.start) + row.headway - 1) / row.headway
 }
 
+// The shift of a run that departs at this second against the first departure, in seconds.
+fn shift_of(start: u32, first: u32) -> i64
+    ensures { result ≡ pos start -ℤ pos first }
+{
+    i64::from(start) - i64::from(first)
+}
+
 // Appends the shifts of a row's runs against the first departure, in seconds.
-#[tactic(auto, using(crate::proofs::RunLaws::starts_by_count))]
 fn push_shifts(shifts: &mut Vec<i64>, row: &FrequencyRow, first: u32) -> Result<(), AllocError>
     requires { IsSoundRun row.now }
     ensures { OnOk result (shifts.new.items ≡ shifts.old.items ++ map (λ start. pos start -ℤ pos first) (run_starts row.now)) }
 {
     for run in 0..runs_in(row) {
-        shifts.push(i64::from(row.start + run * row.headway) - i64::from(first))?;
+        shifts.push(shift_of(row.start + run * row.headway, first))?;
     }
     Ok(())
 }

@@ -175,7 +175,6 @@ impl<'f> Trips<'f> {
 
     /// Where and when a ride goes, where its trip's service is active on its day or isn't, as told. None exactly where
     /// it is no ride of the feed. The day lies from -800,000 to 3,000,000 and the shift from -700,000 to 700,000.
-    #[tactic(auto, unfolding(feed_rows::specs::Rides::ride_facts))]
     pub fn facts(&self, active: bool, ride: &Ride) -> Option<RideFacts>
         requires trip { ride.now.trip.0 < length self.now.trips }
         requires active { active ≡ runs_on self.now ride.now.trip ride.now.day.0 }

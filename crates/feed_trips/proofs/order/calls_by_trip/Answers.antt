@@ -1,4 +1,4 @@
-use Rattle.std.proofs.Common.{◌≡◌, ◌∙◌, sym, ap, subst, List, length}
+use Rattle.std.proofs.Common.{◌≡◌, ◌∙◌, sym, ap, subst, List, length, AllPairs, IsPermutation}
 use Rattle.feed_rows.specs.declared.rows.StopTimeRow.{StopTimeRow}
 use Rattle.feed_rows.specs.FeedRows.{FeedRows}
 use Rattle.feed_rows.specs.SoundFeed.{IsSoundFeed}
@@ -6,8 +6,36 @@ use Rattle.feed_rows.specs.CallPass.{pass}
 use Rattle.plain_laws.specs.Plain.{list_below}
 use Rattle.feed_trips.specs.declared.together.Stretch.{Stretch}
 use Rattle.feed_trips.specs.Stretches.{AreStretches, AreTimed, rows_at}
-use Rattle.feed_trips.proofs.StretchLaws.{file_stretches}
+use Rattle.feed_trips.specs.Tables.{IsInOrder}
+use Rattle.feed_trips.proofs.StretchLaws.{file_within, file_few, file_stretches}
 use Rattle.feed_trips.proofs.order.calls_by_trip.Goals as goal
+
+pub stretches_of-requires : goal.stretches_of-requires
+stretches_of-requires c =
+    let rows : c.items-rows.result.now ≡ c.args.feed.now.stop_times = c.items-rows.ensures.value ∙ ap (λ (f : FeedRows). f.stop_times) c.feed.view_is in
+    let trips : length c.items-trips.result.now ≡ length c.args.feed.now.trips = ap length (c.items-trips.ensures.value ∙ ap (λ (f : FeedRows). f.trips) c.feed.view_is) in
+    file_within c.args.feed.now c.items-rows.result.now (length c.items-trips.result.now) (subst IsSoundFeed c.feed.view_is c.feed.invariant) rows trips
+
+pub calls_of_stretches-requires-clause-few : goal.calls_of_stretches-requires-clause-few
+calls_of_stretches-requires-clause-few c =
+    let rows : c.items-rows.result.now ≡ c.args.feed.now.stop_times = c.items-rows.ensures.value ∙ ap (λ (f : FeedRows). f.stop_times) c.feed.view_is in
+    file_few c.args.feed.now c.items-rows.result.now (subst IsSoundFeed c.feed.view_is c.feed.invariant) rows
+
+pub sorted_stop_times-requires : goal.sorted_stop_times-requires
+sorted_stop_times-requires c =
+    let rows : c.items-rows.result.now ≡ c.args.feed.now.stop_times = c.items-rows.ensures.value ∙ ap (λ (f : FeedRows). f.stop_times) c.feed.view_is in
+    file_few c.args.feed.now c.items-rows.result.now (subst IsSoundFeed c.feed.view_is c.feed.invariant) rows
+
+pub calls_of_sorted-requires-clause-moved : goal.calls_of_sorted-requires-clause-moved
+calls_of_sorted-requires-clause-moved c =
+    let rows : c.items-rows.result.now ≡ c.args.feed.now.stop_times = c.items-rows.ensures.value ∙ ap (λ (f : FeedRows). f.stop_times) c.feed.view_is in
+    rw c.deref-2.ensures.value (subst (λ (rs : List StopTimeRow). IsPermutation rs c.in_ok-sorted.sorted.items) rows c.in_ok-sorted.ensures.moved)
+
+pub calls_of_sorted-requires-clause-sorted : goal.calls_of_sorted-requires-clause-sorted
+calls_of_sorted-requires-clause-sorted c = subst (AllPairs IsInOrder) (sym c.deref-2.ensures.value) c.in_ok-sorted.ensures.sorted
+
+pub returns : goal.returns
+returns c = c.in_ok-calls-2.ensures
 
 pub calls_of_stretches-requires-clause-timed : goal.calls_of_stretches-requires-clause-timed
 calls_of_stretches-requires-clause-timed c =

@@ -5,7 +5,7 @@ use Rattle.feed_rows.specs.SoundFeed.{IsSoundFeed}
 use Rattle.feed_rows.specs.CallPass.{pass}
 use Rattle.plain_laws.specs.Plain.{list_below}
 use Rattle.feed_trips.specs.declared.together.Stretch.{Stretch}
-use Rattle.feed_trips.specs.Stretches.{AreStretches, AreTimed, rows_at}
+use Rattle.feed_trips.specs.Stretches.{AreStretches, rows_at}
 use Rattle.feed_trips.proofs.StretchLaws.{sorted_stretches, sorted_within, sorted_few, sorted_together}
 use Rattle.feed_trips.proofs.order.calls_of_sorted.Goals as goal
 

@@ -1,8 +1,17 @@
 use Rattle.std.proofs.Common.{◌≡◌, ◌+◌, ◌∙◌, refl, ap, length, length-append, add-one, arith}
 use Rattle.feed_rows.specs.CallPass.{pass}
+use Rattle.plain_laws.specs.Plain.{list_below}
 use Rattle.plain_laws.proofs.Laws.{pushed_part}
 use Rattle.feed_trips.specs.Stretches.{rows_at}
 use Rattle.feed_trips.proofs.together.calls_of_stretches.Goals as goal
+
+pub from_parts-requires : goal.from_parts-requires
+from_parts-requires c = c.loop-trip.invariant.rise
+
+pub returns : goal.returns
+returns c =
+    let at_end : c.loop-trip.trip ≡ length c.args.stretches.now = omega (arith, c.loop-trip-test.false, c.loop-trip.auto.trip-end) in
+    c.from_parts.ensures ∙ c.loop-trip.invariant.calls ∙ ap (λ n. list_below n (λ t. pass (rows_at c.args.rows.now c.args.stretches.now t))) at_end
 
 pub loop-trip-preserved : goal.loop-trip-preserved
 loop-trip-preserved c =

@@ -1,4 +1,4 @@
-use Rattle.std.proofs.Common.{◌≡◌, ◌<◌, sym, subst, length, All}
+use Rattle.std.proofs.Common.{◌<◌, sym, subst, length, All}
 use Rattle.feed_rows.specs.FeedRows.{FeedRows}
 use Rattle.feed_rows.specs.Shifts.{trip_frequencies}
 use Rattle.feed_trips.specs.Runs.{AreRunsOf, IsSoundRun}
