@@ -4,3 +4,4 @@ pub mod PairLaws
 pub mod ReachLaws
 pub mod LinkLaws
 pub mod StepLaws
+pub mod LoopLaws

@@ -1,11 +1,13 @@
 -- Laws of what is found in a list.
-use Rattle.std.proofs.Common.{◌≡◌, refl, ℕ, zero, suc, ◌<◌, ◌⊎◌, inl, inr, true, false, List, [], ◌∷◌, get_or, arith}
-use Rattle.std.specs.Prelude.{◌==◌, slice_get, find, option_and_then}
+use Rattle.std.proofs.Common.{◌≡◌, refl, ℕ, zero, suc, ◌<◌, ◌⊎◌, inl, inr, true, false, List, [], ◌∷◌, get_or, length, ◌-◌, arith}
+use Rattle.std.specs.Prelude.{◌==◌, not, if◌then◌else◌, slice_get, find, option_and_then}
+use Rattle.std.specs.Option.{option_map_or}
 use Rattle.std.specs.List.Sorted.{IsNonDecreasingBy}
 use Rattle.std.proofs.lemmas.Bool.{cases_Bool}
 use Rattle.std.proofs.lemmas.Bool.Decides.{nat_tests}
+use Rattle.std.proofs.lemmas.Option.{slice_get-get_or}
 use Rattle.plain_laws.specs.Plain.{when}
-use Rattle.feed_walks.specs.Places.{IsPlace}
+use Rattle.feed_walks.specs.Places.{IsPlace, is_anew}
 use Rattle.plain_laws.proofs.Laws.{find_none}
 
 module _ {X : Type 0} where
@@ -29,3 +31,18 @@ module _ {X : Type 0} where
         before = λ k d low lt. is.before (suc k) d (omega arith) (omega arith);
         after = λ k d low lt. is.after (suc k) d (omega arith) (omega arith);
       }))
+
+  -- the item at a place other than the first is another than the one before it
+  pub anew_at : (number : X → ℕ) (xs : List X) (at : ℕ) (d : X) → (at ≡ 0 → ⊥) → at < length xs → not (number (get_or xs (at - 1) d) == number (get_or xs at d)) ≡ is_anew number xs at
+  anew_at number xs zero d some lt = absurd (some refl)
+  anew_at number xs (suc k) d some lt =
+      let before : suc k - 1 ≡ k = omega arith in
+      rw (before, slice_get-get_or xs k d (omega arith), slice_get-get_or xs (suc k) d lt) refl
+
+  module _ {Y : Type 0} (number : X → ℕ) (xs : List X) (at : ℕ) (f : X → List Y) where
+    -- what is made of the item at a place, where it is another than the one before it
+    pub if_anew : (d : X) → at < length xs → is_anew number xs at ≡ true → (if is_anew number xs at then option_map_or f (slice_get xs at) [] else []) ≡ f (get_or xs at d)
+    if_anew d lt anew = rw (anew, slice_get-get_or xs at d lt) refl
+
+    pub unless_anew : is_anew number xs at ≡ false → (if is_anew number xs at then option_map_or f (slice_get xs at) [] else []) ≡ []
+    unless_anew same = rw same refl

@@ -125,11 +125,14 @@ fn free_from(
     requires { AreRules feed.now.links rules.now }
     ensures { IfOk result (λ froms. froms.items ≡ free_from feed.now sets.now station home) }
 {
-    sets.get(station.0 as usize)
-        .iter()
-        .filter(|platform| is_unruled(rules, **platform, home))
-        .copied()
-        .collect(alloc)
+    let platforms = sets.get(station.0 as usize);
+    let mut froms = Vec::new(alloc);
+    for platform in platforms {
+        if is_unruled(rules, *platform, home) {
+            froms.push(*platform)?;
+        }
+    }
+    Ok(froms)
 }
 
 /// Adds each of these with the stop.
