@@ -1,5 +1,5 @@
 -- What a ride is that is caught in time, and how lists of such rides grow.
-use Rattle.std.proofs.Common.{◌≡◌, refl, sym, ◌∙◌, ap, subst, ℕ, ◌+◌, ◌*◌, ◌<◌, ◌≤◌, ◌⊎◌, inl, inr, ⊎_elim, Bool, true, false, List, [], ◌∷◌, ◌++◌, length, get_or, arith, ℤ, pos, ◌+ℤ◌, ◌-ℤ◌, ◌*ℤ◌, ◌≤ℤ◌, ◌<ℤ◌}
+use Rattle.std.proofs.Common.{◌≡◌, refl, sym, ◌∙◌, ap, subst, ℕ, ◌+◌, ◌*◌, ◌<◌, ◌≤◌, ◌⊎◌, inl, inr, ⊎_elim, Bool, true, false, List, [], ◌∷◌, ◌++◌, length, get_or, arith, ℤ, pos, negsuc, ◌+ℤ◌, ◌-ℤ◌, ◌*ℤ◌, ◌≤ℤ◌, ◌<ℤ◌}
 use Rattle.std.specs.Prelude.{Option, Some, None, slice_get, option_and_then, All, Contains, int_le}
 use Rattle.std.proofs.lemmas.Int.{ints}
 use Rattle.std.proofs.lemmas.Option.{same_Some, slice_get_within, slice_get-get_or, get_or_from_slice_get, cond_some}
@@ -18,7 +18,7 @@ use Rattle.feed_rows.specs.declared.journeys.Query.{Query}
 use Rattle.feed_rows.specs.declared.journeys.Ride.{Ride}
 use Rattle.feed_rows.specs.declared.journeys.RideFacts.{RideFacts}
 use Rattle.feed_rows.specs.FeedRows.{FeedRows}
-use Rattle.feed_rows.specs.Limits.{most_window}
+use Rattle.feed_rows.specs.Limits.{most_window, least_shift, most_shift}
 use Rattle.feed_rows.specs.SoundFeed.{IsSoundFeed}
 use Rattle.feed_rows.specs.Calls.{calls_of}
 use Rattle.feed_rows.specs.Rides.{runs_on, ride_facts}
@@ -32,7 +32,7 @@ use Rattle.feed_laws.proofs.RideLaws.{ride_facts_tells, ride_facts_timed}
 use Rattle.feed_laws.proofs.SoundTrips.{sound_trip}
 use Rattle.plan_plain.specs.declared.caught.Run.{Run}
 use Rattle.plan_plain.specs.declared.caught.CaughtRide.{CaughtRide}
-use Rattle.plan_plain.specs.InTime.{next_in_time, if_in_time, deadline, IsUsualQuery, IsWithinWindow, AddsCaught, HasCaught, HasRide, IsRight, IsOfRun, IsRideOf, IsFrom, IsAt, IsBefore, HasShift, IsOnTrip, IsOnDay, IsOnDays, gets_there, may_board, first_day, day_after}
+use Rattle.plan_plain.specs.InTime.{next_in_time, if_in_time, deadline, IsUsualQuery, IsWithinWindow, AddsCaught, HasCaught, HasRide, IsRight, IsRunOfFeed, IsOfRun, IsRideOf, IsFrom, IsAt, IsBefore, HasShift, IsOnTrip, IsOnDay, IsOnDays, gets_there, may_board, first_day, day_after}
 
 -- a ride that is caught in time, with its facts and the way to it
 pub record IsCaughtRide (feed : FeedRows) (query : Query) (stand : Stand) (ride : Ride) (next : Stand) : Type 0 where
@@ -82,12 +82,20 @@ pub adds_none : (feed : FeedRows) (query : Query) (stand : Stand) (Whole : Ride 
     ((ride : Ride) (next : Stand) → next_in_time feed query stand ride ≡ Some next → Whole ride → ⊥) → AddsCaught feed query stand Whole rides rides
 adds_none feed query stand Whole rides never = record { still = λ ride h. h; all = λ ride next e whole. absurd (never ride next e whole); right = λ h. h }
 
+-- no ride is on a day from the first to before the first
+pub adds_first : (feed : FeedRows) (query : Query) (stand : Stand) (first day : ℤ) (rides : List CaughtRide) → day ≡ first → rides ≡ [] → AddsCaught feed query stand (IsOnDays first day) [] rides
+adds_first feed query stand first day rides same empty =
+    subst (AddsCaught feed query stand (IsOnDays first day) []) (sym empty) (adds_none feed query stand (IsOnDays first day) [] (λ ride next e on. none ride.day.0 on.0 on.1))
+  where
+    none : (d : ℤ) → first ≤ℤ d → d <ℤ day → ⊥
+    none d since before = omega (arith, ints)
+
 -- the trip of a number
 abbrev pub trip_id : ℕ → TripId
 trip_id n = record { 0 = n }
 
 -- the ride with these parts
-abbrev ride_with : ℕ → ℤ → ℤ → ℕ → ℕ → Ride
+abbrev pub ride_with : ℕ → ℤ → ℤ → ℕ → ℕ → Ride
 ride_with trip day shift from to = record { trip = record { 0 = trip }; day = record { 0 = day }; shift = shift; from = from; to = to }
 
 -- a ride of a run between these calls is that one
@@ -267,6 +275,17 @@ adds_trip feed query stand day trip old mid new before adds =
     (λ ride next e on.
     let below = on.1 in
     ⊎_elim (λ lower. inl (on.0, lower)) (λ upper. let same : ride.trip.0 ≡ trip = omega arith in inr (same, on.0)) (cases_lt ride.trip.0 trip))
+
+-- a run of a trip of the feed
+pub run_of_feed : (feed : FeedRows) (trip : TripId) (day : Day) (run : Run) → trip.0 < length feed.trips → negsuc 799_999 ≤ℤ day.0 → day.0 ≤ℤ pos 3_000_000 → run.trip ≡ trip → run.day ≡ day → least_shift ≤ℤ run.shift →
+    run.shift ≤ℤ most_shift → IsRunOfFeed feed run
+run_of_feed feed trip day run below low high of on least most = record {
+  trip = subst (λ (t : TripId). t.0 < length feed.trips) (sym of) below;
+  day_low = subst (λ (d : Day). negsuc 799_999 ≤ℤ d.0) (sym on) low;
+  day_high = subst (λ (d : Day). d.0 ≤ℤ pos 3_000_000) (sym on) high;
+  shift_low = least;
+  shift_high = most;
+}
 
 -- one shift more
 pub adds_shift : (feed : FeedRows) (query : Query) (stand : Stand) (trip : TripId) (day : Day) (shifts : List ℤ) (k : ℕ) (run : Run) (old mid new : List CaughtRide) → k < length shifts → run.trip ≡ trip → run.day ≡ day → run.shift ≡ get_or shifts k (pos 0) →

@@ -1,12 +1,12 @@
 -- Rides that are caught and end within a query's window.
-use Rattle.std.specs.Prelude.{◌≡◌, Bool, ◌&&◌, ℕ, ◌<◌, ◌≤◌, Option, Some, All, Contains, List, slice_index_or, ℤ, pos, negsuc, ◌+ℤ◌, ◌-ℤ◌, ◌≤ℤ◌, ◌<ℤ◌, int_le, option_and_then}
+use Rattle.std.specs.Prelude.{◌≡◌, Bool, ◌&&◌, ℕ, ◌<◌, ◌≤◌, Option, Some, All, Contains, List, length, slice_index_or, ℤ, pos, negsuc, ◌+ℤ◌, ◌-ℤ◌, ◌≤ℤ◌, ◌<ℤ◌, int_le, option_and_then}
 use Rattle.transit_base.specs.Moments.{moment_at, civil_day}
 use Rattle.transit_base.specs.declared.numbers.StopId.{StopId}
 use Rattle.feed_rows.specs.declared.journeys.Call.{Call}
 use Rattle.feed_rows.specs.declared.journeys.Query.{Query}
 use Rattle.feed_rows.specs.declared.journeys.Ride.{Ride}
 use Rattle.feed_rows.specs.FeedRows.{FeedRows}
-use Rattle.feed_rows.specs.Limits.{most_window}
+use Rattle.feed_rows.specs.Limits.{most_window, least_shift, most_shift}
 use Rattle.feed_rows.specs.JourneyStands.{Stand, stand_at_end, next_stand, way_to}
 use Rattle.feed_rows.specs.Rides.{ride_facts}
 use Rattle.plain_laws.specs.Plain.{when, filled_and}
@@ -54,6 +54,14 @@ pub record AddsCaught (feed : FeedRows) (query : Query) (stand : Stand) (Part : 
   pub still : (ride : Ride) → HasRide old ride → HasRide new ride
   pub all : (ride : Ride) (next : Stand) → next_in_time feed query stand ride ≡ Some next → Part ride → HasRide new ride
   pub right : All (IsRight feed query stand) old → All (IsRight feed query stand) new
+
+-- the run is of a trip of the feed, on a day and with a shift within their bounds
+pub record IsRunOfFeed (feed : FeedRows) (run : Run) : Type 0 where
+  pub trip : run.trip.0 < length feed.trips
+  pub day_low : negsuc 799_999 ≤ℤ run.day.0
+  pub day_high : run.day.0 ≤ℤ pos 3_000_000
+  pub shift_low : least_shift ≤ℤ run.shift
+  pub shift_high : run.shift ≤ℤ most_shift
 
 -- the ride is of this run
 pub record IsOfRun (run : Run) (ride : Ride) : Type 0 where

@@ -9,7 +9,7 @@ ghost use Rattle.feed_rows.specs.Rides.{runs_on, ride_facts};
 ghost use Rattle.feed_rows.specs.JourneyStands.{stand_at_end};
 ghost use Rattle.feed_rows.specs.Shifts.{shifts_of};
 ghost use Rattle.feed_timetable.specs.Standings.{stand_of, AreShifts};
-ghost use Rattle.plan_plain.specs.InTime.{next_in_time, if_in_time, deadline, IsUsualQuery, IsWithinWindow, AddsCaught, HasCaught, IsRight, IsRideOf, IsFrom, IsAt, IsBefore, HasShift, IsOnTrip, IsOnDay, IsOnDays, IsOfRun, gets_there, departure_of, may_board, first_day, day_after};
+ghost use Rattle.plan_plain.specs.InTime.{next_in_time, if_in_time, deadline, IsUsualQuery, IsWithinWindow, AddsCaught, HasCaught, IsRight, IsRunOfFeed, IsRideOf, IsFrom, IsAt, IsBefore, HasShift, IsOnTrip, IsOnDay, IsOnDays, IsOfRun, gets_there, departure_of, may_board, first_day, day_after};
 
 use feed_rows::{Call, Query, Ride, RideFacts};
 use feed_timetable::{Standing, Timetable};
@@ -83,11 +83,7 @@ fn add_ride(
 ) -> Result<(), AllocError>
     requires usual { IsUsualQuery query.now }
     requires within { IsWithinWindow query.now standing.at.0 }
-    requires trip { run.trip.0 < length timetable.now.trips }
-    requires day_low { negsuc 799_999 ≤ℤ run.day.0 }
-    requires day_high { run.day.0 ≤ℤ pos 3_000_000 }
-    requires shift_low { least_shift ≤ℤ run.shift }
-    requires shift_high { run.shift ≤ℤ most_shift }
+    requires run { IsRunOfFeed timetable.now run }
     ensures { OnOk result (AddsCaught timetable.now query.now (stand_of standing) (IsRideOf run from to) rides.old.items rides.new.items) }
 {
     if from >= to {
@@ -118,11 +114,7 @@ fn add_from(
 ) -> Result<(), AllocError>
     requires usual { IsUsualQuery query.now }
     requires within { IsWithinWindow query.now standing.at.0 }
-    requires trip { run.trip.0 < length timetable.now.trips }
-    requires day_low { negsuc 799_999 ≤ℤ run.day.0 }
-    requires day_high { run.day.0 ≤ℤ pos 3_000_000 }
-    requires shift_low { least_shift ≤ℤ run.shift }
-    requires shift_high { run.shift ≤ℤ most_shift }
+    requires run { IsRunOfFeed timetable.now run }
     ensures { OnOk result (AddsCaught timetable.now query.now (stand_of standing) (IsFrom run from calls) rides.old.items rides.new.items) }
 {
     for to in 0..calls {
@@ -173,10 +165,7 @@ fn may_board(
 ) -> bool
     requires usual { IsUsualQuery query.now }
     requires within { IsWithinWindow query.now standing.at.0 }
-    requires day_low { negsuc 799_999 ≤ℤ run.day.0 }
-    requires day_high { run.day.0 ≤ℤ pos 3_000_000 }
-    requires shift_low { least_shift ≤ℤ run.shift }
-    requires shift_high { run.shift ≤ℤ most_shift }
+    requires run { IsRunOfFeed timetable.now run }
     requires time { call.now.departure ≤ most_time }
     ensures { result ≡ may_board timetable.now query.now (stand_of standing) run call.now }
 {
@@ -203,11 +192,7 @@ fn add_call(
 ) -> Result<(), AllocError>
     requires usual { IsUsualQuery query.now }
     requires within { IsWithinWindow query.now standing.at.0 }
-    requires trip { run.trip.0 < length timetable.now.trips }
-    requires day_low { negsuc 799_999 ≤ℤ run.day.0 }
-    requires day_high { run.day.0 ≤ℤ pos 3_000_000 }
-    requires shift_low { least_shift ≤ℤ run.shift }
-    requires shift_high { run.shift ≤ℤ most_shift }
+    requires run { IsRunOfFeed timetable.now run }
     requires calls { calls.now ≡ calls_of timetable.now run.trip }
     requires times { All (λ (c : Call). c.departure ≤ most_time) calls.now }
     requires inside { from < length calls.now }
@@ -239,11 +224,7 @@ fn add_run(
 ) -> Result<(), AllocError>
     requires usual { IsUsualQuery query.now }
     requires within { IsWithinWindow query.now standing.at.0 }
-    requires trip { run.trip.0 < length timetable.now.trips }
-    requires day_low { negsuc 799_999 ≤ℤ run.day.0 }
-    requires day_high { run.day.0 ≤ℤ pos 3_000_000 }
-    requires shift_low { least_shift ≤ℤ run.shift }
-    requires shift_high { run.shift ≤ℤ most_shift }
+    requires run { IsRunOfFeed timetable.now run }
     ensures { OnOk result (AddsCaught timetable.now query.now (stand_of standing) (IsOfRun run) rides.old.items rides.new.items) }
 {
     let calls = timetable.calls_of(run.trip);
@@ -341,7 +322,6 @@ fn day_after(query: &Query) -> i64
 ///
 /// # Errors
 /// Want of memory.
-#[tactic(auto, using(crate::proofs::CaughtLaws::day_after_high))]
 pub fn rides_from(
     alloc: Global,
     timetable: &Timetable,

@@ -1,7 +1,7 @@
 use Rattle.std.proofs.Common.{◌≡◌, ◌<◌, length, ap, sym, ◌∙◌, arith, false}
 use Rattle.plain_laws.proofs.Laws.{length-list_below}
 use Rattle.feed_rows.specs.Rides.{runs_on}
-use Rattle.plan_plain.proofs.CaughtLaws.{adds_no_trip, adds_trip, adds_whole_day, runs_at}
+use Rattle.plan_plain.proofs.CaughtLaws.{adds_no_trip, adds_none, adds_trip, adds_whole_day, runs_at}
 use Rattle.plan_plain.proofs.caught.add_day.Goals as goal
 use Rattle.plan_plain.proofs.caught.add_day.Goals.{then-index+in_ok-add_trip, else-index}
 
@@ -29,3 +29,6 @@ loop-trip-preserved c =
           let never : false ≡ runs_on c.args.timetable.now (record { 0 = c.loop-trip.trip }) c.args.day.0 = sym w.if-index.false ∙ runs in
           rw w.rides-is (adds_trip _ _ _ _ _ _ _ _ c.loop-trip.invariant (adds_no_trip _ _ _ (record { 0 = c.loop-trip.trip }) _ _ never))
     ]
+
+pub loop-trip-init : goal.loop-trip-init
+loop-trip-init c = adds_none _ _ _ _ _ (λ ride next e none. let below = none.1 in omega (arith, below))

@@ -1,6 +1,6 @@
 use Rattle.std.proofs.Common.{inl, inr, ⊎_elim, arith, ap, length}
 use Rattle.std.proofs.lemmas.Bool.{cases_lt}
-use Rattle.plan_plain.proofs.CaughtLaws.{adds_more, adds_whole_run}
+use Rattle.plan_plain.proofs.CaughtLaws.{adds_more, adds_none, adds_whole_run}
 use Rattle.plan_plain.proofs.caught.add_run.Goals as goal
 
 pub loop-from-preserved : goal.loop-from-preserved
@@ -10,3 +10,6 @@ loop-from-preserved c =
 
 pub returns : goal.returns
 returns c = let same = ap length c.calls_of-calls.ensures.value in adds_whole_run _ _ _ _ _ _ _ (omega arith) c.loop-from.invariant
+
+pub loop-from-init : goal.loop-from-init
+loop-from-init c = adds_none _ _ _ _ _ (λ ride next e none. let below = none.1 in omega (arith, below))

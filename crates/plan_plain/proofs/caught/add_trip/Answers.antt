@@ -1,7 +1,12 @@
 use Rattle.std.proofs.Common.{arith, ap, length, ◌∙◌, get_or, refl, pos}
 use Rattle.feed_rows.specs.Shifts.{shifts_of}
-use Rattle.plan_plain.proofs.CaughtLaws.{adds_shift, adds_whole_trip}
+use Rattle.plan_plain.proofs.CaughtLaws.{adds_none, adds_shift, adds_whole_trip, run_of_feed}
 use Rattle.plan_plain.proofs.caught.add_trip.Goals as goal
+
+pub add_run-requires-clause-run : goal.add_run-requires-clause-run
+add_run-requires-clause-run c =
+    let made = c.run_of-run.ensures in
+    run_of_feed _ _ _ _ c.requires.trip c.requires.day_low c.requires.day_high made.trip made.day made.low made.high
 
 pub loop-k-preserved : goal.loop-k-preserved
 loop-k-preserved c =
@@ -16,3 +21,6 @@ returns c =
     let same = ap length (c.items-k-end.ensures.value ∙ c.in_ok-shifts.ensures.value) in
     let past = c.loop-k-test.false in
     adds_whole_trip _ _ _ _ _ (shifts_of c.args.timetable.now c.args.trip) _ _ _ refl (omega arith) c.loop-k.invariant
+
+pub loop-k-init : goal.loop-k-init
+loop-k-init c = adds_none _ _ _ _ _ (λ ride next e none. let below = none.2.1 in omega (arith, below))

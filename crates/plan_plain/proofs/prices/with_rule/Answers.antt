@@ -2,7 +2,7 @@ use Rattle.std.proofs.Common.{◌≡◌, ◌∙◌, ap, length, inl, inr, ⊎_el
 use Rattle.std.proofs.lemmas.Bool.{cases_lt}
 use Rattle.std.proofs.lemmas.Option.{slice_get_within}
 use Rattle.feed_rows.specs.FeedRows.{FeedRows}
-use Rattle.plan_plain.proofs.TicketLaws.{picks_more, picks_same}
+use Rattle.plan_plain.proofs.TicketLaws.{picks_more, picks_same, picks_none, no_rule, rule_at}
 use Rattle.plan_plain.proofs.prices.with_rule.Goals as goal
 
 pub returns : goal.returns
@@ -17,3 +17,14 @@ pub loop-row-preserved : goal.loop-row-preserved
 loop-row-preserved c =
     picks_more _ _ _ _ _ _ _ _ c.loop-row.invariant c.with_row-cheapest.ensures
     (λ pick whole. let below = whole.1 in ⊎_elim (λ lt. inl (whole.0, lt)) (λ ge. inr (whole.0, omega arith)) (cases_lt pick.product.0 c.loop-row.row))
+
+pub returns-then-not-is_of_network : goal.returns-then-not-is_of_network
+returns-then-not-is_of_network c =
+    no_rule _ _ _ _ _ _ (c.items.ensures.value ∙ ap (λ (f : FeedRows). f.leg_rules) c.feed.view_is) c.if-not-is_of_network.ensures
+
+pub loop-row-init : goal.loop-row-init
+loop-row-init c = picks_none _ _ _ _ (λ pick amount is whole. let below = whole.1 in omega (arith, below))
+
+pub with_row-cheapest-requires-clause-rule : goal.with_row-cheapest-requires-clause-rule
+with_row-cheapest-requires-clause-rule c =
+    rule_at c.args.feed.now c.args.fare.network c.args.rule.0 _ _ (c.items.ensures.value ∙ ap (λ (f : FeedRows). f.leg_rules) c.feed.view_is) c.requires.inside c.if-not-is_of_network.ensures

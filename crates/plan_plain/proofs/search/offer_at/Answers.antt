@@ -1,6 +1,6 @@
 use Rattle.std.proofs.Common.{subst}
 use Rattle.plan_plain.specs.Searches.{rides_of, EndsAt, IsBestAt}
-use Rattle.plan_plain.proofs.SearchLaws.{gains_offer}
+use Rattle.plan_plain.proofs.SearchLaws.{gains_none, gains_offer}
 use Rattle.plan_plain.proofs.search.offer_at.Goals as goal
 
 pub returns-in_ok-offer-in-Some : goal.returns-in_ok-offer-in-Some
@@ -10,3 +10,9 @@ returns-in_ok-offer-in-Some c =
     let best = subst (IsBestAt feed query c.args.first c.args.last (rides_of c.args.path.now)) c.in-Some.is c.in_ok-entry.ensures in
     gains_offer feed query (EndsAt feed query c.args.first c.args.last (rides_of c.args.path.now)) c.in-Some.entry c.args.front.now c.offer.new.self best.0 best.1
     c.in_ok-offer-in-Some.ensures.covered c.in_ok-offer-in-Some.ensures.still c.in_ok-offer-in-Some.ensures.from
+
+pub returns-in-None : goal.returns-in-None
+returns-in-None c =
+    let feed = c.args.timetable.now in
+    let query = c.args.query.now in
+    gains_none _ _ _ _ (subst (IsBestAt feed query c.args.first c.args.last (rides_of c.args.path.now)) c.in-None.is c.in_ok-entry.ensures)

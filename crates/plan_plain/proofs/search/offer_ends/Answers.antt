@@ -1,4 +1,5 @@
-use Rattle.plan_plain.proofs.SearchLaws.{gains_last, gains_lasts}
+use Rattle.std.proofs.Common.{arith}
+use Rattle.plan_plain.proofs.SearchLaws.{gains_last, gains_lasts, gains_none}
 use Rattle.plan_plain.proofs.search.offer_ends.Goals as goal
 
 pub loop-k-preserved : goal.loop-k-preserved
@@ -6,3 +7,6 @@ loop-k-preserved c = gains_last _ _ _ _ _ _ _ _ _ _ c.loop-k-test.true c.loop-k.
 
 pub returns : goal.returns
 returns c = gains_lasts _ _ _ _ _ _ _ _ c.members-lasts.ensures c.loop-k-test.false c.loop-k.invariant
+
+pub loop-k-init : goal.loop-k-init
+loop-k-init c = gains_none _ _ _ _ (λ entry none. let below = none.among.1 in omega (arith, below))
