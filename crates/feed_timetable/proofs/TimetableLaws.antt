@@ -1,5 +1,5 @@
 -- Bounds that a feed without faults keeps, and on which days its trips run.
-use Rattle.std.proofs.Common.{◌≡◌, sym, ◌∙◌, ap, subst, get_or, filter, ℕ, ◌^◌, ◌<◌, Bool, List, length, true, arith, ℤ, pos, negsuc, ◌≤ℤ◌, ◌<ℤ◌, ◌-ℤ◌}
+use Rattle.std.proofs.Common.{◌≡◌, sym, ◌∙◌, ap, subst, get_or, filter, ℕ, ◌^◌, ◌<◌, Bool, List, length, true, arith, ℤ, pos, ◌≤ℤ◌, ◌<ℤ◌, ◌-ℤ◌}
 use Rattle.std.specs.Prelude.{◌==◌, Some, slice_get}
 use Rattle.std.proofs.lemmas.Option.{get_or_from_slice_get, slice_get-get_or}
 use Rattle.std.proofs.lemmas.List.Sums.{length-filter, count_by-le-length}
