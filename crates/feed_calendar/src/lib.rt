@@ -19,12 +19,21 @@ use transit_base::{Day, ServiceId};
 /// The service calendar of a feed.
 ///
 /// What the calls answer is about the feed that the value was built from.
-#[derive(Drop)]
 pub struct Calendar {
     /// The calendar rows of each service.
     rows: Groups<ServiceRow>,
     /// The exceptions by service, and those of a service by day.
     exceptions: Vec<ExceptionRow>,
+}
+
+// Written out, so that what holds one needn't look into it to let go of it.
+impl Drop for Calendar {
+    fn drop(self) {
+        let Calendar {
+            rows: _,
+            exceptions: _,
+        } = self;
+    }
 }
 
 impl Calendar {

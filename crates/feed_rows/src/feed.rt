@@ -61,7 +61,6 @@ pub type NameList = ItemList<Id>;
 
 /// A feed without a fault: the rows of each file, in file order, with row numbers in place of ids. Contracts see it as
 /// the record of its lists, and whatever makes one proves that it has no fault.
-#[derive(Drop)]
 pub struct Feed {
     pub stops: StopRows,
     pub routes: RouteRows,
@@ -95,6 +94,38 @@ pub struct Feed {
     pub currency: Option<[u8; 3]>,
     /// The decimals of the currency.
     pub decimals: u8,
+}
+
+// Written out, so that what holds one needn't look into it to let go of it.
+impl Drop for Feed {
+    fn drop(self) {
+        let Feed {
+            stops: _,
+            routes: _,
+            trips: _,
+            stop_times: _,
+            services: _,
+            exceptions: _,
+            frequencies: _,
+            links: _,
+            areas: _,
+            stop_areas: _,
+            timeframes: _,
+            riders: _,
+            media: _,
+            products: _,
+            leg_rules: _,
+            transfer_rules: _,
+            service_names: _,
+            network_names: _,
+            frame_names: _,
+            product_names: _,
+            group_names: _,
+            has_priority: _,
+            currency: _,
+            decimals: _,
+        } = self;
+    }
 }
 
 impl Model for Feed {

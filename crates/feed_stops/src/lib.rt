@@ -20,12 +20,21 @@ use transit_base::StopId;
 /// The stops of a feed, by id, and the platforms that each stands for.
 ///
 /// What the calls answer is about the feed that the value was built from.
-#[derive(Drop)]
 pub struct Stops {
     /// The stop with each id.
     numbers: BTreeMap<Vec<u8>, StopId>,
     /// The platforms that each stop stands for.
     sets: Groups<StopId>,
+}
+
+// Written out, so that what holds one needn't look into it to let go of it.
+impl Drop for Stops {
+    fn drop(self) {
+        let Stops {
+            numbers: _,
+            sets: _,
+        } = self;
+    }
 }
 
 impl Stops {

@@ -19,11 +19,17 @@ use std::alloc::{AllocError, Global};
 use std::marker::Model;
 
 /// A file as a table: its header and its data rows, which are numbered from 0, each field without the blanks at its ends.
-#[derive(Drop)]
 pub struct Table {
     // The bytes of all fields, field by field, and where each row ends among the fields.
     fields: Groups<u8>,
     rows: Vec<u32>,
+}
+
+// Written out, so that what holds one needn't look into it to let go of it.
+impl Drop for Table {
+    fn drop(self) {
+        let Table { fields: _, rows: _ } = self;
+    }
 }
 
 impl Model for Table {

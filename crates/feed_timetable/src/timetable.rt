@@ -28,13 +28,25 @@ use std::marker::Model;
 use transit_base::{Day, Moment, Secs, ServiceId, StopId, TripId};
 
 /// The stops, trips, walks and services of a feed. Contracts see it as the rows of its feed.
-#[derive(Drop)]
 pub struct Timetable<'f> {
     feed: &'f Feed,
     stops: Stops,
     trips: Trips<'f>,
     walks: Walks,
     calendar: Calendar,
+}
+
+// Written out, so that what holds one needn't look into it to let go of it.
+impl<'f> Drop for Timetable<'f> {
+    fn drop(self) {
+        let Timetable {
+            feed: _,
+            stops: _,
+            trips: _,
+            walks: _,
+            calendar: _,
+        } = self;
+    }
 }
 
 impl<'f> Model for Timetable<'f> {

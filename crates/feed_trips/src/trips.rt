@@ -20,7 +20,6 @@ use std::marker::Model;
 use transit_base::{Moment, NetworkId, TripId};
 
 /// The trips of a feed, with their calls in order, the times filled in. Contracts see it as the rows of its feed.
-#[derive(Drop)]
 pub struct Trips<'f> {
     feed: &'f Feed,
     /// The calls of each trip.
@@ -29,6 +28,18 @@ pub struct Trips<'f> {
     frequencies: Groups<FrequencyRow>,
     /// The trips in order of their ids.
     by_id: Vec<NamedTrip<'f>>,
+}
+
+// Written out, so that what holds one needn't look into it to let go of it.
+impl<'f> Drop for Trips<'f> {
+    fn drop(self) {
+        let Trips {
+            feed: _,
+            calls: _,
+            frequencies: _,
+            by_id: _,
+        } = self;
+    }
 }
 
 impl<'f> Model for Trips<'f> {

@@ -26,10 +26,16 @@ use transit_base::{Secs, StopId};
 /// The walks between the platforms of a feed.
 ///
 /// What the calls answer is about the feed that the value was built from.
-#[derive(Drop)]
 pub struct Walks {
     /// The walks out of each stop, by the stop that they lead to.
     steps: Groups<Step>,
+}
+
+// Written out, so that what holds one needn't look into it to let go of it.
+impl Drop for Walks {
+    fn drop(self) {
+        let Walks { steps: _ } = self;
+    }
 }
 
 impl Walks {

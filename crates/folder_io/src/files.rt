@@ -61,9 +61,15 @@ pub enum FileBytes {
 
 /// What is known of each file of a feed. Contracts see it as the list of what is known, in the order of
 /// [`FileName::ALL`].
-#[derive(Drop)]
 pub struct Files {
     files: [FileBytes; 18],
+}
+
+// Written out, so that what holds one needn't look into it to let go of it.
+impl Drop for Files {
+    fn drop(self) {
+        let Files { files: _ } = self;
+    }
 }
 
 impl Model for Files {

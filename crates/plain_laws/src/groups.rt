@@ -18,11 +18,17 @@ pub struct Grouped<T> {
 
 /// Items in groups that are numbered from 0: lists that are kept flat. In a group items stand in the order in which they
 /// came. Contracts see it as the list of the groups.
-#[derive(Drop)]
 pub struct Groups<T> {
     /// Where each group ends among the items.
     ends: Vec<u32>,
     items: Vec<T>,
+}
+
+// Written out, so that what holds one needn't look into it to let go of it.
+impl<T: Drop> Drop for Groups<T> {
+    fn drop(self) {
+        let Groups { ends: _, items: _ } = self;
+    }
 }
 
 impl<T> Model for Groups<T> {

@@ -7,9 +7,15 @@ use std::alloc::{AllocError, Global};
 use std::marker::Model;
 
 /// A list of items that grows at its end. Contracts see it as a list.
-#[derive(Drop)]
 pub struct ItemList<T> {
     items: Vec<T>,
+}
+
+// Written out, so that what holds one needn't look into it to let go of it.
+impl<T: Drop> Drop for ItemList<T> {
+    fn drop(self) {
+        let ItemList { items: _ } = self;
+    }
 }
 
 impl<T> Model for ItemList<T> {
@@ -53,9 +59,15 @@ impl<T: Drop> ItemList<T> {
 
 /// A list in which each item is greater than the one before it, so none stands twice. Short lists need no allocation.
 /// Contracts see it as a list.
-#[derive(Drop)]
 pub struct AscendingList<T: Ord> {
     kept: SmallVec<T, 4>,
+}
+
+// Written out, so that what holds one needn't look into it to let go of it.
+impl<T: Ord + Drop> Drop for AscendingList<T> {
+    fn drop(self) {
+        let AscendingList { kept: _ } = self;
+    }
 }
 
 impl<T: Ord> Model for AscendingList<T> {
