@@ -1,15 +1,55 @@
-// Each object, and the reading of files, where all goes well and where a call fails.
+// The reading of files, and each object, where all goes well and where a call fails.
 ghost use Rattle.std.specs.Prelude.{IfOk, IsTrue};
 ghost use Rattle.folder_io.specs.KeptFiles.{are_whole};
 
 use feed_rows::FileName;
 use folder_io::{
-    ByteText, CountSink, Cut, DirFolder, FileBytes, Files, MemFolder, MemSink, ReadError, Sink,
-    StdSink, SureFolder, SureSink, Wrote, read_file, read_files,
+    ByteText, CountSink, Cut, DirFolder, FileBytes, Files, Folder, MemFolder, MemSink, ReadError,
+    Sink, StdSink, SureFolder, SureSink, Wrote, read_file, read_files,
 };
 use std::alloc::{AllocError, Global};
 use std::fs;
 use std::test::Fail;
+
+// What a read gave.
+#[derive(Clone, Copy, Debug, PartialEq, Eq)]
+enum Read {
+    Wanted,
+    Others,
+    Absent,
+    TooLarge,
+    Failed,
+}
+
+// What a file that was read holds, where these bytes are wanted.
+fn read_bytes(file: &FileBytes, wanted: &[u8]) -> Read {
+    match file {
+        FileBytes::Absent => Read::Absent,
+        FileBytes::TooLarge => Read::TooLarge,
+        FileBytes::Bytes(text) => {
+            if text.bytes() == wanted {
+                Read::Wanted
+            } else {
+                Read::Others
+            }
+        }
+    }
+}
+
+// What the read of a file of at most so many bytes gives.
+fn read_of<F: Folder>(
+    alloc: Global,
+    folder: &mut F,
+    name: FileName,
+    limit: u32,
+    wanted: &[u8],
+) -> Result<Read, AllocError> {
+    match read_file(alloc, folder, name, limit) {
+        Ok(file) => Ok(read_bytes(&file, wanted)),
+        Err(ReadError::ReadFault) => Ok(Read::Failed),
+        Err(ReadError::NoMemory) => Err(AllocError),
+    }
+}
 
 // A feed that has these stops and nothing else.
 fn stops_of(alloc: Global, bytes: &[u8]) -> Result<Files, AllocError>
@@ -23,73 +63,63 @@ fn stops_of(alloc: Global, bytes: &[u8]) -> Result<Files, AllocError>
     Ok(files)
 }
 
-// Whether these are the bytes of the file.
-fn is_file(file: &FileBytes, bytes: &[u8]) -> bool {
-    match file {
-        FileBytes::Bytes(text) => text.bytes() == bytes,
-        FileBytes::Absent | FileBytes::TooLarge => false,
-    }
-}
-
-// Whether a file was read and has these bytes.
-fn has(file: &Result<FileBytes, ReadError>, bytes: &[u8]) -> bool {
-    match file {
-        Ok(file) => is_file(file, bytes),
-        Err(_) => false,
-    }
-}
-
 #[test]
 fn limits(rt: HostRuntime) -> Result<(), Fail> {
     let alloc = rt.alloc();
-    let files = stops_of(alloc, b"stop_id\nA\nB\nC\nD\n")?;
-    let mut folder = MemFolder::new(alloc, files, &[], &[])?;
-    let file = read_file(alloc, &mut folder, FileName::Stops, 16);
-    assert!(rt; has(&file, b"stop_id\nA\nB\nC\nD\n"));
-    let file = read_file(alloc, &mut folder, FileName::Stops, 15);
-    assert!(rt; matches!(&file, Ok(FileBytes::TooLarge)));
-    let file = read_file(alloc, &mut folder, FileName::Routes, 15);
-    assert!(rt; matches!(&file, Ok(FileBytes::Absent)));
+    let stops = b"stop_id\nA\nB\nC\nD\n";
+    let mut folder = MemFolder::new(alloc, stops_of(alloc, stops)?, &[], &[])?;
+    for (name, limit, want) in [
+        (FileName::Stops, 16, Read::Wanted),
+        (FileName::Stops, 15, Read::TooLarge),
+        (FileName::Routes, 15, Read::Absent),
+    ] {
+        assert_eq!(rt; read_of(alloc, &mut folder, name, limit, stops)?, want);
+    }
     Ok(())
+}
+
+// What the read of all files gives of the stops, where these calls fail.
+fn read_all(alloc: Global, opens: &[u32], reads: &[u32]) -> Result<Read, AllocError> {
+    let stops = b"stop_id\nA\n";
+    let mut folder = MemFolder::new(alloc, stops_of(alloc, stops)?, opens, reads)?;
+    match read_files(alloc, &mut folder) {
+        Ok(files) => Ok(read_bytes(files.get(FileName::Stops), stops)),
+        Err(ReadError::ReadFault) => Ok(Read::Failed),
+        Err(ReadError::NoMemory) => Err(AllocError),
+    }
 }
 
 #[test]
 fn failing_opens_and_reads(rt: HostRuntime) -> Result<(), Fail> {
-    let alloc = rt.alloc();
-    let cases: [(&[u32], &[u32], bool); 7] = [
-        (&[], &[], false),
-        (&[1], &[], true),
-        (&[18], &[], true),
-        (&[19], &[], false),
-        (&[], &[1], true),
-        (&[], &[2], true),
-        (&[], &[3], false),
+    let cases: [(&[u32], &[u32], Read); 7] = [
+        (&[], &[], Read::Wanted),
+        (&[1], &[], Read::Failed),
+        (&[18], &[], Read::Failed),
+        (&[19], &[], Read::Wanted),
+        (&[], &[1], Read::Failed),
+        (&[], &[2], Read::Failed),
+        (&[], &[3], Read::Wanted),
     ];
-    for (opens, reads, fails) in cases {
-        let mut folder = MemFolder::new(alloc, stops_of(alloc, b"stop_id\nA\n")?, opens, reads)?;
-        match read_files(alloc, &mut folder) {
-            Ok(files) => {
-                assert!(rt; !fails);
-                assert!(rt; is_file(files.get(FileName::Stops), b"stop_id\nA\n"));
-                assert!(rt; matches!(files.get(FileName::Routes), FileBytes::Absent));
-            }
-            Err(error) => assert!(rt; fails && error == ReadError::ReadFault),
-        }
+    for (opens, reads, want) in cases {
+        assert_eq!(rt; read_all(rt.alloc(), opens, reads)?, want);
     }
-    let mut folder = SureFolder::new(stops_of(alloc, b"stop_id\nA\n")?);
-    let file = read_file(alloc, &mut folder, FileName::Stops, 100);
-    assert!(rt; has(&file, b"stop_id\nA\n"));
+    Ok(())
+}
+
+#[test]
+fn sure_folder(rt: HostRuntime) -> Result<(), Fail> {
+    let alloc = rt.alloc();
+    let stops = b"stop_id\nA\n";
+    let mut folder = SureFolder::new(stops_of(alloc, stops)?);
+    let found = read_of(alloc, &mut folder, FileName::Stops, 100, stops)?;
+    assert_eq!(rt; found, Read::Wanted);
     Ok(())
 }
 
 #[test]
 fn failing_writes(rt: HostRuntime) -> Result<(), Fail> {
-    let alloc = rt.alloc();
-    let mut sink = MemSink::new(
-        alloc,
-        6,
-        &[Cut { call: 3, kept: 1 }, Cut { call: 5, kept: 9 }],
-    )?;
+    let cuts = [Cut { call: 3, kept: 1 }, Cut { call: 5, kept: 9 }];
+    let mut sink = MemSink::new(rt.alloc(), 6, &cuts)?;
     let cases: [(&[u8], Wrote, &[u8]); 6] = [
         (b"abc", Wrote::All, b"abc"),
         (b"defg", Wrote::Failed, b"abc"),
@@ -102,39 +132,47 @@ fn failing_writes(rt: HostRuntime) -> Result<(), Fail> {
         assert_eq!(rt; sink.write(piece), answer);
         assert_eq!(rt; sink.bytes(), written);
     }
-    let mut sure = SureSink::new(alloc, 3)?;
-    assert_eq!(rt; sure.write(b"abc"), Wrote::All);
-    assert_eq!(rt; sure.write(b"d"), Wrote::Failed);
-    assert_eq!(rt; CountSink::new().write(b"abc"), Wrote::All);
-    assert_eq!(rt;
-        StdSink::new(rt).write(b"a line to standard output\n"),
-        Wrote::All
-    );
     Ok(())
 }
 
 #[test]
+fn sure_sink(rt: HostRuntime) -> Result<(), Fail> {
+    let mut sink = SureSink::new(rt.alloc(), 3)?;
+    assert_eq!(rt; sink.write(b"abc"), Wrote::All);
+    assert_eq!(rt; sink.write(b"d"), Wrote::Failed);
+    Ok(())
+}
+
+#[test]
+fn sinks_that_tell_nothing(rt: HostRuntime) {
+    assert_eq!(rt; CountSink::new().write(b"abc"), Wrote::All);
+    let line = b"a line to standard output\n";
+    assert_eq!(rt; StdSink::new(rt).write(line), Wrote::All);
+}
+
+// What the read of a file in a folder of the system gives.
+fn read_in(rt: HostRuntime, path: &str, name: FileName) -> Result<Read, AllocError> {
+    let mut folder = DirFolder::new(rt, rt.alloc(), path)?;
+    read_of(rt.alloc(), &mut folder, name, 100, b"stop_id\nA\n")
+}
+
+#[test]
 fn folder_of_the_system(rt: HostRuntime) -> Result<(), Fail> {
-    let alloc = rt.alloc();
     let _ = fs::remove_dir_all(&rt, "folder_io_test");
     fs::create_dir(&rt, "folder_io_test")?;
     fs::create_dir(&rt, "folder_io_test/trips.txt")?;
     fs::write(&rt, "folder_io_test/stops.txt", b"stop_id\nA\n".as_slice())?;
-    let mut folder = DirFolder::new(rt, alloc, "folder_io_test")?;
-    let file = read_file(alloc, &mut folder, FileName::Stops, 100);
-    assert!(rt; has(&file, b"stop_id\nA\n"));
-    // A name that isn't found is absent, and so is a folder's every name where the folder isn't found.
-    let file = read_file(alloc, &mut folder, FileName::Routes, 100);
-    assert!(rt; matches!(&file, Ok(FileBytes::Absent)));
-    let mut nowhere = DirFolder::new(rt, alloc, "folder_io_test/nowhere")?;
-    let file = read_file(alloc, &mut nowhere, FileName::Stops, 100);
-    assert!(rt; matches!(&file, Ok(FileBytes::Absent)));
-    // A file that is a folder can't be read, and a path through a file that is none can't be opened.
-    let file = read_file(alloc, &mut folder, FileName::Trips, 100);
-    assert!(rt; matches!(&file, Err(ReadError::ReadFault)));
-    let mut archive = DirFolder::new(rt, alloc, "folder_io_test/stops.txt")?;
-    let file = read_file(alloc, &mut archive, FileName::Stops, 100);
-    assert!(rt; matches!(&file, Err(ReadError::ReadFault)));
+    for (path, name, want) in [
+        ("folder_io_test", FileName::Stops, Read::Wanted),
+        // A name that isn't found is absent, and so is a folder's every name where the folder isn't found.
+        ("folder_io_test", FileName::Routes, Read::Absent),
+        ("folder_io_test/nowhere", FileName::Stops, Read::Absent),
+        // A file that is a folder can't be read, and a path through a file that is none can't be opened.
+        ("folder_io_test", FileName::Trips, Read::Failed),
+        ("folder_io_test/stops.txt", FileName::Stops, Read::Failed),
+    ] {
+        assert_eq!(rt; read_in(rt, path, name)?, want);
+    }
     fs::remove_dir_all(&rt, "folder_io_test")?;
     Ok(())
 }
