@@ -26,9 +26,15 @@ impl Section {
 }
 
 /// The sections of a text, in order.
-#[derive(Drop)]
 pub(crate) struct Archive {
     sections: Vec<Section>,
+}
+
+// Written out, so that what holds one needn't look into it to let go of it.
+impl Drop for Archive {
+    fn drop(self) {
+        let Archive { sections: _ } = self;
+    }
 }
 
 impl Archive {

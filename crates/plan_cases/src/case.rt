@@ -30,7 +30,6 @@ pub(crate) enum Wanted {
 }
 
 /// A case.
-#[derive(Drop)]
 pub(crate) struct Case {
     pub(crate) words: WordList,
     pub(crate) files: FeedFiles,
@@ -38,6 +37,19 @@ pub(crate) struct Case {
     pub(crate) failing_calls: Vec<FailingCall>,
     pub(crate) status: u8,
     pub(crate) wanted: Wanted,
+}
+
+// Written out, so that what holds one needn't look into it to let go of it.
+impl Drop for Case {
+    fn drop(self) {
+        let Case {
+            words: _,
+            files: _,
+            failing_calls: _,
+            status: _,
+            wanted: _,
+        } = self;
+    }
 }
 
 impl Case {

@@ -33,9 +33,15 @@ struct FeedFile {
 }
 
 /// Files of a feed. Of two of one name the later one counts.
-#[derive(Drop)]
 pub(crate) struct FeedFiles {
     files: Vec<FeedFile>,
+}
+
+// Written out, so that what holds one needn't look into it to let go of it.
+impl Drop for FeedFiles {
+    fn drop(self) {
+        let FeedFiles { files: _ } = self;
+    }
 }
 
 impl FeedFiles {

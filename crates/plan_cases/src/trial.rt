@@ -22,10 +22,16 @@ pub(crate) struct Outcome {
 }
 
 /// A run that came to something else than its case says.
-#[derive(Drop)]
 pub(crate) struct Difference {
     call: Option<FailingCall>,
     came: Outcome,
+}
+
+// Written out, so that what holds one needn't look into it to let go of it.
+impl Drop for Difference {
+    fn drop(self) {
+        let Difference { call: _, came: _ } = self;
+    }
 }
 
 impl fmt::Display for Difference {
