@@ -33,27 +33,7 @@ december_31 = rw (day_count-late (pos 2025) 12025 12 31 refl (omega arith) (omeg
 
 -- a feed of these calendars alone, which no trip uses
 calendars : FileTable → FileTable → FeedTables
-calendars calendar dates =
-    record {
-      stops = [];
-      routes = [];
-      trips = [];
-      stop_times = [];
-      calendar = calendar;
-      calendar_dates = dates;
-      frequencies = [];
-      transfers = [];
-      areas = [];
-      stop_areas = [];
-      networks = [];
-      route_networks = [];
-      timeframes = [];
-      rider_categories = [];
-      fare_media = [];
-      fare_products = [];
-      fare_leg_rules = [];
-      fare_transfer_rules = [];
-    }
+calendars calendar dates = [] ∷ [] ∷ [] ∷ [] ∷ calendar ∷ dates ∷ []
 
 -- the calendar of a service with these dates
 abbrev service_days : List ℕ → List ℕ → FileTable

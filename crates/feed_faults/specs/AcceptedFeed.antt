@@ -7,6 +7,7 @@ use Rattle.std.specs.Option.{option_map_or}
 use Rattle.transit_base.specs.Limits.{most_time}
 use Rattle.transit_base.specs.declared.numbers.StopId.{StopId}
 use Rattle.feed_rows.specs.declared.names.FileName.{FileName}
+use Rattle.feed_rows.specs.declared.names.FileName.TheVariants as file
 use Rattle.feed_rows.specs.declared.names.ColumnName.{ColumnName}
 use Rattle.feed_rows.specs.declared.names.ColumnName.TheVariants as column
 use Rattle.feed_rows.specs.declared.rows.StopRow.{StopRow}
@@ -34,7 +35,7 @@ use Rattle.feed_faults.specs.Records.{FileTable, row_count, column_of, field, is
 use Rattle.feed_rows.specs.TimeGrammar.{time_value}
 use Rattle.feed_faults.specs.FieldGrammars.{most_int, count_value, currency_decimals}
 use Rattle.feed_faults.specs.FormFaults.{is_passed_over}
-use Rattle.feed_faults.specs.FeedTables.{FeedTables, tables_of}
+use Rattle.feed_faults.specs.FeedTables.{FeedTables, table_in, tables_of}
 use Rattle.feed_faults.specs.FieldValues.{int_or_past, optional_int, time_or_past, day_or_past, amount_or_past, stop_kind, frame_start, frame_end}
 use Rattle.feed_faults.specs.RowKeys.{row_of}
 
@@ -71,20 +72,20 @@ with_column names table column = with_names names table column (row_count table)
 -- timeframe groups, products and leg groups in their files
 unfoldable pub service_names : FeedTables → List (List ℕ)
 service_names t =
-    with_column (with_column (with_column (with_column [] t.trips column.ServiceId)
-    t.calendar column.ServiceId) t.calendar_dates column.ServiceId) t.timeframes column.ServiceId
+    with_column (with_column (with_column (with_column [] (table_in t file.Trips) column.ServiceId)
+    (table_in t file.Calendar) column.ServiceId) (table_in t file.CalendarDates) column.ServiceId) (table_in t file.Timeframes) column.ServiceId
 
 unfoldable pub network_names : FeedTables → List (List ℕ)
-network_names t = with_column (with_column [] t.routes column.NetworkId) t.networks column.NetworkId
+network_names t = with_column (with_column [] (table_in t file.Routes) column.NetworkId) (table_in t file.Networks) column.NetworkId
 
 unfoldable pub frame_names : FeedTables → List (List ℕ)
-frame_names t = with_column [] t.timeframes column.TimeframeGroupId
+frame_names t = with_column [] (table_in t file.Timeframes) column.TimeframeGroupId
 
 unfoldable pub product_names : FeedTables → List (List ℕ)
-product_names t = with_column [] t.fare_products column.FareProductId
+product_names t = with_column [] (table_in t file.FareProducts) column.FareProductId
 
 unfoldable pub group_names : FeedTables → List (List ℕ)
-group_names t = with_column [] t.fare_leg_rules column.LegGroupId
+group_names t = with_column [] (table_in t file.FareLegRules) column.LegGroupId
 
 -- the parent of a platform; the field of another kind of stop isn't looked at
 unfoldable pub accepted_parent : FileTable → ℕ → Option StopId
@@ -96,36 +97,36 @@ accepted_parent stops row =
 unfoldable pub stop_row : FeedTables → ℕ → StopRow
 stop_row t row =
     record {
-      id = field t.stops row column.StopId;
-      kind = stop_kind t.stops row;
-      parent = accepted_parent t.stops row;
+      id = field (table_in t file.Stops) row column.StopId;
+      kind = stop_kind (table_in t file.Stops) row;
+      parent = accepted_parent (table_in t file.Stops) row;
     }
 
 -- the network of a route: that of its own row, or else that of its row in route_networks.txt; the empty text where it has
 -- none
 unfoldable pub network_of_route : FeedTables → ℕ → List ℕ
 network_of_route t row =
-    let own = field t.routes row column.NetworkId in
+    let own = field (table_in t file.Routes) row column.NetworkId in
     if is_filled own then own
-    else option_map_or (λ r. field t.route_networks r column.NetworkId)
-    (row_of t.route_networks column.RouteId (field t.routes row column.RouteId)) []
+    else option_map_or (λ r. field (table_in t file.RouteNetworks) r column.NetworkId)
+    (row_of (table_in t file.RouteNetworks) column.RouteId (field (table_in t file.Routes) row column.RouteId)) []
 
 -- routes.txt
 unfoldable pub route_row : FeedTables → ℕ → RouteRow
 route_row t row =
     let network = network_of_route t row in
     record {
-      id = field t.routes row column.RouteId;
+      id = field (table_in t file.Routes) row column.RouteId;
       network = if_filled network (record { 0 = name_number (network_names t) network });
     }
 
 -- trips.txt
 unfoldable pub trip_row : FeedTables → ℕ → TripRow
 trip_row t row =
-    let at = field t.trips row in
+    let at = field (table_in t file.Trips) row in
     record {
       id = at column.TripId;
-      route = record { 0 = row_number t.routes column.RouteId (at column.RouteId) };
+      route = record { 0 = row_number (table_in t file.Routes) column.RouteId (at column.RouteId) };
       service = record { 0 = name_number (service_names t) (at column.ServiceId) };
     }
 
@@ -136,10 +137,10 @@ permits text = not (optional_int 3 text == not_available)
 -- stop_times.txt
 unfoldable pub stop_time_row : FeedTables → ℕ → StopTimeRow
 stop_time_row t row =
-    let at = field t.stop_times row in
+    let at = field (table_in t file.StopTimes) row in
     record {
-      trip = record { 0 = row_number t.trips column.TripId (at column.TripId) };
-      stop = record { 0 = row_number t.stops column.StopId (at column.StopId) };
+      trip = record { 0 = row_number (table_in t file.Trips) column.TripId (at column.TripId) };
+      stop = record { 0 = row_number (table_in t file.Stops) column.StopId (at column.StopId) };
       sequence = int_or_past most_int (at column.StopSequence);
       arrival = time_value most_time (at column.ArrivalTime);
       departure = time_value most_time (at column.DepartureTime);
@@ -154,12 +155,12 @@ runs_on_weekday calendar row weekday = int_or_past 1 (field calendar row weekday
 -- calendar.txt
 unfoldable pub service_row : FeedTables → ℕ → ServiceRow
 service_row t row =
-    let at = field t.calendar row in
+    let at = field (table_in t file.Calendar) row in
     record {
       service = record { 0 = name_number (service_names t) (at column.ServiceId) };
-      days = runs_on_weekday t.calendar row column.Monday ∷ runs_on_weekday t.calendar row column.Tuesday ∷ runs_on_weekday t.calendar row column.Wednesday
-          ∷ runs_on_weekday t.calendar row column.Thursday ∷ runs_on_weekday t.calendar row column.Friday ∷ runs_on_weekday t.calendar row column.Saturday
-          ∷ runs_on_weekday t.calendar row column.Sunday ∷ [];
+      days = runs_on_weekday (table_in t file.Calendar) row column.Monday ∷ runs_on_weekday (table_in t file.Calendar) row column.Tuesday ∷ runs_on_weekday (table_in t file.Calendar) row column.Wednesday
+          ∷ runs_on_weekday (table_in t file.Calendar) row column.Thursday ∷ runs_on_weekday (table_in t file.Calendar) row column.Friday ∷ runs_on_weekday (table_in t file.Calendar) row column.Saturday
+          ∷ runs_on_weekday (table_in t file.Calendar) row column.Sunday ∷ [];
       first = record { 0 = day_or_past (at column.StartDate) };
       last = record { 0 = day_or_past (at column.EndDate) };
     }
@@ -167,7 +168,7 @@ service_row t row =
 -- calendar_dates.txt
 unfoldable pub exception_row : FeedTables → ℕ → ExceptionRow
 exception_row t row =
-    let at = field t.calendar_dates row in
+    let at = field (table_in t file.CalendarDates) row in
     record {
       service = record { 0 = name_number (service_names t) (at column.ServiceId) };
       day = record { 0 = day_or_past (at column.Date) };
@@ -177,9 +178,9 @@ exception_row t row =
 -- frequencies.txt
 unfoldable pub frequency_row : FeedTables → ℕ → FrequencyRow
 frequency_row t row =
-    let at = field t.frequencies row in
+    let at = field (table_in t file.Frequencies) row in
     record {
-      trip = record { 0 = row_number t.trips column.TripId (at column.TripId) };
+      trip = record { 0 = row_number (table_in t file.Trips) column.TripId (at column.TripId) };
       start = time_or_past most_time (at column.StartTime);
       end = time_or_past most_time (at column.EndTime);
       headway = int_or_past most_int (at column.HeadwaySecs);
@@ -188,35 +189,35 @@ frequency_row t row =
 -- transfers.txt; a row that forbids has its seconds like any other
 unfoldable pub link_row : FeedTables → ℕ → LinkRow
 link_row t row =
-    let at = field t.transfers row in
+    let at = field (table_in t file.Transfers) row in
     record {
-      from = record { 0 = row_number t.stops column.StopId (at column.FromStopId) };
-      to = record { 0 = row_number t.stops column.StopId (at column.ToStopId) };
+      from = record { 0 = row_number (table_in t file.Stops) column.StopId (at column.FromStopId) };
+      to = record { 0 = row_number (table_in t file.Stops) column.StopId (at column.ToStopId) };
       forbidden = optional_int 5 (at column.TransferType) == change_forbidden;
       seconds = optional_int most_int (at column.MinTransferTime);
     }
 
 -- areas.txt
 unfoldable pub area_row : FeedTables → ℕ → AreaRow
-area_row t row = record { id = field t.areas row column.AreaId }
+area_row t row = record { id = field (table_in t file.Areas) row column.AreaId }
 
 -- stop_areas.txt
 unfoldable pub stop_area_row : FeedTables → ℕ → StopAreaRow
 stop_area_row t row =
-    let at = field t.stop_areas row in
+    let at = field (table_in t file.StopAreas) row in
     record {
-      area = record { 0 = row_number t.areas column.AreaId (at column.AreaId) };
-      stop = record { 0 = row_number t.stops column.StopId (at column.StopId) };
+      area = record { 0 = row_number (table_in t file.Areas) column.AreaId (at column.AreaId) };
+      stop = record { 0 = row_number (table_in t file.Stops) column.StopId (at column.StopId) };
     }
 
 -- timeframes.txt
 unfoldable pub timeframe_row : FeedTables → ℕ → TimeframeRow
 timeframe_row t row =
-    let at = field t.timeframes row in
+    let at = field (table_in t file.Timeframes) row in
     record {
       frame = record { 0 = name_number (frame_names t) (at column.TimeframeGroupId) };
-      start = frame_start t.timeframes row;
-      end = frame_end t.timeframes row;
+      start = frame_start (table_in t file.Timeframes) row;
+      end = frame_end (table_in t file.Timeframes) row;
       service = record { 0 = name_number (service_names t) (at column.ServiceId) };
     }
 
@@ -224,31 +225,31 @@ timeframe_row t row =
 unfoldable pub rider_row : FeedTables → ℕ → RiderRow
 rider_row t row =
     record {
-      id = field t.rider_categories row column.RiderCategoryId;
-      default = optional_int 1 (field t.rider_categories row column.IsDefaultFareCategory) == default_category;
+      id = field (table_in t file.RiderCategories) row column.RiderCategoryId;
+      default = optional_int 1 (field (table_in t file.RiderCategories) row column.IsDefaultFareCategory) == default_category;
     }
 
 -- fare_media.txt
 unfoldable pub medium_row : FeedTables → ℕ → MediumRow
-medium_row t row = record { id = field t.fare_media row column.FareMediaId }
+medium_row t row = record { id = field (table_in t file.FareMedia) row column.FareMediaId }
 
 -- fare_products.txt
 unfoldable pub product_row : FeedTables → ℕ → ProductRow
 product_row t row =
-    let at = field t.fare_products row in
+    let at = field (table_in t file.FareProducts) row in
     let rider = at column.RiderCategoryId in
     let medium = at column.FareMediaId in
     record {
       product = record { 0 = name_number (product_names t) (at column.FareProductId) };
-      rider = if_filled rider (record { 0 = row_number t.rider_categories column.RiderCategoryId rider });
-      medium = if_filled medium (record { 0 = row_number t.fare_media column.FareMediaId medium });
+      rider = if_filled rider (record { 0 = row_number (table_in t file.RiderCategories) column.RiderCategoryId rider });
+      medium = if_filled medium (record { 0 = row_number (table_in t file.FareMedia) column.FareMediaId medium });
       amount = record { 0 = amount_or_past (at column.Currency) (at column.Amount) };
     }
 
 -- fare_leg_rules.txt
 unfoldable pub leg_rule_row : FeedTables → ℕ → LegRuleRow
 leg_rule_row t row =
-    let at = field t.fare_leg_rules row in
+    let at = field (table_in t file.FareLegRules) row in
     let group = at column.LegGroupId in
     let network = at column.NetworkId in
     let from_area = at column.FromAreaId in
@@ -258,8 +259,8 @@ leg_rule_row t row =
     record {
       group = if_filled group (record { 0 = name_number (group_names t) group });
       network = if_filled network (record { 0 = name_number (network_names t) network });
-      from_area = if_filled from_area (record { 0 = row_number t.areas column.AreaId from_area });
-      to_area = if_filled to_area (record { 0 = row_number t.areas column.AreaId to_area });
+      from_area = if_filled from_area (record { 0 = row_number (table_in t file.Areas) column.AreaId from_area });
+      to_area = if_filled to_area (record { 0 = row_number (table_in t file.Areas) column.AreaId to_area });
       from_frame = if_filled from_frame (record { 0 = name_number (frame_names t) from_frame });
       to_frame = if_filled to_frame (record { 0 = name_number (frame_names t) to_frame });
       product = record { 0 = name_number (product_names t) (at column.FareProductId) };
@@ -281,7 +282,7 @@ limit_of rules row =
 -- fare_transfer_rules.txt
 unfoldable pub transfer_rule_row : FeedTables → ℕ → TransferRuleRow
 transfer_rule_row t row =
-    let at = field t.fare_transfer_rules row in
+    let at = field (table_in t file.FareTransferRules) row in
     let from = at column.FromLegGroupId in
     let to = at column.ToLegGroupId in
     let product = at column.FareProductId in
@@ -289,7 +290,7 @@ transfer_rule_row t row =
       from = if_filled from (record { 0 = name_number (group_names t) from });
       to = if_filled to (record { 0 = name_number (group_names t) to });
       count = finite_count (count_value (at column.TransferCount));
-      limit = limit_of t.fare_transfer_rules row;
+      limit = limit_of (table_in t file.FareTransferRules) row;
       kind = int_or_past 2 (at column.FareTransferType);
       product = if_filled product (record { 0 = name_number (product_names t) product });
     }
@@ -310,30 +311,30 @@ typed_rows table row = list_below (row_count table) row
 unfoldable pub rows_of_tables : FeedTables → FeedRows
 rows_of_tables t =
     record {
-      stops = typed_rows t.stops (stop_row t);
-      routes = typed_rows t.routes (route_row t);
-      trips = typed_rows t.trips (trip_row t);
-      stop_times = typed_rows t.stop_times (stop_time_row t);
-      services = typed_rows t.calendar (service_row t);
-      exceptions = typed_rows t.calendar_dates (exception_row t);
-      frequencies = typed_rows t.frequencies (frequency_row t);
-      links = picks_below (row_count t.transfers) (λ row. not (is_passed_over t.transfers row)) (link_row t);
-      areas = typed_rows t.areas (area_row t);
-      stop_areas = typed_rows t.stop_areas (stop_area_row t);
-      timeframes = typed_rows t.timeframes (timeframe_row t);
-      riders = typed_rows t.rider_categories (rider_row t);
-      media = typed_rows t.fare_media (medium_row t);
-      products = typed_rows t.fare_products (product_row t);
-      leg_rules = typed_rows t.fare_leg_rules (leg_rule_row t);
-      transfer_rules = typed_rows t.fare_transfer_rules (transfer_rule_row t);
+      stops = typed_rows (table_in t file.Stops) (stop_row t);
+      routes = typed_rows (table_in t file.Routes) (route_row t);
+      trips = typed_rows (table_in t file.Trips) (trip_row t);
+      stop_times = typed_rows (table_in t file.StopTimes) (stop_time_row t);
+      services = typed_rows (table_in t file.Calendar) (service_row t);
+      exceptions = typed_rows (table_in t file.CalendarDates) (exception_row t);
+      frequencies = typed_rows (table_in t file.Frequencies) (frequency_row t);
+      links = picks_below (row_count (table_in t file.Transfers)) (λ row. not (is_passed_over (table_in t file.Transfers) row)) (link_row t);
+      areas = typed_rows (table_in t file.Areas) (area_row t);
+      stop_areas = typed_rows (table_in t file.StopAreas) (stop_area_row t);
+      timeframes = typed_rows (table_in t file.Timeframes) (timeframe_row t);
+      riders = typed_rows (table_in t file.RiderCategories) (rider_row t);
+      media = typed_rows (table_in t file.FareMedia) (medium_row t);
+      products = typed_rows (table_in t file.FareProducts) (product_row t);
+      leg_rules = typed_rows (table_in t file.FareLegRules) (leg_rule_row t);
+      transfer_rules = typed_rows (table_in t file.FareTransferRules) (transfer_rule_row t);
       service_names = service_names t;
       network_names = network_names t;
       frame_names = frame_names t;
       product_names = product_names t;
       group_names = group_names t;
-      has_priority = is_some (column_of t.fare_leg_rules column.RulePriority);
-      currency = feed_currency t.fare_products;
-      decimals = feed_decimals t.fare_products;
+      has_priority = is_some (column_of (table_in t file.FareLegRules) column.RulePriority);
+      currency = feed_currency (table_in t file.FareProducts);
+      decimals = feed_decimals (table_in t file.FareProducts);
     }
 
 -- the rows of the files that are held

@@ -1,6 +1,6 @@
 -- The first pass: what is wrong with a file by itself. A file is judged as a whole, then by its header, then row by row,
 -- and in a row column by column; the first fault counts.
-use Rattle.std.specs.Prelude.{ℕ, ◌&&◌, ◌||◌, not, nat_lt, if◌then◌else◌, Bool, true, false, List, [], ◌∷◌, length, get_or, take, bytes_eq, is_some, is_none, Option, None, Some, option_map, pos}
+use Rattle.std.specs.Prelude.{ℕ, ◌&&◌, ◌||◌, not, nat_lt, if◌then◌else◌, Bool, true, false, List, [], length, get_or, take, bytes_eq, is_some, is_none, Option, None, Some, option_map, pos}
 use Rattle.std.specs.Option.{option_or}
 use Rattle.std.specs.Str.{is_utf8}
 use Rattle.feed_rows.specs.Limits.{most_rows}
@@ -11,8 +11,8 @@ use Rattle.feed_rows.specs.declared.names.ColumnName.TheVariants as column
 use Rattle.feed_rows.specs.declared.faults.FaultKind.{FaultKind}
 use Rattle.feed_rows.specs.declared.faults.FaultKind.TheVariants as kind
 use Rattle.feed_rows.specs.declared.faults.FeedFault.{FeedFault}
-use Rattle.feed_rows.specs.Names.{column_text}
-use Rattle.plain_laws.specs.Plain.{when, any_below, first_below, first_in, first_of}
+use Rattle.feed_rows.specs.Names.{all_files, column_text}
+use Rattle.plain_laws.specs.Plain.{when, any_below, first_below, first_in}
 use Rattle.feed_rows.specs.HeldFiles.{HeldFile}
 use Rattle.feed_faults.specs.declared.columns.EmptyField.{EmptyField}
 use Rattle.feed_faults.specs.declared.columns.EmptyField.TheVariants as empty
@@ -136,25 +136,6 @@ is_needed files file = is_always_needed file
 unfoldable pub form_fault : (FileName → HeldFile) → FileName → Option FeedFault
 form_fault files file = form_fault_of_held (is_needed files file) file (files file)
 
--- the first fault of the files of the timetable, each by itself
-unfoldable pub timetable_form_fault : (FileName → HeldFile) → Option FeedFault
-timetable_form_fault files =
-    first_of (form_fault files file.Stops ∷ form_fault files file.Routes ∷ form_fault files file.Trips
-    ∷ form_fault files file.StopTimes ∷ form_fault files file.Calendar ∷ form_fault files file.CalendarDates ∷ [])
-
--- the same of frequencies, transfers, areas and networks
-unfoldable pub network_form_fault : (FileName → HeldFile) → Option FeedFault
-network_form_fault files =
-    first_of (form_fault files file.Frequencies ∷ form_fault files file.Transfers ∷ form_fault files file.Areas
-    ∷ form_fault files file.StopAreas ∷ form_fault files file.Networks ∷ form_fault files file.RouteNetworks ∷ [])
-
--- the same of the other files of fares
-unfoldable pub fare_form_fault : (FileName → HeldFile) → Option FeedFault
-fare_form_fault files =
-    first_of (form_fault files file.Timeframes ∷ form_fault files file.RiderCategories ∷ form_fault files file.FareMedia
-    ∷ form_fault files file.FareProducts ∷ form_fault files file.FareLegRules ∷ form_fault files file.FareTransferRules ∷ [])
-
 -- the first fault of the first pass, over all files in their order
 abbrev pub first_form_fault : (FileName → HeldFile) → Option FeedFault
-first_form_fault files =
-    first_of (timetable_form_fault files ∷ network_form_fault files ∷ fare_form_fault files ∷ [])
+first_form_fault files = first_in all_files (form_fault files)

@@ -6,10 +6,12 @@ pub mod FormFaults
 pub mod FeedTables
 pub mod FieldValues
 pub mod RowKeys
-pub mod TimetableRelations
+pub mod StopRelations
+pub mod ServiceRelations
 pub mod StopTimeRelations
 pub mod NetworkRelations
 pub mod FareRelations
+pub mod RowChecks
 pub mod FirstFault
 pub mod AcceptedFeed
 pub mod OnLiterals

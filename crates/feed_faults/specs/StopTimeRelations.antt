@@ -1,21 +1,16 @@
--- The second pass over stop_times.txt. Stop times belong to one trip where their trip ids are equal. First, last and before
+-- Stop times among the rows of their file. They belong to one trip where their trip ids are equal. First, last and before
 -- go by stop_sequence, and among equal sequences by row, over all rows of the file.
-use Rattle.std.specs.Prelude.{ℕ, ◌&&◌, ◌||◌, ◌==◌, not, nat_lt, Bool, List, [], ◌∷◌, length, bytes_eq, is_some, Option}
+use Rattle.std.specs.Prelude.{ℕ, ◌&&◌, ◌||◌, ◌==◌, not, nat_lt, Bool, List, length, bytes_eq, is_some, Option}
 use Rattle.std.specs.Option.{option_or}
 use Rattle.transit_base.specs.Limits.{most_time}
-use Rattle.feed_rows.specs.declared.names.FileName.TheVariants as file
 use Rattle.feed_rows.specs.declared.names.ColumnName.TheVariants.{TripId, StopId, StopSequence, ArrivalTime, DepartureTime}
-use Rattle.feed_rows.specs.declared.faults.FaultKind.TheVariants.{UnknownReference, WrongStopKind, DoubledKey, EndTimeMissing, TimesDecrease}
-use Rattle.feed_rows.specs.declared.faults.FeedFault.{FeedFault}
-use Rattle.plain_laws.specs.Plain.{when, filled_and, at_and, any_below, list_below, first_of}
+use Rattle.plain_laws.specs.Plain.{filled_and, at_and, any_below, list_below}
 use Rattle.feed_faults.specs.Records.{FileTable, row_count, field}
 use Rattle.feed_rows.specs.TimeGrammar.{time_value}
 use Rattle.feed_faults.specs.FieldGrammars.{most_int}
-use Rattle.feed_faults.specs.FaultPlaces.{field_fault}
-use Rattle.feed_faults.specs.FeedTables.{FeedTables}
 use Rattle.feed_faults.specs.FieldValues.{int_or_past, stop_kind}
 use Rattle.feed_rows.specs.Codes.{platform_type}
-use Rattle.feed_faults.specs.RowKeys.{row_of, is_unknown, is_repeated}
+use Rattle.feed_faults.specs.RowKeys.{row_of}
 
 -- a stop time's trip, its place in the trip, and its times in seconds of the service day
 pub record StopTime : Type 0 where
@@ -95,18 +90,5 @@ do_times_decrease times row =
     && at_and times near (λ y. is_earlier (first_filled x) (last_filled y))))
 
 -- a stop time is at a platform; an id of several rows is that of the earliest
-unfoldable pub is_at_platform : FeedTables → ℕ → Bool
-is_at_platform t row = filled_and (row_of t.stops StopId (field t.stop_times row StopId)) (λ stop. stop_kind t.stops stop == platform_type)
-
--- stop_times.txt
-unfoldable pub stop_time_fault : FeedTables → ℕ → Option FeedFault
-stop_time_fault t row =
-    let fault = field_fault file.StopTimes row in
-    let at = field t.stop_times row in
-    first_of (when (is_unknown t.trips TripId (at TripId)) (fault TripId UnknownReference)
-    ∷ when (is_unknown t.stops StopId (at StopId)) (fault StopId UnknownReference)
-    ∷ when (not (is_at_platform t row)) (fault StopId WrongStopKind)
-    ∷ when (is_repeated (same_place (stop_times_of t.stop_times)) row) (fault StopSequence DoubledKey)
-    ∷ when (is_end_time_missing (stop_times_of t.stop_times) row) (fault ArrivalTime EndTimeMissing)
-    ∷ when (do_times_decrease (stop_times_of t.stop_times) row) (fault ArrivalTime TimesDecrease)
-    ∷ [])
+unfoldable pub is_at_platform : FileTable → FileTable → ℕ → Bool
+is_at_platform stops times row = filled_and (row_of stops StopId (field times row StopId)) (λ stop. stop_kind stops stop == platform_type)

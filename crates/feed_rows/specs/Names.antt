@@ -1,9 +1,37 @@
--- The names of files and columns, as they stand in a folder and in a header.
-use Rattle.std.specs.Prelude.{ℕ, List, codes}
+-- The files of a feed in their order, and the names of files and columns, as they stand in a folder and in a header.
+use Rattle.std.specs.Prelude.{ℕ, List, [], ◌∷◌, codes}
 use Rattle.feed_rows.specs.declared.names.FileName.{FileName}
 use Rattle.feed_rows.specs.declared.names.FileName.TheVariants as file
 use Rattle.feed_rows.specs.declared.names.ColumnName.{ColumnName}
 use Rattle.feed_rows.specs.declared.names.ColumnName.TheVariants as column
+
+-- the files of a feed, in the order in which they are read and judged
+abbrev pub all_files : List FileName
+all_files =
+    file.Stops ∷ file.Routes ∷ file.Trips ∷ file.StopTimes ∷ file.Calendar ∷ file.CalendarDates ∷ file.Frequencies
+    ∷ file.Transfers ∷ file.Areas ∷ file.StopAreas ∷ file.Networks ∷ file.RouteNetworks ∷ file.Timeframes
+    ∷ file.RiderCategories ∷ file.FareMedia ∷ file.FareProducts ∷ file.FareLegRules ∷ file.FareTransferRules ∷ []
+
+-- the place of a file in that order
+abbrev pub place : FileName → ℕ
+place file.Stops = 0
+place file.Routes = 1
+place file.Trips = 2
+place file.StopTimes = 3
+place file.Calendar = 4
+place file.CalendarDates = 5
+place file.Frequencies = 6
+place file.Transfers = 7
+place file.Areas = 8
+place file.StopAreas = 9
+place file.Networks = 10
+place file.RouteNetworks = 11
+place file.Timeframes = 12
+place file.RiderCategories = 13
+place file.FareMedia = 14
+place file.FareProducts = 15
+place file.FareLegRules = 16
+place file.FareTransferRules = 17
 
 -- a file's name in the folder
 abbrev pub file_text : FileName → List ℕ
@@ -25,6 +53,22 @@ file_text file.FareMedia = codes "fare_media.txt"
 file_text file.FareProducts = codes "fare_products.txt"
 file_text file.FareLegRules = codes "fare_leg_rules.txt"
 file_text file.FareTransferRules = codes "fare_transfer_rules.txt"
+
+-- the columns that are read, in the order in which they are declared
+abbrev pub all_columns : List ColumnName
+all_columns =
+    column.StopId ∷ column.LocationType ∷ column.ParentStation ∷ column.RouteId ∷ column.NetworkId ∷
+    column.ServiceId ∷ column.TripId ∷ column.StopSequence ∷ column.ArrivalTime ∷ column.DepartureTime ∷
+    column.PickupType ∷ column.DropOffType ∷ column.Monday ∷ column.Tuesday ∷ column.Wednesday ∷ column.Thursday ∷
+    column.Friday ∷ column.Saturday ∷ column.Sunday ∷ column.StartDate ∷ column.EndDate ∷ column.Date ∷
+    column.ExceptionType ∷ column.StartTime ∷ column.EndTime ∷ column.HeadwaySecs ∷ column.ExactTimes ∷
+    column.TransferType ∷ column.FromStopId ∷ column.ToStopId ∷ column.MinTransferTime ∷ column.AreaId ∷
+    column.TimeframeGroupId ∷ column.RiderCategoryId ∷ column.IsDefaultFareCategory ∷ column.FareMediaId ∷
+    column.FareMediaType ∷ column.FareProductId ∷ column.Currency ∷ column.Amount ∷ column.LegGroupId ∷
+    column.FromAreaId ∷ column.ToAreaId ∷ column.FromTimeframeGroupId ∷ column.ToTimeframeGroupId ∷
+    column.RulePriority ∷ column.FromLegGroupId ∷ column.ToLegGroupId ∷ column.TransferCount ∷ column.DurationLimit ∷
+    column.DurationLimitType ∷ column.FareTransferType ∷ column.LocationGroupId ∷ column.LocationId ∷
+    column.FromRouteId ∷ column.ToRouteId ∷ column.FromTripId ∷ column.ToTripId ∷ []
 
 -- a column's name in a header
 abbrev pub column_text : ColumnName → List ℕ

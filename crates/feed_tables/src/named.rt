@@ -1,7 +1,7 @@
 //! A file's table with the places of its columns.
 ghost use Rattle.std.specs.Prelude.{◌≡◌, ◌<◌, ◌≤◌, map, length, get_or, [], is_some, IfOk, IfSome};
 ghost use Rattle.feed_faults.specs.Records.{header, data_row, row_count, column_of, field, is_long};
-ghost use Rattle.feed_tables.specs.Columns.{all_columns};
+ghost use Rattle.feed_rows.specs.Names.{all_columns};
 ghost use Rattle.feed_tables.specs.RowLimits.{row_limit};
 
 use feed_rows::ColumnName;

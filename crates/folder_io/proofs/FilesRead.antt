@@ -13,7 +13,8 @@ use Rattle.feed_rows.specs.Names.{file_text}
 use Rattle.feed_rows.specs.HeldFiles.{HeldFile, held_within, held, most_bytes}
 use Rattle.folder_io.specs.declared.files.FileBytes.{FileBytes}
 use Rattle.folder_io.specs.declared.files.FileBytes.TheVariants as kept
-use Rattle.folder_io.specs.FilePlaces.{all_files, place}
+use Rattle.feed_rows.specs.Names.{all_files}
+use Rattle.folder_io.specs.FilePlaces.{place}
 use Rattle.folder_io.specs.FolderCalls.{Contents, Finds, Opens, Takes}
 use Rattle.folder_io.specs.KeptFiles.{held_of, IsWithin, AreWithin}
 use Rattle.folder_io.specs.FileReading.{AreRead, IsRead, StopsPast}

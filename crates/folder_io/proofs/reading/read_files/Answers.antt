@@ -3,7 +3,7 @@ use Rattle.std.proofs.lemmas.List.{take_all}
 use Rattle.std.proofs.lemmas.List.Elements.{All-set}
 use Rattle.feed_rows.specs.HeldFiles.{most_bytes}
 use Rattle.folder_io.specs.KeptFiles.{IsWithin}
-use Rattle.folder_io.specs.FilePlaces.{all_files}
+use Rattle.feed_rows.specs.Names.{all_files}
 use Rattle.folder_io.proofs.FilesRead.{all_read, each_within, more_read}
 use Rattle.folder_io.proofs.reading.read_files.Goals as goal
 

@@ -1,7 +1,7 @@
 use Rattle.std.proofs.Common.{◌≡◌, take, length, All}
 use Rattle.feed_rows.specs.FaultCounts.{Stayed}
 use Rattle.feed_rows.specs.HeldFiles.{most_bytes}
-use Rattle.folder_io.specs.FilePlaces.{all_files}
+use Rattle.feed_rows.specs.Names.{all_files}
 use Rattle.folder_io.specs.KeptFiles.{IsWithin}
 use Rattle.folder_io.proofs.FilesRead.{AreReadSoFar}
 use Rattle.folder_io.proofs.reading.read_files.Given as goal
