@@ -17,7 +17,7 @@ unfoldable pub relation_fault : FeedTables → FileName → Option FeedFault
 relation_fault t name = option_or (forbidden_fault t name) (first_below (row_count (table_in t name)) (relation_fault_of_row t name))
 
 -- the first fault of the second pass, over all files in their order
-abbrev pub first_relation_fault : FeedTables → Option FeedFault
+unfoldable pub first_relation_fault : FeedTables → Option FeedFault
 first_relation_fault t = first_in all_files (relation_fault t)
 
 -- the first fault of a feed's files

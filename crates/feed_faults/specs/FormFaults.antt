@@ -137,5 +137,5 @@ unfoldable pub form_fault : (FileName → HeldFile) → FileName → Option Feed
 form_fault files file = form_fault_of_held (is_needed files file) file (files file)
 
 -- the first fault of the first pass, over all files in their order
-abbrev pub first_form_fault : (FileName → HeldFile) → Option FeedFault
+unfoldable pub first_form_fault : (FileName → HeldFile) → Option FeedFault
 first_form_fault files = first_in all_files (form_fault files)

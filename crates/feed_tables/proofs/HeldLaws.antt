@@ -1,4 +1,4 @@
--- The faults of a file before its rows, and files without a byte.
+-- The faults of a file before its rows.
 use Rattle.std.proofs.Common.{◌≡◌, refl, sym, ℕ, ◌≤◌, Bool, true, false, List, [], ◌∷◌, length, Option, Some, None, nat_lt, arith}
 use Rattle.std.specs.Prelude.{not, if◌then◌else◌}
 use Rattle.std.specs.Option.{option_or}
@@ -7,17 +7,13 @@ use Rattle.std.proofs.lemmas.Bool.Decides.{nat_tests}
 use Rattle.std.proofs.lemmas.Option.{none-some}
 use Rattle.feed_rows.specs.declared.names.FileName.{FileName}
 use Rattle.feed_rows.specs.declared.faults.FaultKind.TheVariants as kind
-use Rattle.feed_rows.specs.HeldFiles.{HeldFile}
 use Rattle.plain_laws.specs.Plain.{when}
 use Rattle.feed_faults.specs.Records.{row_count, table_of_bytes}
-use Rattle.feed_faults.specs.FeedTables.{table_of}
 use Rattle.feed_faults.specs.FaultPlaces.{file_fault}
 use Rattle.feed_faults.specs.FormFaults.{header_fault, form_fault_of_bytes, form_fault_of_table, is_always_needed}
-use Rattle.feed_faults.specs.OnLiterals.{bytes_on_literals}
 use Rattle.feed_text.specs.declared.errors.TextError.{TextError}
 use Rattle.feed_text.specs.declared.errors.TextError.TheVariants as error
 use Rattle.feed_text.specs.TextErrors.{IsErrorOf}
-use Rattle.feed_tables.specs.FirstPass.{has_byte}
 
 module _ {X : Type 0} where
   -- the first fault of bytes: they aren't text, else what is wrong with their table, else that they have none
@@ -74,15 +70,3 @@ few_rows needed most file bytes none = step (is_utf8 bytes) (nat_lt 0 (length (t
     step true true true some over e = absurd (none-some (file_fault file kind.TooManyRows) (sym e))
     step true true false some over e = grind (arith, nat_tests, over)
     step true false many some over e = grind (arith, nat_tests, some)
-
--- no byte makes no record
-pub no_records : table_of_bytes [] ≡ []
-unfolding bytes_on_literals
-no_records = refl
-
--- a file without a byte has a table without a record
-pub no_byte : (held : HeldFile) → has_byte held ≡ false → table_of held ≡ []
-no_byte HeldFile.Missing e = refl
-no_byte HeldFile.TooLarge e = refl
-no_byte (HeldFile.Bytes []) e = no_records
-no_byte (HeldFile.Bytes (b ∷ bytes)) e = absurd (let wrong : true ≡ false = e in cc)

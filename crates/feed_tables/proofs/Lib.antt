@@ -2,4 +2,3 @@ pub mod PrefixLaws
 pub mod IdLaws
 pub mod PassLaws
 pub mod HeldLaws
-pub mod UnbuiltLaws

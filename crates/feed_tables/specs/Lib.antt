@@ -2,9 +2,5 @@ pub mod Columns
 pub mod RowLimits
 pub mod IndexedColumns
 pub mod OrderedRows
-pub mod TableRecords
 pub mod FieldFaults
-pub mod FirstPass
-pub mod TableGroups
-pub mod UnbuiltFiles
-pub mod TableIds
+pub mod IdColumns

@@ -5,15 +5,14 @@ ghost use Rattle.feed_rows.specs.HeldFiles.{HeldFile, most_bytes};
 ghost use Rattle.feed_faults.specs.Records.{row_count, table_of_bytes};
 ghost use Rattle.feed_faults.specs.FaultPlaces.{file_fault};
 ghost use Rattle.feed_faults.specs.FeedTables.{table_of};
-ghost use Rattle.feed_faults.specs.FormFaults.{has_record, is_always_needed, is_needed, form_fault_of_bytes, form_fault_of_held};
+ghost use Rattle.feed_faults.specs.FormFaults.{has_record, is_always_needed, is_needed, form_fault_of_bytes, form_fault_of_held, form_fault};
 ghost use Rattle.feed_text.specs.TextErrors.{IsErrorOf};
 ghost use Rattle.folder_io.specs.KeptFiles.{held_of, held_in, IsWithin, AreWithin};
-ghost use Rattle.feed_tables.specs.FirstPass.{is_built, has_byte, unbuilt_fault, pass_fault};
 
 use crate::named::NamedTable;
 use crate::rows::fault_of_rows;
 use feed_rows::{FaultKind, FeedFault, FileName};
-use feed_text::{Table, TextError, has_record, is_always_needed, is_filled};
+use feed_text::{Table, TextError, has_record, is_always_needed};
 use folder_io::{FileBytes, Files};
 use std::alloc::{AllocError, Global};
 
@@ -29,32 +28,6 @@ fn file_fault(file: FileName, kind: FaultKind) -> FeedFault
         file,
         row: 0,
         column: None,
-    }
-}
-
-// Whether the rows of the file are read.
-fn is_built(file: FileName) -> bool
-    ensures { result ≡ is_built file }
-{
-    match file {
-        FileName::Stops
-        | FileName::Routes
-        | FileName::Trips
-        | FileName::StopTimes
-        | FileName::Calendar
-        | FileName::CalendarDates
-        | FileName::FareProducts
-        | FileName::FareLegRules => true,
-        FileName::Frequencies
-        | FileName::Transfers
-        | FileName::Areas
-        | FileName::StopAreas
-        | FileName::Networks
-        | FileName::RouteNetworks
-        | FileName::Timeframes
-        | FileName::RiderCategories
-        | FileName::FareMedia
-        | FileName::FareTransferRules => false,
     }
 }
 
@@ -130,8 +103,8 @@ fn table_of_text(
     Ok(table)
 }
 
-// The table of a file whose rows are read.
-fn built_table(
+// The table of what is held of a file, judged whole.
+fn judged_table(
     alloc: Global,
     held: &FileBytes,
     file: FileName,
@@ -155,45 +128,17 @@ fn built_table(
     }
 }
 
-// Whether a file has a byte.
-fn has_byte(held: &FileBytes) -> bool
-    ensures { result ≡ has_byte (held_of held.now) }
-{
-    match held {
-        FileBytes::Absent => false,
-        FileBytes::TooLarge => true,
-        FileBytes::Bytes(text) => is_filled(text.bytes()),
-    }
-}
-
-// The table of a file whose rows aren't read: it may have no byte.
-#[tactic(auto, using(crate::proofs::HeldLaws::no_byte))]
-fn unbuilt_table(alloc: Global, held: &FileBytes, file: FileName) -> Result<NamedTable, TextError>
-    ensures fault { IfErr result (IsErrorOf (unbuilt_fault file (held_of held.now))) }
-    ensures sound { OnOk result (unbuilt_fault file (held_of held.now) ≡ None) }
-    ensures table { IfOk result (λ table. table ≡ table_of (held_of held.now)) }
-{
-    if has_byte(held) {
-        return Err(TextError::Fault(file_fault(file, FaultKind::NotBuilt)));
-    }
-    Ok(no_table(alloc)?)
-}
-
 /// The table of a file, judged by itself.
 ///
 /// # Errors
 /// The file's first fault; want of memory.
-#[tactic(auto, unfolding(crate::specs::FirstPass::pass_fault, feed_faults::specs::FormFaults::form_fault))]
+#[tactic(auto, unfolding(feed_faults::specs::FormFaults::form_fault))]
 pub fn file_table(alloc: Global, files: &Files, file: FileName) -> Result<NamedTable, TextError>
     requires { AreWithin files.now }
-    ensures fault { IfErr result (IsErrorOf (pass_fault (held_in files.now) file)) }
-    ensures sound { OnOk result (pass_fault (held_in files.now) file ≡ None) }
+    ensures fault { IfErr result (IsErrorOf (form_fault (held_in files.now) file)) }
+    ensures sound { OnOk result (form_fault (held_in files.now) file ≡ None) }
     ensures table { IfOk result (λ table. table ≡ table_of (held_in files.now file)) }
 {
-    let held = files.get(file);
-    if !is_built(file) {
-        return unbuilt_table(alloc, held, file);
-    }
     let needed = is_needed(alloc, files, file)?;
-    built_table(alloc, held, file, needed)
+    judged_table(alloc, files.get(file), file, needed)
 }

@@ -3,8 +3,6 @@
 
 mod fields;
 mod files;
-mod group_reading;
-mod groups;
 mod id_rows;
 mod ids;
 mod index;
@@ -15,7 +13,7 @@ mod rows;
 mod tables;
 
 pub use files::MOST_ROWS;
-pub use ids::TableIds;
+pub use ids::{IdColumn, Ids};
 pub use index::IdIndex;
 pub use kinds::stop_kind;
 pub use named::NamedTable;

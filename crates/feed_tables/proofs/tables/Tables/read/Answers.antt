@@ -1,9 +1,35 @@
-use Rattle.feed_tables.proofs.UnbuiltLaws.{no_form_fault_of_groups, unbuilt_empty_of_groups}
+use Rattle.std.proofs.Common.{◌≡◌, sym, arith}
+use Rattle.std.proofs.lemmas.Grind.{common_steps}
+use Rattle.std.proofs.lemmas.List.{map_more, take_all}
+use Rattle.plain_laws.proofs.Laws.{first_in_next}
+use Rattle.feed_rows.specs.Names.{all_files}
+use Rattle.feed_faults.specs.FeedTables.{tables_of, table_of}
+use Rattle.feed_faults.specs.FormFaults.{first_form_fault, form_fault}
+use Rattle.folder_io.specs.KeptFiles.{held_in}
+use Rattle.feed_text.specs.TextErrors.{IsErrorOf}
+use Rattle.feed_tables.proofs.PassLaws.{error_at}
 use Rattle.feed_tables.proofs.tables.Tables.read.Goals as goal
 
-pub returns-clause-unbuilt : goal.returns-clause-unbuilt
-returns-clause-unbuilt c =
-    unbuilt_empty_of_groups _ _ _ _ c.in_ok-timetable.ensures.tables c.in_ok-network.ensures.tables c.in_ok-fare.ensures.tables c.in_ok-timetable.ensures.sound c.in_ok-network.ensures.sound c.in_ok-fare.ensures.sound
+pub returns-in_err-file_table-clause-fault : goal.returns-in_err-file_table-clause-fault
+unfolding first_form_fault
+returns-in_err-file_table-clause-fault c =
+    let first : IsErrorOf (first_form_fault (held_in c.args.files.now)) c.in_err-file_table.field-0.0 = error_at all_files (form_fault (held_in c.args.files.now)) c.loop-i.i _ c.in_err-file_table.field-0.0 c.loop-i-test.true c.loop-i.invariant.none c.in_err-file_table.ensures.fault in
+    grind (arith, common_steps, first)
 
-pub returns-clause-formed : goal.returns-clause-formed
-returns-clause-formed c = no_form_fault_of_groups _ c.in_ok-timetable.ensures.sound c.in_ok-network.ensures.sound c.in_ok-fare.ensures.sound
+pub loop-i-preserved : goal.loop-i-preserved
+loop-i-preserved c = record {
+  tables = rw (c.in_ok-push_table.ensures, c.loop-i.invariant.tables, c.in_ok-file_table.ensures.table)
+      (sym (map_more (λ file. table_of (held_in c.args.files.now file)) all_files c.loop-i.i _ c.loop-i-test.true));
+  none = first_in_next all_files (form_fault (held_in c.args.files.now)) c.loop-i.i _ c.loop-i-test.true c.loop-i.invariant.none c.in_ok-file_table.ensures.sound;
+}
+
+pub returns-clause-tables : goal.returns-clause-tables
+unfolding tables_of
+returns-clause-tables c = rw (take_all c.loop-i.i all_files c.loop-i-test.false) at c.loop-i.invariant.tables
+
+pub returns-clause-sound : goal.returns-clause-sound
+unfolding first_form_fault
+returns-clause-sound c =
+    let all : c.loop-i.i ≡ 18 = omega (arith, c.loop-i.auto.i-end, c.loop-i-test.false) in
+    let none = c.loop-i.invariant.none in
+    rw all at none
