@@ -43,424 +43,168 @@ pub struct ColumnRule {
     pub grammar: Grammar,
 }
 
+// The greatest integer of a column without a limit of its own.
+const MOST_INT: i64 = 2_147_483_647;
+
+const ID: Grammar = Grammar::Id;
+
+const COUNT: Grammar = Grammar::Count;
+
+const ANY_TIME: Grammar = Grammar::Time { most: MOST_TIME };
+
+const DAY_TIME: Grammar = Grammar::Time { most: DAY_SECONDS };
+
+const DATE: Grammar = Grammar::Date;
+
+const CURRENCY: Grammar = Grammar::Currency;
+
+const AMOUNT: Grammar = Grammar::Amount;
+
+// Integers from least to most.
+macro_rules! int {
+    ($least:expr, $most:expr) => {
+        Grammar::Int {
+            least: $least,
+            most: $most,
+        }
+    };
+}
+
+// A column, and what an empty field of it is.
+macro_rules! column {
+    ($name:ident, $empty:ident, $grammar:expr) => {
+        ColumnRule {
+            name: ColumnName::$name,
+            empty: EmptyField::$empty,
+            grammar: $grammar,
+        }
+    };
+}
+
+// A column that must be there, with no field empty.
+macro_rules! must {
+    ($name:ident, $grammar:expr) => {
+        column!($name, Fault, $grammar)
+    };
+}
+
+// The same, where a row that names a place of GTFS-Flex instead has a fault of its own.
+macro_rules! must_or_flex {
+    ($name:ident, $grammar:expr) => {
+        column!($name, FaultOrFlex, $grammar)
+    };
+}
+
+// A column that may be absent, and whose fields may be empty.
+macro_rules! may {
+    ($name:ident, $grammar:expr) => {
+        column!($name, Fine, $grammar)
+    };
+}
+
 static STOPS: [ColumnRule; 3] = [
-    ColumnRule {
-        name: ColumnName::StopId,
-        empty: EmptyField::Fault,
-        grammar: Grammar::Id,
-    },
-    ColumnRule {
-        name: ColumnName::LocationType,
-        empty: EmptyField::Fine,
-        grammar: Grammar::Int { least: 0, most: 4 },
-    },
-    ColumnRule {
-        name: ColumnName::ParentStation,
-        empty: EmptyField::Fine,
-        grammar: Grammar::Id,
-    },
+    must!(StopId, ID),
+    may!(LocationType, int!(0, 4)),
+    may!(ParentStation, ID),
 ];
 
-static ROUTES: [ColumnRule; 2] = [
-    ColumnRule {
-        name: ColumnName::RouteId,
-        empty: EmptyField::Fault,
-        grammar: Grammar::Id,
-    },
-    ColumnRule {
-        name: ColumnName::NetworkId,
-        empty: EmptyField::Fine,
-        grammar: Grammar::Id,
-    },
-];
+static ROUTES: [ColumnRule; 2] = [must!(RouteId, ID), may!(NetworkId, ID)];
 
-static TRIPS: [ColumnRule; 3] = [
-    ColumnRule {
-        name: ColumnName::RouteId,
-        empty: EmptyField::Fault,
-        grammar: Grammar::Id,
-    },
-    ColumnRule {
-        name: ColumnName::ServiceId,
-        empty: EmptyField::Fault,
-        grammar: Grammar::Id,
-    },
-    ColumnRule {
-        name: ColumnName::TripId,
-        empty: EmptyField::Fault,
-        grammar: Grammar::Id,
-    },
-];
+static TRIPS: [ColumnRule; 3] = [must!(RouteId, ID), must!(ServiceId, ID), must!(TripId, ID)];
 
 static STOP_TIMES: [ColumnRule; 7] = [
-    ColumnRule {
-        name: ColumnName::TripId,
-        empty: EmptyField::Fault,
-        grammar: Grammar::Id,
-    },
-    ColumnRule {
-        name: ColumnName::StopId,
-        empty: EmptyField::FaultOrFlex,
-        grammar: Grammar::Id,
-    },
-    ColumnRule {
-        name: ColumnName::StopSequence,
-        empty: EmptyField::Fault,
-        grammar: Grammar::Int {
-            least: 0,
-            most: 2_147_483_647,
-        },
-    },
-    ColumnRule {
-        name: ColumnName::ArrivalTime,
-        empty: EmptyField::Fine,
-        grammar: Grammar::Time { most: MOST_TIME },
-    },
-    ColumnRule {
-        name: ColumnName::DepartureTime,
-        empty: EmptyField::Fine,
-        grammar: Grammar::Time { most: MOST_TIME },
-    },
-    ColumnRule {
-        name: ColumnName::PickupType,
-        empty: EmptyField::Fine,
-        grammar: Grammar::Int { least: 0, most: 3 },
-    },
-    ColumnRule {
-        name: ColumnName::DropOffType,
-        empty: EmptyField::Fine,
-        grammar: Grammar::Int { least: 0, most: 3 },
-    },
+    must!(TripId, ID),
+    must_or_flex!(StopId, ID),
+    must!(StopSequence, int!(0, MOST_INT)),
+    may!(ArrivalTime, ANY_TIME),
+    may!(DepartureTime, ANY_TIME),
+    may!(PickupType, int!(0, 3)),
+    may!(DropOffType, int!(0, 3)),
 ];
 
 static CALENDAR: [ColumnRule; 10] = [
-    ColumnRule {
-        name: ColumnName::ServiceId,
-        empty: EmptyField::Fault,
-        grammar: Grammar::Id,
-    },
-    ColumnRule {
-        name: ColumnName::Monday,
-        empty: EmptyField::Fault,
-        grammar: Grammar::Int { least: 0, most: 1 },
-    },
-    ColumnRule {
-        name: ColumnName::Tuesday,
-        empty: EmptyField::Fault,
-        grammar: Grammar::Int { least: 0, most: 1 },
-    },
-    ColumnRule {
-        name: ColumnName::Wednesday,
-        empty: EmptyField::Fault,
-        grammar: Grammar::Int { least: 0, most: 1 },
-    },
-    ColumnRule {
-        name: ColumnName::Thursday,
-        empty: EmptyField::Fault,
-        grammar: Grammar::Int { least: 0, most: 1 },
-    },
-    ColumnRule {
-        name: ColumnName::Friday,
-        empty: EmptyField::Fault,
-        grammar: Grammar::Int { least: 0, most: 1 },
-    },
-    ColumnRule {
-        name: ColumnName::Saturday,
-        empty: EmptyField::Fault,
-        grammar: Grammar::Int { least: 0, most: 1 },
-    },
-    ColumnRule {
-        name: ColumnName::Sunday,
-        empty: EmptyField::Fault,
-        grammar: Grammar::Int { least: 0, most: 1 },
-    },
-    ColumnRule {
-        name: ColumnName::StartDate,
-        empty: EmptyField::Fault,
-        grammar: Grammar::Date,
-    },
-    ColumnRule {
-        name: ColumnName::EndDate,
-        empty: EmptyField::Fault,
-        grammar: Grammar::Date,
-    },
+    must!(ServiceId, ID),
+    must!(Monday, int!(0, 1)),
+    must!(Tuesday, int!(0, 1)),
+    must!(Wednesday, int!(0, 1)),
+    must!(Thursday, int!(0, 1)),
+    must!(Friday, int!(0, 1)),
+    must!(Saturday, int!(0, 1)),
+    must!(Sunday, int!(0, 1)),
+    must!(StartDate, DATE),
+    must!(EndDate, DATE),
 ];
 
 static CALENDAR_DATES: [ColumnRule; 3] = [
-    ColumnRule {
-        name: ColumnName::ServiceId,
-        empty: EmptyField::Fault,
-        grammar: Grammar::Id,
-    },
-    ColumnRule {
-        name: ColumnName::Date,
-        empty: EmptyField::Fault,
-        grammar: Grammar::Date,
-    },
-    ColumnRule {
-        name: ColumnName::ExceptionType,
-        empty: EmptyField::Fault,
-        grammar: Grammar::Int { least: 1, most: 2 },
-    },
+    must!(ServiceId, ID),
+    must!(Date, DATE),
+    must!(ExceptionType, int!(1, 2)),
 ];
 
 static FREQUENCIES: [ColumnRule; 5] = [
-    ColumnRule {
-        name: ColumnName::TripId,
-        empty: EmptyField::Fault,
-        grammar: Grammar::Id,
-    },
-    ColumnRule {
-        name: ColumnName::StartTime,
-        empty: EmptyField::Fault,
-        grammar: Grammar::Time { most: MOST_TIME },
-    },
-    ColumnRule {
-        name: ColumnName::EndTime,
-        empty: EmptyField::Fault,
-        grammar: Grammar::Time { most: MOST_TIME },
-    },
-    ColumnRule {
-        name: ColumnName::HeadwaySecs,
-        empty: EmptyField::Fault,
-        grammar: Grammar::Int {
-            least: 1,
-            most: 2_147_483_647,
-        },
-    },
-    ColumnRule {
-        name: ColumnName::ExactTimes,
-        empty: EmptyField::Fine,
-        grammar: Grammar::Int { least: 0, most: 1 },
-    },
+    must!(TripId, ID),
+    must!(StartTime, ANY_TIME),
+    must!(EndTime, ANY_TIME),
+    must!(HeadwaySecs, int!(1, MOST_INT)),
+    may!(ExactTimes, int!(0, 1)),
 ];
 
 static TRANSFERS: [ColumnRule; 4] = [
-    ColumnRule {
-        name: ColumnName::TransferType,
-        empty: EmptyField::Fine,
-        grammar: Grammar::Int { least: 0, most: 5 },
-    },
-    ColumnRule {
-        name: ColumnName::FromStopId,
-        empty: EmptyField::Fault,
-        grammar: Grammar::Id,
-    },
-    ColumnRule {
-        name: ColumnName::ToStopId,
-        empty: EmptyField::Fault,
-        grammar: Grammar::Id,
-    },
-    ColumnRule {
-        name: ColumnName::MinTransferTime,
-        empty: EmptyField::Fine,
-        grammar: Grammar::Int {
-            least: 0,
-            most: 2_147_483_647,
-        },
-    },
+    may!(TransferType, int!(0, 5)),
+    must!(FromStopId, ID),
+    must!(ToStopId, ID),
+    may!(MinTransferTime, int!(0, MOST_INT)),
 ];
 
-static AREAS: [ColumnRule; 1] = [ColumnRule {
-    name: ColumnName::AreaId,
-    empty: EmptyField::Fault,
-    grammar: Grammar::Id,
-}];
+static AREAS: [ColumnRule; 1] = [must!(AreaId, ID)];
 
-static STOP_AREAS: [ColumnRule; 2] = [
-    ColumnRule {
-        name: ColumnName::AreaId,
-        empty: EmptyField::Fault,
-        grammar: Grammar::Id,
-    },
-    ColumnRule {
-        name: ColumnName::StopId,
-        empty: EmptyField::Fault,
-        grammar: Grammar::Id,
-    },
-];
+static STOP_AREAS: [ColumnRule; 2] = [must!(AreaId, ID), must!(StopId, ID)];
 
-static NETWORKS: [ColumnRule; 1] = [ColumnRule {
-    name: ColumnName::NetworkId,
-    empty: EmptyField::Fault,
-    grammar: Grammar::Id,
-}];
+static NETWORKS: [ColumnRule; 1] = [must!(NetworkId, ID)];
 
-static ROUTE_NETWORKS: [ColumnRule; 2] = [
-    ColumnRule {
-        name: ColumnName::NetworkId,
-        empty: EmptyField::Fault,
-        grammar: Grammar::Id,
-    },
-    ColumnRule {
-        name: ColumnName::RouteId,
-        empty: EmptyField::Fault,
-        grammar: Grammar::Id,
-    },
-];
+static ROUTE_NETWORKS: [ColumnRule; 2] = [must!(NetworkId, ID), must!(RouteId, ID)];
 
 static TIMEFRAMES: [ColumnRule; 4] = [
-    ColumnRule {
-        name: ColumnName::TimeframeGroupId,
-        empty: EmptyField::Fault,
-        grammar: Grammar::Id,
-    },
-    ColumnRule {
-        name: ColumnName::StartTime,
-        empty: EmptyField::Fine,
-        grammar: Grammar::Time { most: DAY_SECONDS },
-    },
-    ColumnRule {
-        name: ColumnName::EndTime,
-        empty: EmptyField::Fine,
-        grammar: Grammar::Time { most: DAY_SECONDS },
-    },
-    ColumnRule {
-        name: ColumnName::ServiceId,
-        empty: EmptyField::Fault,
-        grammar: Grammar::Id,
-    },
+    must!(TimeframeGroupId, ID),
+    may!(StartTime, DAY_TIME),
+    may!(EndTime, DAY_TIME),
+    must!(ServiceId, ID),
 ];
 
 static RIDER_CATEGORIES: [ColumnRule; 2] = [
-    ColumnRule {
-        name: ColumnName::RiderCategoryId,
-        empty: EmptyField::Fault,
-        grammar: Grammar::Id,
-    },
-    ColumnRule {
-        name: ColumnName::IsDefaultFareCategory,
-        empty: EmptyField::Fine,
-        grammar: Grammar::Int { least: 0, most: 1 },
-    },
+    must!(RiderCategoryId, ID),
+    may!(IsDefaultFareCategory, int!(0, 1)),
 ];
 
-static FARE_MEDIA: [ColumnRule; 2] = [
-    ColumnRule {
-        name: ColumnName::FareMediaId,
-        empty: EmptyField::Fault,
-        grammar: Grammar::Id,
-    },
-    ColumnRule {
-        name: ColumnName::FareMediaType,
-        empty: EmptyField::Fine,
-        grammar: Grammar::Int { least: 0, most: 4 },
-    },
-];
+static FARE_MEDIA: [ColumnRule; 2] = [must!(FareMediaId, ID), may!(FareMediaType, int!(0, 4))];
 
 static FARE_PRODUCTS: [ColumnRule; 5] = [
-    ColumnRule {
-        name: ColumnName::FareProductId,
-        empty: EmptyField::Fault,
-        grammar: Grammar::Id,
-    },
-    ColumnRule {
-        name: ColumnName::RiderCategoryId,
-        empty: EmptyField::Fine,
-        grammar: Grammar::Id,
-    },
-    ColumnRule {
-        name: ColumnName::FareMediaId,
-        empty: EmptyField::Fine,
-        grammar: Grammar::Id,
-    },
-    ColumnRule {
-        name: ColumnName::Currency,
-        empty: EmptyField::Fault,
-        grammar: Grammar::Currency,
-    },
-    ColumnRule {
-        name: ColumnName::Amount,
-        empty: EmptyField::Fault,
-        grammar: Grammar::Amount,
-    },
+    must!(FareProductId, ID),
+    may!(RiderCategoryId, ID),
+    may!(FareMediaId, ID),
+    must!(Currency, CURRENCY),
+    must!(Amount, AMOUNT),
 ];
 
 static FARE_LEG_RULES: [ColumnRule; 8] = [
-    ColumnRule {
-        name: ColumnName::LegGroupId,
-        empty: EmptyField::Fine,
-        grammar: Grammar::Id,
-    },
-    ColumnRule {
-        name: ColumnName::NetworkId,
-        empty: EmptyField::Fine,
-        grammar: Grammar::Id,
-    },
-    ColumnRule {
-        name: ColumnName::FromAreaId,
-        empty: EmptyField::Fine,
-        grammar: Grammar::Id,
-    },
-    ColumnRule {
-        name: ColumnName::ToAreaId,
-        empty: EmptyField::Fine,
-        grammar: Grammar::Id,
-    },
-    ColumnRule {
-        name: ColumnName::FromTimeframeGroupId,
-        empty: EmptyField::Fine,
-        grammar: Grammar::Id,
-    },
-    ColumnRule {
-        name: ColumnName::ToTimeframeGroupId,
-        empty: EmptyField::Fine,
-        grammar: Grammar::Id,
-    },
-    ColumnRule {
-        name: ColumnName::FareProductId,
-        empty: EmptyField::Fault,
-        grammar: Grammar::Id,
-    },
-    ColumnRule {
-        name: ColumnName::RulePriority,
-        empty: EmptyField::Fine,
-        grammar: Grammar::Int {
-            least: 0,
-            most: 2_147_483_647,
-        },
-    },
+    may!(LegGroupId, ID),
+    may!(NetworkId, ID),
+    may!(FromAreaId, ID),
+    may!(ToAreaId, ID),
+    may!(FromTimeframeGroupId, ID),
+    may!(ToTimeframeGroupId, ID),
+    must!(FareProductId, ID),
+    may!(RulePriority, int!(0, MOST_INT)),
 ];
 
 static FARE_TRANSFER_RULES: [ColumnRule; 7] = [
-    ColumnRule {
-        name: ColumnName::FromLegGroupId,
-        empty: EmptyField::Fine,
-        grammar: Grammar::Id,
-    },
-    ColumnRule {
-        name: ColumnName::ToLegGroupId,
-        empty: EmptyField::Fine,
-        grammar: Grammar::Id,
-    },
-    ColumnRule {
-        name: ColumnName::TransferCount,
-        empty: EmptyField::Fine,
-        grammar: Grammar::Count,
-    },
-    ColumnRule {
-        name: ColumnName::DurationLimit,
-        empty: EmptyField::Fine,
-        grammar: Grammar::Int {
-            least: 1,
-            most: 2_147_483_647,
-        },
-    },
-    ColumnRule {
-        name: ColumnName::DurationLimitType,
-        empty: EmptyField::Fine,
-        grammar: Grammar::Int { least: 0, most: 3 },
-    },
-    ColumnRule {
-        name: ColumnName::FareTransferType,
-        empty: EmptyField::Fault,
-        grammar: Grammar::Int { least: 0, most: 2 },
-    },
-    ColumnRule {
-        name: ColumnName::FareProductId,
-        empty: EmptyField::Fine,
-        grammar: Grammar::Id,
-    },
+    may!(FromLegGroupId, ID),
+    may!(ToLegGroupId, ID),
+    may!(TransferCount, COUNT),
+    may!(DurationLimit, int!(1, MOST_INT)),
+    may!(DurationLimitType, int!(0, 3)),
+    must!(FareTransferType, int!(0, 2)),
+    may!(FareProductId, ID),
 ];
 
 /// The columns of a file, in the order in which they are judged. Every other column is passed over.
