@@ -1,2 +1,1 @@
-pub mod BuiltLaws
 pub mod NamedLaws

@@ -1,4 +1,2 @@
-pub mod BuiltFaults
-pub mod BuiltRows
 pub mod CheckErrors
 pub mod LoadErrors

@@ -1,18 +1,15 @@
 //! The feed that files make.
 ghost use Rattle.std.specs.Prelude.{◌≡◌, IfOk, IfErr, OnOk, None};
 ghost use Rattle.feed_faults.specs.AcceptedFeed.{feed_of, rows_of_tables};
-ghost use Rattle.feed_faults.specs.FirstFault.{first_relation_fault};
-ghost use Rattle.feed_tables.specs.UnbuiltFiles.{AreUnbuiltEmpty};
+ghost use Rattle.feed_faults.specs.FirstFault.{first_relation_fault, first_fault};
 ghost use Rattle.feed_soundness.specs.AcceptedTables.{AreFormed};
 ghost use Rattle.folder_io.specs.KeptFiles.{AreWithin, held_in};
-ghost use Rattle.feed_check.specs.BuiltRows.{HasBuiltRows};
-ghost use Rattle.feed_check.specs.BuiltFaults.{first_built_fault};
 ghost use Rattle.feed_check.specs.CheckErrors.{IsCheckErrorOf};
 
 use feed_build::{feed_of_tables, stop_time_rows};
 use feed_relations::first_relation_fault;
 use feed_rows::{Feed, FeedFault};
-use feed_tables::{TableIds, Tables};
+use feed_tables::{Ids, Tables};
 use feed_text::TextError;
 use folder_io::Files;
 use std::alloc::{AllocError, Global};
@@ -39,13 +36,12 @@ impl From<AllocError> for CheckError {
 
 // The feed of tables whose files have no fault by themselves. `Fault` is exactly the first fault of the files among each other.
 fn related_feed(alloc: Global, tables: &Tables) -> Result<Feed, CheckError>
-    requires formed { AreFormed tables.now }
-    requires unbuilt { AreUnbuiltEmpty tables.now }
+    requires { AreFormed tables.now }
     ensures fault { IfErr result (IsCheckErrorOf (first_relation_fault tables.now)) }
     ensures sound { OnOk result (first_relation_fault tables.now ≡ None) }
     ensures feed { IfOk result (λ feed. feed ≡ rows_of_tables tables.now) }
 {
-    let ids = TableIds::of(alloc, tables)?;
+    let ids = Ids::of(alloc, tables)?;
     let stop_times = stop_time_rows(alloc, tables, &ids)?;
     if let Some(fault) = first_relation_fault(alloc, tables, &ids, stop_times.items())? {
         return Err(CheckError::Fault(fault));
@@ -54,15 +50,13 @@ fn related_feed(alloc: Global, tables: &Tables) -> Result<Feed, CheckError>
 }
 
 /// The feed of files that have no fault. `Fault` is exactly their first fault: of each file by itself, in the order of the
-/// files, and then of the files among each other. A file whose rows aren't read yet is a fault, `NotBuilt`, where it has a
-/// byte.
-#[tactic(auto, unfolding(crate::specs::BuiltFaults::first_built_fault))]
+/// files, and then of the files among each other.
+#[tactic(auto, unfolding(feed_faults::specs::FirstFault::first_fault))]
 pub fn check(alloc: Global, files: &Files) -> Result<Feed, CheckError>
     requires { AreWithin files.now }
-    ensures fault { IfErr result (IsCheckErrorOf (first_built_fault (held_in files.now))) }
-    ensures sound { OnOk result (first_built_fault (held_in files.now) ≡ None) }
+    ensures fault { IfErr result (IsCheckErrorOf (first_fault (held_in files.now))) }
+    ensures sound { OnOk result (first_fault (held_in files.now) ≡ None) }
     ensures feed { IfOk result (λ feed. feed ≡ feed_of (held_in files.now)) }
-    ensures built { IfOk result HasBuiltRows }
 {
     let tables = match Tables::read(alloc, files) {
         Ok(tables) => tables,

@@ -1,7 +1,6 @@
 //! The feed that a folder holds.
 ghost use Rattle.std.specs.Prelude.{◌≡◌, ◌<◌, IfOk, IfErr, OnOk, IsTrue};
 ghost use Rattle.feed_rows.specs.FaultCounts.{Stayed};
-ghost use Rattle.feed_check.specs.BuiltRows.{HasBuiltRows};
 ghost use Rattle.feed_check.specs.LoadErrors.{GivesUpLoading, IsFeedOf};
 
 use crate::files::{CheckError, check};
@@ -27,7 +26,6 @@ pub enum LoadError {
 /// feed; want of memory.
 pub fn load<F: Folder>(alloc: Global, folder: &mut F) -> Result<Feed, LoadError>
     ensures feed { IfOk result (IsFeedOf (F.holds folder.old)) }
-    ensures built { IfOk result HasBuiltRows }
     ensures ok { OnOk result (Stayed (F.faults folder.old) (F.faults folder.new)) }
     ensures err { IfErr result (λ error. GivesUpLoading error (F.holds folder.old) (F.faults folder.old) (F.faults folder.new) (F.failed folder.new)) }
     ensures ends_at_fault { F.faults folder.old < F.faults folder.new → IsTrue (F.failed folder.new) }

@@ -5,21 +5,14 @@ use Rattle.feed_faults.specs.AcceptedFeed.{feed_of, rows_of_tables}
 use Rattle.folder_io.specs.KeptFiles.{held_in}
 use Rattle.feed_soundness.specs.AcceptedTables.{AreFormed}
 use Rattle.feed_soundness.proofs.FormedFiles.{formed}
-use Rattle.feed_check.specs.BuiltRows.{HasBuiltRows}
-use Rattle.feed_check.proofs.BuiltLaws.{built_rows}
 use Rattle.feed_check.proofs.files.check.Goals as goal
 
 pub related_feed-requires-clause-formed : goal.related_feed-requires-clause-formed
 related_feed-requires-clause-formed c =
-    subst AreFormed (sym c.in-Ok.ensures.tables) (formed (held_in c.args.files.now) c.in-Ok.ensures.formed)
+    subst AreFormed (sym c.in-Ok.ensures.tables) (formed (held_in c.args.files.now) c.in-Ok.ensures.sound)
 
 pub returns-clause-feed : goal.returns-clause-feed
 unfolding feed_of
 returns-clause-feed c =
     IfOk-weaker c.related_feed.result (λ (feed : FeedRows). feed ≡ rows_of_tables c.in-Ok.tables) (λ feed. feed ≡ feed_of (held_in c.args.files.now))
     (λ feed is. is ∙ ap rows_of_tables c.in-Ok.ensures.tables) c.related_feed.ensures.feed
-
-pub returns-clause-built : goal.returns-clause-built
-returns-clause-built c =
-    IfOk-weaker c.related_feed.result (λ (feed : FeedRows). feed ≡ rows_of_tables c.in-Ok.tables) HasBuiltRows
-    (λ feed is. subst HasBuiltRows (sym is) (built_rows c.in-Ok.tables c.in-Ok.ensures.unbuilt)) c.related_feed.ensures.feed
