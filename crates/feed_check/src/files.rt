@@ -50,13 +50,13 @@ fn related_feed(alloc: Global, tables: &Tables) -> Result<Feed, CheckError>
 }
 
 /// The feed of files that have no fault. `Fault` is exactly their first fault: of each file by itself, in the order of the
-/// files, and then of the files among each other.
+/// files, and then of the files among each other. The bytes of a file are let go of once they are read.
 #[tactic(auto, unfolding(feed_faults::specs::FirstFault::first_fault))]
-pub fn check(alloc: Global, files: &Files) -> Result<Feed, CheckError>
-    requires { AreWithin files.now }
-    ensures fault { IfErr result (IsCheckErrorOf (first_fault (held_in files.now))) }
-    ensures sound { OnOk result (first_fault (held_in files.now) ≡ None) }
-    ensures feed { IfOk result (λ feed. feed ≡ feed_of (held_in files.now)) }
+pub fn check(alloc: Global, files: Files) -> Result<Feed, CheckError>
+    requires { AreWithin files }
+    ensures fault { IfErr result (IsCheckErrorOf (first_fault (held_in files))) }
+    ensures sound { OnOk result (first_fault (held_in files) ≡ None) }
+    ensures feed { IfOk result (λ feed. feed ≡ feed_of (held_in files)) }
 {
     let tables = match Tables::read(alloc, files) {
         Ok(tables) => tables,

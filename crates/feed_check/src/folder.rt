@@ -36,7 +36,7 @@ pub fn load<F: Folder>(alloc: Global, folder: &mut F) -> Result<Feed, LoadError>
         Err(ReadError::ReadFault) => return Err(LoadError::ReadFault),
         Err(ReadError::NoMemory) => return Err(LoadError::NoMemory),
     };
-    match check(alloc, &files) {
+    match check(alloc, files) {
         Ok(feed) => Ok(feed),
         Err(CheckError::Fault(fault)) => Err(LoadError::Fault(fault)),
         Err(CheckError::NoMemory) => Err(LoadError::NoMemory),

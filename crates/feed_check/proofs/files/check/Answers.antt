@@ -9,10 +9,10 @@ use Rattle.feed_check.proofs.files.check.Goals as goal
 
 pub related_feed-requires-clause-formed : goal.related_feed-requires-clause-formed
 related_feed-requires-clause-formed c =
-    subst AreFormed (sym c.in-Ok.ensures.tables) (formed (held_in c.args.files.now) c.in-Ok.ensures.sound)
+    subst AreFormed (sym c.in-Ok.ensures.tables) (formed (held_in c.args.files) c.in-Ok.ensures.sound)
 
 pub returns-clause-feed : goal.returns-clause-feed
 unfolding feed_of
 returns-clause-feed c =
-    IfOk-weaker c.related_feed.result (λ (feed : FeedRows). feed ≡ rows_of_tables c.in-Ok.tables) (λ feed. feed ≡ feed_of (held_in c.args.files.now))
+    IfOk-weaker c.related_feed.result (λ (feed : FeedRows). feed ≡ rows_of_tables c.in-Ok.tables) (λ feed. feed ≡ feed_of (held_in c.args.files))
     (λ feed is. is ∙ ap rows_of_tables c.in-Ok.ensures.tables) c.related_feed.ensures.feed

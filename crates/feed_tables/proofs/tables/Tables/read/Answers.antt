@@ -1,4 +1,4 @@
-use Rattle.std.proofs.Common.{◌≡◌, sym, arith}
+use Rattle.std.proofs.Common.{◌≡◌, ◌∙◌, sym, arith}
 use Rattle.std.proofs.lemmas.Grind.{common_steps}
 use Rattle.std.proofs.lemmas.List.{map_more, take_all}
 use Rattle.plain_laws.proofs.Laws.{first_in_next}
@@ -8,20 +8,28 @@ use Rattle.feed_faults.specs.FormFaults.{first_form_fault, form_fault}
 use Rattle.folder_io.specs.KeptFiles.{held_in}
 use Rattle.feed_text.specs.TextErrors.{IsErrorOf}
 use Rattle.feed_tables.proofs.PassLaws.{error_at}
+use Rattle.feed_tables.proofs.TakenFiles.{next_fault, next_table, left_next}
 use Rattle.feed_tables.proofs.tables.Tables.read.Goals as goal
 
-pub returns-in_err-file_table-clause-fault : goal.returns-in_err-file_table-clause-fault
+pub returns-in_err-taken_table-clause-fault : goal.returns-in_err-taken_table-clause-fault
 unfolding first_form_fault
-returns-in_err-file_table-clause-fault c =
-    let first : IsErrorOf (first_form_fault (held_in c.args.files.now)) c.in_err-file_table.field-0.0 = error_at all_files (form_fault (held_in c.args.files.now)) c.loop-i.i _ c.in_err-file_table.field-0.0 c.loop-i-test.true c.loop-i.invariant.none c.in_err-file_table.ensures.fault in
+returns-in_err-taken_table-clause-fault c =
+    let before = c.loop-i.invariant in
+    let own = rw (next_fault c.args.files c.loop-i.files c.loop-i.i _ c.loop-i-test.true before.left) at c.in_err-taken_table.ensures.fault in
+    let first : IsErrorOf (first_form_fault (held_in c.args.files)) c.in_err-taken_table.field-0.0 = error_at all_files (form_fault (held_in c.args.files)) c.loop-i.i _ c.in_err-taken_table.field-0.0 c.loop-i-test.true before.none own in
     grind (arith, common_steps, first)
 
 pub loop-i-preserved : goal.loop-i-preserved
-loop-i-preserved c = record {
-  tables = rw (c.in_ok-push_table.ensures, c.loop-i.invariant.tables, c.in_ok-file_table.ensures.table)
-      (sym (map_more (λ file. table_of (held_in c.args.files.now file)) all_files c.loop-i.i _ c.loop-i-test.true));
-  none = first_in_next all_files (form_fault (held_in c.args.files.now)) c.loop-i.i _ c.loop-i-test.true c.loop-i.invariant.none c.in_ok-file_table.ensures.sound;
-}
+loop-i-preserved c =
+    let before = c.loop-i.invariant in
+    let lt = c.loop-i-test.true in
+    record {
+      tables = rw (c.in_ok-push_table.ensures, before.tables, c.in_ok-taken_table.ensures.table, next_table c.args.files c.loop-i.files c.loop-i.i _ lt before.left)
+          (sym (map_more (λ file. table_of (held_in c.args.files file)) all_files c.loop-i.i _ lt));
+      none = first_in_next all_files (form_fault (held_in c.args.files)) c.loop-i.i _ lt before.none (sym (next_fault c.args.files c.loop-i.files c.loop-i.i _ lt before.left) ∙ c.in_ok-taken_table.ensures.sound);
+      left = left_next c.args.files c.loop-i.files c.loop-i.i _ lt before.left c.taken_table.new.files c.in_ok-taken_table.ensures.others;
+      within = c.in_ok-taken_table.ensures.within;
+    }
 
 pub returns-clause-tables : goal.returns-clause-tables
 unfolding tables_of
