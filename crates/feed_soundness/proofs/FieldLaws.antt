@@ -1,17 +1,19 @@
 -- What the first pass says of a field: by the place of its column among those of its file.
-use Rattle.std.proofs.Common.{◌≡◌, refl, ℕ, ◌<◌, Bool, true, false}
+use Rattle.std.proofs.Common.{◌≡◌, refl, ℕ, ◌<◌, ◌≤◌, Bool, true, false, length}
 use Rattle.std.specs.Prelude.{Some, None, slice_get}
 use Rattle.std.proofs.lemmas.Bool.{not-false}
 use Rattle.feed_rows.specs.declared.names.FileName.{FileName}
 use Rattle.feed_rows.specs.declared.names.ColumnName.{ColumnName}
 use Rattle.feed_rows.specs.declared.names.ColumnName.TheVariants.{Currency}
+use Rattle.feed_rows.specs.Limits.{most_rows}
+use Rattle.plain_laws.specs.Plain.{list_below}
 use Rattle.feed_faults.specs.declared.columns.Grammar.{Grammar}
 use Rattle.feed_faults.specs.declared.columns.ColumnRule.{ColumnRule}
 use Rattle.feed_faults.specs.Records.{FileTable, row_count, field, is_filled}
 use Rattle.feed_faults.specs.FileColumns.{must, must_or_flex, may, fits, misfit}
 use Rattle.feed_faults.specs.FormFaults.{empty_misfit, field_misfit, judged_columns}
 use Rattle.feed_soundness.specs.AcceptedTables.{IsFormed}
-use Rattle.plain_laws.proofs.Laws.{none_when}
+use Rattle.plain_laws.proofs.Laws.{none_when, length-list_below}
 
 -- the field is of the grammar
 abbrev pub FieldFits : FileTable → ℕ → ColumnName → Grammar → Type 0
@@ -46,3 +48,7 @@ flex_at file table row k name grammar formed lt at = good_field table row (must_
 -- a column that may be absent
 pub may_at : (file : FileName) (table : FileTable) (row k : ℕ) (name : ColumnName) (grammar : Grammar) → IsFormed file table → row < row_count table → slice_get (judged_columns file table row) k ≡ Some (may name grammar) → is_filled (field table row name) ≡ true → FieldFits table row name grammar
 may_at file table row k name grammar formed lt at = fits_filled table row (may name grammar) (formed.fields row k (may name grammar) lt at)
+
+-- a file that is formed gives few rows
+pub few_rows : {X : Type 0} {name : FileName} {table : FileTable} (row : ℕ → X) → IsFormed name table → length (list_below (row_count table) row) ≤ most_rows
+few_rows {table = table} row formed = rw (length-list_below (row_count table) row) formed.few

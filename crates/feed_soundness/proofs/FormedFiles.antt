@@ -1,19 +1,21 @@
 -- What the first pass says of a file in which it finds no fault.
-use Rattle.std.proofs.Common.{◌≡◌, refl, ℕ, ◌<◌, ◌≤◌, Bool, true, false, List, [], ◌∷◌, length, arith}
+use Rattle.std.proofs.Common.{◌≡◌, refl, ◌∙◌, ap, ℕ, ◌<◌, ◌≤◌, Bool, true, false, List, [], length, arith}
 use Rattle.std.specs.Prelude.{map, Some, None, slice_get, nat_lt, not, option_map}
 use Rattle.std.proofs.lemmas.Bool.Decides.{nat_tests}
+use Rattle.std.proofs.lemmas.Option.{slice_get-map, get_or_from_slice_get}
 use Rattle.std.specs.Str.{is_utf8}
 use Rattle.feed_rows.specs.Limits.{most_rows}
 use Rattle.feed_rows.specs.declared.names.FileName.{FileName}
 use Rattle.feed_rows.specs.declared.names.FileName.TheVariants as file
 use Rattle.feed_rows.specs.declared.faults.FaultKind.TheVariants as kind
+use Rattle.feed_rows.specs.Names.{all_files, place}
 use Rattle.feed_rows.specs.HeldFiles.{HeldFile}
-use Rattle.plain_laws.specs.Plain.{when, first_in, first_of}
+use Rattle.plain_laws.specs.Plain.{when, first_in}
 use Rattle.feed_faults.specs.declared.columns.ColumnRule.{ColumnRule}
 use Rattle.feed_faults.specs.Records.{FileTable, table_of_bytes, row_count, is_long}
 use Rattle.feed_faults.specs.FaultPlaces.{file_fault, row_fault, field_fault}
-use Rattle.feed_faults.specs.FormFaults.{field_misfit, judged_columns, form_fault_of_row, form_fault_of_rows, form_fault_of_table, form_fault_of_bytes, form_fault_of_held, is_needed, form_fault, header_fault, timetable_form_fault, network_form_fault, fare_form_fault, first_form_fault}
-use Rattle.feed_faults.specs.FeedTables.{table_of, tables_of}
+use Rattle.feed_faults.specs.FormFaults.{field_misfit, judged_columns, form_fault_of_row, form_fault_of_rows, form_fault_of_table, form_fault_of_bytes, form_fault_of_held, is_needed, form_fault, header_fault, first_form_fault}
+use Rattle.feed_faults.specs.FeedTables.{table_in, table_of, tables_of}
 use Rattle.feed_soundness.specs.AcceptedTables.{IsFormed, AreFormed}
 use Rattle.plain_laws.proofs.Laws.{none_either, none_below, none_in, none_when, none_map}
 
@@ -66,64 +68,19 @@ file_formed : (files : FileName → HeldFile) (file : FileName) → form_fault f
 unfolding form_fault
 file_formed files file none = held_formed (is_needed files file) file (files file) none
 
--- these files are formed
-abbrev AllFormed : (FileName → HeldFile) → List FileName → Type 0
-AllFormed files [] = Unit {0}
-AllFormed files (name ∷ names) = IsFormed name (table_of (files name)) × AllFormed files names
+-- each file stands in its place
+pub placed : (name : FileName) → slice_get all_files (place name) ≡ Some name
+placed file.Stops = refl
+placed name = refl
 
-each_formed : (files : FileName → HeldFile) (names : List FileName) → first_of (map (form_fault files) names) ≡ None → AllFormed files names
-each_formed files [] none = tt
-each_formed files (name ∷ names) none =
-    let both = none_either (form_fault files name) (first_of (map (form_fault files) names)) none in
-    (file_formed files name both.0, each_formed files names both.1)
-
-abbrev timetable_files : List FileName
-timetable_files = file.Stops ∷ file.Routes ∷ file.Trips ∷ file.StopTimes ∷ file.Calendar ∷ file.CalendarDates ∷ []
-
-abbrev network_files : List FileName
-network_files = file.Frequencies ∷ file.Transfers ∷ file.Areas ∷ file.StopAreas ∷ file.Networks ∷ file.RouteNetworks ∷ []
-
-abbrev fare_files : List FileName
-fare_files = file.Timeframes ∷ file.RiderCategories ∷ file.FareMedia ∷ file.FareProducts ∷ file.FareLegRules ∷ file.FareTransferRules ∷ []
-
-timetable_formed : (files : FileName → HeldFile) → timetable_form_fault files ≡ None → AllFormed files timetable_files
-unfolding timetable_form_fault
-timetable_formed files none = each_formed files timetable_files none
-
-network_formed : (files : FileName → HeldFile) → network_form_fault files ≡ None → AllFormed files network_files
-unfolding network_form_fault
-network_formed files none = each_formed files network_files none
-
-fare_formed : (files : FileName → HeldFile) → fare_form_fault files ≡ None → AllFormed files fare_files
-unfolding fare_form_fault
-fare_formed files none = each_formed files fare_files none
+-- and its table is that of the file as it is held
+pub table_in-tables_of : (files : FileName → HeldFile) (name : FileName) → table_in (tables_of files) name ≡ table_of (files name)
+unfolding tables_of
+table_in-tables_of files name =
+    let held : FileName → FileTable = λ file. table_of (files file) in
+    get_or_from_slice_get (map held all_files) (place name) (held name) [] (slice_get-map held all_files (place name) ∙ ap (option_map held) (placed name))
 
 -- where the first pass finds no fault, all files are formed
 pub formed : (files : FileName → HeldFile) → first_form_fault files ≡ None → AreFormed (tables_of files)
-unfolding tables_of
-formed files none =
-    let one = none_either (timetable_form_fault files) (first_of (network_form_fault files ∷ fare_form_fault files ∷ [])) none in
-    let two = none_either (network_form_fault files) (first_of (fare_form_fault files ∷ [])) one.1 in
-    let timetable = timetable_formed files one.0 in
-    let networks = network_formed files two.0 in
-    let fares = fare_formed files (none_either (fare_form_fault files) None two.1).0 in
-    record {
-      stops = timetable.0;
-      routes = timetable.1.0;
-      trips = timetable.1.1.0;
-      stop_times = timetable.1.1.1.0;
-      calendar = timetable.1.1.1.1.0;
-      calendar_dates = timetable.1.1.1.1.1.0;
-      frequencies = networks.0;
-      transfers = networks.1.0;
-      areas = networks.1.1.0;
-      stop_areas = networks.1.1.1.0;
-      networks = networks.1.1.1.1.0;
-      route_networks = networks.1.1.1.1.1.0;
-      timeframes = fares.0;
-      rider_categories = fares.1.0;
-      fare_media = fares.1.1.0;
-      fare_products = fares.1.1.1.0;
-      fare_leg_rules = fares.1.1.1.1.0;
-      fare_transfer_rules = fares.1.1.1.1.1.0;
-    }
+formed files none name =
+    rw table_in-tables_of (file_formed files name (none_in all_files (form_fault files) (place name) name none (placed name)))

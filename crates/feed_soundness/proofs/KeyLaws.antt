@@ -42,14 +42,15 @@ same_number table name a b one other same = sym one.has ∙ ap (λ row. field ta
 pub apart : (same : ℕ → ℕ → Bool) (i j : ℕ) → is_repeated same j ≡ false → i < j → same j i ≡ false
 apart same i j e lt = none_any (same j) j i e lt
 
+-- no test both passes and fails
+pub never_both : {b : Bool} → b ≡ true → b ≡ false → ⊥
+never_both passes fails = cc
+
 -- no two rows have one id
 pub ids_apart : (table : FileTable) (name : ColumnName) (i j : ℕ) → is_doubled table name j ≡ false → i < j → field table i name ≢ field table j name
 unfolding is_doubled
 ids_apart table name i j e lt same =
-    let yes = eq-bytes_eq (field table j name) (field table i name) (sym same) in
-    let no = apart (same_field table name) i j e lt in
-    let both : true ≡ false = sym yes ∙ no in
-    absurd (cc)
+    never_both (eq-bytes_eq (field table j name) (field table i name) (sym same)) (apart (same_field table name) i j e lt)
 
 -- a row that is found is a row
 pub row_within : (table : FileTable) (name : ColumnName) (id : List ℕ) (row : ℕ) → row_of table name id ≡ Some row → row < row_count table

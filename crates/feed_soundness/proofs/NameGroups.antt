@@ -1,123 +1,118 @@
--- The five lists of names of accepted tables, and the fields whose names stand in them.
-use Rattle.std.proofs.Common.{ℕ, ◌+◌, ◌<◌, ◌≤◌, List, [], arith}
+-- The five lists of names of accepted tables, and the columns whose names stand in them.
+use Rattle.std.proofs.Common.{◌≡◌, subst, ℕ, ◌+◌, ◌<◌, true, false, List, [], arith}
 use Rattle.feed_rows.specs.Limits.{most_rows}
+use Rattle.feed_rows.specs.declared.names.FileName.{FileName}
+use Rattle.feed_rows.specs.declared.names.FileName.TheVariants as file
 use Rattle.feed_rows.specs.declared.names.ColumnName.{ColumnName}
 use Rattle.feed_rows.specs.declared.names.ColumnName.TheVariants.{ServiceId, NetworkId, TimeframeGroupId, FareProductId, LegGroupId}
-use Rattle.feed_rows.specs.SoundNames.{IsNameList}
-use Rattle.feed_faults.specs.Records.{FileTable, row_count, field}
-use Rattle.feed_faults.specs.FeedTables.{FeedTables}
+use Rattle.feed_rows.specs.SoundNames.{IsIdText, IsNameList}
+use Rattle.feed_faults.specs.Records.{FileTable, row_count, field, is_filled}
+use Rattle.feed_faults.specs.FeedTables.{FeedTables, table_in}
 use Rattle.feed_faults.specs.AcceptedFeed.{with_column, service_names, network_names, frame_names, product_names, group_names, rows_of_tables}
-use Rattle.feed_soundness.specs.AcceptedTables.{AreFormed}
-use Rattle.feed_soundness.proofs.IdColumns.{MayBeId, service_of_trip, service_of_calendar, service_of_exception, service_of_frame, own_network_of_route, network_id, group_of_frame, product_id, group_of_leg_rule}
-use Rattle.feed_soundness.proofs.NameLaws.{MayBeNamed, AreNames, no_names, column_names, name_list, keeps_names, takes_names}
+use Rattle.feed_soundness.specs.AcceptedTables.{IsFormed, AreFormed}
+use Rattle.feed_faults.specs.RowKeys.{is_unknown}
+use Rattle.feed_soundness.proofs.KeyLaws.{known}
+use Rattle.feed_soundness.proofs.IdColumns.{service_of_trip, service_of_calendar, service_of_exception, service_of_frame, own_network_of_route, network_id, group_of_frame, product_id, group_of_leg_rule}
+use Rattle.feed_soundness.proofs.NameLaws.{IsNamed, MayBeNamed, AreNames, no_names, column_names, name_list, keeps_names, takes_names}
 
 -- the names of one file more
-one_file : (most : ℕ) (names : List (List ℕ)) (table : FileTable) (name : ColumnName) → AreNames most names → row_count table ≤ most_rows → ((row : ℕ) → row < row_count table → MayBeId table row name) → AreNames (most + most_rows) (with_column names table name)
-one_file most names table name are few ids =
-    let all = column_names most names table name (row_count table) are (λ row lt filled. (ids row lt filled).2) in
+one_file : (most : ℕ) (names : List (List ℕ)) (name : FileName) (table : FileTable) (column : ColumnName) → IsFormed name table
+    → ((row : ℕ) → row < row_count table → is_filled (field table row column) ≡ true → IsIdText (field table row column))
+    → AreNames most names → AreNames (most + most_rows) (with_column names table column)
+one_file most names name table column formed ids are =
+    let all = column_names most names table column (row_count table) are ids in
     let long = all.few in
+    let few = formed.few in
     record { few = omega arith; texts = all.texts; no_doubles = all.no_doubles }
 
+-- the names of one file alone
+one_list : (name : FileName) (table : FileTable) (column : ColumnName) → IsFormed name table
+    → ((row : ℕ) → row < row_count table → is_filled (field table row column) ≡ true → IsIdText (field table row column))
+    → IsNameList (with_column [] table column)
+one_list name table column formed ids = name_list most_rows _ (one_file 0 [] name table column formed ids no_names) (omega arith)
+
+-- each list of names
 module _ (t : FeedTables) (formed : AreFormed t) where
-  -- each list of names
-  pub service_list : IsNameList (service_names t)
-  unfolding service_names
-  service_list = name_list 16_000_000 _
-      (one_file 12_000_000 _ t.timeframes ServiceId
-      (one_file 8_000_000 _ t.calendar_dates ServiceId
-      (one_file most_rows _ t.calendar ServiceId
-      (one_file 0 [] t.trips ServiceId no_names formed.trips.few (λ row lt filled. let id = service_of_trip t formed row lt in (id.0, id.1, id.3)))
-      formed.calendar.few (λ row lt filled. let id = service_of_calendar t formed row lt in (id.0, id.1, id.3)))
-      formed.calendar_dates.few (λ row lt filled. let id = service_of_exception t formed row lt in (id.0, id.1, id.3)))
-      formed.timeframes.few (λ row lt filled. let id = service_of_frame t formed row lt in (id.0, id.1, id.3))) (omega arith)
-
-  pub network_list : IsNameList (network_names t)
-  unfolding network_names
-  network_list = name_list 8_000_000 _
-      (one_file most_rows _ t.networks NetworkId
-      (one_file 0 [] t.routes NetworkId no_names formed.routes.few (own_network_of_route t formed))
-      formed.networks.few (λ row lt filled. let id = network_id t formed row lt in (id.0, id.1, id.3))) (omega arith)
-
-  pub frame_list : IsNameList (frame_names t)
-  unfolding frame_names
-  frame_list = name_list most_rows _ (one_file 0 [] t.timeframes TimeframeGroupId no_names formed.timeframes.few (λ row lt filled. let id = group_of_frame t formed row lt in (id.0, id.1, id.3))) (omega arith)
-
-  pub product_list : IsNameList (product_names t)
-  unfolding product_names
-  product_list = name_list most_rows _ (one_file 0 [] t.fare_products FareProductId no_names formed.fare_products.few (λ row lt filled. let id = product_id t formed row lt in (id.0, id.1, id.3))) (omega arith)
-
-  pub group_list : IsNameList (group_names t)
-  unfolding group_names
-  group_list = name_list most_rows _ (one_file 0 [] t.fare_leg_rules LegGroupId no_names formed.fare_leg_rules.few (group_of_leg_rule t formed)) (omega arith)
-
-  -- as lists of the rows
   pub services_listed : IsNameList (rows_of_tables t).service_names
-  unfolding rows_of_tables
-  services_listed = service_list
+  unfolding rows_of_tables service_names
+  services_listed = name_list 16_000_000 _
+      (one_file 12_000_000 _ _ _ ServiceId (formed file.Timeframes) (λ row lt filled. (service_of_frame t formed row lt).3)
+      (one_file 8_000_000 _ _ _ ServiceId (formed file.CalendarDates) (λ row lt filled. (service_of_exception t formed row lt).3)
+      (one_file most_rows _ _ _ ServiceId (formed file.Calendar) (λ row lt filled. (service_of_calendar t formed row lt).3)
+      (one_file 0 _ _ _ ServiceId (formed file.Trips) (λ row lt filled. (service_of_trip t formed row lt).3) no_names)))) (omega arith)
 
   pub networks_listed : IsNameList (rows_of_tables t).network_names
-  unfolding rows_of_tables
-  networks_listed = network_list
+  unfolding rows_of_tables network_names
+  networks_listed = name_list 8_000_000 _
+      (one_file most_rows _ _ _ NetworkId (formed file.Networks) (λ row lt filled. (network_id t formed row lt).3)
+      (one_file 0 _ _ _ NetworkId (formed file.Routes) (λ row lt filled. (own_network_of_route t formed row lt filled).2) no_names)) (omega arith)
 
   pub frames_listed : IsNameList (rows_of_tables t).frame_names
-  unfolding rows_of_tables
-  frames_listed = frame_list
+  unfolding rows_of_tables frame_names
+  frames_listed = one_list _ _ _ (formed file.Timeframes) (λ row lt filled. (group_of_frame t formed row lt).3)
 
   pub products_listed : IsNameList (rows_of_tables t).product_names
-  unfolding rows_of_tables
-  products_listed = product_list
+  unfolding rows_of_tables product_names
+  products_listed = one_list _ _ _ (formed file.FareProducts) (λ row lt filled. (product_id t formed row lt).3)
 
   pub groups_listed : IsNameList (rows_of_tables t).group_names
-  unfolding rows_of_tables
-  groups_listed = group_list
+  unfolding rows_of_tables group_names
+  groups_listed = one_list _ _ _ (formed file.FareLegRules) (λ row lt filled. (group_of_leg_rule t formed row lt filled).2)
 
--- a filled field of a column whose names are listed is one of the names
-module _ (t : FeedTables) (row : ℕ) where
-  pub trip_service_named : row < row_count t.trips → MayBeNamed (service_names t) (field t.trips row ServiceId)
+-- the fields of a column are among these names, each of them or where it is filled
+abbrev pub AreNamed : FeedTables → FileName → ColumnName → List (List ℕ) → Type 0
+AreNamed t name column names = (row : ℕ) → row < row_count (table_in t name) → IsNamed names (field (table_in t name) row column)
+
+abbrev pub AreNamedIfFilled : FeedTables → FileName → ColumnName → List (List ℕ) → Type 0
+AreNamedIfFilled t name column names =
+    (row : ℕ) → row < row_count (table_in t name) → MayBeNamed names (field (table_in t name) row column)
+
+-- a name among those before a column is among those with it
+pub kept : {names : List (List ℕ)} {name : List ℕ} (table : FileTable) (column : ColumnName) → IsNamed names name
+    → IsNamed (with_column names table column) name
+kept {names} {name} table column named = keeps_names names table column (row_count table) name named
+
+module _ (t : FeedTables) (formed : AreFormed t) where
+  pub trip_service_named : AreNamed t file.Trips ServiceId (service_names t)
   unfolding service_names
-  trip_service_named lt filled =
-      let name = field t.trips row ServiceId in
-      keeps_names _ t.timeframes ServiceId (row_count t.timeframes) name
-      (keeps_names _ t.calendar_dates ServiceId (row_count t.calendar_dates) name
-      (keeps_names _ t.calendar ServiceId (row_count t.calendar) name
-      (takes_names [] t.trips ServiceId (row_count t.trips) row lt filled)))
+  trip_service_named row lt =
+      kept (table_in t file.Timeframes) ServiceId (kept (table_in t file.CalendarDates) ServiceId (kept (table_in t file.Calendar) ServiceId
+      (takes_names [] _ _ _ row lt (service_of_trip t formed row lt).2)))
 
-  pub calendar_service_named : row < row_count t.calendar → MayBeNamed (service_names t) (field t.calendar row ServiceId)
+  pub calendar_service_named : AreNamed t file.Calendar ServiceId (service_names t)
   unfolding service_names
-  calendar_service_named lt filled =
-      let name = field t.calendar row ServiceId in
-      keeps_names _ t.timeframes ServiceId (row_count t.timeframes) name
-      (keeps_names _ t.calendar_dates ServiceId (row_count t.calendar_dates) name
-      (takes_names _ t.calendar ServiceId (row_count t.calendar) row lt filled))
+  calendar_service_named row lt =
+      kept (table_in t file.Timeframes) ServiceId (kept (table_in t file.CalendarDates) ServiceId
+      (takes_names _ _ _ _ row lt (service_of_calendar t formed row lt).2))
 
-  pub exception_service_named : row < row_count t.calendar_dates → MayBeNamed (service_names t) (field t.calendar_dates row ServiceId)
+  pub exception_service_named : AreNamed t file.CalendarDates ServiceId (service_names t)
   unfolding service_names
-  exception_service_named lt filled =
-      keeps_names _ t.timeframes ServiceId (row_count t.timeframes) (field t.calendar_dates row ServiceId)
-      (takes_names _ t.calendar_dates ServiceId (row_count t.calendar_dates) row lt filled)
+  exception_service_named row lt =
+      kept (table_in t file.Timeframes) ServiceId (takes_names _ _ _ _ row lt (service_of_exception t formed row lt).2)
 
-  pub frame_service_named : row < row_count t.timeframes → MayBeNamed (service_names t) (field t.timeframes row ServiceId)
+  pub frame_service_named : AreNamed t file.Timeframes ServiceId (service_names t)
   unfolding service_names
-  frame_service_named lt filled = takes_names _ t.timeframes ServiceId (row_count t.timeframes) row lt filled
+  frame_service_named row lt = takes_names _ _ _ _ row lt (service_of_frame t formed row lt).2
 
-  pub route_network_named : row < row_count t.routes → MayBeNamed (network_names t) (field t.routes row NetworkId)
-  unfolding network_names
-  route_network_named lt filled =
-      keeps_names _ t.networks NetworkId (row_count t.networks) (field t.routes row NetworkId)
-      (takes_names [] t.routes NetworkId (row_count t.routes) row lt filled)
-
-  pub network_named : row < row_count t.networks → MayBeNamed (network_names t) (field t.networks row NetworkId)
-  unfolding network_names
-  network_named lt filled = takes_names _ t.networks NetworkId (row_count t.networks) row lt filled
-
-  pub frame_group_named : row < row_count t.timeframes → MayBeNamed (frame_names t) (field t.timeframes row TimeframeGroupId)
+  pub frame_group_named : AreNamed t file.Timeframes TimeframeGroupId (frame_names t)
   unfolding frame_names
-  frame_group_named lt filled = takes_names [] t.timeframes TimeframeGroupId (row_count t.timeframes) row lt filled
+  frame_group_named row lt = takes_names _ _ _ _ row lt (group_of_frame t formed row lt).2
 
-  pub product_named : row < row_count t.fare_products → MayBeNamed (product_names t) (field t.fare_products row FareProductId)
+  pub product_named : AreNamed t file.FareProducts FareProductId (product_names t)
   unfolding product_names
-  product_named lt filled = takes_names [] t.fare_products FareProductId (row_count t.fare_products) row lt filled
+  product_named row lt = takes_names _ _ _ _ row lt (product_id t formed row lt).2
 
-  pub leg_group_named : row < row_count t.fare_leg_rules → MayBeNamed (group_names t) (field t.fare_leg_rules row LegGroupId)
-  unfolding group_names
-  leg_group_named lt filled = takes_names [] t.fare_leg_rules LegGroupId (row_count t.fare_leg_rules) row lt filled
+pub own_network_named : (t : FeedTables) → AreNamedIfFilled t file.Routes NetworkId (network_names t)
+unfolding network_names
+own_network_named t row lt filled = kept (table_in t file.Networks) NetworkId (takes_names [] _ _ _ row lt filled)
+
+pub leg_group_named : (t : FeedTables) → AreNamedIfFilled t file.FareLegRules LegGroupId (group_names t)
+unfolding group_names
+leg_group_named t row lt filled = takes_names _ _ _ _ row lt filled
+
+-- an id that a column has is among the names with it
+pub named_in : (names : List (List ℕ)) (table : FileTable) (column : ColumnName) (id : List ℕ) → is_filled id ≡ true
+    → is_unknown table column id ≡ false → IsNamed (with_column names table column) id
+named_in names table column id filled there =
+    let place = known table column id filled there in
+    subst (IsNamed (with_column names table column)) place.has (takes_names names table column (row_count table) _ place.within (rw place.has filled))

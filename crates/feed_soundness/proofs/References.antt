@@ -1,132 +1,140 @@
--- What the rows of accepted tables name is there: each reference is the number of a row, and each name stands among the
--- names. In the forms that a caller's proof can list for its tactics.
-use Rattle.std.proofs.Common.{◌≡◌, ℕ, ◌<◌, true, false, List, length}
-use Rattle.std.specs.Prelude.{Some}
+-- What the rows of accepted tables name is there: each reference is known, and each name stands among the names.
+use Rattle.std.proofs.Common.{◌≡◌, refl, ℕ, ◌<◌, ◌⊎◌, inl, inr, Bool, true, false, []}
+use Rattle.std.specs.Prelude.{Option, Some, None}
+use Rattle.std.proofs.lemmas.Bool.{and_cases}
+use Rattle.feed_rows.specs.declared.names.FileName.{FileName}
+use Rattle.feed_rows.specs.declared.names.FileName.TheVariants as file
 use Rattle.feed_rows.specs.declared.names.ColumnName.{ColumnName}
-use Rattle.feed_rows.specs.declared.names.ColumnName.TheVariants.{RouteId, TripId, StopId, AreaId, NetworkId, FromStopId, ToStopId, ParentStation, RiderCategoryId, FareMediaId, FromAreaId, ToAreaId, ServiceId, TimeframeGroupId, FareProductId, LegGroupId, FromTimeframeGroupId, ToTimeframeGroupId, FromLegGroupId, ToLegGroupId}
-use Rattle.feed_faults.specs.Records.{FileTable, row_count, field, is_filled}
+use Rattle.feed_rows.specs.declared.names.ColumnName.TheVariants.{AreaId, FareMediaId, FareProductId, FromAreaId, FromLegGroupId, FromStopId, FromTimeframeGroupId, NetworkId, RiderCategoryId, RouteId, StopId, ToAreaId, ToLegGroupId, ToStopId, ToTimeframeGroupId, TripId}
+use Rattle.feed_faults.specs.declared.checks.Named.TheVariants.{Area, FareMedia, FareProduct, LegGroup, Network, RiderCategory, Route, RouteNetwork, Stop, TimeframeGroup, Trip}
+use Rattle.feed_faults.specs.declared.checks.RowCheck.TheVariants.{Known}
+use Rattle.feed_faults.specs.Records.{row_count, field, is_filled}
 use Rattle.feed_faults.specs.FormFaults.{is_passed_over}
-use Rattle.feed_faults.specs.FeedTables.{FeedTables}
-use Rattle.feed_faults.specs.FieldValues.{stop_kind}
-use Rattle.feed_faults.specs.RowKeys.{row_of}
-use Rattle.feed_faults.specs.AcceptedFeed.{row_number, place_of_name, name_number, service_names, network_names, frame_names, product_names, group_names, network_of_route}
+use Rattle.feed_faults.specs.FeedTables.{FeedTables, table_in}
+use Rattle.feed_faults.specs.RowKeys.{row_of, is_unknown}
+use Rattle.feed_faults.specs.AcceptedFeed.{network_names, frame_names, product_names, group_names, network_of_route}
 use Rattle.feed_soundness.specs.AcceptedTables.{AreFormed, AreRelated}
-use Rattle.feed_soundness.proofs.KeyLaws.{IsKnown}
-use Rattle.feed_soundness.proofs.NameLaws.{IsNamed}
-use Rattle.feed_soundness.proofs.IdColumns.{service_of_trip, service_of_calendar, service_of_exception, service_of_frame, group_of_frame, product_id}
-use Rattle.feed_soundness.proofs.NameGroups.{trip_service_named, calendar_service_named, exception_service_named, frame_service_named, frame_group_named, product_named, leg_group_named}
-use Rattle.feed_soundness.proofs.StopGroups.{parent_known}
-use Rattle.feed_soundness.proofs.RouteGroups.{trip_route_known, route_network_known, route_network_good}
-use Rattle.feed_soundness.proofs.ServiceGroups.{frequency_trip_known, transfer_from_known, transfer_to_known}
-use Rattle.feed_soundness.proofs.CallGroups.{call_trip_known, call_stop_known}
-use Rattle.feed_soundness.proofs.AreaGroups.{area_known, area_stop_known}
-use Rattle.feed_soundness.proofs.ProductGroups.{product_rider_known, product_medium_known}
-use Rattle.feed_soundness.proofs.RuleReferences.{leg_rule_network_named, leg_rule_from_area_known, leg_rule_to_area_known, leg_rule_from_frame_named, leg_rule_to_frame_named, leg_rule_product_named, rule_from_group_named, rule_to_group_named, rule_product_named}
+use Rattle.feed_soundness.proofs.KeyLaws.{IsKnown, MayBeKnown, known, row_within}
+use Rattle.feed_soundness.proofs.NameLaws.{IsNamed, MayBeNamed}
+use Rattle.feed_soundness.proofs.IdColumns.{must_id, trip_of_call, stop_of_call}
+use Rattle.feed_soundness.proofs.NameGroups.{AreNamedIfFilled, kept, named_in, own_network_named}
 
--- an id is that of a row
-abbrev pub IsRow : FileTable → ColumnName → List ℕ → Type 0
-IsRow table name id = (row_of table name id ≡ Some (row_number table name id)) × (row_number table name id < row_count table)
+-- the fields of a column are ids of rows of another file, each of them or where it is filled
+abbrev pub AreKnown : FeedTables → FileName → ColumnName → FileName → ColumnName → Type 0
+AreKnown t name column other key =
+    (row : ℕ) → row < row_count (table_in t name) → IsKnown (table_in t other) key (field (table_in t name) row column)
 
--- a name is one of the names
-abbrev pub IsOneOf : List (List ℕ) → List ℕ → Type 0
-IsOneOf names name = (place_of_name names name ≡ Some (name_number names name)) × (name_number names name < length names)
+abbrev pub AreKnownIfFilled : FeedTables → FileName → ColumnName → FileName → ColumnName → Type 0
+AreKnownIfFilled t name column other key =
+    (row : ℕ) → row < row_count (table_in t name) → MayBeKnown (table_in t other) key (field (table_in t name) row column)
 
-of_known : (table : FileTable) (name : ColumnName) (id : List ℕ) → IsKnown table name id → IsRow table name id
-of_known table name id place = (place.found, place.within)
+module _ (t : FeedTables) (formed : AreFormed t) (related : AreRelated t) where
+  pub trip_route_known : AreKnown t file.Trips RouteId file.Routes RouteId
+  trip_route_known row lt =
+      known _ _ _ (must_id t formed file.Trips row 0 RouteId lt refl).2 (related file.Trips row 1 (Known RouteId Route) lt refl)
 
-of_named : (names : List (List ℕ)) (name : List ℕ) → IsNamed names name → IsOneOf names name
-of_named names name place = (place.found, place.within)
+  pub call_trip_known : AreKnown t file.StopTimes TripId file.Trips TripId
+  call_trip_known row lt = known _ _ _ (trip_of_call t formed row lt).2 (related file.StopTimes row 0 (Known TripId Trip) lt refl)
 
-module _ (t : FeedTables) (formed : AreFormed t) (related : AreRelated t) (row : ℕ) where
-  pub trip_route_row : row < row_count t.trips → IsRow t.routes RouteId (field t.trips row RouteId)
-  trip_route_row lt = of_known t.routes RouteId (field t.trips row RouteId) (trip_route_known t formed related row lt)
+  pub call_stop_known : AreKnown t file.StopTimes StopId file.Stops StopId
+  call_stop_known row lt = known _ _ _ (stop_of_call t formed row lt).2 (related file.StopTimes row 1 (Known StopId Stop) lt refl)
 
-  pub call_trip_row : row < row_count t.stop_times → IsRow t.trips TripId (field t.stop_times row TripId)
-  call_trip_row lt = of_known t.trips TripId (field t.stop_times row TripId) (call_trip_known t formed related row lt)
+  pub frequency_trip_known : AreKnown t file.Frequencies TripId file.Trips TripId
+  frequency_trip_known row lt =
+      known _ _ _ (must_id t formed file.Frequencies row 0 TripId lt refl).2 (related file.Frequencies row 0 (Known TripId Trip) lt refl)
 
-  pub call_stop_row : row < row_count t.stop_times → IsRow t.stops StopId (field t.stop_times row StopId)
-  call_stop_row lt = of_known t.stops StopId (field t.stop_times row StopId) (call_stop_known t formed related row lt)
+  pub area_known : AreKnown t file.StopAreas AreaId file.Areas AreaId
+  area_known row lt =
+      known _ _ _ (must_id t formed file.StopAreas row 0 AreaId lt refl).2 (related file.StopAreas row 0 (Known AreaId Area) lt refl)
 
-  pub frequency_trip_row : row < row_count t.frequencies → IsRow t.trips TripId (field t.frequencies row TripId)
-  frequency_trip_row lt = of_known t.trips TripId (field t.frequencies row TripId) (frequency_trip_known t formed related row lt)
-
-  pub area_row_of_stop : row < row_count t.stop_areas → IsRow t.areas AreaId (field t.stop_areas row AreaId)
-  area_row_of_stop lt = of_known t.areas AreaId (field t.stop_areas row AreaId) (area_known t formed related row lt)
-
-  pub stop_row_of_area : row < row_count t.stop_areas → IsRow t.stops StopId (field t.stop_areas row StopId)
-  stop_row_of_area lt = of_known t.stops StopId (field t.stop_areas row StopId) (area_stop_known t formed related row lt)
-
-  pub network_row_of_route : row < row_count t.route_networks → IsRow t.networks NetworkId (field t.route_networks row NetworkId)
-  network_row_of_route lt = of_known t.networks NetworkId (field t.route_networks row NetworkId) (route_network_known t formed related row lt)
+  pub area_stop_known : AreKnown t file.StopAreas StopId file.Stops StopId
+  area_stop_known row lt =
+      known _ _ _ (must_id t formed file.StopAreas row 1 StopId lt refl).2 (related file.StopAreas row 1 (Known StopId Stop) lt refl)
 
   -- of a row of transfers.txt that isn't passed over
-  pub transfer_from_row : row < row_count t.transfers → is_passed_over t.transfers row ≡ false → IsRow t.stops StopId (field t.transfers row FromStopId)
-  transfer_from_row lt kept = of_known t.stops StopId (field t.transfers row FromStopId) (transfer_from_known t formed related row lt kept)
+  pub transfer_from_known : (row : ℕ) → row < row_count (table_in t file.Transfers) → is_passed_over (table_in t file.Transfers) row ≡ false
+      → IsKnown (table_in t file.Stops) StopId (field (table_in t file.Transfers) row FromStopId)
+  transfer_from_known row lt taken =
+      known _ _ _ (must_id t formed file.Transfers row 1 FromStopId lt (rw taken refl)).2
+      (rw taken at (related file.Transfers row 0 (Known FromStopId Stop) lt refl))
 
-  pub transfer_to_row : row < row_count t.transfers → is_passed_over t.transfers row ≡ false → IsRow t.stops StopId (field t.transfers row ToStopId)
-  transfer_to_row lt kept = of_known t.stops StopId (field t.transfers row ToStopId) (transfer_to_known t formed related row lt kept)
+  pub transfer_to_known : (row : ℕ) → row < row_count (table_in t file.Transfers) → is_passed_over (table_in t file.Transfers) row ≡ false
+      → IsKnown (table_in t file.Stops) StopId (field (table_in t file.Transfers) row ToStopId)
+  transfer_to_known row lt taken =
+      known _ _ _ (must_id t formed file.Transfers row 2 ToStopId lt (rw taken refl)).2
+      (rw taken at (related file.Transfers row 1 (Known ToStopId Stop) lt refl))
 
-  -- of a platform
-  pub parent_row : row < row_count t.stops → stop_kind t.stops row ≡ 0 → is_filled (field t.stops row ParentStation) ≡ true → IsRow t.stops StopId (field t.stops row ParentStation)
-  parent_row lt kind filled = of_known t.stops StopId (field t.stops row ParentStation) (parent_known t row related lt kind filled)
+module _ (t : FeedTables) (related : AreRelated t) where
+  pub product_rider_known : AreKnownIfFilled t file.FareProducts RiderCategoryId file.RiderCategories RiderCategoryId
+  product_rider_known row lt filled =
+      known _ _ _ filled (related file.FareProducts row 0 (Known RiderCategoryId RiderCategory) lt refl)
 
-  -- of fields that may be empty
-  pub product_rider_row : row < row_count t.fare_products → is_filled (field t.fare_products row RiderCategoryId) ≡ true → IsRow t.rider_categories RiderCategoryId (field t.fare_products row RiderCategoryId)
-  product_rider_row lt filled = of_known t.rider_categories RiderCategoryId (field t.fare_products row RiderCategoryId) (product_rider_known t formed related row lt filled)
+  pub product_medium_known : AreKnownIfFilled t file.FareProducts FareMediaId file.FareMedia FareMediaId
+  product_medium_known row lt filled = known _ _ _ filled (related file.FareProducts row 1 (Known FareMediaId FareMedia) lt refl)
 
-  pub product_medium_row : row < row_count t.fare_products → is_filled (field t.fare_products row FareMediaId) ≡ true → IsRow t.fare_media FareMediaId (field t.fare_products row FareMediaId)
-  product_medium_row lt filled = of_known t.fare_media FareMediaId (field t.fare_products row FareMediaId) (product_medium_known t formed related row lt filled)
+  pub leg_rule_from_area_known : AreKnownIfFilled t file.FareLegRules FromAreaId file.Areas AreaId
+  leg_rule_from_area_known row lt filled = known _ _ _ filled (related file.FareLegRules row 1 (Known FromAreaId Area) lt refl)
 
-  pub leg_rule_from_area_row : row < row_count t.fare_leg_rules → is_filled (field t.fare_leg_rules row FromAreaId) ≡ true → IsRow t.areas AreaId (field t.fare_leg_rules row FromAreaId)
-  leg_rule_from_area_row lt filled = of_known t.areas AreaId (field t.fare_leg_rules row FromAreaId) (leg_rule_from_area_known t related row lt filled)
+  pub leg_rule_to_area_known : AreKnownIfFilled t file.FareLegRules ToAreaId file.Areas AreaId
+  leg_rule_to_area_known row lt filled = known _ _ _ filled (related file.FareLegRules row 2 (Known ToAreaId Area) lt refl)
 
-  pub leg_rule_to_area_row : row < row_count t.fare_leg_rules → is_filled (field t.fare_leg_rules row ToAreaId) ≡ true → IsRow t.areas AreaId (field t.fare_leg_rules row ToAreaId)
-  leg_rule_to_area_row lt filled = of_known t.areas AreaId (field t.fare_leg_rules row ToAreaId) (leg_rule_to_area_known t related row lt filled)
+-- what the fare rules name, where the field is filled
+module _ (t : FeedTables) (related : AreRelated t) where
+  pub leg_rule_network_named : AreNamedIfFilled t file.FareLegRules NetworkId (network_names t)
+  unfolding network_names
+  leg_rule_network_named row lt filled =
+      step (and_cases _ _ (related file.FareLegRules row 0 (Known NetworkId RouteNetwork) lt refl))
+    where
+      step : (is_unknown (table_in t file.Routes) NetworkId (field (table_in t file.FareLegRules) row NetworkId) ≡ false)
+          ⊎ (is_unknown (table_in t file.Networks) NetworkId (field (table_in t file.FareLegRules) row NetworkId) ≡ false)
+          → IsNamed (network_names t) (field (table_in t file.FareLegRules) row NetworkId)
+      step (inl one) = kept (table_in t file.Networks) NetworkId (named_in [] _ _ _ filled one)
+      step (inr other) = named_in _ _ _ _ filled other
 
-  pub leg_rule_product_number : row < row_count t.fare_leg_rules → IsOneOf (product_names t) (field t.fare_leg_rules row FareProductId)
-  leg_rule_product_number lt = of_named (product_names t) (field t.fare_leg_rules row FareProductId) (leg_rule_product_named t related row lt formed)
+  pub leg_rule_from_frame_named : AreNamedIfFilled t file.FareLegRules FromTimeframeGroupId (frame_names t)
+  unfolding frame_names
+  leg_rule_from_frame_named row lt filled =
+      named_in _ _ _ _ filled (related file.FareLegRules row 3 (Known FromTimeframeGroupId TimeframeGroup) lt refl)
 
-  pub route_network_number : row < row_count t.routes → is_filled (network_of_route t row) ≡ true → IsOneOf (network_names t) (network_of_route t row)
-  route_network_number lt filled = of_named (network_names t) (network_of_route t row) (route_network_good t formed related row lt filled)
+  pub leg_rule_to_frame_named : AreNamedIfFilled t file.FareLegRules ToTimeframeGroupId (frame_names t)
+  unfolding frame_names
+  leg_rule_to_frame_named row lt filled =
+      named_in _ _ _ _ filled (related file.FareLegRules row 4 (Known ToTimeframeGroupId TimeframeGroup) lt refl)
 
-  pub leg_rule_network_number : row < row_count t.fare_leg_rules → is_filled (field t.fare_leg_rules row NetworkId) ≡ true → IsOneOf (network_names t) (field t.fare_leg_rules row NetworkId)
-  leg_rule_network_number lt filled = of_named (network_names t) (field t.fare_leg_rules row NetworkId) (leg_rule_network_named t related row lt filled)
+  pub leg_rule_product_named : AreNamedIfFilled t file.FareLegRules FareProductId (product_names t)
+  unfolding product_names
+  leg_rule_product_named row lt filled =
+      named_in _ _ _ _ filled (related file.FareLegRules row 5 (Known FareProductId FareProduct) lt refl)
 
-  pub leg_rule_from_frame_number : row < row_count t.fare_leg_rules → is_filled (field t.fare_leg_rules row FromTimeframeGroupId) ≡ true → IsOneOf (frame_names t) (field t.fare_leg_rules row FromTimeframeGroupId)
-  leg_rule_from_frame_number lt filled = of_named (frame_names t) (field t.fare_leg_rules row FromTimeframeGroupId) (leg_rule_from_frame_named t related row lt filled)
+  pub rule_from_group_named : AreNamedIfFilled t file.FareTransferRules FromLegGroupId (group_names t)
+  unfolding group_names
+  rule_from_group_named row lt filled =
+      named_in _ _ _ _ filled (related file.FareTransferRules row 2 (Known FromLegGroupId LegGroup) lt refl)
 
-  pub leg_rule_to_frame_number : row < row_count t.fare_leg_rules → is_filled (field t.fare_leg_rules row ToTimeframeGroupId) ≡ true → IsOneOf (frame_names t) (field t.fare_leg_rules row ToTimeframeGroupId)
-  leg_rule_to_frame_number lt filled = of_named (frame_names t) (field t.fare_leg_rules row ToTimeframeGroupId) (leg_rule_to_frame_named t related row lt filled)
+  pub rule_to_group_named : AreNamedIfFilled t file.FareTransferRules ToLegGroupId (group_names t)
+  unfolding group_names
+  rule_to_group_named row lt filled =
+      named_in _ _ _ _ filled (related file.FareTransferRules row 3 (Known ToLegGroupId LegGroup) lt refl)
 
-  pub rule_from_group_number : row < row_count t.fare_transfer_rules → is_filled (field t.fare_transfer_rules row FromLegGroupId) ≡ true → IsOneOf (group_names t) (field t.fare_transfer_rules row FromLegGroupId)
-  rule_from_group_number lt filled = of_named (group_names t) (field t.fare_transfer_rules row FromLegGroupId) (rule_from_group_named t related row lt filled)
+  pub rule_product_named : AreNamedIfFilled t file.FareTransferRules FareProductId (product_names t)
+  unfolding product_names
+  rule_product_named row lt filled =
+      named_in _ _ _ _ filled (related file.FareTransferRules row 4 (Known FareProductId FareProduct) lt refl)
 
-  pub rule_to_group_number : row < row_count t.fare_transfer_rules → is_filled (field t.fare_transfer_rules row ToLegGroupId) ≡ true → IsOneOf (group_names t) (field t.fare_transfer_rules row ToLegGroupId)
-  rule_to_group_number lt filled = of_named (group_names t) (field t.fare_transfer_rules row ToLegGroupId) (rule_to_group_named t related row lt filled)
-
-  pub rule_product_number : row < row_count t.fare_transfer_rules → is_filled (field t.fare_transfer_rules row FareProductId) ≡ true → IsOneOf (product_names t) (field t.fare_transfer_rules row FareProductId)
-  rule_product_number lt filled = of_named (product_names t) (field t.fare_transfer_rules row FareProductId) (rule_product_named t related row lt filled)
-
--- names of columns whose names are numbered
-module _ (t : FeedTables) (formed : AreFormed t) (row : ℕ) where
-  pub trip_service_number : row < row_count t.trips → IsOneOf (service_names t) (field t.trips row ServiceId)
-  trip_service_number lt = of_named (service_names t) (field t.trips row ServiceId) (trip_service_named t row lt (service_of_trip t formed row lt).2)
-
-  pub calendar_service_number : row < row_count t.calendar → IsOneOf (service_names t) (field t.calendar row ServiceId)
-  calendar_service_number lt = of_named (service_names t) (field t.calendar row ServiceId) (calendar_service_named t row lt (service_of_calendar t formed row lt).2)
-
-  pub exception_service_number : row < row_count t.calendar_dates → IsOneOf (service_names t) (field t.calendar_dates row ServiceId)
-  exception_service_number lt = of_named (service_names t) (field t.calendar_dates row ServiceId) (exception_service_named t row lt (service_of_exception t formed row lt).2)
-
-  pub frame_service_number : row < row_count t.timeframes → IsOneOf (service_names t) (field t.timeframes row ServiceId)
-  frame_service_number lt = of_named (service_names t) (field t.timeframes row ServiceId) (frame_service_named t row lt (service_of_frame t formed row lt).2)
-
-  pub frame_group_number : row < row_count t.timeframes → IsOneOf (frame_names t) (field t.timeframes row TimeframeGroupId)
-  frame_group_number lt = of_named (frame_names t) (field t.timeframes row TimeframeGroupId) (frame_group_named t row lt (group_of_frame t formed row lt).2)
-
-  pub product_number : row < row_count t.fare_products → IsOneOf (product_names t) (field t.fare_products row FareProductId)
-  product_number lt = of_named (product_names t) (field t.fare_products row FareProductId) (product_named t row lt (product_id t formed row lt).2)
-
-module _ (t : FeedTables) (row : ℕ) where
-  pub leg_rule_group_number : row < row_count t.fare_leg_rules → is_filled (field t.fare_leg_rules row LegGroupId) ≡ true → IsOneOf (group_names t) (field t.fare_leg_rules row LegGroupId)
-  leg_rule_group_number lt filled = of_named (group_names t) (field t.fare_leg_rules row LegGroupId) (leg_group_named t row lt filled)
+-- the network of a route is one of the names
+pub route_network_named : (t : FeedTables) → AreFormed t → AreRelated t → (row : ℕ) → row < row_count (table_in t file.Routes)
+    → MayBeNamed (network_names t) (network_of_route t row)
+unfolding network_of_route network_names
+route_network_named t formed related row lt filled =
+    step (is_filled (field (table_in t file.Routes) row NetworkId)) refl
+    (row_of (table_in t file.RouteNetworks) RouteId (field (table_in t file.Routes) row RouteId)) refl
+  where
+    step : (b : Bool) → is_filled (field (table_in t file.Routes) row NetworkId) ≡ b
+        → (o : Option ℕ) → row_of (table_in t file.RouteNetworks) RouteId (field (table_in t file.Routes) row RouteId) ≡ o
+        → IsNamed (network_names t) (network_of_route t row)
+    step true own o place = rw own (own_network_named t row lt own)
+    step false own None place = absurd (let none = rw (own, place) at filled in cc)
+    step false own (Some r) place =
+        let within = row_within _ _ _ r place in
+        let here = (must_id t formed file.RouteNetworks r 0 NetworkId within refl).2 in
+        rw (own, place) (named_in _ _ _ _ here (related file.RouteNetworks r 1 (Known NetworkId Network) within refl))

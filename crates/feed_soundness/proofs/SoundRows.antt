@@ -14,14 +14,9 @@ use Rattle.plain_laws.proofs.Laws.{none_either}
 use Rattle.feed_soundness.proofs.FormedFiles.{formed}
 use Rattle.feed_soundness.proofs.RelatedFiles.{related}
 use Rattle.feed_soundness.proofs.NameGroups as names
-use Rattle.feed_soundness.proofs.StopGroups.{stops_sound}
-use Rattle.feed_soundness.proofs.RouteGroups.{routes_sound, trips_sound}
-use Rattle.feed_soundness.proofs.ServiceGroups.{services_sound, exceptions_sound, frequencies_sound, links_sound}
-use Rattle.feed_soundness.proofs.CallGroups.{stop_times_sound}
+use Rattle.feed_soundness.proofs.TimetableGroups.{stops_sound, routes_sound, trips_sound, stop_times_sound, services_sound, exceptions_sound, frequencies_sound, links_sound}
 use Rattle.feed_soundness.proofs.OrderedCalls.{calls_sound}
-use Rattle.feed_soundness.proofs.AreaGroups.{areas_sound, stop_areas_sound, timeframes_sound, riders_sound, media_sound}
-use Rattle.feed_soundness.proofs.ProductGroups.{products_sound, currency_sound}
-use Rattle.feed_soundness.proofs.RuleGroups.{leg_rules_sound, transfer_rules_sound}
+use Rattle.feed_soundness.proofs.FareGroups.{areas_sound, stop_areas_sound, timeframes_sound, riders_sound, media_sound, products_sound, leg_rules_sound, transfer_rules_sound, currency_sound}
 
 -- the tables of accepted files give sound rows
 pub sound_of_tables : (t : FeedTables) → AreFormed t → AreRelated t → IsSoundFeed (rows_of_tables t)
