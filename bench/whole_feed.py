@@ -3,9 +3,10 @@
 
   whole_feed.py FOLDER ROWS [--prefix BYTES] [--names COUNT] [COMMAND ..]
 
-Trips have 25 calls, stops are a fiftieth of the stop times, and rows of trips and stops are shuffled. --prefix puts so
-many equal bytes before each id, so that ids differ only at their ends. --names gives the feed so many services. Without a
-command the files are read by Python's csv.reader alone.
+All eighteen files have rows. Trips have 25 calls, an eighth of them without a time; platforms are a fiftieth of the stop
+times, half of them in stations of four; and rows of trips and stops are shuffled. --prefix puts so many equal bytes before each
+id, so that ids differ only at their ends. --names gives the feed so many services. Without a command the files are read by
+Python's csv.reader alone.
 """
 import csv
 import os
@@ -16,6 +17,7 @@ import sys
 import time
 
 CALLS = 25
+ROUTES = 500
 
 
 def clock(seconds):
@@ -28,10 +30,9 @@ def write(folder, name, header, rows):
         file.writelines(row + "\n" for row in rows)
 
 
-def make(folder, rows, prefix, names):
-    os.makedirs(folder, exist_ok=True)
+def timetable(folder, rows, prefix, names):
     rng = random.Random(1)
-    stops = [f"{prefix}S{n:06}" for n in range(max(CALLS, rows // 50))]
+    platforms = [f"{prefix}S{n:06}" for n in range(max(CALLS, rows // 50))]
     trips = [f"{prefix}T{n:06}" for n in range(rows // CALLS)]
     shuffled = trips[:]
     rng.shuffle(shuffled)
@@ -39,19 +40,55 @@ def make(folder, rows, prefix, names):
     def times():
         for trip in trips:
             second = rng.randrange(5 * 3600, 20 * 3600)
-            for call, stop in enumerate(rng.sample(stops, CALLS)):
-                yield f"{trip},{clock(second)},{clock(second + 20)},{stop},{call + 1},0,0"
+            for call, stop in enumerate(rng.sample(platforms, CALLS)):
+                # An eighth of the calls has no time of its own.
+                at = clock(second), clock(second + 20)
+                arrival, departure = ("", "") if call % 8 == 5 else at
+                yield f"{trip},{arrival},{departure},{stop},{call + 1},0,0"
                 second += rng.randrange(60, 240)
 
     write(folder, "stop_times.txt", "trip_id,arrival_time,departure_time,stop_id,stop_sequence,pickup_type,drop_off_type", times())
+    rng.shuffle(platforms)
+    # Half of the platforms stand in stations of four.
+    stations = [f"{prefix}P{n:06}" for n in range(len(platforms) // 8)]
+    parents = [stations[n // 4] if n // 4 < len(stations) else "" for n in range(len(platforms))]
+    stops = [f"{it},Stop {n},0,{parents[n]}" for n, it in enumerate(platforms)] + [f"{it},Station {n},1," for n, it in enumerate(stations)]
     rng.shuffle(stops)
-    write(folder, "stops.txt", "stop_id,stop_name,location_type", (f"{it},Stop {n},0" for n, it in enumerate(stops)))
-    write(folder, "trips.txt", "route_id,service_id,trip_id", (f"R{n % 500},W,{it}" for n, it in enumerate(shuffled)))
-    write(folder, "routes.txt", "route_id,route_type,network_id", (f"R{n},3,bus" for n in range(500)))
+    write(folder, "stops.txt", "stop_id,stop_name,location_type,parent_station", stops)
+    write(folder, "trips.txt", "route_id,service_id,trip_id", (f"R{n % ROUTES},{'MW'[n % 2]},{it}" for n, it in enumerate(shuffled)))
+    write(folder, "routes.txt", "route_id,route_type", (f"R{n},3" for n in range(ROUTES)))
+    write(folder, "calendar.txt", "service_id,monday,tuesday,wednesday,thursday,friday,saturday,sunday,start_date,end_date", ["M,1,1,1,1,1,0,0,20250101,20251231"])
     services = ["W"] + [f"{prefix}service {n:07}" for n in range(1, names)]
     write(folder, "calendar_dates.txt", "service_id,date,exception_type", (f"{it},20250602,1" for it in services))
-    write(folder, "fare_products.txt", "fare_product_id,amount,currency", ["single,2.50,EUR"])
-    write(folder, "fare_leg_rules.txt", "network_id,fare_product_id", ["bus,single"])
+    headways = (f"{it},{hour:02}:00:00,{hour + 2:02}:00:00,600,0" for it in trips[::50] for hour in (6, 8, 16))
+    write(folder, "frequencies.txt", "trip_id,start_time,end_time,headway_secs,exact_times", headways)
+    links = [f"{it},{it},0," for it in stations] + [f"{rng.choice(platforms)},{rng.choice(platforms)},2,{rng.randrange(60, 600)}" for _ in platforms]
+    write(folder, "transfers.txt", "from_stop_id,to_stop_id,transfer_type,min_transfer_time", links)
+    return platforms
+
+
+def fares(folder, platforms):
+    areas = [f"z{n}" for n in range(20)]
+    networks = ["bus", "tram", "rail"]
+    write(folder, "areas.txt", "area_id", areas)
+    write(folder, "stop_areas.txt", "area_id,stop_id", (f"{areas[n % 20]},{it}" for n, it in enumerate(platforms)))
+    write(folder, "networks.txt", "network_id", networks)
+    write(folder, "route_networks.txt", "network_id,route_id", (f"{networks[n % 3]},R{n}" for n in range(ROUTES)))
+    frames = (f"{group},{start},{end},{service}" for service in "MW" for group, start, end in (("peak", "00:00:00", "09:00:00"), ("off", "09:00:00", "24:00:00")))
+    write(folder, "timeframes.txt", "timeframe_group_id,start_time,end_time,service_id", frames)
+    write(folder, "rider_categories.txt", "rider_category_id,is_default_fare_category", ["adult,1", "child,0", "senior,0"])
+    write(folder, "fare_media.txt", "fare_media_id,fare_media_type", ["card,2", "app,4"])
+    products = [f"{network}{n},{rider},{medium},{2 + n}.{n}0,EUR" for network in networks for n in range(5) for rider in ("", "child") for medium in ("", "card")]
+    write(folder, "fare_products.txt", "fare_product_id,rider_category_id,fare_media_id,amount,currency", products)
+    rules = [f"g{network},{network},z{n},z{m},{frame},,{network}{(n + m) % 5}" for network in networks for n in range(5) for m in range(5) for frame in ("peak", "off")]
+    write(folder, "fare_leg_rules.txt", "leg_group_id,network_id,from_area_id,to_area_id,from_timeframe_group_id,to_timeframe_group_id,fare_product_id", rules)
+    changes = [f"g{a},g{b},{'-1' if a == b else ''},3600,1,0," for a in networks for b in networks]
+    write(folder, "fare_transfer_rules.txt", "from_leg_group_id,to_leg_group_id,transfer_count,duration_limit,duration_limit_type,fare_transfer_type,fare_product_id", changes)
+
+
+def make(folder, rows, prefix, names):
+    os.makedirs(folder, exist_ok=True)
+    fares(folder, timetable(folder, rows, prefix, names))
 
 
 def read_all(folder):
