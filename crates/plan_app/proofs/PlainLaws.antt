@@ -1,40 +1,42 @@
 -- A feed of which nothing is left unplanned has plain fares.
-use Rattle.std.proofs.Common.{◌≡◌, Bool, true, false, [], ◌∷◌, slice_index_or, Option, None, Some, refl}
-use Rattle.std.specs.Prelude.{◌||◌, IsSome, is_none}
+use Rattle.std.proofs.Common.{◌≡◌, refl, ℕ, Bool, true, false, List, [], ◌∷◌, slice_index_or, Option, None, Some}
+use Rattle.std.specs.Prelude.{IsSome, is_none, slice_get}
 use Rattle.std.specs.List.{list_any}
-use Rattle.feed_rows.specs.FeedRows.{FeedRows}
-use Rattle.plain_laws.specs.Plain.{when, first_of}
 use Rattle.transit_base.specs.declared.numbers.NetworkId.{NetworkId}
-use Rattle.feed_check.specs.BuiltRows.{HasBuiltRows}
+use Rattle.feed_rows.specs.Names.{all_files}
+use Rattle.feed_rows.specs.declared.names.FileName.{FileName}
+use Rattle.feed_rows.specs.declared.names.FileName.TheVariants as file
+use Rattle.feed_rows.specs.declared.faults.FaultKind.TheVariants as kind
+use Rattle.feed_rows.specs.FeedRows.{FeedRows}
+use Rattle.feed_faults.specs.FaultPlaces.{file_fault}
+use Rattle.plain_laws.specs.Plain.{when}
+use Rattle.plain_laws.proofs.Laws.{none_in, none_when, or_false, none_holds}
 use Rattle.plan_plain.specs.Prices.{HasPlainFares}
-use Rattle.plan_app.specs.Unplanned.{is_unplanned_stop, is_unplanned_stop_time, is_unplanned_rule, unplanned_fault}
-use Rattle.plain_laws.proofs.Laws.{or_false, none_holds}
+use Rattle.plan_app.specs.Unplanned.{has_rows, is_unplanned, is_unplanned_rule, unplanned_fault}
 
--- the last of three tests fails where none of their faults is the first
-third_fails : {X : Type 0} (a b c : Bool) (x y z : X) → first_of (when a x ∷ when b y ∷ when c z ∷ []) ≡ None → c ≡ false
-third_fails true b c x y z e = absurd (cc)
-third_fails false true c x y z e = absurd (cc)
-third_fails false false true x y z e = absurd (cc)
-third_fails false false false x y z e = refl
+no_rows : {X : Type 0} (rows : List X) → has_rows rows ≡ false → rows ≡ []
+no_rows [] e = refl
+no_rows (row ∷ rows) e = absurd (let wrong : true ≡ false = e in cc)
 
 names_one : (network : Option NetworkId) → is_none network ≡ false → IsSome network
 names_one None e = absurd (cc)
 names_one (Some network) e = refl
 
--- what is planned with has or_false priorities nor rules without network
-last_planned : (feed : FeedRows) → unplanned_fault feed ≡ None → (feed.has_priority || list_any is_unplanned_rule feed.leg_rules) ≡ false
+-- each file of such a feed holds nothing that plans don't go by
+planned_file : (feed : FeedRows) (k : ℕ) (name : FileName) → unplanned_fault feed ≡ None → slice_get all_files k ≡ Some name → is_unplanned name feed ≡ false
 unfolding unplanned_fault
-last_planned feed planned =
-    third_fails (list_any is_unplanned_stop feed.stops) (list_any is_unplanned_stop_time feed.stop_times) (feed.has_priority || list_any is_unplanned_rule feed.leg_rules) _ _ _ planned
+planned_file feed k name none at =
+    none_when (is_unplanned name feed) (file_fault name kind.NotBuilt) (none_in all_files (λ f. when (is_unplanned f feed) (file_fault f kind.NotBuilt)) k name none at)
 
-pub plain_fares : (feed : FeedRows) → HasBuiltRows feed → unplanned_fault feed ≡ None → HasPlainFares feed
-plain_fares feed built planned =
-    let last = or_false feed.has_priority (list_any is_unplanned_rule feed.leg_rules) (last_planned feed planned) in
+pub plain_fares : (feed : FeedRows) → unplanned_fault feed ≡ None → HasPlainFares feed
+plain_fares feed none =
+    let frames = or_false (has_rows feed.timeframes) (has_rows feed.frame_names) (planned_file feed 12 file.Timeframes none refl) in
+    let rules = or_false feed.has_priority (list_any is_unplanned_rule feed.leg_rules) (planned_file feed 16 file.FareLegRules none refl) in
     record {
-      areas = built.areas;
-      stop_areas = built.stop_areas;
-      frames = built.frame_names;
-      timeframes = built.timeframes;
-      unranked = last.0;
-      networks = λ k d lt. names_one (slice_index_or feed.leg_rules k d).network (none_holds is_unplanned_rule feed.leg_rules k d last.1 lt);
+      areas = no_rows feed.areas (planned_file feed 8 file.Areas none refl);
+      stop_areas = no_rows feed.stop_areas (planned_file feed 9 file.StopAreas none refl);
+      frames = no_rows feed.frame_names frames.1;
+      timeframes = no_rows feed.timeframes frames.0;
+      unranked = rules.0;
+      networks = λ k d lt. names_one (slice_index_or feed.leg_rules k d).network (none_holds is_unplanned_rule feed.leg_rules k d rules.1 lt);
     }

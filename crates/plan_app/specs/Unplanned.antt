@@ -1,6 +1,8 @@
--- What a feed holds that isn't planned with yet: each is a fault of its file.
-use Rattle.std.specs.Prelude.{Bool, ◌||◌, ◌==◌, not, is_none, is_some, [], ◌∷◌, Option}
+-- What a feed may hold and plans don't go by yet: a line for each file.
+use Rattle.std.specs.Prelude.{Bool, false, ◌||◌, ◌==◌, not, nat_lt, is_none, is_some, List, length, Option}
 use Rattle.std.specs.List.{list_any}
+use Rattle.feed_rows.specs.Names.{all_files}
+use Rattle.feed_rows.specs.declared.names.FileName.{FileName}
 use Rattle.feed_rows.specs.declared.names.FileName.TheVariants as file
 use Rattle.feed_rows.specs.declared.faults.FaultKind.TheVariants as kind
 use Rattle.feed_rows.specs.declared.faults.FeedFault.{FeedFault}
@@ -9,7 +11,7 @@ use Rattle.feed_rows.specs.declared.rows.StopTimeRow.{StopTimeRow}
 use Rattle.feed_rows.specs.declared.rows.LegRuleRow.{LegRuleRow}
 use Rattle.feed_rows.specs.Codes.{platform_type}
 use Rattle.feed_rows.specs.FeedRows.{FeedRows}
-use Rattle.plain_laws.specs.Plain.{when, first_of}
+use Rattle.plain_laws.specs.Plain.{when, first_in}
 use Rattle.feed_faults.specs.FaultPlaces.{file_fault}
 
 -- a stop is no platform, or has a parent
@@ -24,10 +26,24 @@ is_unplanned_stop_time row = is_none row.arrival || is_none row.departure
 abbrev pub is_unplanned_rule : LegRuleRow → Bool
 is_unplanned_rule rule = is_none rule.network
 
--- the first of these, each of a whole file: stations, missing times, priorities and rules without network
+-- there is a row
+abbrev pub has_rows : {X : Type 0} → List X → Bool
+has_rows rows = nat_lt 0 (length rows)
+
+-- a file holds something that plans don't go by yet
+abbrev pub is_unplanned : FileName → FeedRows → Bool
+is_unplanned file.Stops feed = list_any is_unplanned_stop feed.stops
+is_unplanned file.StopTimes feed = list_any is_unplanned_stop_time feed.stop_times
+is_unplanned file.Frequencies feed = has_rows feed.frequencies
+is_unplanned file.Transfers feed = has_rows feed.links
+is_unplanned file.Areas feed = has_rows feed.areas
+is_unplanned file.StopAreas feed = has_rows feed.stop_areas
+is_unplanned file.Timeframes feed = has_rows feed.timeframes || has_rows feed.frame_names
+is_unplanned file.RiderCategories feed = has_rows feed.riders
+is_unplanned file.FareLegRules feed = feed.has_priority || list_any is_unplanned_rule feed.leg_rules
+is_unplanned file.FareTransferRules feed = has_rows feed.transfer_rules
+is_unplanned name feed = false
+
+-- the first such file, as a fault of the whole file
 unfoldable pub unplanned_fault : FeedRows → Option FeedFault
-unplanned_fault feed =
-    first_of (when (list_any is_unplanned_stop feed.stops) (file_fault file.Stops kind.NotBuilt)
-    ∷ when (list_any is_unplanned_stop_time feed.stop_times) (file_fault file.StopTimes kind.NotBuilt)
-    ∷ when (feed.has_priority || list_any is_unplanned_rule feed.leg_rules) (file_fault file.FareLegRules kind.NotBuilt)
-    ∷ [])
+unplanned_fault feed = first_in all_files (λ name. when (is_unplanned name feed) (file_fault name kind.NotBuilt))

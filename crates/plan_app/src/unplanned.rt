@@ -1,8 +1,7 @@
-//! What a feed holds that isn't planned with yet.
+//! What a feed may hold and plans don't go by yet.
 ghost use Rattle.std.specs.Prelude.{◌≡◌};
 ghost use Rattle.std.specs.List.{list_any};
-ghost use Rattle.feed_faults.specs.FaultPlaces.{file_fault};
-ghost use Rattle.plan_app.specs.Unplanned.{is_unplanned_stop, is_unplanned_stop_time, is_unplanned_rule, unplanned_fault};
+ghost use Rattle.plan_app.specs.Unplanned.{is_unplanned_stop, is_unplanned_stop_time, is_unplanned_rule, has_rows, is_unplanned, unplanned_fault};
 
 use feed_rows::{FaultKind, Feed, FeedFault, FileName, LegRuleRow, PLATFORM, StopRow, StopTimeRow};
 
@@ -48,32 +47,55 @@ fn has_unplanned_rule(rules: &[LegRuleRow]) -> bool
     rules.iter().any(|rule| is_unplanned_rule(rule))
 }
 
-// The fault of a file of which something isn't planned with.
-fn not_built(file: FileName) -> FeedFault
-    ensures { result ≡ file_fault file FaultKind.NotBuilt }
+// Whether there is a row.
+fn has_rows<T>(rows: &[T]) -> bool
+    ensures { result ≡ has_rows rows.now }
 {
-    FeedFault {
-        kind: FaultKind::NotBuilt,
-        file,
-        row: 0,
-        column: None,
+    !rows.is_empty()
+}
+
+// Whether the file holds something that plans don't go by yet.
+fn is_unplanned(file: FileName, feed: &Feed) -> bool
+    ensures { result ≡ is_unplanned file feed.now }
+{
+    match file {
+        FileName::Stops => has_unplanned_stop(feed.stops.items()),
+        FileName::StopTimes => has_unplanned_stop_time(feed.stop_times.items()),
+        FileName::Frequencies => has_rows(feed.frequencies.items()),
+        FileName::Transfers => has_rows(feed.links.items()),
+        FileName::Areas => has_rows(feed.areas.items()),
+        FileName::StopAreas => has_rows(feed.stop_areas.items()),
+        FileName::Timeframes => {
+            has_rows(feed.timeframes.items()) || has_rows(feed.frame_names.items())
+        }
+        FileName::RiderCategories => has_rows(feed.riders.items()),
+        FileName::FareLegRules => feed.has_priority || has_unplanned_rule(feed.leg_rules.items()),
+        FileName::FareTransferRules => has_rows(feed.transfer_rules.items()),
+        FileName::Routes
+        | FileName::Trips
+        | FileName::Calendar
+        | FileName::CalendarDates
+        | FileName::Networks
+        | FileName::RouteNetworks
+        | FileName::FareMedia
+        | FileName::FareProducts => false,
     }
 }
 
-/// The first file of a feed that holds something which isn't planned with yet: stations, missing times, priorities or leg
-/// rules without network.
-#[tactic(auto, unfolding(crate::specs::Unplanned::unplanned_fault))]
+/// The first file of a feed that holds something which plans don't go by yet.
+#[tactic(auto, unfolding(crate::specs::Unplanned::unplanned_fault), using(plain_laws::proofs::Laws::first_in_found, plain_laws::proofs::Laws::first_in_next))]
 pub(crate) fn unplanned_fault(feed: &Feed) -> Option<FeedFault>
     ensures { result ≡ unplanned_fault feed.now }
 {
-    if has_unplanned_stop(feed.stops.items()) {
-        return Some(not_built(FileName::Stops));
-    }
-    if has_unplanned_stop_time(feed.stop_times.items()) {
-        return Some(not_built(FileName::StopTimes));
-    }
-    if feed.has_priority || has_unplanned_rule(feed.leg_rules.items()) {
-        return Some(not_built(FileName::FareLegRules));
+    for (i, file) in FileName::ALL.iter().enumerate() {
+        if is_unplanned(*file, feed) {
+            return Some(FeedFault {
+                kind: FaultKind::NotBuilt,
+                file: *file,
+                row: 0,
+                column: None,
+            });
+        }
     }
     None
 }
