@@ -1,23 +1,43 @@
 -- Why a folder gives no feed, and which feed it gives.
-use Rattle.std.specs.Prelude.{◌≡◌, ℕ, Bool, true, Option, None, Some}
+use Rattle.std.specs.Prelude.{◌≡◌, None, Some, true}
 use Rattle.feed_rows.specs.FaultCounts.{Rose, Stayed}
 use Rattle.feed_rows.specs.FeedRows.{FeedRows}
-use Rattle.feed_rows.specs.HeldFiles.{held}
+use Rattle.feed_rows.specs.HeldFiles.{HeldFile}
+use Rattle.feed_rows.specs.declared.faults.FeedFault.{FeedFault}
+use Rattle.feed_rows.specs.declared.names.FileName.{FileName}
 use Rattle.feed_faults.specs.AcceptedFeed.{feed_of}
-use Rattle.folder_io.specs.FolderCalls.{Contents}
+use Rattle.folder_io.specs.FolderCalls.{FolderState}
+use Rattle.folder_io.specs.FileReading.{Gives, OpensAll, OpensSome}
 use Rattle.feed_check.specs.declared.folder.LoadError.{LoadError}
 use Rattle.feed_check.specs.declared.folder.LoadError.TheVariants as error
 use Rattle.feed_faults.specs.FirstFault.{first_fault}
 
--- why nothing was loaded, by what the folder tells that it holds, the count of its faults before and after, and whether its
--- last call failed: a call failed, or the fault is the first of what is held, or want of memory
-abbrev pub GivesUpLoading : LoadError → Option Contents → ℕ → ℕ → Bool → Type 0
-GivesUpLoading error.ReadFault folder before now failed = Rose before now × (failed ≡ true)
-GivesUpLoading (error.Fault fault) None before now failed = Stayed before now
-GivesUpLoading (error.Fault fault) (Some folder) before now failed = Stayed before now × (first_fault (held folder) ≡ Some fault)
-GivesUpLoading error.NoMemory folder before now failed = Stayed before now
+-- the feed is that of the folder's files, which have no fault
+pub record IsFeedOf (folder : FolderState) (feed : FeedRows) : Type 0 where
+  pub files : FileName → HeldFile
+  pub gives : Gives folder files
+  pub accepted : first_fault files ≡ None
+  pub is_feed : feed ≡ feed_of files
 
--- the feed is that of what the folder tells that it holds, which has no fault
-abbrev pub IsFeedOf : Option Contents → FeedRows → Type 0
-IsFeedOf None feed = Unit {0}
-IsFeedOf (Some folder) feed = (first_fault (held folder) ≡ None) × (feed ≡ feed_of (held folder))
+-- the fault is the first of the folder's files
+pub record IsFaultOf (folder : FolderState) (fault : FeedFault) : Type 0 where
+  pub files : FileName → HeldFile
+  pub gives : Gives folder files
+  pub is_first : first_fault files ≡ Some fault
+
+-- a call of the folder failed, and it is the last one that was made
+pub record FailsReading (folder later : FolderState) : Type 0 where
+  pub counts : Rose folder.faults later.faults
+  pub ended : later.failed ≡ true
+  pub opens : OpensSome folder later
+
+-- no call of the folder failed, and the reading went to some file
+pub record StopsReading (folder later : FolderState) : Type 0 where
+  pub counts : Stayed folder.faults later.faults
+  pub opens : OpensSome folder later
+
+-- why nothing was loaded: a call failed, or the fault is the first of the files, all of which were read, or want of memory
+abbrev pub GivesUpLoading : LoadError → FolderState → FolderState → Type 0
+GivesUpLoading error.ReadFault folder later = FailsReading folder later
+GivesUpLoading (error.Fault fault) folder later = OpensAll folder later × IsFaultOf folder fault
+GivesUpLoading error.NoMemory folder later = StopsReading folder later

@@ -1,6 +1,6 @@
 //! The feed that a folder holds.
-ghost use Rattle.std.specs.Prelude.{◌≡◌, ◌<◌, IfOk, IfErr, OnOk, IsTrue};
-ghost use Rattle.feed_rows.specs.FaultCounts.{Stayed};
+ghost use Rattle.std.specs.Prelude.{◌≡◌, IfOk, IfErr, OnOk};
+ghost use Rattle.folder_io.specs.FileReading.{OpensAll};
 ghost use Rattle.feed_check.specs.LoadErrors.{GivesUpLoading, IsFeedOf};
 
 use crate::files::{CheckError, check};
@@ -25,11 +25,10 @@ pub enum LoadError {
 /// [`LoadError::ReadFault`] where a call of the folder failed, after which no further call was made; the first fault of the
 /// feed; want of memory.
 pub fn load<F: Folder>(alloc: Global, folder: &mut F) -> Result<Feed, LoadError>
-    ensures feed { IfOk result (IsFeedOf (F.holds folder.old)) }
-    ensures ok { OnOk result (Stayed (F.faults folder.old) (F.faults folder.new)) }
-    ensures err { IfErr result (λ error. GivesUpLoading error (F.holds folder.old) (F.faults folder.old) (F.faults folder.new) (F.failed folder.new)) }
-    ensures ends_at_fault { F.faults folder.old < F.faults folder.new → IsTrue (F.failed folder.new) }
-    ensures holds { F.holds folder.new ≡ F.holds folder.old }
+    ensures feed { IfOk result (IsFeedOf (F.state folder.old)) }
+    ensures ok { OnOk result (OpensAll (F.state folder.old) (F.state folder.new)) }
+    ensures err { IfErr result (λ error. GivesUpLoading error (F.state folder.old) (F.state folder.new)) }
+    ensures holds { (F.state folder.new).holds ≡ (F.state folder.old).holds }
 {
     let files = match read_files(alloc, folder) {
         Ok(files) => files,

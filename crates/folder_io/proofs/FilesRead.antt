@@ -1,8 +1,8 @@
 -- Files that are read piece by piece, and one by one.
 use mathlib.Core.Path.{fun_ext}
-use Rattle.std.proofs.Common.{◌≡◌, ap, ℕ, zero, suc, List, [], ◌∷◌, ◌++◌, Option, Some, None, refl, ◌∙◌, map, unwrap_or, slice_get, slice_set, get_or, All, arith, true, false, length, take, drop, ◌+◌, ◌<◌, ◌≤◌, append_assoc, length-append, length-take, append-nil, nat_lt}
-use Rattle.std.specs.Prelude.{option_map}
-use Rattle.std.proofs.lemmas.List.{take-append-le, take-append-drop, take_more, take_more_set, map-append}
+use Rattle.std.proofs.Common.{◌≡◌, ap, sym, subst, ℕ, zero, suc, List, [], ◌∷◌, ◌++◌, Option, Some, None, refl, ◌∙◌, map, unwrap_or, slice_get, slice_set, get_or, All, arith, true, false, length, take, drop, ◌+◌, ◌<◌, ◌≤◌, append_assoc, length-append, length-take, append-nil, nat_lt}
+use Rattle.std.specs.Prelude.{option_map, IfSome, OnErr, Result, Ok, Err}
+use Rattle.std.proofs.lemmas.List.{take-append-le, take-append-drop, take_more, take_more_set, take-map, map_more, map-append}
 use Rattle.std.proofs.Math.Seq.{drop-append_seam}
 use Rattle.std.proofs.lemmas.Bool.Decides.{nat_tests}
 use Rattle.folder_io.specs.declared.folder.Opened.TheVariants as opened
@@ -13,11 +13,13 @@ use Rattle.feed_rows.specs.Names.{file_text}
 use Rattle.feed_rows.specs.HeldFiles.{HeldFile, held_within, held, most_bytes}
 use Rattle.folder_io.specs.declared.files.FileBytes.{FileBytes}
 use Rattle.folder_io.specs.declared.files.FileBytes.TheVariants as kept
+use Rattle.folder_io.specs.CallLogs.{CallLog, Makes}
 use Rattle.feed_rows.specs.Names.{all_files}
 use Rattle.folder_io.specs.FilePlaces.{place}
-use Rattle.folder_io.specs.FolderCalls.{Contents, Finds, Opens, Takes}
-use Rattle.folder_io.specs.KeptFiles.{held_of, IsWithin, AreWithin}
-use Rattle.folder_io.specs.FileReading.{AreRead, IsRead, StopsPast}
+use Rattle.folder_io.specs.FolderCalls.{Contents, Finds, Takes}
+use Rattle.folder_io.specs.KeptFiles.{held_of, held_in, IsWithin, AreWithin}
+use Rattle.folder_io.specs.FileReading.{IsRead, StopsPast, file_names}
+use Rattle.folder_io.proofs.LogLaws.{makes_more}
 
 -- the bytes so far and what is left are the file
 abbrev pub IsWhole : Option (List ℕ) → Option (List ℕ) → List ℕ → Type 0
@@ -45,18 +47,18 @@ opened_whole : (under left : Option (List ℕ)) → Finds under left opened.Pres
 opened_whole None left finds = absurd finds
 opened_whole (Some all) left finds = rw finds refl
 
-pub opened_so_far : (holds : Option Contents) (name bytes : List ℕ) (left : Option (List ℕ)) → Opens holds name left opened.Present → bytes ≡ [] → IsSoFar holds name left bytes
+pub opened_so_far : (holds : Option Contents) (name bytes : List ℕ) (left : Option (List ℕ)) → IfSome holds (λ held. Finds (held name) left opened.Present) → bytes ≡ [] → IsSoFar holds name left bytes
 opened_so_far None name bytes left finds none = tt
 opened_so_far (Some folder) name bytes left finds none = rw none (opened_whole (folder name) left finds)
 
 -- one piece more
-more_whole : (under left later : Option (List ℕ)) (bytes more room : List ℕ) (n : ℕ) → IsWhole under left bytes → Takes left later room (piece.Got n) → more ≡ bytes ++ take n room → IsWhole under later more
+more_whole : (under left later : Option (List ℕ)) (bytes more room : List ℕ) (n : ℕ) → IsWhole under left bytes → IfSome left (λ rest. Takes rest later room (piece.Got n)) → more ≡ bytes ++ take n room → IsWhole under later more
 more_whole None left later bytes more room n so_far takes put = absurd so_far
 more_whole (Some all) None later bytes more room n so_far takes put = absurd so_far
 more_whole (Some all) (Some rest) later bytes more room n so_far takes put =
     rw (takes.2, put, takes.1, append_assoc, take-append-drop n rest) so_far
 
-pub more_so_far : (holds : Option Contents) (name bytes more room : List ℕ) (left later : Option (List ℕ)) (n : ℕ) → IsSoFar holds name left bytes → Takes left later room (piece.Got n) → more ≡ bytes ++ take n room → IsSoFar holds name later more
+pub more_so_far : (holds : Option Contents) (name bytes more room : List ℕ) (left later : Option (List ℕ)) (n : ℕ) → IsSoFar holds name left bytes → IfSome left (λ rest. Takes rest later room (piece.Got n)) → more ≡ bytes ++ take n room → IsSoFar holds name later more
 more_so_far None name bytes more room left later n so_far takes put = tt
 more_so_far (Some folder) name bytes more room left later n so_far takes put = more_whole (folder name) left later bytes more room n so_far takes put
 
@@ -65,12 +67,12 @@ absent_held : (under left : Option (List ℕ)) (limit : ℕ) → Finds under lef
 absent_held None left limit finds = refl
 absent_held (Some all) left limit finds = absurd finds
 
-pub absent_read : (holds : Option Contents) (name : List ℕ) (left : Option (List ℕ)) (limit : ℕ) → Opens holds name left opened.Absent → IsRead holds name limit kept.Absent × StopsPast holds name limit left kept.Absent
+pub absent_read : (holds : Option Contents) (name : List ℕ) (left : Option (List ℕ)) (limit : ℕ) → IfSome holds (λ held. Finds (held name) left opened.Absent) → IsRead holds name limit kept.Absent × StopsPast holds name limit left kept.Absent
 absent_read None name left limit finds = (tt, tt)
 absent_read (Some folder) name left limit finds = (absent_held (folder name) left limit finds, tt)
 
 -- a file that is read to its end
-end_held : (under left later : Option (List ℕ)) (bytes room : List ℕ) (limit : ℕ) → IsWhole under left bytes → Takes left later room piece.End → length bytes ≤ limit → HeldFile.Bytes bytes ≡ held_within limit under
+end_held : (under left later : Option (List ℕ)) (bytes room : List ℕ) (limit : ℕ) → IsWhole under left bytes → IfSome left (λ rest. Takes rest later room piece.End) → length bytes ≤ limit → HeldFile.Bytes bytes ≡ held_within limit under
 end_held None left later bytes room limit so_far takes le = absurd so_far
 end_held (Some all) None later bytes room limit so_far takes le = absurd so_far
 end_held (Some all) (Some rest) later bytes room limit so_far takes le =
@@ -78,7 +80,7 @@ end_held (Some all) (Some rest) later bytes room limit so_far takes le =
     let fits : nat_lt limit (length bytes) ≡ false = grind (arith, nat_tests, le) in
     rw (same, fits) refl
 
-pub end_read : (holds : Option Contents) (name bytes room : List ℕ) (left later : Option (List ℕ)) (limit : ℕ) → IsSoFar holds name left bytes → Takes left later room piece.End → length bytes ≤ limit
+pub end_read : (holds : Option Contents) (name bytes room : List ℕ) (left later : Option (List ℕ)) (limit : ℕ) → IsSoFar holds name left bytes → IfSome left (λ rest. Takes rest later room piece.End) → length bytes ≤ limit
     → IsRead holds name limit (kept.Bytes bytes) × StopsPast holds name limit later (kept.Bytes bytes)
 end_read None name bytes room left later limit so_far takes le = (tt, tt)
 end_read (Some folder) name bytes room left later limit so_far takes le = (end_held (folder name) left later bytes room limit so_far takes le, tt)
@@ -137,7 +139,7 @@ held_of_each folder file.FareLegRules = refl
 held_of_each folder file.FareTransferRules = refl
 
 -- all files are read
-pub all_read : (holds : Option Contents) (files : List FileBytes) → AreReadSoFar holds all_files files → AreRead holds files
+pub all_read : (holds : Option Contents) (files : List FileBytes) → AreReadSoFar holds all_files files → IfSome holds (λ contents. held_in files ≡ held contents)
 all_read None files so_far = tt
 all_read (Some folder) files so_far =
     fun_ext (λ name. held_of_place files (place name) ∙ ap (λ all. unwrap_or (slice_get all (place name)) HeldFile.Missing) so_far ∙ held_of_each folder name)
@@ -151,3 +153,17 @@ within_at limit (file ∷ files) (suc i) all = within_at limit files i (λ k d b
 -- each file is
 pub each_within : (files : List FileBytes) → All (IsWithin most_bytes) files → AreWithin files
 each_within files all name = within_at most_bytes files (place name) all
+
+-- one file more is opened
+names_more : {X Y : Type 0} (f : X → Y) (xs : List X) (i : ℕ) (d : X) → i < length xs → take i (map f xs) ++ f (get_or xs i d) ∷ [] ≡ take (i + 1) (map f xs)
+names_more f xs i d lt = ap (λ ys. ys ++ f (get_or xs i d) ∷ []) (take-map f i xs) ∙ sym (take-map f (i + 1) xs ∙ map_more f xs i d lt)
+
+pub more_opened : {before now later : CallLog} (i : ℕ) (d : FileName) → i < length all_files → Makes before (take i file_names) now
+    → Makes now (file_text (get_or all_files i d) ∷ []) later → Makes before (take (i + 1) file_names) later
+more_opened {before} {later = later} i d lt so_far one =
+    subst (λ names. Makes before names later) (names_more file_text all_files i d lt) (makes_more so_far one)
+
+-- what holds after any answer holds after an error
+pub on_err : {T E P : Type 0} (result : Result T E) → P → OnErr result P
+on_err (Ok value) holds = tt
+on_err (Err error) holds = holds

@@ -1,3 +1,4 @@
+pub mod LogLaws
 pub mod FilesRead
 pub mod FilesHeld
 pub mod WholeLaws

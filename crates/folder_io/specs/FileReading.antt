@@ -1,32 +1,50 @@
 -- What reading files answers.
-use Rattle.std.specs.Prelude.{◌≡◌, ℕ, ◌+◌, List, drop, Option, None, Some, option_map, Bool, true}
+use Rattle.std.specs.Prelude.{◌≡◌, ℕ, ◌+◌, List, map, take, drop, Option, option_map, true, IfSome}
 use Rattle.feed_rows.specs.FaultCounts.{Rose, Stayed}
-use Rattle.feed_rows.specs.HeldFiles.{held_within, held}
+use Rattle.feed_rows.specs.HeldFiles.{HeldFile, held_within, held}
+use Rattle.feed_rows.specs.Names.{file_text}
+use Rattle.feed_rows.specs.declared.names.FileName.{FileName}
 use Rattle.folder_io.specs.declared.files.FileBytes.{FileBytes}
 use Rattle.folder_io.specs.declared.files.FileBytes.TheVariants as kept
 use Rattle.folder_io.specs.declared.reading.ReadError.{ReadError}
 use Rattle.folder_io.specs.declared.reading.ReadError.TheVariants as error
-use Rattle.folder_io.specs.FolderCalls.{Contents}
-use Rattle.folder_io.specs.KeptFiles.{held_of, held_in}
+use Rattle.folder_io.specs.CallLogs.{Makes}
+use Rattle.feed_rows.specs.Names.{all_files}
+use Rattle.folder_io.specs.FolderCalls.{Contents, FolderState}
+use Rattle.folder_io.specs.KeptFiles.{held_of}
 
--- why a read gave up, by the count before and after it, and whether its last call of the folder failed
-abbrev pub GivesUp : ReadError → ℕ → ℕ → Bool → Type 0
-GivesUp error.ReadFault before now failed = Rose before now × (failed ≡ true)
-GivesUp error.NoMemory before now failed = Stayed before now
+-- why a read gave up: a call of the folder failed, and it is the last one that was made; or memory was wanting
+abbrev pub GivesUp : ReadError → FolderState → FolderState → Type 0
+GivesUp error.ReadFault before now = Rose before.faults now.faults × (now.failed ≡ true)
+GivesUp error.NoMemory before now = Stayed before.faults now.faults
 
 -- what was read of a file is what is held of it, where that is told
 abbrev pub IsRead : Option Contents → List ℕ → ℕ → FileBytes → Type 0
-IsRead None name limit bytes = Unit {0}
-IsRead (Some folder) name limit bytes = held_of bytes ≡ held_within limit (folder name)
+IsRead holds name limit bytes = IfSome holds (λ folder. held_of bytes ≡ held_within limit (folder name))
 
--- of a file that is too large, so many bytes and one were taken, where that is told
+-- of a file that is too large, so many bytes and one were taken
+abbrev pub TakesMost : List ℕ → Contents → ℕ → Option (List ℕ) → FileBytes → Type 0
+TakesMost name folder limit left kept.TooLarge = left ≡ option_map (drop (limit + 1)) (folder name)
+TakesMost name folder limit left kept.Absent = Unit {0}
+TakesMost name folder limit left (kept.Bytes bytes) = Unit {0}
+
+-- the same, where it is told what is held
 abbrev pub StopsPast : Option Contents → List ℕ → ℕ → Option (List ℕ) → FileBytes → Type 0
-StopsPast None name limit left bytes = Unit {0}
-StopsPast (Some folder) name limit left kept.TooLarge = left ≡ option_map (drop (limit + 1)) (folder name)
-StopsPast (Some folder) name limit left kept.Absent = Unit {0}
-StopsPast (Some folder) name limit left (kept.Bytes bytes) = Unit {0}
+StopsPast holds name limit left bytes = IfSome holds (λ folder. TakesMost name folder limit left bytes)
 
--- the files that were read are those that are held, where that is told
-abbrev pub AreRead : Option Contents → List FileBytes → Type 0
-AreRead None files = Unit {0}
-AreRead (Some folder) files = held_in files ≡ held folder
+-- the files are those that a folder holds, where it tells what it holds; of one that doesn't tell, they are what it gave
+abbrev pub Gives : FolderState → (FileName → HeldFile) → Type 0
+Gives folder files = IfSome folder.holds (λ contents. files ≡ held contents)
+
+-- the names of a feed's files, in the order in which they are opened
+abbrev pub file_names : List (List ℕ)
+file_names = map file_text all_files
+
+-- no call of the folder failed, and each file of a feed was opened once, in order
+pub record OpensAll (before now : FolderState) : Type 0 where
+  pub counts : Stayed before.faults now.faults
+  pub opens : Makes before.opens file_names now.opens
+
+-- the first so many files of a feed were opened, each once and in order
+abbrev pub OpensSome : FolderState → FolderState → Type 0
+OpensSome before now = (count : ℕ) × Makes before.opens (take count file_names) now.opens

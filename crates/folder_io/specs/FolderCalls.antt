@@ -5,10 +5,26 @@ use Rattle.folder_io.specs.declared.folder.Opened.{Opened}
 use Rattle.folder_io.specs.declared.folder.Opened.TheVariants as opened
 use Rattle.folder_io.specs.declared.folder.Piece.{Piece}
 use Rattle.folder_io.specs.declared.folder.Piece.TheVariants as piece
+use Rattle.folder_io.specs.CallLogs.{CallLog}
 
 -- what a folder holds: the bytes under each name that it holds
 abbrev pub Contents : Type 0
 Contents = List ℕ → Option (List ℕ)
+
+-- what a folder tells of itself
+pub record FolderState : Type 0 where
+  -- what it holds, where it tells that
+  pub holds : Option Contents
+  -- the bytes of the open file that are not read yet, where it tells them
+  pub left : Option (List ℕ)
+  -- whether the last open answered Present; a read leaves it as it is
+  pub present : Bool
+  -- whether the last open or read answered Failed
+  pub failed : Bool
+  -- how many calls failed, up to the last number that is counted
+  pub faults : ℕ
+  -- the names that were opened
+  pub opens : CallLog
 
 -- the count before and after a call: it rose where the call failed, and stayed where it didn't
 abbrev pub CountsFault : Bool → ℕ → ℕ → Type 0
@@ -44,18 +60,12 @@ Finds None left opened.Absent = Unit {0}
 Finds under left opened.NoMemory = Unit {0}
 Finds under left opened.Failed = Unit {0}
 
--- the same of a folder that may tell what it holds
-abbrev pub Opens : Option Contents → List ℕ → Option (List ℕ) → Opened → Type 0
-Opens None name left answer = Unit {0}
-Opens (Some held) name left answer = Finds (held name) left answer
-
--- what a read takes of the bytes that were left, where they are told: the first so many, which stand in the room, and
--- it answers End only where there are none
-abbrev pub Takes : Option (List ℕ) → Option (List ℕ) → List ℕ → Piece → Type 0
-Takes None left room answer = Unit {0}
-Takes (Some bytes) left room (piece.Got n) = (n ≤ length bytes) × (take n room ≡ take n bytes) × (left ≡ Some (drop n bytes))
-Takes (Some bytes) left room piece.End = (bytes ≡ []) × (left ≡ Some bytes)
-Takes (Some bytes) left room piece.Failed = Unit {0}
+-- what a read takes of the bytes that were left: the first so many, which stand in the room, and it answers End only where
+-- there are none
+abbrev pub Takes : List ℕ → Option (List ℕ) → List ℕ → Piece → Type 0
+Takes bytes left room (piece.Got n) = (n ≤ length bytes) × (take n room ≡ take n bytes) × (left ≡ Some (drop n bytes))
+Takes bytes left room piece.End = (bytes ≡ []) × (left ≡ Some bytes)
+Takes bytes left room piece.Failed = Unit {0}
 
 -- a piece has at least one byte, and no more than there is room
 abbrev pub FitsRoom : ℕ → Piece → Type 0

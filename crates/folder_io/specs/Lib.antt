@@ -1,5 +1,6 @@
 pub mod FilePlaces
 pub mod KeptFiles
+pub mod CallLogs
 pub mod FolderCalls
 pub mod SinkCalls
 pub mod MemoryCalls

@@ -1,8 +1,9 @@
 -- What a folder in memory holds and has left, what it counted, and which of its calls fail.
-use Rattle.std.specs.Prelude.{ℕ, List, Option, Bool}
+use Rattle.std.specs.Prelude.{ℕ, List, Option, Some, Bool}
 use Rattle.folder_io.specs.declared.files.FileBytes.{FileBytes}
 use Rattle.folder_io.specs.declared.memory_folder.MemFolder.{MemFolder}
-use Rattle.folder_io.specs.FolderCalls.{Contents}
+use Rattle.folder_io.specs.CallLogs.{CallLog, counted}
+use Rattle.folder_io.specs.FolderCalls.{Contents, FolderState}
 use Rattle.folder_io.specs.MemoryCalls.{FailingCalls}
 use Rattle.folder_io.specs.SureFolder.{sure_files, sure_contents, sure_left, sure_present}
 
@@ -37,4 +38,19 @@ memory_calls folder = record {
   failing_reads = folder.failing_reads.items;
   opens_made = folder.opens;
   reads_made = folder.reads;
+}
+
+-- its opens, of which it tells how many there were
+abbrev pub memory_opens : MemFolder → CallLog
+memory_opens folder = counted folder.opens
+
+-- what it tells of itself
+abbrev pub memory_folder_state : MemFolder → FolderState
+memory_folder_state folder = record {
+  holds = Some (memory_contents folder);
+  left = memory_left folder;
+  present = memory_present folder;
+  failed = memory_failed folder;
+  faults = memory_faults folder;
+  opens = memory_opens folder;
 }

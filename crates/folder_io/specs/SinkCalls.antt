@@ -2,6 +2,18 @@
 use Rattle.std.specs.Prelude.{◌≡◌, ℕ, ◌-◌, List, [], length, take, ◌++◌, Option, None, Some, Bool, true, false, nat_le}
 use Rattle.folder_io.specs.declared.sink.Wrote.{Wrote}
 use Rattle.folder_io.specs.declared.sink.Wrote.TheVariants as wrote
+use Rattle.folder_io.specs.CallLogs.{CallLog}
+
+-- what a sink tells of itself
+pub record SinkState : Type 0 where
+  -- what was written so far, where it tells that
+  pub written : Option (List ℕ)
+  -- whether the last write answered Failed
+  pub failed : Bool
+  -- how many writes failed, up to the last number that is counted
+  pub faults : ℕ
+  -- the pieces that were to be written
+  pub writes : CallLog
 
 -- whether a write answers Failed
 abbrev pub is_failed_write : Wrote → Bool

@@ -1,8 +1,9 @@
 -- What a folder in memory holds and has left.
-use Rattle.std.specs.Prelude.{ℕ, List, drop, Option, Bool, option_map, option_and_then, is_some}
+use Rattle.std.specs.Prelude.{ℕ, List, drop, Option, Some, Bool, false, option_map, option_and_then, is_some}
 use Rattle.folder_io.specs.declared.files.FileBytes.{FileBytes}
 use Rattle.folder_io.specs.declared.sure_folder.SureFolder.{SureFolder}
-use Rattle.folder_io.specs.FolderCalls.{Contents}
+use Rattle.folder_io.specs.CallLogs.{untold}
+use Rattle.folder_io.specs.FolderCalls.{Contents, FolderState}
 use Rattle.folder_io.specs.KeptFiles.{file_in, bytes_of, bytes_under}
 
 -- the files that it was made of
@@ -20,3 +21,14 @@ sure_left folder = option_map (drop folder.at) (option_and_then (λ file. bytes_
 -- whether a file is open
 abbrev pub sure_present : SureFolder → Bool
 sure_present folder = is_some folder.current
+
+-- what it tells of itself
+abbrev pub sure_folder_state : SureFolder → FolderState
+sure_folder_state folder = record {
+  holds = Some (sure_contents folder);
+  left = sure_left folder;
+  present = sure_present folder;
+  failed = false;
+  faults = 0;
+  opens = untold;
+}

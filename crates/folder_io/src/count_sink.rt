@@ -23,14 +23,10 @@ impl CountSink {
 }
 
 impl Sink for CountSink {
-    ghost use Rattle.std.specs.Prelude.{◌≡◌, None, false};
-    ghost use Rattle.folder_io.specs.CountSink.{count_faults};
+    ghost use Rattle.std.specs.Prelude.{◌≡◌};
+    ghost use Rattle.folder_io.specs.CountSink.{count_faults, count_sink_state};
 
-    ghost written = { λ _. None };
-
-    ghost failed = { λ _. false };
-
-    ghost faults = { count_faults };
+    ghost state = { count_sink_state };
 
     /// Always All.
     fn write(&mut self, piece: &[u8]) -> Wrote

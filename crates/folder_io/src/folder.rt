@@ -1,5 +1,5 @@
 //! A folder that files are read from.
-ghost use Rattle.std.specs.Prelude.{◌≡◌, ◌<◌, ◌≤◌, ◌^◌, ◌-◌, Bool, true, ℕ, List, Option, length};
+ghost use Rattle.std.specs.Prelude.{◌≡◌, ◌<◌, ◌≤◌, ◌^◌, ◌-◌, ◌∷◌, [], true, length, IfSome};
 
 /// What an open answers.
 #[derive(Clone, Copy, PartialEq, Eq)]
@@ -29,46 +29,37 @@ pub enum Piece {
 ///
 /// What it holds is told where the object can tell it, as those in memory do; a folder of the system tells nothing of it.
 /// Every failure is counted: a call answers Failed only where the count of faults rose, and any other answer leaves the
-/// count as it was.
+/// count as it was. Each open is told too, as far as the object counts them.
 pub trait Folder {
-    ghost use Rattle.folder_io.specs.FolderCalls.{Contents, CountsFault, is_present, is_failed_open, is_failed_read, Opens, Takes, FitsRoom};
+    ghost use Rattle.folder_io.specs.FolderCalls.{FolderState, CountsFault, is_present, is_failed_open, is_failed_read, Finds, Takes, FitsRoom};
+    ghost use Rattle.folder_io.specs.CallLogs.{Makes};
 
-    /// What is held under each name, where the folder tells it.
-    ghost holds: { Self → Option Contents };
-
-    /// The bytes of the open file that are not read yet, where the folder tells them.
-    ghost left: { Self → Option (List ℕ) };
-
-    /// Whether the last open answered Present. A read leaves it as it is.
-    ghost present: { Self → Bool };
-
-    /// Whether the last open or read answered Failed.
-    ghost failed: { Self → Bool };
-
-    /// How many calls failed, up to the last number that is counted.
-    ghost faults: { Self → ℕ };
+    /// What the folder tells of itself.
+    ghost state: { Self → FolderState };
 
     /// Opens the file of that name. A file that was open is open no more.
     fn open(&mut self, name: &str) -> Opened
-        ensures counts { CountsFault (is_failed_open result) (faults self.old) (faults self.new) }
-        ensures never_falls { faults self.old ≤ faults self.new }
-        ensures failed { failed self.new ≡ is_failed_open result }
-        ensures present { present self.new ≡ is_present result }
-        ensures holds { holds self.new ≡ holds self.old }
-        ensures finds { Opens (holds self.old) name.now (left self.new) result };
+        ensures counts { CountsFault (is_failed_open result) (state self.old).faults (state self.new).faults }
+        ensures never_falls { (state self.old).faults ≤ (state self.new).faults }
+        ensures failed { (state self.new).failed ≡ is_failed_open result }
+        ensures present { (state self.new).present ≡ is_present result }
+        ensures holds { (state self.new).holds ≡ (state self.old).holds }
+        ensures finds { IfSome (state self.old).holds (λ held. Finds (held name.now) (state self.new).left result) }
+        ensures opens { Makes (state self.old).opens (name.now ∷ []) (state self.new).opens };
 
     /// Reads on in the open file, at most as much as the room takes.
     fn read(&mut self, room: &mut [u8]) -> Piece
-        requires is_open { present self.old ≡ true }
+        requires is_open { (state self.old).present ≡ true }
         requires some_room { 0 < length room.old }
-        ensures counts { CountsFault (is_failed_read result) (faults self.old) (faults self.new) }
-        ensures never_falls { faults self.old ≤ faults self.new }
-        ensures failed { failed self.new ≡ is_failed_read result }
-        ensures present { present self.new ≡ present self.old }
-        ensures holds { holds self.new ≡ holds self.old }
+        ensures counts { CountsFault (is_failed_read result) (state self.old).faults (state self.new).faults }
+        ensures never_falls { (state self.old).faults ≤ (state self.new).faults }
+        ensures failed { (state self.new).failed ≡ is_failed_read result }
+        ensures present { (state self.new).present ≡ (state self.old).present }
+        ensures holds { (state self.new).holds ≡ (state self.old).holds }
         ensures fits { FitsRoom (length room.old) result }
-        ensures takes { Takes (left self.old) (left self.new) room.new result };
+        ensures takes { IfSome (state self.old).left (λ bytes. Takes bytes (state self.new).left room.new result) }
+        ensures opens { (state self.new).opens ≡ (state self.old).opens };
 
     /// The count fits a `u64`.
-    ghost bounded: { (folder : Self) → faults folder ≤ 2 ^ 64 - 1 };
+    ghost bounded: { (folder : Self) → (state folder).faults ≤ 2 ^ 64 - 1 };
 }

@@ -57,20 +57,13 @@ fn names(numbers: &[u32], call: u64) -> bool
 }
 
 impl Folder for MemFolder {
-    ghost use Rattle.std.specs.Prelude.{◌≡◌, ◌<◌, ◌≤◌, ◌-◌, ◌^◌, length, true, false, Some};
-    ghost use Rattle.folder_io.specs.FolderCalls.{CountsFault, is_present, is_failed_open, is_failed_read, Opens, Takes, FitsRoom};
+    ghost use Rattle.std.specs.Prelude.{◌≡◌, ◌<◌, ◌≤◌, ◌-◌, ◌^◌, ◌∷◌, [], length, true, false, IfSome};
+    ghost use Rattle.folder_io.specs.FolderCalls.{CountsFault, is_present, is_failed_open, is_failed_read, Finds, Takes, FitsRoom};
     ghost use Rattle.folder_io.specs.MemoryCalls.{opened_of, open_fails, read_fails, after_open, after_read};
-    ghost use Rattle.folder_io.specs.MemoryFolder.{memory_files, memory_contents, memory_left, memory_present, memory_failed, memory_faults, memory_calls};
+    ghost use Rattle.folder_io.specs.MemoryFolder.{memory_files, memory_contents, memory_left, memory_present, memory_failed, memory_faults, memory_calls, memory_opens, memory_folder_state};
+    ghost use Rattle.folder_io.specs.CallLogs.{Makes};
 
-    ghost holds = { λ folder. Some (memory_contents folder) };
-
-    ghost left = { memory_left };
-
-    ghost present = { memory_present };
-
-    ghost failed = { memory_failed };
-
-    ghost faults = { memory_faults };
+    ghost state = { memory_folder_state };
 
     /// Failed exactly where the list of opens names the call, else Present exactly where the name is held, else Absent.
     fn open(&mut self, name: &str) -> Opened
@@ -81,7 +74,8 @@ impl Folder for MemFolder {
         ensures failed { memory_failed self.new ≡ is_failed_open result }
         ensures present { memory_present self.new ≡ is_present result }
         ensures files { memory_files self.new ≡ memory_files self.old }
-        ensures finds { Opens (Some (memory_contents self.old)) name.now (memory_left self.new) result }
+        ensures finds { Finds (memory_contents self.old name.now) (memory_left self.new) result }
+        ensures opens { Makes (memory_opens self.old) (name.now ∷ []) (memory_opens self.new) }
     {
         self.opens = self.opens.saturating_add(1);
         if names(&self.failing_opens, self.opens) {
@@ -105,7 +99,7 @@ impl Folder for MemFolder {
         ensures present { memory_present self.new ≡ memory_present self.old }
         ensures files { memory_files self.new ≡ memory_files self.old }
         ensures fits { FitsRoom (length room.old) result }
-        ensures takes { Takes (memory_left self.old) (memory_left self.new) room.new result }
+        ensures takes { IfSome (memory_left self.old) (λ bytes. Takes bytes (memory_left self.new) room.new result) }
     {
         self.reads = self.reads.saturating_add(1);
         if names(&self.failing_reads, self.reads) {

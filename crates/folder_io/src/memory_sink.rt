@@ -64,17 +64,14 @@ fn cut_of(cuts: &[Cut], call: u64) -> Option<Cut>
 }
 
 impl Sink for MemSink {
-    ghost use Rattle.std.specs.Prelude.{◌≡◌, ◌<◌, ◌≤◌, ◌-◌, ◌^◌, ◌++◌, Some, length};
+    ghost use Rattle.std.specs.Prelude.{◌≡◌, ◌<◌, ◌≤◌, ◌-◌, ◌^◌, ◌++◌, ◌∷◌, [], Some, length};
     ghost use Rattle.folder_io.specs.FolderCalls.{CountsFault};
     ghost use Rattle.folder_io.specs.SinkCalls.{is_failed_write, Writes, has_room_for};
     ghost use Rattle.folder_io.specs.CutWrites.{next_cut, after_write, cut_answer, kept_bytes};
-    ghost use Rattle.folder_io.specs.MemorySink.{memory_written, memory_room, memory_cuts, memory_sink_failed, memory_sink_faults};
+    ghost use Rattle.folder_io.specs.MemorySink.{memory_written, memory_room, memory_cuts, memory_sink_failed, memory_sink_faults, memory_writes, memory_sink_state};
+    ghost use Rattle.folder_io.specs.CallLogs.{Makes};
 
-    ghost written = { λ sink. Some (memory_written sink) };
-
-    ghost failed = { memory_sink_failed };
-
-    ghost faults = { memory_sink_faults };
+    ghost state = { memory_sink_state };
 
     /// Failed exactly where a cut names the write, which keeps so much of the piece as the cut says, or where the piece
     /// doesn't fit what is left of the room, which keeps nothing of it. Takes no memory.
@@ -87,6 +84,7 @@ impl Sink for MemSink {
         ensures never_falls { memory_sink_faults self.old ≤ memory_sink_faults self.new }
         ensures failed { memory_sink_failed self.new ≡ is_failed_write result }
         ensures written { Writes (Some (memory_written self.old)) (Some (memory_written self.new)) piece.now result }
+        ensures writes { Makes (memory_writes self.old) (piece.now ∷ []) (memory_writes self.new) }
     {
         self.writes = self.writes.saturating_add(1);
         if !self.room.fits(piece) {

@@ -1,9 +1,10 @@
 //! Reading the files of a feed.
-ghost use Rattle.std.specs.Prelude.{◌≡◌, ◌<◌, List, ℕ, length, IfOk, IfErr, OnOk, IfSome, IsTrue};
+ghost use Rattle.std.specs.Prelude.{◌≡◌, ◌∷◌, [], IfOk, IfErr, OnOk, OnErr};
 ghost use Rattle.feed_rows.specs.FaultCounts.{Stayed};
 ghost use Rattle.feed_rows.specs.Names.{file_text};
-ghost use Rattle.folder_io.specs.KeptFiles.{IsWithin, AreWithin};
-ghost use Rattle.folder_io.specs.FileReading.{GivesUp, IsRead, StopsPast, AreRead};
+ghost use Rattle.folder_io.specs.CallLogs.{Makes};
+ghost use Rattle.folder_io.specs.KeptFiles.{IsWithin, AreWithin, held_in};
+ghost use Rattle.folder_io.specs.FileReading.{GivesUp, IsRead, StopsPast, Gives, OpensAll, OpensSome};
 
 use crate::{ByteText, FileBytes, Files, Folder, Opened, Piece};
 use feed_rows::FileName;
@@ -49,12 +50,12 @@ pub fn read_file<F: Folder>(
     limit: u32,
 ) -> Result<FileBytes, ReadError>
     ensures within { IfOk result (IsWithin limit) }
-    ensures bytes { IfOk result (IsRead (F.holds folder.old) (file_text name) limit) }
-    ensures stops_past { IfOk result (StopsPast (F.holds folder.old) (file_text name) limit (F.left folder.new)) }
-    ensures ok { OnOk result (Stayed (F.faults folder.old) (F.faults folder.new)) }
-    ensures err { IfErr result (λ error. GivesUp error (F.faults folder.old) (F.faults folder.new) (F.failed folder.new)) }
-    ensures ends_at_fault { F.faults folder.old < F.faults folder.new → IsTrue (F.failed folder.new) }
-    ensures holds { F.holds folder.new ≡ F.holds folder.old }
+    ensures bytes { IfOk result (IsRead (F.state folder.old).holds (file_text name) limit) }
+    ensures stops_past { IfOk result (StopsPast (F.state folder.old).holds (file_text name) limit (F.state folder.new).left) }
+    ensures ok { OnOk result (Stayed (F.state folder.old).faults (F.state folder.new).faults) }
+    ensures err { IfErr result (λ error. GivesUp error (F.state folder.old) (F.state folder.new)) }
+    ensures holds { (F.state folder.new).holds ≡ (F.state folder.old).holds }
+    ensures opens { Makes (F.state folder.old).opens (file_text name ∷ []) (F.state folder.new).opens }
 {
     match folder.open(name.text()) {
         Opened::Failed => return Err(ReadError::ReadFault),
@@ -84,11 +85,11 @@ pub fn read_file<F: Folder>(
 /// [`ReadError::ReadFault`] where a call of the folder failed, after which no further call was made; want of memory.
 pub fn read_files<F: Folder>(alloc: Global, folder: &mut F) -> Result<Files, ReadError>
     ensures within { IfOk result AreWithin }
-    ensures files { IfOk result (AreRead (F.holds folder.old)) }
-    ensures ok { OnOk result (Stayed (F.faults folder.old) (F.faults folder.new)) }
-    ensures err { IfErr result (λ error. GivesUp error (F.faults folder.old) (F.faults folder.new) (F.failed folder.new)) }
-    ensures ends_at_fault { F.faults folder.old < F.faults folder.new → IsTrue (F.failed folder.new) }
-    ensures holds { F.holds folder.new ≡ F.holds folder.old }
+    ensures files { IfOk result (λ files. Gives (F.state folder.old) (held_in files)) }
+    ensures ok { OnOk result (OpensAll (F.state folder.old) (F.state folder.new)) }
+    ensures err { IfErr result (λ error. GivesUp error (F.state folder.old) (F.state folder.new)) }
+    ensures opens { OnErr result (OpensSome (F.state folder.old) (F.state folder.new)) }
+    ensures holds { (F.state folder.new).holds ≡ (F.state folder.old).holds }
 {
     let mut files = Files::empty();
     for (i, name) in FileName::ALL.iter().enumerate() {

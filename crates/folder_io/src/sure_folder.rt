@@ -40,20 +40,12 @@ impl SureFolder {
 }
 
 impl Folder for SureFolder {
-    ghost use Rattle.std.specs.Prelude.{◌≡◌, ◌<◌, ◌≤◌, length, true, false, Some};
-    ghost use Rattle.folder_io.specs.FolderCalls.{CountsFault, is_present, is_failed_open, is_failed_read, Opens, Takes, FitsRoom};
+    ghost use Rattle.std.specs.Prelude.{◌≡◌, ◌<◌, ◌≤◌, length, true, false, IfSome};
+    ghost use Rattle.folder_io.specs.FolderCalls.{CountsFault, is_present, is_failed_open, is_failed_read, Finds, Takes, FitsRoom};
     ghost use Rattle.folder_io.specs.MemoryCalls.{opened_of};
-    ghost use Rattle.folder_io.specs.SureFolder.{sure_files, sure_contents, sure_left, sure_present};
+    ghost use Rattle.folder_io.specs.SureFolder.{sure_files, sure_contents, sure_left, sure_present, sure_folder_state};
 
-    ghost holds = { λ folder. Some (sure_contents folder) };
-
-    ghost left = { sure_left };
-
-    ghost present = { sure_present };
-
-    ghost failed = { λ _. false };
-
-    ghost faults = { λ _. 0 };
+    ghost state = { sure_folder_state };
 
     /// Present exactly where the name is held, and else Absent.
     fn open(&mut self, name: &str) -> Opened
@@ -61,7 +53,7 @@ impl Folder for SureFolder {
         ensures sure { is_failed_open result ≡ false }
         ensures files { sure_files self.new ≡ sure_files self.old }
         ensures present { sure_present self.new ≡ is_present result }
-        ensures finds { Opens (Some (sure_contents self.old)) name.now (sure_left self.new) result }
+        ensures finds { Finds (sure_contents self.old name.now) (sure_left self.new) result }
     {
         self.current = None;
         let Some(file) = file_of(name) else {
@@ -84,7 +76,7 @@ impl Folder for SureFolder {
         ensures files { sure_files self.new ≡ sure_files self.old }
         ensures present { sure_present self.new ≡ sure_present self.old }
         ensures fits { FitsRoom (length room.old) result }
-        ensures takes { Takes (sure_left self.old) (sure_left self.new) room.new result }
+        ensures takes { IfSome (sure_left self.old) (λ bytes. Takes bytes (sure_left self.new) room.new result) }
     {
         let Some(file) = self.current else {
             return Piece::End;

@@ -36,13 +36,9 @@ impl Sink for SureSink {
     ghost use Rattle.std.specs.Prelude.{◌≡◌, ◌<◌, ◌≤◌, ◌-◌, ◌^◌, ◌++◌, Some, length};
     ghost use Rattle.folder_io.specs.FolderCalls.{CountsFault};
     ghost use Rattle.folder_io.specs.SinkCalls.{is_failed_write, Writes, has_room_for, whole_or_none, wrote_of};
-    ghost use Rattle.folder_io.specs.SureSink.{sure_written, sure_room, sure_failed, sure_faults};
+    ghost use Rattle.folder_io.specs.SureSink.{sure_written, sure_room, sure_failed, sure_faults, sure_sink_state};
 
-    ghost written = { λ sink. Some (sure_written sink) };
-
-    ghost failed = { sure_failed };
-
-    ghost faults = { sure_faults };
+    ghost state = { sure_sink_state };
 
     /// All exactly where the piece fits what is left of the room; else nothing of it is kept. Takes no memory.
     fn write(&mut self, piece: &[u8]) -> Wrote

@@ -43,18 +43,9 @@ impl<R: FileSystem + Clone + Drop> DirFolder<R> {
 }
 
 impl<R: FileSystem + Clone + Drop> Folder for DirFolder<R> {
-    ghost use Rattle.std.specs.Prelude.{None, is_some};
-    ghost use Rattle.folder_io.specs.SystemFolder.{system_present, system_failed, system_faults};
+    ghost use Rattle.folder_io.specs.SystemFolder.{system_folder_state};
 
-    ghost holds = { λ _. None };
-
-    ghost left = { λ _. None };
-
-    ghost present = { system_present };
-
-    ghost failed = { system_failed };
-
-    ghost faults = { system_faults };
+    ghost state = { system_folder_state };
 
     /// Absent where the system says that nothing is found under the name, and Failed at every other error of the system.
     /// The path takes memory; want of it is no failure of the folder.

@@ -26,14 +26,9 @@ impl<R: Print + Clone + Drop> StdSink<R> {
 }
 
 impl<R: Print + Clone + Drop> Sink for StdSink<R> {
-    ghost use Rattle.std.specs.Prelude.{None};
-    ghost use Rattle.folder_io.specs.SystemSink.{output_failed, output_faults};
+    ghost use Rattle.folder_io.specs.SystemSink.{output_state};
 
-    ghost written = { λ _. None };
-
-    ghost failed = { output_failed };
-
-    ghost faults = { output_faults };
+    ghost state = { output_state };
 
     /// Writes until the whole piece was taken. Failed at an error of the system, or where it takes nothing.
     fn write(&mut self, piece: &[u8]) -> Wrote {

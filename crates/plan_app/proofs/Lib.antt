@@ -1,3 +1,5 @@
-pub mod WrittenLaws
 pub mod CauseLaws
+pub mod MadeLaws
+pub mod OldClauses
 pub mod PlainLaws
+pub mod WrittenLaws

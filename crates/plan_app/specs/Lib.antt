@@ -1,7 +1,7 @@
 pub mod Answers
 pub mod Due
+pub mod Made
 pub mod OneRideWords
-pub mod Outcomes
 pub mod Request
 pub mod Run
 pub mod Unplanned

@@ -1,10 +1,12 @@
 -- The words that are taken: those of a plan of at most one ride, plan FROM TO DATE TIME --rides 1, and check.
-use Rattle.std.specs.Prelude.{ℕ, ◌==◌, ◌&&◌, not, nat_lt, Bool, false, if◌then◌else◌, List, length, slice_index, Option, Some, None, option_map, option_and_then, ℤ, pos, codes, bytes_eq}
+use Rattle.std.specs.Prelude.{ℕ, ◌==◌, ◌&&◌, not, nat_lt, Bool, false, if◌then◌else◌, List, length, slice_index, Option, None, option_map, option_and_then, Result, Ok, ok_or, ℤ, pos, codes, bytes_eq}
 use Rattle.feed_rows.specs.Limits.{usual_window}
 use Rattle.transit_base.specs.Moments.{moment_at}
 use Rattle.feed_rows.specs.CommandWords.{word_at}
 use Rattle.feed_rows.specs.Requests.{PlanRequest, Request}
 use Rattle.feed_rows.specs.WordValues.{word_date, word_time}
+use Rattle.feed_rows.specs.declared.usage.UsageFault.{UsageFault}
+use Rattle.feed_rows.specs.declared.usage.UsageFault.TheVariants as usage
 
 -- the word is not empty, and does not begin with `-`
 abbrev pub is_stop_word : List ℕ → Bool
@@ -43,6 +45,6 @@ one_ride_request words =
 unfoldable pub has_check_word : List (List ℕ) → Bool
 has_check_word words = (length words == 1) && bytes_eq (word_at words 0) (codes "check")
 
--- what the words ask for; none where they are not of these forms
-unfoldable pub asked_of : List (List ℕ) → Option Request
-asked_of words = if has_check_word words then Some Request.Check else option_map Request.Plan (one_ride_request words)
+-- what the words ask for, where they are of these forms
+unfoldable pub asked_of : List (List ℕ) → Result Request UsageFault
+asked_of words = if has_check_word words then Ok Request.Check else ok_or (option_map Request.Plan (one_ride_request words)) usage.WrongWords

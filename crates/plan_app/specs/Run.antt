@@ -1,90 +1,38 @@
--- Each answer of the program with its cause: what holds of the words, of what the folder holds, of the counts of faults
--- before and after, and of what was written.
-use Rattle.std.specs.Prelude.{◌≡◌, ◌⊎◌, ℕ, List, Option, IsSome, IsNone, Some, None, Ok}
-use Rattle.feed_rows.specs.FaultCounts.{Rose, Stayed}
+-- Each answer of the program with its cause: what holds of the words, and of the folder and the sink before and after.
+use Rattle.std.specs.Prelude.{◌≡◌, ◌⊎◌, ℕ, List, Result, Ok, Err, IsOk, Some}
+use Rattle.feed_rows.specs.FaultCounts.{Rose}
 use Rattle.feed_rows.specs.HeldFiles.{held}
-use Rattle.feed_rows.specs.Queries.{query_of}
-use Rattle.feed_rows.specs.Requests.{PlanRequest, Request}
-use Rattle.feed_rows.specs.declared.journeys.Query.{Query}
-use Rattle.feed_faults.specs.AcceptedFeed.{feed_of}
-use Rattle.folder_io.specs.FolderCalls.{Contents}
-use Rattle.feed_check.specs.BuiltFaults.{first_built_fault}
+use Rattle.feed_rows.specs.Requests.{Request}
+use Rattle.feed_rows.specs.declared.usage.UsageFault.{UsageFault}
+use Rattle.folder_io.specs.FolderCalls.{Contents, FolderState}
+use Rattle.folder_io.specs.FileReading.{OpensAll}
+use Rattle.folder_io.specs.SinkCalls.{SinkState}
+use Rattle.feed_check.specs.LoadErrors.{FailsReading, StopsReading}
+use Rattle.plan_app.specs.OneRideWords.{asked_of}
+use Rattle.plan_app.specs.Due.{Task, due, IsDueOver}
+use Rattle.plan_app.specs.Written.{WritesAll, WritesSome}
 use Rattle.plan_app.specs.declared.status.Status.{Status}
 use Rattle.plan_app.specs.declared.status.Status.TheVariants as status
-use Rattle.plan_app.specs.Due.{IsDue}
-use Rattle.plan_app.specs.OneRideWords.{asked_of}
-use Rattle.plan_app.specs.Unplanned.{unplanned_fault}
-use Rattle.plan_app.specs.Written.{WroteAll, WrotePart}
 
--- what the folder holds, where it tells; the counts of faults of the folder and of the sink, and what is written, before
--- and after
-pub record Outside : Type 0 where
-  pub holds : Option Contents
-  pub reads : ℕ
-  pub reads_after : ℕ
-  pub written : Option (List ℕ)
-  pub written_after : Option (List ℕ)
-  pub writes : ℕ
-  pub writes_after : ℕ
+-- where the words ask for something, each file was opened, once and in order, and no call of the folder failed
+abbrev pub Reads : Result Request UsageFault → FolderState → FolderState → Type 0
+Reads (Ok request) folder later = OpensAll folder later
+Reads (Err fault) folder later = later ≡ folder
 
--- no call of the folder failed, and no write
-abbrev pub NothingFailed : Outside → Type 0
-NothingFailed o = Stayed o.reads o.reads_after × Stayed o.writes o.writes_after
+-- each answer and its cause, by the folder and the sink before and after
+pub data Explains (words : List (List ℕ)) (folder later : FolderState) (sink after : SinkState) (answer : Status) : Type 0 where
+  -- the lines that are due for this answer were written
+  Whole : (lines : List (List ℕ)) → IsDueOver folder words answer lines → Reads (asked_of words) folder later → WritesAll sink lines after → Explains words folder later sink after answer
+  -- a write failed: of the lines that are due for some answer a first part was written
+  Part : (told : Status) → (lines : List (List ℕ)) → IsDueOver folder words told lines → Reads (asked_of words) folder later → WritesSome sink lines after → answer ≡ status.WriteFault → Explains words folder later sink after answer
+  -- a call of the folder failed, and nothing was written
+  Unread : IsOk (asked_of words) → FailsReading folder later → after ≡ sink → answer ≡ status.ReadFault → Explains words folder later sink after answer
+  -- memory was wanting, and nothing was written
+  Unmade : StopsReading folder later → after ≡ sink → answer ≡ status.NoMemory → Explains words folder later sink after answer
 
--- a write failed, and no call of the folder
-abbrev pub WriteFailed : Outside → Type 0
-WriteFailed o = Stayed o.reads o.reads_after × Rose o.writes o.writes_after
-
--- nothing was written
-abbrev pub IsSilent : Outside → Type 0
-IsSilent o = o.written_after ≡ o.written
-
--- the words ask for something, or for nothing
-abbrev pub IsAsked : List (List ℕ) → Type 0
-IsAsked words = IsSome (asked_of words)
-
-abbrev pub IsUnasked : List (List ℕ) → Type 0
-IsUnasked words = IsNone (asked_of words)
-
--- the text that is due for this answer was written whole
-pub record Wrote (o : Outside) (words : List (List ℕ)) (answer : Status) : Type 0 where
-  pub text : List ℕ
-  pub due : IsDue o.holds words answer text
-  pub written : WroteAll o.written o.written_after text
-
--- of what is due for some answer the first part was written
-pub record WroteFirst (o : Outside) (words : List (List ℕ)) : Type 0 where
-  pub answer : Status
-  pub text : List ℕ
-  pub due : IsDue o.holds words answer text
-  pub written : WrotePart o.written o.written_after text
-
--- each answer and its cause
-abbrev pub Explains : List (List ℕ) → Outside → Status → Type 0
-Explains words o status.Answered = NothingFailed o × Wrote o words status.Answered
-Explains words o (status.Usage fault) = NothingFailed o × Wrote o words (status.Usage fault)
-Explains words o (status.Refused fault) = NothingFailed o × Wrote o words (status.Refused fault)
-Explains words o status.ReadFault = IsAsked words × Rose o.reads o.reads_after × Stayed o.writes o.writes_after × IsSilent o
-Explains words o status.WriteFault = WriteFailed o × WroteFirst o words
-Explains words o status.NoMemory = NothingFailed o × IsSilent o
-
--- a plan can be answered: the folder tells that its files have no fault and hold nothing that isn't planned with, and the
--- words give a query over their feed
-pub record IsPlannable (contents : Contents) (words : List (List ℕ)) : Type 0 where
-  pub request : PlanRequest
-  pub asked : asked_of words ≡ Some (Request.Plan request)
-  pub accepted : first_built_fault (held contents) ≡ None
-  pub planned : unplanned_fault (feed_of (held contents)) ≡ None
-  pub query : Query
-  pub is_query : query_of (feed_of (held contents)) request ≡ Ok query
-
--- a check can be answered: the folder tells that its files have no fault
-pub record IsCheckable (contents : Contents) (words : List (List ℕ)) : Type 0 where
-  pub asked : asked_of words ≡ Some Request.Check
-  pub accepted : first_built_fault (held contents) ≡ None
-
--- what can be answered is, or memory was wanting, where nothing fails outside
-abbrev pub AnswersAll : List (List ℕ) → Outside → Status → Type 0
-AnswersAll words o answer =
-    (contents : Contents) → o.holds ≡ Some contents → IsPlannable contents words ⊎ IsCheckable contents words →
-    ¬ (Rose o.reads o.reads_after) → ¬ (Rose o.writes o.writes_after) → (answer ≡ status.Answered) ⊎ (answer ≡ status.NoMemory)
+-- where a task is due over what the folder tells that it holds, and nothing fails outside, it is answered, or memory was
+-- wanting
+abbrev pub AnswersAll : List (List ℕ) → FolderState → FolderState → SinkState → SinkState → Status → Type 0
+AnswersAll words folder later sink after answer =
+    (contents : Contents) (task : Task) → folder.holds ≡ Some contents → due (held contents) words ≡ Ok task →
+    ¬ (Rose folder.faults later.faults) → ¬ (Rose sink.faults after.faults) → (answer ≡ status.Answered) ⊎ (answer ≡ status.NoMemory)

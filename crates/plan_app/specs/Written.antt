@@ -1,12 +1,28 @@
--- What is written, where a sink tells it.
-use Rattle.std.specs.Prelude.{ℕ, List, Option}
+-- The lines that are written.
+use Rattle.std.specs.Prelude.{◌≡◌, ℕ, List, take, true}
+use Rattle.std.specs.List.{concat}
+use Rattle.feed_rows.specs.FaultCounts.{Rose, Stayed}
+use Rattle.folder_io.specs.declared.sink.Wrote.{Wrote}
 use Rattle.folder_io.specs.declared.sink.Wrote.TheVariants as wrote
-use Rattle.folder_io.specs.SinkCalls.{Writes}
+use Rattle.folder_io.specs.CallLogs.{Makes}
+use Rattle.folder_io.specs.SinkCalls.{SinkState, Writes}
 
--- the whole text was written
-abbrev pub WroteAll : Option (List ℕ) → Option (List ℕ) → List ℕ → Type 0
-WroteAll before after text = Writes before after text wrote.All
+-- all lines were written, each by one write, and no write failed
+pub record WritesAll (sink : SinkState) (lines : List (List ℕ)) (after : SinkState) : Type 0 where
+  pub counts : Stayed sink.faults after.faults
+  pub text : Writes sink.written after.written (concat lines) wrote.All
+  pub writes : Makes sink.writes lines after.writes
 
--- the first part of the text was written
-abbrev pub WrotePart : Option (List ℕ) → Option (List ℕ) → List ℕ → Type 0
-WrotePart before after text = Writes before after text wrote.Failed
+-- a write failed, and it is the last one that was made: the first so many lines were to be written, each by one write, and
+-- a first part of the text is
+pub record WritesSome (sink : SinkState) (lines : List (List ℕ)) (after : SinkState) : Type 0 where
+  pub counts : Rose sink.faults after.faults
+  pub ended : after.failed ≡ true
+  pub text : Writes sink.written after.written (concat lines) wrote.Failed
+  pub count : ℕ
+  pub writes : Makes sink.writes (take count lines) after.writes
+
+-- the one or the other, as the last write answers
+abbrev pub WritesLines : SinkState → List (List ℕ) → SinkState → Wrote → Type 0
+WritesLines sink lines after wrote.All = WritesAll sink lines after
+WritesLines sink lines after wrote.Failed = WritesSome sink lines after

@@ -1,11 +1,12 @@
 //! The program's commands: words in, a folder read, a text written.
 #![tactic(auto)]
 
-mod answers;
 mod lines;
+mod made;
 mod outcome;
 mod planning;
 mod query;
+mod refusal;
 mod request;
 mod status;
 mod top;

@@ -1,10 +1,8 @@
 //! The lines that are written.
-ghost use Rattle.std.specs.Prelude.{◌≡◌, ◌<◌, IsTrue, IfOk, string_bytes};
-ghost use Rattle.std.specs.List.{concat};
-ghost use Rattle.feed_rows.specs.FaultCounts.{Rose, Stayed};
+ghost use Rattle.std.specs.Prelude.{◌≡◌, IfOk, string_bytes};
 ghost use Rattle.feed_rows.specs.CommandTexts.{usage_line, refused_line, place_text, check_text};
 ghost use Rattle.feed_rows.specs.UsageFaults.{usage_argument, stop_word_text};
-ghost use Rattle.plan_app.specs.Written.{WroteAll, WrotePart};
+ghost use Rattle.plan_app.specs.Written.{WritesLines};
 
 use feed_rows::{ColumnName, Feed, FeedFault, StopWord, UsageFault};
 use folder_io::{Sink, Wrote};
@@ -91,13 +89,9 @@ pub(crate) fn check_line_of(alloc: Global, feed: &Feed) -> Result<Line, AllocErr
     Ok(line)
 }
 
-/// Writes the lines of a text one by one.
+/// Writes the lines of a text, each by one write, up to the first that fails.
 pub(crate) fn write_text<S: Sink>(sink: &mut S, text: &Text) -> Wrote
-    ensures all { result ≡ Wrote.All → Stayed (S.faults sink.old) (S.faults sink.new) }
-    ensures whole { result ≡ Wrote.All → WroteAll (S.written sink.old) (S.written sink.new) (concat text.now) }
-    ensures failed { result ≡ Wrote.Failed → Rose (S.faults sink.old) (S.faults sink.new) }
-    ensures ends_at_fault { S.faults sink.old < S.faults sink.new → IsTrue (S.failed sink.new) }
-    ensures part { result ≡ Wrote.Failed → WrotePart (S.written sink.old) (S.written sink.new) (concat text.now) }
+    ensures { WritesLines (S.state sink.old) text.now (S.state sink.new) result }
 {
     for number in 0..text.lines() {
         match sink.write(text.line(number)) {

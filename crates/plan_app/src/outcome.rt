@@ -1,15 +1,53 @@
-//! What a plan answers over a feed.
+//! What comes of a command, before it is written.
+ghost use Rattle.std.specs.Prelude.{◌≡◌, ◌∷◌, [], IfOk, Err};
+ghost use Rattle.plan_app.specs.Made.{IsOutcome};
 
-use feed_rows::{FeedFault, UsageFault};
+use crate::refusal::{Refusal, answer_of, line_of};
+use crate::status::Status;
+use std::alloc::{AllocError, Global};
 use ticket_explain::Text;
 
-/// What a plan answers, before it is written.
+/// An answer, and the lines that are written before it is given.
 #[derive(Drop)]
-pub(crate) enum Outcome {
-    /// The lines of the journeys.
-    Lines(Text),
-    /// A fault of the names that the words give.
-    Usage(UsageFault),
-    /// A fault of the feed: it holds something that isn't planned with yet.
-    Refused(FeedFault),
+pub(crate) struct Outcome {
+    pub(crate) told: Status,
+    pub(crate) text: Text,
+}
+
+/// Why nothing comes of a command.
+#[derive(Clone, Copy)]
+pub(crate) enum Stop {
+    /// A call of the folder failed.
+    ReadFault,
+    /// Want of memory.
+    NoMemory,
+}
+
+impl From<AllocError> for Stop {
+    ghost use Rattle.std.specs.Prelude.{◌≡◌};
+    ghost use Rattle.plan_app.specs.declared.outcome.Stop.TheVariants as stop;
+
+    ghost from_gives = { λ e f. f ≡ stop.NoMemory };
+
+    fn from(_error: AllocError) -> Stop {
+        Stop::NoMemory
+    }
+}
+
+/// An answer behind one line.
+pub(crate) fn behind_line(alloc: Global, line: &[u8], told: Status) -> Result<Outcome, AllocError>
+    ensures told { IfOk result (λ out. out.told ≡ told) }
+    ensures text { IfOk result (λ out. out.text ≡ line.now ∷ []) }
+{
+    let mut text = Text::empty(alloc);
+    text.push(line)?;
+    Ok(Outcome { told, text })
+}
+
+/// The outcome of a refusal.
+pub(crate) fn refused(alloc: Global, refusal: Refusal) -> Result<Outcome, AllocError>
+    ensures { IfOk result (IsOutcome (Err refusal)) }
+{
+    let line = line_of(alloc, refusal)?;
+    behind_line(alloc, line.as_bytes(), answer_of(refusal))
 }

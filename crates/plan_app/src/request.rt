@@ -1,11 +1,13 @@
 //! What a plan's words ask for.
-ghost use Rattle.std.specs.Prelude.{◌≡◌, ◌<◌, ◌≤ℤ◌, pos, negsuc, IfSome, option_map, length, bytes_eq, codes};
+ghost use Rattle.std.specs.Prelude.{◌≡◌, ◌<◌, ◌≤ℤ◌, pos, negsuc, IfSome, IfOk, Ok, option_map, length, bytes_eq, codes};
 ghost use Rattle.feed_rows.specs.CommandWords.{word_at};
 ghost use Rattle.feed_rows.specs.WordValues.{word_date, word_time};
+ghost use Rattle.feed_rows.specs.UsageFaults.{unless_fault};
 ghost use Rattle.plan_app.specs.OneRideWords.{has_check_word, asked_of, has_plan_words, is_stop_word, named_moment, one_ride_request};
 ghost use Rattle.plan_app.specs.Request.{request_of, asked_request, IsUsualMoment, IsUsualRequest};
 
 use crate::words::WordList;
+use feed_rows::UsageFault;
 use feed_text::{day_of_parts, time_of};
 use transit_base::{Day, Moment};
 
@@ -99,15 +101,17 @@ fn is_check(words: &WordList) -> bool
     words.len() == 1 && words.word(0) == "check"
 }
 
-/// What the words ask for; none where they are of no command.
+/// What the words ask for, or their first fault.
 #[tactic(auto, unfolding(crate::specs::OneRideWords::asked_of))]
-pub(crate) fn asked_of(words: &WordList) -> Option<Asked<'_>>
-    ensures value { option_map asked_request result ≡ asked_of words.now }
-    ensures usual { IfSome result IsUsualRequest }
+pub(crate) fn asked_of(words: &WordList) -> Result<Asked<'_>, UsageFault>
+    ensures value { unless_fault result (λ asked. Ok (asked_request asked)) ≡ asked_of words.now }
+    ensures usual { IfOk result IsUsualRequest }
 {
     if is_check(words) {
-        return Some(Asked::Check);
+        return Ok(Asked::Check);
     }
-    let plan = one_ride_of(words)?;
-    Some(Asked::Plan(plan))
+    let Some(plan) = one_ride_of(words) else {
+        return Err(UsageFault::WrongWords);
+    };
+    Ok(Asked::Plan(plan))
 }

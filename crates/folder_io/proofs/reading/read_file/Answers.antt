@@ -1,5 +1,6 @@
-use Rattle.std.proofs.Common.{◌≤◌, ◌∙◌, length, drop, refl, ap, arith, length-take}
+use Rattle.std.proofs.Common.{[], ◌∷◌, sym, subst, ◌≤◌, ◌∙◌, length, drop, refl, ap, arith, length-take}
 use Rattle.feed_rows.specs.Names.{file_text}
+use Rattle.folder_io.specs.CallLogs.{Makes}
 use Rattle.folder_io.proofs.FilesRead.{piece_put, opened_so_far, more_so_far, absent_read, end_read, large_read}
 use Rattle.folder_io.proofs.reading.read_file.Goals as goal
 
@@ -10,9 +11,10 @@ loop-room-init g c =
       opened = opens.present;
       stayed = opens.counts;
       holds = opens.holds;
+      opens = rw c.text.ensures at opens.opens;
       most = refl;
       fits = omega (arith, ap length c.new-bytes.ensures.items);
-      so_far = opened_so_far (g.F.Folder.holds c.args.folder.now) (file_text c.args.name) _ _ (rw c.text.ensures at opens.finds) c.new-bytes.ensures.items;
+      so_far = opened_so_far (g.F.Folder.state c.args.folder.now).holds (file_text c.args.name) _ _ (rw c.text.ensures at opens.finds) c.new-bytes.ensures.items;
     }
 
 pub loop-room-preserved : goal.loop-room-preserved
@@ -24,9 +26,10 @@ loop-room-preserved g c =
       opened = reads.present ∙ before.opened;
       stayed = reads.counts ∙ before.stayed;
       holds = reads.holds ∙ before.holds;
+      opens = rw reads.opens before.opens;
       most = refl;
       fits = omega (arith, put.1, reads.fits.1, length-take c.min-want.result c.loop-room.room, c.min-want.ensures, c.len-in-loop-room.ensures, c.loop-room-test.true, c.len.ensures);
-      so_far = more_so_far (g.F.Folder.holds c.args.folder.now) (file_text c.args.name) c.loop-room.bytes.items _ _ _ _ c.in-Got.count before.so_far reads.takes put.0;
+      so_far = more_so_far (g.F.Folder.state c.args.folder.now).holds (file_text c.args.name) c.loop-room.bytes.items _ _ _ _ c.in-Got.count before.so_far reads.takes put.0;
     }
 
 pub loop-room-smaller : goal.loop-room-smaller
@@ -38,15 +41,15 @@ loop-room-smaller g c =
 pub returns-in-Absent : goal.returns-in-Absent
 returns-in-Absent g c =
     let opens = c.in-Absent.ensures in
-    let read = absent_read (g.F.Folder.holds c.args.folder.now) (file_text c.args.name) _ c.args.limit (rw c.text.ensures at opens.finds) in
+    let read = absent_read (g.F.Folder.state c.args.folder.now).holds (file_text c.args.name) _ c.args.limit (rw c.text.ensures at opens.finds) in
     record {
       within = tt;
       bytes = read.0;
       stops_past = read.1;
       ok = opens.counts;
       err = tt;
-      ends_at_fault = λ rose. absurd (omega (arith, rose, opens.counts));
       holds = opens.holds;
+      opens = rw c.text.ensures at opens.opens;
     }
 
 pub returns-in-End : goal.returns-in-End
@@ -55,7 +58,7 @@ returns-in-End g c =
     let reads = c.in-End.ensures in
     let within : length c.loop-room.bytes.items ≤ c.args.limit = omega (arith, c.loop-room-test.true, c.len.ensures) in
     let stayed = reads.counts ∙ before.stayed in
-    let read = end_read (g.F.Folder.holds c.args.folder.now) (file_text c.args.name) c.loop-room.bytes.items _ _ _ c.args.limit before.so_far reads.takes within in
+    let read = end_read (g.F.Folder.state c.args.folder.now).holds (file_text c.args.name) c.loop-room.bytes.items [] _ _ c.args.limit before.so_far reads.takes within in
     rw c.of.ensures
     (record {
       within = within;
@@ -63,20 +66,20 @@ returns-in-End g c =
       stops_past = read.1;
       ok = stayed;
       err = tt;
-      ends_at_fault = λ rose. absurd (omega (arith, rose, stayed));
       holds = reads.holds ∙ before.holds;
+      opens = subst (Makes (g.F.Folder.state c.args.folder.now).opens (file_text c.args.name ∷ [])) (sym reads.opens) before.opens;
     })
 
 pub returns : goal.returns
 returns g c =
     let before = c.loop-room.invariant in
-    let read = large_read (g.F.Folder.holds c.args.folder.now) (file_text c.args.name) c.loop-room.bytes.items _ c.args.limit before.so_far (omega (arith, before.fits, c.loop-room-test.false, c.len.ensures)) in
+    let read = large_read (g.F.Folder.state c.args.folder.now).holds (file_text c.args.name) c.loop-room.bytes.items _ c.args.limit before.so_far (omega (arith, before.fits, c.loop-room-test.false, c.len.ensures)) in
     record {
       within = tt;
       bytes = read.0;
       stops_past = read.1;
       ok = before.stayed;
       err = tt;
-      ends_at_fault = λ rose. absurd (omega (arith, rose, before.stayed));
       holds = before.holds;
+      opens = before.opens;
     }

@@ -1,17 +1,15 @@
-use Rattle.std.proofs.Common.{take, drop, suc, ◌∙◌}
-use Rattle.std.specs.List.{concat}
-use Rattle.plan_app.proofs.WrittenLaws.{concat_at, one_more, cut_short}
+use Rattle.plan_app.proofs.WrittenLaws.{none_written, one_more_written, failed_behind}
 use Rattle.plan_app.proofs.lines.write_text.Goals as goal
 
-pub returns-in-Failed-clause-part : goal.returns-in-Failed-clause-part
-returns-in-Failed-clause-part g c = λ _.
-    let at = concat_at c.args.text.now c.loop-number.number c.line.result.now c.line.ensures in
-    cut_short _ (g.S.Sink.written c.loop-number.sink) _ (concat (take c.loop-number.number c.args.text.now)) c.line.result.now (concat (drop (suc c.loop-number.number) c.args.text.now)) (concat c.args.text.now) c.loop-number.invariant.whole c.in-Failed.ensures.written at.1
+pub loop-number-init : goal.loop-number-init
+loop-number-init g c = none_written (g.S.Sink.state c.args.sink.now) c.args.text.now
+
+pub returns-in-Failed : goal.returns-in-Failed
+returns-in-Failed g c =
+    let write = c.in-Failed.ensures in
+    failed_behind (g.S.Sink.state c.args.sink.now) (g.S.Sink.state c.loop-number.sink) _ c.args.text.now c.loop-number.number c.line.result.now c.line.ensures c.loop-number.invariant write.counts write.failed write.written write.writes
 
 pub loop-number-preserved : goal.loop-number-preserved
 loop-number-preserved g c =
-    let at = concat_at c.args.text.now c.loop-number.number c.line.result.now c.line.ensures in
-    record {
-      stayed = c.in-All.ensures.counts ∙ c.loop-number.invariant.stayed;
-      whole = one_more _ (g.S.Sink.written c.loop-number.sink) _ (concat (take c.loop-number.number c.args.text.now)) c.line.result.now _ c.loop-number.invariant.whole c.in-All.ensures.written at.0;
-    }
+    let write = c.in-All.ensures in
+    one_more_written (g.S.Sink.state c.args.sink.now) (g.S.Sink.state c.loop-number.sink) _ c.args.text.now c.loop-number.number c.line.result.now c.line.ensures c.loop-number.invariant write.counts write.written write.writes

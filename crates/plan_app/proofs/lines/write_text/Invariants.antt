@@ -1,11 +1,6 @@
 use Rattle.std.proofs.Common.{take}
-use Rattle.std.specs.List.{concat}
-use Rattle.feed_rows.specs.FaultCounts.{Stayed}
-use Rattle.plan_app.specs.Written.{WroteAll}
+use Rattle.plan_app.specs.Written.{WritesAll}
 use Rattle.plan_app.proofs.lines.write_text.Given as goal
 
 abbrev pub invariant-loop-number : goal.invariant-loop-number
-invariant-loop-number g l = record {
-  stayed : Stayed (g.S.Sink.faults l.fn.sink) (g.S.Sink.faults l.sink);
-  whole : WroteAll (g.S.Sink.written l.fn.sink) (g.S.Sink.written l.sink) (concat (take l.number l.text));
-}
+invariant-loop-number g l = WritesAll (g.S.Sink.state l.fn.sink) (take l.number l.text) (g.S.Sink.state l.sink)
