@@ -32,13 +32,6 @@ timed_last x e = step x.arrival x.departure e
     step (Some a) None e = refl
     step None None e = absurd (cc)
 
-pub first_timed : (x : StopTime) → is_some (first_filled x) ≡ true → has_time x ≡ true
-first_timed x e = step x.arrival x.departure e
-  where
-    step : (a b : Option ℕ) → is_some (option_or a b) ≡ true → is_some a || is_some b ≡ true
-    step None b e = e
-    step (Some a) b e = refl
-
 pub last_timed : (x : StopTime) → is_some (last_filled x) ≡ true → has_time x ≡ true
 last_timed x e = step x.arrival x.departure e
   where

@@ -43,11 +43,6 @@ table_few needed most file table none = step (nat_lt 0 (length table)) refl
         grind (arith, nat_tests)
     step false e = let none : length table ≤ 0 = grind (arith, nat_tests) in omega arith
 
--- a table in which the first pass finds no fault is formed
-pub table_formed : (needed : Bool) (file : FileName) (table : FileTable) → form_fault_of_table needed most_rows file table ≡ None → form_fault_of_rows file table ≡ None → IsFormed file table
-table_formed needed file table whole rows =
-    record { few = table_few needed most_rows file table whole; fields = λ row k rule lt at. rows_formed file table row k rule rows lt at }
-
 bytes_few : (needed : Bool) (most : ℕ) (file : FileName) (bytes : List ℕ) → form_fault_of_bytes needed most file bytes ≡ None → row_count (table_of_bytes bytes) ≤ most
 unfolding form_fault_of_bytes
 bytes_few needed most file bytes none =
