@@ -29,8 +29,7 @@ fn check_outcome(alloc: Global, feed: &Feed) -> Result<Outcome, AllocError>
 
 // What a plan answers.
 fn plan_outcome(alloc: Global, feed: &Feed, plan: &OneRide) -> Result<Outcome, AllocError>
-    requires built { HasBuiltRows feed.now }
-    requires usual { IsUsualMoment plan.now.departure.0 }
+    requires { IsUsualMoment plan.now.departure.0 }
     ensures { IfOk result (IsOutcome (plan_task feed.now (unplanned_fault feed.now) (query_of feed.now (request_of plan.now)))) }
 {
     if let Some(fault) = unplanned_fault(feed) {
@@ -54,8 +53,7 @@ fn plan_outcome(alloc: Global, feed: &Feed, plan: &OneRide) -> Result<Outcome, A
 /// # Errors
 /// Want of memory.
 pub(crate) fn outcome_of(alloc: Global, feed: &Feed, asked: &Asked) -> Result<Outcome, AllocError>
-    requires built { HasBuiltRows feed.now }
-    requires usual { IsUsualRequest asked.now }
+    requires { IsUsualRequest asked.now }
     ensures { IfOk result (IsOutcome (task_of feed.now (asked_request asked.now))) }
 {
     match asked {
