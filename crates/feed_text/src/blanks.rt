@@ -3,6 +3,7 @@ ghost use Rattle.std.specs.Prelude.{◌≡◌, reverse};
 ghost use Rattle.feed_faults.specs.Records.{is_blank, cut_start, cut};
 
 // Whether a byte is a space or a tab.
+#[inline(always)]
 fn is_blank(byte: u8) -> bool
     ensures { result ≡ is_blank byte }
 {

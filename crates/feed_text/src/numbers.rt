@@ -5,6 +5,7 @@ ghost use Rattle.feed_rows.specs.TimeGrammar.{time_value};
 ghost use Rattle.feed_faults.specs.FieldGrammars.{signed_value, if_between, int_value, count_value};
 
 // The number with one more digit, where it stays below 2^64.
+#[inline(always)]
 fn with_digit(value: u64, digit: u8) -> Option<u64>
     requires { digit ≤ 9 }
     ensures { result ≡ when_at_most (2 ^ 64 - 1) (Some (value * 10 + digit)) }
@@ -12,7 +13,9 @@ fn with_digit(value: u64, digit: u8) -> Option<u64>
     value.checked_mul(10)?.checked_add(u64::from(digit))
 }
 
-// The number that one or more digits write, where it is below 2^64.
+// The number that one or more digits write, where it is below 2^64. Inlined, as are its callers: most fields of a feed are
+// times and small numbers.
+#[inline(always)]
 pub(crate) fn number_of(text: &[u8]) -> Option<u64>
     ensures { result ≡ when_at_most (2 ^ 64 - 1) (number_value text.now) }
 {
@@ -30,6 +33,7 @@ pub(crate) fn number_of(text: &[u8]) -> Option<u64>
 }
 
 // The number that one or more digits write, where it is at most this.
+#[inline(always)]
 pub(crate) fn small_number_of(text: &[u8], most: u32) -> Option<u32>
     ensures value { result ≡ when_at_most most (number_value text.now) }
     ensures bound { IfSome result (λ v. v ≤ most) }
