@@ -77,5 +77,6 @@ table_in-tables_of files name =
 
 -- where the first pass finds no fault, all files are formed
 pub formed : (files : FileName → HeldFile) → first_form_fault files ≡ None → AreFormed (tables_of files)
+unfolding first_form_fault
 formed files none name =
     rw table_in-tables_of (file_formed files name (none_in all_files (form_fault files) (place name) name none (placed name)))

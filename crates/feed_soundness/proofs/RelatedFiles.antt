@@ -14,7 +14,7 @@ use Rattle.feed_soundness.proofs.FormedFiles.{placed}
 
 -- where the second pass finds no fault, no check of a row fails
 pub related : (t : FeedTables) → first_relation_fault t ≡ None → AreRelated t
-unfolding relation_fault relation_fault_of_row
+unfolding relation_fault relation_fault_of_row first_relation_fault
 related t none name row k check lt at =
     let whole = none_in all_files (relation_fault t) (place name) name none (placed name) in
     let rows = (none_either (forbidden_fault t name) (first_below (row_count (table_in t name)) (relation_fault_of_row t name)) whole).1 in
