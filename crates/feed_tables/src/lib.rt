@@ -17,4 +17,5 @@ pub use ids::{IdColumn, Ids};
 pub use index::IdIndex;
 pub use kinds::stop_kind;
 pub use named::NamedTable;
+pub use rows::is_passed_over;
 pub use tables::Tables;
