@@ -4,14 +4,14 @@ use Rattle.feed_rows.specs.declared.names.FileName.TheVariants as file
 use Rattle.feed_rows.specs.declared.names.ColumnName.TheVariants.{Currency}
 use Rattle.feed_faults.specs.Records.{row_count, field}
 use Rattle.feed_faults.specs.FileColumns.{currency}
-use Rattle.feed_faults.specs.FeedTables.{FeedTables}
+use Rattle.feed_faults.specs.FeedTables.{FeedTables, table_in}
 use Rattle.feed_soundness.specs.AcceptedTables.{AreFormed}
 use Rattle.feed_soundness.proofs.FieldLaws.{must_at}
 use Rattle.feed_soundness.proofs.ValueLaws.{currency_good}
 
 -- it has three letters
-pub currency_of_three : (t : FeedTables) → AreFormed t → 0 < row_count t.fare_products → length (field t.fare_products 0 Currency) ≡ 3
-currency_of_three t formed lt = (currency_good (field t.fare_products 0 Currency) (must_at file.FareProducts t.fare_products 0 3 Currency currency formed.fare_products lt refl).fit).code
+pub currency_of_three : (t : FeedTables) → AreFormed t → 0 < row_count (table_in t file.FareProducts) → length (field (table_in t file.FareProducts) 0 Currency) ≡ 3
+currency_of_three t formed lt = (currency_good (field (table_in t file.FareProducts) 0 Currency) (must_at file.FareProducts (table_in t file.FareProducts) 0 3 Currency currency (formed file.FareProducts) lt refl).fit).code
 
 -- a text of three bytes, byte by byte
 pub three_bytes : (text : List ℕ) → length text ≡ 3 → get_or text 0 0 ∷ get_or text 1 0 ∷ get_or text 2 0 ∷ [] ≡ text

@@ -1,4 +1,4 @@
 pub mod NameNumbers
 pub mod CallTrips
-pub mod FeedNames
+pub mod Sources
 pub mod FeedParts

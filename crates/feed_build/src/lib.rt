@@ -2,21 +2,16 @@
 //! names numbered by their first appearance.
 #![tactic(auto)]
 
+mod fares;
 mod feed;
-mod leg_rules;
 mod name_hash;
-mod names;
 mod numbering;
 mod parts;
-mod products;
-mod routes;
-mod services;
+mod rows;
+mod source;
 mod stop_times;
-mod stops;
-mod trips;
-
-// The greatest integer of a column without a limit of its own.
-const MOST_INT: u32 = 2_147_483_647;
+mod timetable;
+mod values;
 
 pub use feed::feed_of_tables;
 pub use stop_times::stop_time_rows;

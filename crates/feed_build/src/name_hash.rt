@@ -3,7 +3,7 @@ ghost use Rattle.std.specs.Hash.DefaultHasher.{initial, write};
 ghost use Rattle.std.specs.Hash as fed;
 ghost use Rattle.std.specs.Prelude.{fold};
 
-use feed_rows::ColumnName;
+use feed_rows::{ColumnName, FileName};
 use feed_tables::{NamedTable, Tables};
 use std::hash::{BuildHasher, DefaultHasher, Hasher};
 
@@ -14,6 +14,19 @@ use std::hash::{BuildHasher, DefaultHasher, Hasher};
 pub struct NameHash {
     seed: u64,
 }
+
+// The columns of names.
+const NAME_COLUMNS: [(FileName, ColumnName); 9] = [
+    (FileName::Trips, ColumnName::ServiceId),
+    (FileName::Calendar, ColumnName::ServiceId),
+    (FileName::CalendarDates, ColumnName::ServiceId),
+    (FileName::Routes, ColumnName::NetworkId),
+    (FileName::Networks, ColumnName::NetworkId),
+    (FileName::Timeframes, ColumnName::ServiceId),
+    (FileName::Timeframes, ColumnName::TimeframeGroupId),
+    (FileName::FareProducts, ColumnName::FareProductId),
+    (FileName::FareLegRules, ColumnName::LegGroupId),
+];
 
 // Reads the fields of a column into a seed.
 fn write_column(hasher: &mut DefaultHasher, table: &NamedTable, column: ColumnName) {
@@ -26,23 +39,9 @@ impl NameHash {
     /// The hash for the names of these tables.
     pub fn of(tables: &Tables) -> NameHash {
         let mut hasher = DefaultHasher::new();
-        write_column(&mut hasher, &tables.trips, ColumnName::ServiceId);
-        write_column(&mut hasher, &tables.calendar, ColumnName::ServiceId);
-        write_column(&mut hasher, &tables.calendar_dates, ColumnName::ServiceId);
-        write_column(&mut hasher, &tables.routes, ColumnName::NetworkId);
-        write_column(&mut hasher, &tables.networks, ColumnName::NetworkId);
-        write_column(&mut hasher, &tables.timeframes, ColumnName::ServiceId);
-        write_column(
-            &mut hasher,
-            &tables.timeframes,
-            ColumnName::TimeframeGroupId,
-        );
-        write_column(
-            &mut hasher,
-            &tables.fare_products,
-            ColumnName::FareProductId,
-        );
-        write_column(&mut hasher, &tables.fare_leg_rules, ColumnName::LegGroupId);
+        for (file, column) in NAME_COLUMNS {
+            write_column(&mut hasher, tables.get(file), column);
+        }
         NameHash {
             seed: hasher.finish(),
         }

@@ -1,12 +1,14 @@
 //! Names numbered by their first appearance.
 ghost use Rattle.std.specs.Prelude.{◌≡◌, ◌+◌, ◌-◌, ◌<◌, ◌≤◌, ◌^◌, ℕ, List, [], length, IfOk, OnOk};
-ghost use Rattle.feed_faults.specs.Records.{row_count};
+ghost use Rattle.feed_rows.specs.Limits.{most_rows};
+ghost use Rattle.feed_faults.specs.FeedTables.{table_in};
+ghost use Rattle.feed_soundness.specs.AcceptedTables.{AreFormed};
 ghost use Rattle.feed_faults.specs.AcceptedFeed.{name_number, with_name, with_column};
 ghost use Rattle.feed_build.specs.NameNumbers.{IsNumbering, IsShort, AreShort, names_in};
 
 use crate::name_hash::NameHash;
-use feed_rows::{ColumnName, Id, NameList};
-use feed_tables::NamedTable;
+use feed_rows::{ColumnName, FileName, Id, NameList};
+use feed_tables::Tables;
 use feed_text::is_filled;
 use indexmap::IndexSet;
 use std::alloc::{AllocError, Global};
@@ -61,21 +63,25 @@ impl<'t> Numbering<'t> {
         }
     }
 
-    /// These names and behind them the new ones of a column.
+    /// These names and behind them the new ones of a file's column.
     ///
     /// # Errors
     /// Want of memory.
+    #[tactic(auto, using(crate::proofs::ShortNames::few_rows))]
     pub fn with_column(
         self,
-        table: &'t NamedTable,
+        tables: &'t Tables,
+        file: FileName,
         column: ColumnName,
     ) -> Result<Numbering<'t>, AllocError>
-        requires short { AreShort table.now column }
-        requires few { length self + row_count table.now < 2 ^ 32 }
-        ensures names { IfOk result (λ names. names ≡ with_column self.entry table.now column) }
-        ensures grows { IfOk result (λ names. length names ≤ length self.entry + row_count table.now) }
+        requires formed { AreFormed tables.now }
+        requires short { AreShort (table_in tables.now file) column }
+        requires few { length self + most_rows < 2 ^ 32 }
+        ensures names { IfOk result (λ names. names ≡ with_column self.entry (table_in tables.now file) column) }
+        ensures grows { IfOk result (λ names. length names ≤ length self.entry + most_rows) }
     {
         let Numbering { mut names } = self;
+        let table = tables.get(file);
         for row in 0..table.rows() {
             add_name(&mut names, table.field(row, column))?;
         }

@@ -1,27 +1,19 @@
-//! The rows of a feed's files in two groups.
+//! The rows and names of a feed in three groups.
 ghost use Rattle.std.specs.Prelude.{◌≡◌, IfOk};
-ghost use Rattle.feed_tables.specs.UnbuiltFiles.{AreUnbuiltEmpty};
-ghost use Rattle.feed_soundness.specs.AcceptedTables.{AreFormed};
+ghost use Rattle.feed_rows.specs.declared.names.FileName.TheVariants as file;
+ghost use Rattle.feed_faults.specs.FeedTables.{table_in};
 ghost use Rattle.feed_faults.specs.AcceptedFeed.{typed_rows, stop_time_row};
-ghost use Rattle.feed_tables.specs.TableIds.{AreIdsOf};
-ghost use Rattle.feed_build.specs.FeedNames.{AreNamesOf};
-ghost use Rattle.feed_build.specs.FeedParts.{IsTimetableOf, AreFaresOf};
+ghost use Rattle.feed_build.specs.FeedParts.{IsTimetableOf, AreFaresOf, AreNamesOf};
 
-use crate::leg_rules::leg_rule_rows;
-use crate::names::Names;
-use crate::products::product_rows;
-use crate::routes::route_rows;
-use crate::services::{exception_rows, service_rows};
-use crate::stops::stop_rows;
-use crate::trips::trip_rows;
+use crate::rows::typed_rows;
+use crate::source::Source;
+use crate::timetable::link_rows;
 use feed_rows::{
-    AreaRows, ExceptionRows, FrequencyRows, LegRuleRows, LinkRows, MediumRows, ProductRows,
-    RiderRows, RouteRows, ServiceRows, StopAreaRows, StopRows, StopTimeRows, TimeframeRows,
-    TransferRuleRows, TripRows,
+    AreaRows, ExceptionRows, FrequencyRows, LegRuleRows, LinkRows, MediumRows, NameList,
+    ProductRows, RiderRows, RouteRows, ServiceRows, StopAreaRows, StopRows, StopTimeRows,
+    TimeframeRows, TransferRuleRows, TripRows,
 };
-use feed_tables::{TableIds, Tables};
-use plain_laws::ItemList;
-use std::alloc::{AllocError, Global};
+use std::alloc::AllocError;
 
 /// The rows of the files of the timetable and of footways.
 #[derive(Drop)]
@@ -34,6 +26,28 @@ pub struct Timetable {
     pub exceptions: ExceptionRows,
     pub frequencies: FrequencyRows,
     pub links: LinkRows,
+}
+
+impl Timetable {
+    /// The rows of the timetable; those of stop_times.txt are given.
+    ///
+    /// # Errors
+    /// Want of memory.
+    pub fn of(source: &Source, stop_times: StopTimeRows) -> Result<Timetable, AllocError>
+        requires { stop_times ≡ typed_rows (table_in source.now file.StopTimes) (stop_time_row source.now) }
+        ensures { IfOk result (IsTimetableOf source.now) }
+    {
+        Ok(Timetable {
+            stops: typed_rows(source)?,
+            routes: typed_rows(source)?,
+            trips: typed_rows(source)?,
+            stop_times,
+            services: typed_rows(source)?,
+            exceptions: typed_rows(source)?,
+            frequencies: typed_rows(source)?,
+            links: link_rows(source)?,
+        })
+    }
 }
 
 /// The rows of the files of fares.
@@ -49,59 +63,51 @@ pub struct Fares {
     pub transfer_rules: TransferRuleRows,
 }
 
-impl Timetable {
-    /// The rows of the timetable, by the names of the feed; those of stop_times.txt are given. Those of frequencies.txt and
-    /// transfers.txt aren't read yet.
+impl Fares {
+    /// The rows of fares.
     ///
     /// # Errors
     /// Want of memory.
-    pub fn of(
-        alloc: Global,
-        tables: &Tables,
-        ids: &TableIds,
-        names: &Names,
-        stop_times: StopTimeRows,
-    ) -> Result<Timetable, AllocError>
-        requires formed { AreFormed tables.now }
-        requires unbuilt { AreUnbuiltEmpty tables.now }
-        requires ids { AreIdsOf tables.now ids.now }
-        requires stop_times { stop_times ≡ typed_rows tables.now.stop_times (stop_time_row tables.now) }
-        requires names { AreNamesOf tables.now names.now }
-        ensures { IfOk result (IsTimetableOf tables.now) }
+    pub fn of(source: &Source) -> Result<Fares, AllocError>
+        ensures { IfOk result (AreFaresOf source.now) }
     {
-        Ok(Timetable {
-            stops: stop_rows(alloc, tables, ids)?,
-            routes: route_rows(alloc, tables, &names.networks)?,
-            trips: trip_rows(alloc, tables, ids, &names.services)?,
-            stop_times,
-            services: service_rows(alloc, tables, &names.services)?,
-            exceptions: exception_rows(alloc, tables, &names.services)?,
-            frequencies: ItemList::empty(alloc),
-            links: ItemList::empty(alloc),
+        Ok(Fares {
+            areas: typed_rows(source)?,
+            stop_areas: typed_rows(source)?,
+            timeframes: typed_rows(source)?,
+            riders: typed_rows(source)?,
+            media: typed_rows(source)?,
+            products: typed_rows(source)?,
+            leg_rules: typed_rows(source)?,
+            transfer_rules: typed_rows(source)?,
         })
     }
 }
 
-impl Fares {
-    /// The rows of fares, by the names of the feed. Those of areas, timeframes, riders, media and transfer rules aren't read
-    /// yet.
+/// The names that have no rows of their own.
+#[derive(Drop)]
+pub struct Names {
+    pub services: NameList,
+    pub networks: NameList,
+    pub frames: NameList,
+    pub products: NameList,
+    pub groups: NameList,
+}
+
+impl Names {
+    /// The names of a feed, each kind by first appearance.
     ///
     /// # Errors
     /// Want of memory.
-    pub fn of(alloc: Global, tables: &Tables, names: &Names) -> Result<Fares, AllocError>
-        requires unbuilt { AreUnbuiltEmpty tables.now }
-        requires names { AreNamesOf tables.now names.now }
-        ensures { IfOk result (AreFaresOf tables.now) }
+    pub fn of(source: &Source) -> Result<Names, AllocError>
+        ensures { IfOk result (AreNamesOf source.now) }
     {
-        Ok(Fares {
-            areas: ItemList::empty(alloc),
-            stop_areas: ItemList::empty(alloc),
-            timeframes: ItemList::empty(alloc),
-            riders: ItemList::empty(alloc),
-            media: ItemList::empty(alloc),
-            products: product_rows(alloc, tables, &names.products)?,
-            leg_rules: leg_rule_rows(alloc, tables, names)?,
-            transfer_rules: ItemList::empty(alloc),
+        Ok(Names {
+            services: source.services.ids(source.alloc)?,
+            networks: source.networks.ids(source.alloc)?,
+            frames: source.frames.ids(source.alloc)?,
+            products: source.products.ids(source.alloc)?,
+            groups: source.groups.ids(source.alloc)?,
         })
     }
 }

@@ -1,0 +1,44 @@
+//! The typed rows of a file.
+ghost use Rattle.std.specs.Prelude.{◌≡◌, ◌<◌, ℕ, IfOk};
+ghost use Rattle.feed_rows.specs.declared.names.FileName.{FileName};
+ghost use Rattle.feed_faults.specs.Records.{row_count};
+ghost use Rattle.feed_faults.specs.FeedTables.{FeedTables, table_in};
+ghost use Rattle.feed_faults.specs.AcceptedFeed.{typed_rows};
+
+use crate::source::Source;
+use feed_rows::FileName;
+use plain_laws::ItemList;
+use std::alloc::AllocError;
+
+/// What each row of a file gives. A further file is an impl of this.
+pub trait FileRow: Drop {
+    /// The file.
+    ghost FILE: { FileName };
+
+    /// What its rows give, by their numbers.
+    ghost row_in: { FeedTables → ℕ → Self };
+
+    const FILE: FileName;
+
+    /// What a row of the file gives.
+    ///
+    /// # Errors
+    /// Want of memory.
+    fn at(source: &Source, row: u32) -> Result<Self, AllocError>
+        requires { row < row_count (table_in source.now FILE) }
+        ensures { IfOk result (λ made. made ≡ row_in source.now row) };
+}
+
+/// What all rows of a file give, in order.
+///
+/// # Errors
+/// Want of memory.
+pub fn typed_rows<R: FileRow>(source: &Source) -> Result<ItemList<R>, AllocError>
+    ensures { IfOk result (λ rows. rows ≡ typed_rows (table_in source.now R.FILE) (R.row_in source.now)) }
+{
+    let mut rows = ItemList::empty(source.alloc);
+    for row in 0..source.table(R::FILE).rows() {
+        rows.push(R::at(source, row)?)?;
+    }
+    Ok(rows)
+}

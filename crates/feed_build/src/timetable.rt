@@ -1,0 +1,238 @@
+//! The rows of the files of the timetable.
+ghost use Rattle.std.specs.Prelude.{◌≡◌, ◌<◌, not, IfOk};
+ghost use Rattle.plain_laws.specs.Plain.{picks_below};
+ghost use Rattle.feed_rows.specs.declared.names.FileName.TheVariants as file;
+ghost use Rattle.feed_faults.specs.Records.{row_count};
+ghost use Rattle.feed_faults.specs.FormFaults.{is_passed_over};
+ghost use Rattle.feed_faults.specs.FeedTables.{table_in};
+ghost use Rattle.feed_faults.specs.FieldValues.{stop_kind};
+ghost use Rattle.feed_faults.specs.AcceptedFeed.{accepted_parent, stop_row, network_of_route, route_row, trip_row, runs_on_weekday, service_row, exception_row, frequency_row, link_row};
+
+use crate::rows::FileRow;
+use crate::source::Source;
+use crate::values::{MOST_INT, filled, time_or_past};
+use feed_rows::{
+    ColumnName, ExceptionRow, FileName, FrequencyRow, Id, LinkRow, LinkRows, PLATFORM, RouteRow,
+    ServiceRow, StopRow, TripRow,
+};
+use feed_tables::{IdColumn, NamedTable, is_passed_over, stop_kind};
+use feed_text::{day_or_past, int_or_past, is_filled, optional_int};
+use std::alloc::AllocError;
+use transit_base::{MOST_TIME, NetworkId, RouteId, ServiceId, StopId, TripId};
+
+// A weekday of `calendar.txt` on which the service runs.
+const SERVICE_AVAILABLE: u32 = 1;
+
+// The `exception_type` of a date on which the service is added.
+const SERVICE_ADDED: u32 = 1;
+
+// The `transfer_type` of a row that forbids the change.
+const CHANGE_FORBIDDEN: u32 = 3;
+
+// The parent of a stop of this kind: the station that a platform names.
+#[tactic(auto, unfolding(feed_faults::specs::AcceptedFeed::accepted_parent))]
+fn parent_of(source: &Source, kind: u32, row: u32) -> Option<StopId>
+    requires within { row < row_count (table_in source.now file.Stops) }
+    requires kind { kind ≡ stop_kind (table_in source.now file.Stops) row }
+    ensures { result ≡ accepted_parent (table_in source.now file.Stops) row }
+{
+    let parent = source
+        .table(FileName::Stops)
+        .field(row, ColumnName::ParentStation);
+    if kind == u32::from(PLATFORM) && is_filled(parent) {
+        Some(StopId(source.number(IdColumn::Stop, parent)))
+    } else {
+        None
+    }
+}
+
+impl FileRow for StopRow {
+    ghost FILE = { file.Stops };
+
+    ghost row_in = { stop_row };
+
+    const FILE: FileName = FileName::Stops;
+
+    #[tactic(auto, unfolding(feed_faults::specs::AcceptedFeed::stop_row), using(feed_soundness::proofs::IdColumns::stop_id))]
+    fn at(source: &Source, row: u32) -> Result<StopRow, AllocError> {
+        let table = source.table(Self::FILE);
+        let kind = stop_kind(table, row);
+        Ok(StopRow {
+            id: Id::copy_of(source.alloc, table.field(row, ColumnName::StopId))?,
+            kind: kind as u8,
+            parent: parent_of(source, kind, row),
+        })
+    }
+}
+
+// The name of a route's network: that of its own row, or else that of its row in route_networks.txt.
+#[tactic(auto, unfolding(feed_faults::specs::AcceptedFeed::network_of_route))]
+fn network_of_route<'t>(source: &Source<'t>, row: u32) -> &'t [u8]
+    requires { row < row_count (table_in source.now file.Routes) }
+    ensures { result.now ≡ network_of_route source.now row }
+{
+    let routes = source.table(FileName::Routes);
+    let own = routes.field(row, ColumnName::NetworkId);
+    if is_filled(own) {
+        return own;
+    }
+    let route = routes.field(row, ColumnName::RouteId);
+    match source.row_of(IdColumn::NetworkRoute, route) {
+        Some(member) => source
+            .table(FileName::RouteNetworks)
+            .field(member, ColumnName::NetworkId),
+        None => &[],
+    }
+}
+
+impl FileRow for RouteRow {
+    ghost FILE = { file.Routes };
+
+    ghost row_in = { route_row };
+
+    const FILE: FileName = FileName::Routes;
+
+    #[tactic(auto, unfolding(feed_faults::specs::AcceptedFeed::route_row), using(feed_soundness::proofs::IdColumns::route_id))]
+    fn at(source: &Source, row: u32) -> Result<RouteRow, AllocError> {
+        let table = source.table(Self::FILE);
+        let network = network_of_route(source, row);
+        Ok(RouteRow {
+            id: Id::copy_of(source.alloc, table.field(row, ColumnName::RouteId))?,
+            network: filled(network, NetworkId(source.networks.number(network))),
+        })
+    }
+}
+
+impl FileRow for TripRow {
+    ghost FILE = { file.Trips };
+
+    ghost row_in = { trip_row };
+
+    const FILE: FileName = FileName::Trips;
+
+    #[tactic(auto, unfolding(feed_faults::specs::AcceptedFeed::trip_row), using(feed_soundness::proofs::IdColumns::trip_id))]
+    fn at(source: &Source, row: u32) -> Result<TripRow, AllocError> {
+        let table = source.table(Self::FILE);
+        Ok(TripRow {
+            id: Id::copy_of(source.alloc, table.field(row, ColumnName::TripId))?,
+            route: RouteId(source.number(IdColumn::Route, table.field(row, ColumnName::RouteId))),
+            service: ServiceId(
+                source
+                    .services
+                    .number(table.field(row, ColumnName::ServiceId)),
+            ),
+        })
+    }
+}
+
+// Whether a service runs on a weekday.
+fn runs_on(calendar: &NamedTable, row: u32, weekday: ColumnName) -> bool
+    requires { row < row_count calendar.now }
+    ensures { result ≡ runs_on_weekday calendar.now row weekday }
+{
+    int_or_past(calendar.field(row, weekday), 1) == SERVICE_AVAILABLE
+}
+
+impl FileRow for ServiceRow {
+    ghost FILE = { file.Calendar };
+
+    ghost row_in = { service_row };
+
+    const FILE: FileName = FileName::Calendar;
+
+    #[tactic(auto, unfolding(feed_faults::specs::AcceptedFeed::service_row))]
+    fn at(source: &Source, row: u32) -> Result<ServiceRow, AllocError> {
+        let table = source.table(Self::FILE);
+        Ok(ServiceRow {
+            service: ServiceId(
+                source
+                    .services
+                    .number(table.field(row, ColumnName::ServiceId)),
+            ),
+            days: [
+                runs_on(table, row, ColumnName::Monday),
+                runs_on(table, row, ColumnName::Tuesday),
+                runs_on(table, row, ColumnName::Wednesday),
+                runs_on(table, row, ColumnName::Thursday),
+                runs_on(table, row, ColumnName::Friday),
+                runs_on(table, row, ColumnName::Saturday),
+                runs_on(table, row, ColumnName::Sunday),
+            ],
+            first: day_or_past(table.field(row, ColumnName::StartDate)),
+            last: day_or_past(table.field(row, ColumnName::EndDate)),
+        })
+    }
+}
+
+impl FileRow for ExceptionRow {
+    ghost FILE = { file.CalendarDates };
+
+    ghost row_in = { exception_row };
+
+    const FILE: FileName = FileName::CalendarDates;
+
+    #[tactic(auto, unfolding(feed_faults::specs::AcceptedFeed::exception_row))]
+    fn at(source: &Source, row: u32) -> Result<ExceptionRow, AllocError> {
+        let table = source.table(Self::FILE);
+        Ok(ExceptionRow {
+            service: ServiceId(
+                source
+                    .services
+                    .number(table.field(row, ColumnName::ServiceId)),
+            ),
+            day: day_or_past(table.field(row, ColumnName::Date)),
+            added: int_or_past(table.field(row, ColumnName::ExceptionType), 2) == SERVICE_ADDED,
+        })
+    }
+}
+
+impl FileRow for FrequencyRow {
+    ghost FILE = { file.Frequencies };
+
+    ghost row_in = { frequency_row };
+
+    const FILE: FileName = FileName::Frequencies;
+
+    #[tactic(auto, unfolding(feed_faults::specs::AcceptedFeed::frequency_row))]
+    fn at(source: &Source, row: u32) -> Result<FrequencyRow, AllocError> {
+        let table = source.table(Self::FILE);
+        Ok(FrequencyRow {
+            trip: TripId(source.number(IdColumn::Trip, table.field(row, ColumnName::TripId))),
+            start: time_or_past(table.field(row, ColumnName::StartTime), MOST_TIME),
+            end: time_or_past(table.field(row, ColumnName::EndTime), MOST_TIME),
+            headway: int_or_past(table.field(row, ColumnName::HeadwaySecs), MOST_INT),
+        })
+    }
+}
+
+// What a row of transfers.txt gives that isn't passed over.
+#[tactic(auto, unfolding(feed_faults::specs::AcceptedFeed::link_row))]
+fn link_row(source: &Source, row: u32) -> LinkRow
+    requires { row < row_count (table_in source.now file.Transfers) }
+    ensures { result ≡ link_row source.now row }
+{
+    let table = source.table(FileName::Transfers);
+    LinkRow {
+        from: StopId(source.number(IdColumn::Stop, table.field(row, ColumnName::FromStopId))),
+        to: StopId(source.number(IdColumn::Stop, table.field(row, ColumnName::ToStopId))),
+        forbidden: optional_int(table.field(row, ColumnName::TransferType), 5) == CHANGE_FORBIDDEN,
+        seconds: optional_int(table.field(row, ColumnName::MinTransferTime), MOST_INT),
+    }
+}
+
+/// What the rows of transfers.txt give that aren't passed over, in order.
+///
+/// # Errors
+/// Want of memory.
+pub fn link_rows(source: &Source) -> Result<LinkRows, AllocError>
+    ensures { IfOk result (λ rows. rows ≡ picks_below (row_count (table_in source.now file.Transfers)) (λ row. not (is_passed_over (table_in source.now file.Transfers) row)) (link_row source.now)) }
+{
+    let table = source.table(FileName::Transfers);
+    let mut rows = LinkRows::empty(source.alloc);
+    for row in 0..table.rows() {
+        if !is_passed_over(table, row) {
+            rows.push(link_row(source, row))?;
+        }
+    }
+    Ok(rows)
+}
