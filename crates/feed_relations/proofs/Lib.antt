@@ -1,3 +1,5 @@
-pub mod KeyLaws
 pub mod TripNumberLaws
-pub mod PassLaws
+pub mod KeyLaws
+pub mod FrameLaws
+pub mod LeastLaws
+pub mod FittingLaws

@@ -1,3 +1,4 @@
-pub mod RowNumbers
 pub mod JudgedBy
-pub mod SeenKeys
+pub mod RowKeys
+pub mod Frames
+pub mod FittingChecks

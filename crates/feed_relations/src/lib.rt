@@ -1,13 +1,14 @@
 //! The second pass over a feed: what is wrong with the files among each other.
 #![tactic(auto)]
 
-mod exceptions;
-mod files;
+mod checks;
+mod forbidden;
+mod frames;
+mod judged;
+mod keys;
 mod pass;
 mod places;
-mod products;
-mod rules;
-mod stop_times;
-mod timetable;
+mod rows;
+mod times;
 
 pub use pass::first_relation_fault;

@@ -1,84 +1,87 @@
-//! The files in their order.
+//! The files in their order, and the checks of each.
 ghost use Rattle.std.specs.Prelude.{◌≡◌, IfOk};
-ghost use Rattle.feed_faults.specs.FirstFault.{timetable_relation_fault, network_relation_fault, fare_relation_fault, first_relation_fault};
+ghost use Rattle.plain_laws.specs.Plain.{first_below};
+ghost use Rattle.feed_rows.specs.declared.names.FileName.TheVariants as file;
+ghost use Rattle.feed_faults.specs.Records.{row_count};
+ghost use Rattle.feed_faults.specs.FeedTables.{table_in};
+ghost use Rattle.feed_faults.specs.RowChecks.{relation_fault_of_row};
+ghost use Rattle.feed_faults.specs.FirstFault.{relation_fault, first_relation_fault};
 ghost use Rattle.feed_faults.specs.AcceptedFeed.{typed_rows, stop_time_row};
-ghost use Rattle.feed_tables.specs.UnbuiltFiles.{AreUnbuiltEmpty};
-ghost use Rattle.feed_tables.specs.TableIds.{AreIdsOf};
 ghost use Rattle.feed_relations.specs.JudgedBy.{AreCallsNamed};
 
-use crate::exceptions::exceptions_fault;
-use crate::products::products_fault;
-use crate::rules::leg_rules_fault;
-use crate::stop_times::stop_times_fault;
-use crate::timetable::{routes_fault, services_fault, stops_fault, trips_fault};
-use feed_rows::{FeedFault, StopTimeRow};
-use feed_tables::{TableIds, Tables};
+use crate::checks::first_failing;
+use crate::forbidden::forbidden_fault;
+use crate::judged::JudgedFeed;
+use crate::places::check_fault;
+use feed_faults::checks_of;
+use feed_rows::{FeedFault, FileName, StopTimeRow};
+use feed_tables::{Ids, Tables};
 use std::alloc::{AllocError, Global};
 
-// The first fault of the files of the timetable.
-#[tactic(auto, unfolding(feed_faults::specs::FirstFault::timetable_relation_fault))]
-fn timetable_relation_fault(
+// The first fault of a file's rows: the least row at which a check fails, and at that row the earliest of its checks. Each check
+// looks only at the rows before those at which an earlier one failed.
+fn fault_of_rows(
     alloc: Global,
-    tables: &Tables,
-    ids: &TableIds,
-    stop_times: &[StopTimeRow],
+    feed: &JudgedFeed,
+    file: FileName,
 ) -> Result<Option<FeedFault>, AllocError>
-    requires ids { AreIdsOf tables.now ids.now }
-    requires named { AreCallsNamed tables.now }
-    requires stop_times { stop_times.now ≡ typed_rows tables.now.stop_times (stop_time_row tables.now) }
-    ensures { IfOk result (λ fault. fault ≡ timetable_relation_fault tables.now) }
+    ensures { IfOk result (λ fault. fault ≡ first_below (row_count (table_in feed.now file)) (relation_fault_of_row feed.now file)) }
 {
-    if let Some(fault) = stops_fault(tables, ids) {
-        return Ok(Some(fault));
+    let mut below = feed.table(file).rows();
+    let mut fault = None;
+    for (i, check) in checks_of(file).iter().enumerate() {
+        if let Some(row) = first_failing(alloc, feed, file, *check, below)? {
+            below = row;
+            fault = Some(check_fault(file, row, *check));
+        }
     }
-    if let Some(fault) = routes_fault(tables, ids) {
-        return Ok(Some(fault));
-    }
-    if let Some(fault) = trips_fault(alloc, tables, ids)? {
-        return Ok(Some(fault));
-    }
-    if let Some(fault) = stop_times_fault(alloc, tables, stop_times)? {
-        return Ok(Some(fault));
-    }
-    if let Some(fault) = services_fault(alloc, tables)? {
-        return Ok(Some(fault));
-    }
-    exceptions_fault(alloc, tables)
+    Ok(fault)
 }
 
-// The first fault of the other files of fares.
-#[tactic(auto, unfolding(feed_faults::specs::FirstFault::fare_relation_fault))]
-fn fare_relation_fault(alloc: Global, tables: &Tables) -> Result<Option<FeedFault>, AllocError>
-    requires { AreUnbuiltEmpty tables.now }
-    ensures { IfOk result (λ fault. fault ≡ fare_relation_fault tables.now) }
+// The first fault of a file among the others: that it is forbidden comes before its rows.
+#[tactic(auto, unfolding(feed_faults::specs::FirstFault::relation_fault))]
+fn relation_fault(
+    alloc: Global,
+    feed: &JudgedFeed,
+    file: FileName,
+) -> Result<Option<FeedFault>, AllocError>
+    ensures { IfOk result (λ fault. fault ≡ relation_fault feed.now file) }
 {
-    if let Some(fault) = products_fault(alloc, tables)? {
+    if let Some(fault) = forbidden_fault(feed, file) {
         return Ok(Some(fault));
     }
-    leg_rules_fault(alloc, tables)
+    fault_of_rows(alloc, feed, file)
+}
+
+// The first fault of the files, by what their rows are judged by.
+#[tactic(auto, unfolding(feed_faults::specs::FirstFault::first_relation_fault))]
+fn fault_of_files(alloc: Global, feed: &JudgedFeed) -> Result<Option<FeedFault>, AllocError>
+    ensures { IfOk result (λ fault. fault ≡ first_relation_fault feed.now) }
+{
+    for (i, file) in FileName::ALL.iter().enumerate() {
+        if let Some(fault) = relation_fault(alloc, feed, *file)? {
+            return Ok(Some(fault));
+        }
+    }
+    Ok(None)
 }
 
 /// The first fault of the files among each other, in the order of the files and of their rows. None exactly where they have
-/// none. It is told by the rows of stops, routes and trips by their ids, and by the rows of stop_times.txt, each of which names
-/// a trip and a stop.
+/// none.
 ///
 /// # Errors
 /// Want of memory.
-#[tactic(auto, using(crate::proofs::PassLaws::network_none))]
 pub fn first_relation_fault(
     alloc: Global,
     tables: &Tables,
-    ids: &TableIds,
+    ids: &Ids,
     stop_times: &[StopTimeRow],
 ) -> Result<Option<FeedFault>, AllocError>
-    requires unbuilt { AreUnbuiltEmpty tables.now }
-    requires ids { AreIdsOf tables.now ids.now }
+    requires ids { ids.now ≡ tables.now }
     requires named { AreCallsNamed tables.now }
-    requires stop_times { stop_times.now ≡ typed_rows tables.now.stop_times (stop_time_row tables.now) }
+    requires stop_times { stop_times.now ≡ typed_rows (table_in tables.now file.StopTimes) (stop_time_row tables.now) }
     ensures { IfOk result (λ fault. fault ≡ first_relation_fault tables.now) }
 {
-    if let Some(fault) = timetable_relation_fault(alloc, tables, ids, stop_times)? {
-        return Ok(Some(fault));
-    }
-    fare_relation_fault(alloc, tables)
+    let feed = JudgedFeed::of(alloc, tables, ids, stop_times)?;
+    fault_of_files(alloc, &feed)
 }

@@ -12,7 +12,7 @@ use feed_faults::{ColumnRule, columns_of};
 use feed_rows::{ColumnName, FaultKind, FeedFault, FileName};
 use feed_text::{int_of, is_filled};
 
-/// Whether a row of transfers.txt is passed over: it is of type 4 or 5, or it names routes or trips.
+/// Whether a row of `transfers.txt` is passed over: it is of type 4 or 5, or it names routes or trips.
 #[tactic(auto, unfolding(feed_faults::specs::FormFaults::is_passed_over))]
 pub fn is_passed_over(table: &NamedTable, row: u32) -> bool
     requires { row < row_count table.now }

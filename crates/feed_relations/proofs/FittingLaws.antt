@@ -1,0 +1,134 @@
+-- Each check of a file's list fits the file, and rows that have passed the checks before it are as it needs them.
+use Rattle.std.proofs.Common.{◌≡◌, refl, ℕ, zero, suc, ◌+◌, ◌<◌, false, List, [], ◌∷◌, length, get_or, Option, Some, None, arith, subst}
+use Rattle.std.specs.Prelude.{slice_get}
+use Rattle.feed_rows.specs.declared.names.FileName.{FileName}
+use Rattle.feed_rows.specs.declared.names.FileName.TheVariants as file
+use Rattle.feed_rows.specs.declared.names.ColumnName.TheVariants.{TripId, RiderCategoryId, FareMediaId}
+use Rattle.plain_laws.specs.Plain.{find_below, when}
+use Rattle.plain_laws.proofs.Laws.{at_item, none_below, none_when, find_below_tells}
+use Rattle.feed_faults.specs.declared.checks.Named.TheVariants.{Trip, RiderCategory, FareMedia}
+use Rattle.feed_faults.specs.declared.checks.RowCheck.{RowCheck}
+use Rattle.feed_faults.specs.declared.checks.RowCheck.TheVariants.{Known}
+use Rattle.feed_rows.specs.declared.faults.FeedFault.{FeedFault}
+use Rattle.feed_faults.specs.FeedTables.{FeedTables}
+use Rattle.feed_faults.specs.FaultPlaces.{field_fault}
+use Rattle.feed_faults.specs.RowChecks.{checks_of, fails, fault_of_check, column_of_check, kind_of_check}
+use Rattle.feed_relations.specs.FittingChecks.{Fits, Knows, HasPassed}
+use Rattle.feed_relations.proofs.LeastLaws.{IsLeast, least_kept, least_found}
+use Rattle.feed_relations.proofs.KeyLaws.{exceptions_tell, frequencies_tell, products_tell}
+
+-- a check before the first n didn't fail
+passed : (t : FeedTables) (name : FileName) (n row k : ℕ) (check : RowCheck) → HasPassed t name n row → k < n → slice_get (checks_of name) k ≡ Some check → fails t name check row ≡ false
+passed t name n row k check has lt at =
+    let none = none_below (at_item (checks_of name) (fault_of_check t name row)) n k has lt in
+    none_when (fails t name check row) (field_fault name row (column_of_check check) (kind_of_check check)) (rw at at none)
+
+-- each check of a list, whose first stands at a place, has what it needs
+abbrev DoFit : FeedTables → FileName → ℕ → List RowCheck → Type 0
+DoFit t name i [] = Unit {0}
+DoFit t name i (check ∷ checks) = Fits t name check × ((row : ℕ) → HasPassed t name i row → Knows t name check row) × DoFit t name (i + 1) checks
+
+module _ (t : FeedTables) (name : FileName) where
+  fit_at : (i : ℕ) (checks : List RowCheck) (k : ℕ) (d : RowCheck) → DoFit t name i checks → k < length checks → Fits t name (get_or checks k d)
+  fit_at i [] k d fit lt = absurd (omega arith)
+  fit_at i (check ∷ checks) zero d fit lt = fit.0
+  fit_at i (check ∷ checks) (suc k) d fit lt = fit_at (i + 1) checks k d fit.2 (omega arith)
+
+  know_at : (i : ℕ) (checks : List RowCheck) (k : ℕ) (d : RowCheck) (row : ℕ) → DoFit t name i checks → k < length checks → HasPassed t name (i + k) row → Knows t name (get_or checks k d) row
+  know_at i [] k d row fit lt has = absurd (omega arith)
+  know_at i (check ∷ checks) zero d row fit lt has = let e : i + 0 ≡ i = omega arith in fit.1 row (subst (λ n. HasPassed t name n row) e has)
+  know_at i (check ∷ checks) (suc k) d row fit lt has =
+      let e : i + suc k ≡ i + 1 + k = omega arith in
+      know_at (i + 1) checks k d row fit.2 (omega arith) (subst (λ n. HasPassed t name n row) e has)
+
+-- the checks of each file
+module _ (t : FeedTables) where
+  trip_passed : (n row : ℕ) → 0 < n → HasPassed t file.StopTimes n row → fails t file.StopTimes (Known TripId Trip) row ≡ false
+  trip_passed n row lt has = passed t file.StopTimes n row 0 (Known TripId Trip) has lt refl
+
+  do_fit : (name : FileName) → DoFit t name 0 (checks_of name)
+  do_fit file.Stops = (refl, (λ row has. tt), (refl, (λ row has. tt), (refl, (λ row has. tt), tt)))
+  do_fit file.Routes = (refl, (λ row has. tt), tt)
+  do_fit file.Trips = (refl, (λ row has. tt), (tt, (λ row has. tt), (tt, (λ row has. tt), tt)))
+  do_fit file.StopTimes = (
+    refl,
+    (λ row has. tt),
+    (
+      refl,
+      (λ row has. tt),
+      (
+        refl,
+        (λ row has. tt),
+        (
+          (λ other. absurd (other refl)),
+          (λ row has. trip_passed 3 row (omega arith) has),
+          (refl, λ row has. trip_passed 4 row (omega arith) has, (refl, (λ row has. trip_passed 5 row (omega arith) has), tt)),
+        ),
+      ),
+    ),
+  )
+  do_fit file.Calendar = (refl, (λ row has. tt), (tt, (λ row has. tt), tt))
+  do_fit file.CalendarDates = ((λ other. exceptions_tell t), (λ row has. tt), tt)
+  do_fit file.Frequencies =
+      (tt, (λ row has. tt), ((λ other. frequencies_tell t), (λ row has. passed t file.Frequencies 1 row 0 (Known TripId Trip) has (omega arith) refl), tt))
+  do_fit file.Transfers = (tt, (λ row has. tt), (tt, (λ row has. tt), tt))
+  do_fit file.Areas = (refl, (λ row has. tt), tt)
+  do_fit file.StopAreas = (tt, (λ row has. tt), (tt, (λ row has. tt), tt))
+  do_fit file.Networks = (refl, (λ row has. tt), tt)
+  do_fit file.RouteNetworks = (refl, (λ row has. tt), (tt, (λ row has. tt), (tt, (λ row has. tt), tt)))
+  do_fit file.Timeframes = (tt, (λ row has. tt), (refl, (λ row has. tt), tt))
+  do_fit file.RiderCategories = (refl, (λ row has. tt), tt)
+  do_fit file.FareMedia = (refl, (λ row has. tt), tt)
+  do_fit file.FareProducts = (
+    tt,
+    (λ row has. tt),
+    (
+      tt,
+      (λ row has. tt),
+      (
+        (λ other. products_tell t),
+        (λ row has. (passed t file.FareProducts 2 row 0 (Known RiderCategoryId RiderCategory) has (omega arith) refl, passed t file.FareProducts 2 row 1 (Known FareMediaId FareMedia) has (omega arith) refl)),
+        (tt, (λ row has. tt), tt),
+      ),
+    ),
+  )
+  do_fit file.FareLegRules =
+      (tt, (λ row has. tt), (tt, (λ row has. tt), (tt, (λ row has. tt), (tt, (λ row has. tt), (tt, (λ row has. tt), (tt, (λ row has. tt), tt))))))
+  do_fit file.FareTransferRules =
+      (tt, (λ row has. tt), (tt, (λ row has. tt), (tt, (λ row has. tt), (tt, (λ row has. tt), (tt, (λ row has. tt), tt)))))
+
+  pub fits : (name : FileName) (k : ℕ) (d : RowCheck) → k < length (checks_of name) → Fits t name (get_or (checks_of name) k d)
+  fits name k d lt = fit_at t name 0 (checks_of name) k d (do_fit name) lt
+
+  pub knows : (name : FileName) (k : ℕ) (d : RowCheck) (row : ℕ) → k < length (checks_of name) → HasPassed t name k row → Knows t name (get_or (checks_of name) k d) row
+  knows name k d row lt has =
+      let e : k ≡ 0 + k = omega arith in
+      know_at t name 0 (checks_of name) k d row (do_fit name) lt (subst (λ n. HasPassed t name n row) e has)
+
+-- the least row at which a check of a list fails, after one check more, which is one of the file's list
+module _ (t : FeedTables) (name : FileName) (checks : List RowCheck) (are : checks ≡ checks_of name) (n i below : ℕ) (found : Option FeedFault) (d : RowCheck) (lt : i < length checks) (least : IsLeast (checks_of name) (fault_of_check t name) i n below found) where
+  abbrev check : RowCheck
+  check = get_or checks i d
+
+  abbrev fault : ℕ → FeedFault
+  fault row = field_fault name row (column_of_check check) (kind_of_check check)
+
+  within : i < length (checks_of name)
+  within = rw are at lt
+
+  no_fault : (k : ℕ) → fails t name check k ≡ false → fault_of_check t name k (get_or (checks_of name) i d) ≡ None
+  no_fault k e = rw (← are) (rw e refl)
+
+  -- it fails at no row below that
+  pub check_passed : find_below below (fails t name check) ≡ None → IsLeast (checks_of name) (fault_of_check t name) (i + 1) n below found
+  check_passed none =
+      least_kept (checks_of name) (fault_of_check t name) n i below found d within least
+      (λ k small. no_fault k (none_when (fails t name check k) k (none_below (λ j. when (fails t name check j) j) below k none small)))
+
+  -- it fails at one
+  pub check_failed : (row : ℕ) → find_below below (fails t name check) ≡ Some row → IsLeast (checks_of name) (fault_of_check t name) (i + 1) n row (Some (fault row))
+  check_failed row some =
+      let first = find_below_tells (fails t name check) below row some in
+      least_found (checks_of name) (fault_of_check t name) n i below row found d (fault row) within least first.within
+      (λ k small. no_fault k (first.earlier k small))
+      (rw (← are) (rw first.passes refl))

@@ -1,0 +1,46 @@
+use Rattle.std.proofs.Common.{◌≡◌, ◌∙◌, sym, ap, subst, arith, ◌<◌, ℕ, List, length}
+use Rattle.plain_laws.proofs.Laws.{find_below_tells}
+use Rattle.feed_faults.specs.declared.checks.RowCheck.{RowCheck}
+use Rattle.feed_faults.specs.Records.{row_count}
+use Rattle.feed_faults.specs.FeedTables.{table_in}
+use Rattle.feed_faults.specs.RowChecks.{checks_of, fault_of_check, relation_fault_of_row}
+use Rattle.feed_relations.proofs.FittingLaws.{fits, knows, check_passed, check_failed}
+use Rattle.feed_relations.proofs.LeastLaws.{IsLeast, least_end}
+use Rattle.feed_relations.proofs.pass.fault_of_rows.Goals as goal
+use Rattle.feed_relations.proofs.pass.fault_of_rows.Goals.{in-Some, in_default}
+
+pub first_failing-requires-clause-fits : goal.first_failing-requires-clause-fits
+first_failing-requires-clause-fits c =
+    rw c.checks_of-check-items.ensures (fits c.args.feed.now c.args.file c.loop-i.i _ (subst (λ (checks : List RowCheck). c.loop-i.i < length checks) c.checks_of-check-items.ensures c.loop-i-test.true))
+
+pub first_failing-requires-clause-knows : goal.first_failing-requires-clause-knows
+first_failing-requires-clause-knows c =
+    rw c.checks_of-check-items.ensures (λ row lt. knows c.args.feed.now c.args.file c.loop-i.i _ row (subst (λ (checks : List RowCheck). c.loop-i.i < length checks) c.checks_of-check-items.ensures c.loop-i-test.true) (c.loop-i.invariant.none row lt))
+
+pub check_fault-requires : goal.check_fault-requires
+check_fault-requires c =
+    let first = find_below_tells _ c.loop-i.below c.in-Some.row (sym c.in_ok-row.ensures ∙ c.in-Some.is) in
+    let less = first.within in
+    let rows : c.rows-below.result ≡ row_count (table_in c.args.feed.now c.args.file) = c.rows-below.ensures.count ∙ ap row_count c.table.ensures in
+    let few = c.rows-below.ensures.few in
+    let le = c.loop-i.invariant.within in
+    omega arith
+
+pub loop-i-preserved : goal.loop-i-preserved
+loop-i-preserved c =
+    elim c.match-branch-2.branch [
+      | in-Some w ↦
+          rw (w.below-is, w.fault-is, w.check_fault.ensures)
+          (check_failed c.args.feed.now c.args.file c.checks_of-check-items.result.now c.checks_of-check-items.ensures _ c.loop-i.i c.loop-i.below c.loop-i.fault _ c.loop-i-test.true c.loop-i.invariant w.in-Some.row (sym c.in_ok-row.ensures ∙ w.in-Some.is))
+      | in_default w ↦
+          rw (w.below-is, w.fault-is)
+          (check_passed c.args.feed.now c.args.file c.checks_of-check-items.result.now c.checks_of-check-items.ensures _ c.loop-i.i c.loop-i.below c.loop-i.fault _ c.loop-i-test.true c.loop-i.invariant (sym c.in_ok-row.ensures ∙ w.in_default.is))
+    ]
+
+pub returns : goal.returns
+unfolding relation_fault_of_row
+returns c =
+    let checks = checks_of c.args.file in
+    let n = row_count (table_in c.args.feed.now c.args.file) in
+    let all : c.loop-i.i ≡ length checks = subst (λ (xs : List RowCheck). c.loop-i.i ≡ length xs) c.checks_of-check-items.ensures (omega (arith, c.loop-i-test.false, c.loop-i.auto.i-end)) in
+    least_end checks (fault_of_check c.args.feed.now c.args.file) n c.loop-i.below c.loop-i.fault (subst (λ (i : ℕ). IsLeast checks (fault_of_check c.args.feed.now c.args.file) i n c.loop-i.below c.loop-i.fault) all c.loop-i.invariant)

@@ -1,8 +1,0 @@
-use Rattle.std.proofs.Common.{◌≡◌}
-use Rattle.std.specs.Prelude.{◌==◌}
-use Rattle.plain_laws.specs.Plain.{list_below}
-use Rattle.feed_faults.specs.FieldValues.{stop_kind}
-use Rattle.feed_relations.proofs.stop_times.platforms_of.Given as goal
-
-abbrev pub invariant-loop-row : goal.invariant-loop-row
-invariant-loop-row l = l.platforms.items ≡ list_below l.row (λ row. stop_kind l.stops row == 0)

@@ -1,0 +1,57 @@
+//! The first row at which a check fails.
+ghost use Rattle.std.specs.Prelude.{◌≡◌, ◌<◌, ◌≤◌, ℕ, IfOk, IfSome};
+ghost use Rattle.plain_laws.specs.Plain.{find_below};
+ghost use Rattle.feed_faults.specs.Records.{row_count};
+ghost use Rattle.feed_faults.specs.FeedTables.{table_in};
+ghost use Rattle.feed_faults.specs.RowChecks.{fails};
+ghost use Rattle.feed_relations.specs.FittingChecks.{Fits, Knows, IsByRow};
+
+use crate::frames::first_bad_frame;
+use crate::judged::JudgedFeed;
+use crate::keys::first_repeated;
+use crate::rows::row_fails;
+use feed_faults::RowCheck;
+use feed_rows::FileName;
+use std::alloc::{AllocError, Global};
+
+// The first row below one at which a check fails that is judged row by row.
+#[tactic(auto, using(plain_laws::proofs::Laws::found_firsts))]
+fn first_failing_row(feed: &JudgedFeed, file: FileName, check: RowCheck, below: u32) -> Option<u32>
+    requires within { below ≤ row_count (table_in feed.now file) }
+    requires fits { Fits feed.now file check }
+    requires knows { (row : ℕ) → row < below → Knows feed.now file check row }
+    requires by_row { IsByRow file check }
+    ensures { result ≡ find_below below (fails feed.now file check) }
+{
+    for row in 0..below {
+        if row_fails(feed, file, check, row) {
+            return Some(row);
+        }
+    }
+    None
+}
+
+// The first row below one at which a check of its file fails.
+pub fn first_failing(
+    alloc: Global,
+    feed: &JudgedFeed,
+    file: FileName,
+    check: RowCheck,
+    below: u32,
+) -> Result<Option<u32>, AllocError>
+    requires within { below ≤ row_count (table_in feed.now file) }
+    requires fits { Fits feed.now file check }
+    requires knows { (row : ℕ) → row < below → Knows feed.now file check row }
+    ensures { IfOk result (λ found. found ≡ find_below below (fails feed.now file check)) }
+{
+    match check {
+        RowCheck::NewKey(_) => {
+            if file == FileName::StopTimes {
+                return Ok(first_failing_row(feed, file, check, below));
+            }
+            Ok(first_repeated(alloc, feed, file, below)?)
+        }
+        RowCheck::GoodTimeframe => first_bad_frame(alloc, feed, below),
+        _ => Ok(first_failing_row(feed, file, check, below)),
+    }
+}

@@ -1,0 +1,48 @@
+//! Networks of routes in files of their own.
+ghost use Rattle.std.specs.Prelude.{◌≡◌};
+ghost use Rattle.feed_faults.specs.FaultPlaces.{file_fault};
+ghost use Rattle.feed_faults.specs.NetworkRelations.{has_own_networks, are_networks_forbidden, forbidden_fault};
+
+use crate::judged::JudgedFeed;
+use feed_rows::{ColumnName, FaultKind, FeedFault, FileName};
+use feed_tables::NamedTable;
+use feed_text::is_filled;
+
+// Whether some route has a network of its own.
+#[tactic(auto, using(plain_laws::proofs::Laws::any_below_hit, plain_laws::proofs::Laws::any_below_next), unfolding(feed_faults::specs::NetworkRelations::has_own_networks))]
+fn has_own_networks(routes: &NamedTable) -> bool
+    ensures { result ≡ has_own_networks routes.now }
+{
+    for row in 0..routes.rows() {
+        if is_filled(routes.field(row, ColumnName::NetworkId)) {
+            return true;
+        }
+    }
+    false
+}
+
+// Whether a file of networks has a row beside a route with a network of its own.
+#[tactic(auto, unfolding(feed_faults::specs::NetworkRelations::are_networks_forbidden))]
+fn are_networks_forbidden(feed: &JudgedFeed, file: FileName) -> bool
+    ensures { result ≡ are_networks_forbidden feed.now file }
+{
+    feed.table(file).rows() > 0 && has_own_networks(feed.table(FileName::Routes))
+}
+
+// The fault of a file before those of its rows.
+pub fn forbidden_fault(feed: &JudgedFeed, file: FileName) -> Option<FeedFault>
+    ensures { result ≡ forbidden_fault feed.now file }
+{
+    if file != FileName::Networks && file != FileName::RouteNetworks {
+        return None;
+    }
+    if !are_networks_forbidden(feed, file) {
+        return None;
+    }
+    Some(FeedFault {
+        kind: FaultKind::ForbiddenTogether,
+        file,
+        row: 0,
+        column: None,
+    })
+}

@@ -1,0 +1,230 @@
+//! Timeframes.
+ghost use Rattle.std.specs.Prelude.{◌≡◌, ◌<◌, ◌≤◌, ◌+◌, ◌-◌, ◌^◌, if◌then◌else◌, true, All, length, None, Some, IfOk, IfSome};
+ghost use Rattle.std.specs.List.Sorted.{IsPermutation};
+ghost use Rattle.feed_rows.specs.declared.names.ColumnName.TheVariants as column;
+ghost use Rattle.feed_rows.specs.declared.names.FileName.TheVariants as file;
+ghost use Rattle.plain_laws.specs.Plain.{find_below, any_below, list_below};
+ghost use Rattle.transit_base.specs.Limits.{day_seconds};
+ghost use Rattle.feed_faults.specs.Records.{row_count, is_filled};
+ghost use Rattle.feed_faults.specs.FeedTables.{table_in};
+ghost use Rattle.feed_faults.specs.FieldValues.{time_or_past, frame_start, frame_end};
+ghost use Rattle.feed_faults.specs.FareRelations.{do_frames_overlap, is_bad_frame};
+ghost use Rattle.feed_faults.specs.RowKeys.{is_repeated};
+ghost use Rattle.feed_relations.specs.Frames.{frame_of, is_malformed, IsOpen, do_overlap, overlaps_earlier, has_overlap, DoAscend, neighbours_overlap};
+
+use crate::judged::JudgedFeed;
+use crate::rows::is_one_filled;
+use crate::times::time_or_past;
+use feed_rows::{ColumnName, FileName};
+use feed_tables::{IdColumn, IdIndex, NamedTable};
+use feed_text::is_filled;
+use std::alloc::{AllocError, Global};
+use transit_base::DAY_SECONDS;
+
+// A timeframe: the earliest rows of its group and of its service, and its seconds of the day.
+#[derive(Clone, Copy, PartialEq, Eq, PartialOrd, Ord)]
+pub struct Frame {
+    pub group: u32,
+    pub service: u32,
+    pub start: u32,
+    pub end: u32,
+}
+
+// The time of a field; another where it is empty.
+fn time_or(text: &[u8], empty: u32) -> u32
+    ensures { result ≡ (if is_filled text.now then time_or_past day_seconds text.now else empty) }
+{
+    if is_filled(text) {
+        time_or_past(text, DAY_SECONDS)
+    } else {
+        empty
+    }
+}
+
+// The first second of a row's timeframe.
+fn frame_start(frames: &NamedTable, row: u32) -> u32
+    requires { row < row_count frames.now }
+    ensures { result ≡ frame_start frames.now row }
+{
+    time_or(frames.field(row, ColumnName::StartTime), 0)
+}
+
+// The second before which it ends.
+fn frame_end(frames: &NamedTable, row: u32) -> u32
+    requires { row < row_count frames.now }
+    ensures { result ≡ frame_end frames.now row }
+{
+    time_or(frames.field(row, ColumnName::EndTime), DAY_SECONDS)
+}
+
+// Whether a row has one time without the other, or a start not before the end.
+#[tactic(auto, unfolding(crate::specs::Frames::is_malformed))]
+fn is_malformed(frames: &NamedTable, row: u32) -> bool
+    requires { row < row_count frames.now }
+    ensures { result ≡ is_malformed frames.now row }
+{
+    is_one_filled(
+        frames.field(row, ColumnName::StartTime),
+        frames.field(row, ColumnName::EndTime),
+    ) || frame_start(frames, row) >= frame_end(frames, row)
+}
+
+// The first of the rows below one that is so.
+#[tactic(auto, using(plain_laws::proofs::Laws::found_firsts))]
+fn first_malformed(frames: &NamedTable, below: u32) -> Option<u32>
+    requires { below ≤ row_count frames.now }
+    ensures value { result ≡ find_below below (is_malformed frames.now) }
+    ensures within { IfSome result (λ row. row < below) }
+{
+    for row in 0..below {
+        if is_malformed(frames, row) {
+            return Some(row);
+        }
+    }
+    None
+}
+
+// The timeframe of a row.
+#[tactic(auto, unfolding(crate::specs::Frames::frame_of))]
+fn frame_of(frames: &NamedTable, groups: &IdIndex, services: &IdIndex, row: u32) -> Frame
+    requires groups { groups.now ≡ record { table = frames.now; name = column.TimeframeGroupId } }
+    requires services { services.now ≡ record { table = frames.now; name = column.ServiceId } }
+    requires within { row < row_count frames.now }
+    ensures { result ≡ frame_of frames.now row }
+{
+    Frame {
+        group: groups.number(frames.field(row, ColumnName::TimeframeGroupId)),
+        service: services.number(frames.field(row, ColumnName::ServiceId)),
+        start: frame_start(frames, row),
+        end: frame_end(frames, row),
+    }
+}
+
+// The timeframes of the rows below one.
+fn frames_below(
+    alloc: Global,
+    frames: &NamedTable,
+    groups: &IdIndex,
+    below: u32,
+) -> Result<Vec<Frame>, AllocError>
+    requires groups { groups.now ≡ record { table = frames.now; name = column.TimeframeGroupId } }
+    requires within { below ≤ row_count frames.now }
+    ensures { IfOk result (λ list. list.items ≡ list_below below (frame_of frames.now)) }
+{
+    let services = IdIndex::of(alloc, frames, ColumnName::ServiceId)?;
+    let mut list = Vec::with_capacity(alloc, below as usize)?;
+    for row in 0..below {
+        list.push(frame_of(frames, groups, &services, row))?;
+    }
+    Ok(list)
+}
+
+// Whether two timeframes are of one group and one service, and their times overlap.
+fn do_overlap(a: Frame, b: Frame) -> bool
+    ensures { result ≡ do_overlap a b }
+{
+    a.group == b.group && a.service == b.service && a.start < b.end && b.start < a.end
+}
+
+// The timeframes by group, by service and by start.
+fn sorted_frames(alloc: Global, frames: &[Frame]) -> Result<Vec<Frame>, AllocError>
+    ensures moved { IfOk result (λ sorted. IsPermutation frames.now sorted.items) }
+    ensures sorted { IfOk result (λ sorted. DoAscend sorted.items) }
+{
+    let mut sorted = frames.to_vec(alloc)?;
+    sorted.sort_unstable();
+    Ok(sorted)
+}
+
+// Whether the timeframe at a place overlaps the one after it.
+fn overlaps_next(frames: &[Frame], place: usize) -> bool
+    requires { place + 1 < length frames.now }
+    ensures { result ≡ neighbours_overlap frames.now place }
+{
+    do_overlap(frames[place], frames[place + 1])
+}
+
+// Whether two neighbours overlap.
+#[tactic(auto, using(plain_laws::proofs::Laws::any_below_hit, plain_laws::proofs::Laws::any_below_next))]
+fn do_neighbours_overlap(frames: &[Frame]) -> bool
+    ensures { result ≡ any_below (length frames.now - 1) (neighbours_overlap frames.now) }
+{
+    for place in 0..frames.len().saturating_sub(1) {
+        if overlaps_next(frames, place) {
+            return true;
+        }
+    }
+    false
+}
+
+// Whether some timeframe overlaps an earlier one: where they are sorted, two neighbours overlap.
+fn has_overlap(alloc: Global, frames: &[Frame]) -> Result<bool, AllocError>
+    requires { All IsOpen frames.now }
+    ensures { IfOk result (λ has. has ≡ has_overlap frames.now) }
+{
+    let sorted = sorted_frames(alloc, frames)?;
+    Ok(do_neighbours_overlap(&sorted))
+}
+
+// The first timeframe that overlaps an earlier one, where some does: the place before the shortest start of the list in which
+// some does, found by halving.
+fn overlap_between(alloc: Global, frames: &[Frame]) -> Result<u32, AllocError>
+    requires open { All IsOpen frames.now }
+    requires few { length frames.now < 2 ^ 32 }
+    requires some { has_overlap frames.now ≡ true }
+    ensures { IfOk result (λ place. find_below (length frames.now) (overlaps_earlier frames.now) ≡ Some place) }
+{
+    let mut low = 0;
+    let mut high = frames.len();
+    while high - low > 1 {
+        let middle = low + (high - low) / 2;
+        if has_overlap(alloc, &frames[..middle])? {
+            high = middle;
+        } else {
+            low = middle;
+        }
+    }
+    Ok(low as u32)
+}
+
+// The first timeframe that overlaps an earlier one.
+fn first_overlap(alloc: Global, frames: &[Frame]) -> Result<Option<u32>, AllocError>
+    requires open { All IsOpen frames.now }
+    requires few { length frames.now < 2 ^ 32 }
+    ensures { IfOk result (λ found. found ≡ find_below (length frames.now) (overlaps_earlier frames.now)) }
+{
+    if !has_overlap(alloc, frames)? {
+        return Ok(None);
+    }
+    Ok(Some(overlap_between(alloc, frames)?))
+}
+
+// The first row of timeframes.txt below one that overlaps an earlier one. No row below it is malformed.
+fn first_overlapping(
+    alloc: Global,
+    feed: &JudgedFeed,
+    below: u32,
+) -> Result<Option<u32>, AllocError>
+    requires within { below ≤ row_count (table_in feed.now file.Timeframes) }
+    requires formed { find_below below (is_malformed (table_in feed.now file.Timeframes)) ≡ None }
+    ensures { IfOk result (λ found. found ≡ find_below below (is_repeated (do_frames_overlap (table_in feed.now file.Timeframes)))) }
+{
+    let frames = feed.table(FileName::Timeframes);
+    let list = frames_below(alloc, frames, feed.index(IdColumn::TimeframeGroup), below)?;
+    Ok(first_overlap(alloc, &list)?)
+}
+
+// The first row of timeframes.txt below one whose timeframe is bad.
+#[tactic(auto, using(crate::proofs::FrameLaws::formed_before, crate::proofs::FrameLaws::first_bad))]
+pub fn first_bad_frame(
+    alloc: Global,
+    feed: &JudgedFeed,
+    below: u32,
+) -> Result<Option<u32>, AllocError>
+    requires { below ≤ row_count (table_in feed.now file.Timeframes) }
+    ensures { IfOk result (λ found. found ≡ find_below below (is_bad_frame (table_in feed.now file.Timeframes))) }
+{
+    let malformed = first_malformed(feed.table(FileName::Timeframes), below);
+    let overlapping = first_overlapping(alloc, feed, malformed.unwrap_or(below))?;
+    Ok(overlapping.or(malformed))
+}

@@ -1,0 +1,160 @@
+//! What the rows of a feed are judged by.
+ghost use Rattle.std.specs.Prelude.{◌≡◌, ◌<◌, ◌==◌, false, get_or, IfOk};
+ghost use Rattle.feed_rows.specs.Codes.{platform_type};
+ghost use Rattle.feed_rows.specs.declared.names.FileName.TheVariants as file;
+ghost use Rattle.feed_rows.specs.declared.names.ColumnName.TheVariants as column;
+ghost use Rattle.feed_faults.specs.Records.{row_count, field};
+ghost use Rattle.feed_faults.specs.RowChecks.{is_unknown_id};
+ghost use Rattle.feed_faults.specs.declared.checks.Named.TheVariants.{Trip, Stop};
+ghost use Rattle.feed_faults.specs.FeedTables.{table_in};
+ghost use Rattle.feed_faults.specs.StopTimeRelations.{stop_times_of, is_at_platform};
+ghost use Rattle.feed_faults.specs.AcceptedFeed.{typed_rows, stop_time_row};
+ghost use Rattle.feed_tables.specs.IdColumns.{indexed};
+ghost use Rattle.stop_order.specs.Numbered.{faults_at};
+ghost use Rattle.feed_relations.specs.JudgedBy.{AreCallsNamed, AreJudged, IsTripKnown, are_platforms};
+
+use feed_rows::{FileName, PLATFORM, StopTimeRow};
+use feed_tables::{IdColumn, IdIndex, Ids, NamedTable, Tables, stop_kind};
+use std::alloc::{AllocError, Global};
+use std::marker::Model;
+use stop_order::{OrderFaults, order_faults};
+
+/// What the rows of a feed are judged by: its tables, their rows by ids, the stop times as rows, which stops are platforms, and
+/// what is wrong with each stop time in its trip. Contracts see it as the tables.
+pub struct JudgedFeed<'t> {
+    tables: &'t Tables,
+    ids: &'t Ids<'t>,
+    calls: &'t [StopTimeRow],
+    platforms: Vec<bool>,
+    order: Vec<OrderFaults>,
+}
+
+impl<'t> Model for JudgedFeed<'t> {
+    ghost use Rattle.feed_faults.specs.FeedTables.{FeedTables};
+    ghost use Rattle.feed_relations.specs.JudgedBy.{AreJudged};
+
+    ghost Value = { FeedTables };
+
+    ghost view = { λ f. f.tables.now };
+
+    ghost invariant = { λ f. AreJudged f.tables.now f.ids.now f.calls.now f.platforms.items f.order.items };
+}
+
+// Written out, so that what lets go of it needn't look into it.
+impl<'t> Drop for JudgedFeed<'t> {
+    fn drop(self) {
+        let JudgedFeed {
+            tables: _,
+            ids: _,
+            calls: _,
+            platforms: _,
+            order: _,
+        } = self;
+    }
+}
+
+// Which stops are platforms.
+#[tactic(auto, unfolding(crate::specs::JudgedBy::are_platforms))]
+fn platforms_of(alloc: Global, stops: &NamedTable) -> Result<Vec<bool>, AllocError>
+    ensures { IfOk result (λ platforms. platforms.items ≡ are_platforms stops.now) }
+{
+    let mut platforms = Vec::with_capacity(alloc, stops.rows() as usize)?;
+    for row in 0..stops.rows() {
+        platforms.push(stop_kind(stops, row) == u32::from(PLATFORM))?;
+    }
+    Ok(platforms)
+}
+
+// Whether a number is marked; one past the last isn't.
+fn is_marked(marks: &[bool], number: u32) -> bool
+    ensures { result ≡ get_or marks.now number false }
+{
+    let number = number as usize;
+    number < marks.len() && marks[number]
+}
+
+impl<'t> JudgedFeed<'t> {
+    /// What the rows of a feed of these tables are judged by.
+    ///
+    /// # Errors
+    /// Want of memory.
+    pub fn of(
+        alloc: Global,
+        tables: &'t Tables,
+        ids: &'t Ids<'t>,
+        calls: &'t [StopTimeRow],
+    ) -> Result<JudgedFeed<'t>, AllocError>
+        requires ids { ids.now ≡ tables.now }
+        requires named { AreCallsNamed tables.now }
+        requires calls { calls.now ≡ typed_rows (table_in tables.now file.StopTimes) (stop_time_row tables.now) }
+        ensures { IfOk result (λ feed. feed ≡ tables.now) }
+    {
+        let _few = tables.get(FileName::StopTimes).rows();
+        let platforms = platforms_of(alloc, tables.get(FileName::Stops))?;
+        let order = order_faults(alloc, calls)?;
+        Ok(JudgedFeed {
+            tables,
+            ids,
+            calls,
+            platforms,
+            order,
+        })
+    }
+
+    /// The table of a file.
+    pub fn table(&self, file: FileName) -> &NamedTable
+        ensures { result.now ≡ table_in self.now file }
+    {
+        self.tables.get(file)
+    }
+
+    /// The rows by the ids of a column.
+    pub fn index(&self, column: IdColumn) -> &IdIndex<'t>
+        ensures { result.now ≡ indexed self.now column }
+    {
+        self.ids.get(column)
+    }
+
+    // A row of stop_times.txt. Its trip, or its stop, has the number after the last exactly where it isn't there.
+    fn call(&self, row: u32) -> StopTimeRow
+        requires { row < row_count (table_in self.now file.StopTimes) }
+        ensures row { result ≡ stop_time_row self.now row }
+        ensures trip { (result.trip.0 == row_count (table_in self.now file.Trips)) ≡ is_unknown_id self.now Trip (field (table_in self.now file.StopTimes) row column.TripId) }
+        ensures stop { (result.stop.0 == row_count (table_in self.now file.Stops)) ≡ is_unknown_id self.now Stop (field (table_in self.now file.StopTimes) row column.StopId) }
+    {
+        self.calls[row as usize]
+    }
+
+    /// Whether the trip of a row of `stop_times.txt` isn't there.
+    pub fn is_trip_unknown(&self, row: u32) -> bool
+        requires { row < row_count (table_in self.now file.StopTimes) }
+        ensures { result ≡ is_unknown_id self.now Trip (field (table_in self.now file.StopTimes) row column.TripId) }
+    {
+        self.call(row).trip.0 == self.table(FileName::Trips).rows()
+    }
+
+    /// Whether the stop of a row of `stop_times.txt` isn't there.
+    pub fn is_stop_unknown(&self, row: u32) -> bool
+        requires { row < row_count (table_in self.now file.StopTimes) }
+        ensures { result ≡ is_unknown_id self.now Stop (field (table_in self.now file.StopTimes) row column.StopId) }
+    {
+        self.call(row).stop.0 == self.table(FileName::Stops).rows()
+    }
+
+    /// Whether the stop of a row of `stop_times.txt` is there and a platform.
+    pub fn is_at_platform(&self, row: u32) -> bool
+        requires { row < row_count (table_in self.now file.StopTimes) }
+        ensures { result ≡ is_at_platform (table_in self.now file.Stops) (table_in self.now file.StopTimes) row }
+    {
+        is_marked(&self.platforms, self.call(row).stop.0)
+    }
+
+    /// What is wrong with a row of `stop_times.txt` among those of its trip, which is there.
+    pub fn order(&self, row: u32) -> OrderFaults
+        requires within { row < row_count (table_in self.now file.StopTimes) }
+        requires known { IsTripKnown self.now row }
+        ensures { result ≡ faults_at (stop_times_of (table_in self.now file.StopTimes)) row }
+    {
+        self.order[row as usize]
+    }
+}

@@ -1,0 +1,224 @@
+//! What fails at a row.
+ghost use Rattle.std.specs.Prelude.{◌≡◌, ◌<◌, ◌&&◌, not};
+ghost use Rattle.feed_rows.specs.declared.names.ColumnName.TheVariants as column;
+ghost use Rattle.feed_rows.specs.declared.names.FileName.TheVariants as file;
+ghost use Rattle.feed_faults.specs.Records.{row_count, field};
+ghost use Rattle.feed_faults.specs.FeedTables.{table_in};
+ghost use Rattle.feed_faults.specs.RowKeys.{is_unknown};
+ghost use Rattle.feed_faults.specs.StopRelations.{has_parent, is_at_station, is_parent_good};
+ghost use Rattle.feed_faults.specs.ServiceRelations.{are_dates_reversed};
+ghost use Rattle.feed_faults.specs.FareRelations.{is_one_filled, is_currency_mixed, is_count_misplaced, is_limit_half};
+ghost use Rattle.feed_faults.specs.RowChecks.{is_judged, is_unknown_id, fails};
+ghost use Rattle.feed_faults.specs.declared.checks.RowCheck.TheVariants.{Known};
+ghost use Rattle.feed_tables.specs.IdColumns.{indexed};
+ghost use Rattle.feed_relations.specs.FittingChecks.{own_ids, AreCallColumns, Fits, Knows, IsByRow};
+
+use crate::judged::JudgedFeed;
+use feed_faults::{Named, RowCheck};
+use feed_rows::{ColumnName, FileName, PLATFORM, STATION};
+use feed_tables::{IdColumn, NamedTable, is_passed_over, stop_kind};
+use feed_text::{day_or_past, is_filled};
+
+// The ids of a file's own rows, where a check tells them apart.
+fn own_ids(file: FileName) -> IdColumn
+    ensures { result ≡ own_ids file }
+{
+    match file {
+        FileName::Stops => IdColumn::Stop,
+        FileName::Routes => IdColumn::Route,
+        FileName::Trips => IdColumn::Trip,
+        FileName::Calendar => IdColumn::Calendar,
+        FileName::Areas => IdColumn::Area,
+        FileName::Networks => IdColumn::Network,
+        FileName::RouteNetworks => IdColumn::NetworkRoute,
+        FileName::RiderCategories => IdColumn::RiderCategory,
+        _ => IdColumn::FareMedia,
+    }
+}
+
+// Whether an id is filled and in neither of two columns.
+fn is_in_neither(feed: &JudgedFeed, first: IdColumn, second: IdColumn, id: &[u8]) -> bool
+    ensures { result ≡ (is_unknown (indexed feed.now first).table (indexed feed.now first).name id.now && is_unknown (indexed feed.now second).table (indexed feed.now second).name id.now) }
+{
+    feed.index(first).is_unknown(id) && feed.index(second).is_unknown(id)
+}
+
+// Whether an id is filled and names nothing that is there.
+fn is_unknown_id(feed: &JudgedFeed, named: Named, id: &[u8]) -> bool
+    ensures { result ≡ is_unknown_id feed.now named id.now }
+{
+    let column = match named {
+        Named::Stop => IdColumn::Stop,
+        Named::Route => IdColumn::Route,
+        Named::Trip => IdColumn::Trip,
+        Named::Service => {
+            return is_in_neither(feed, IdColumn::Calendar, IdColumn::CalendarDate, id);
+        }
+        Named::Area => IdColumn::Area,
+        Named::Network => IdColumn::Network,
+        Named::RouteNetwork => {
+            return is_in_neither(feed, IdColumn::RouteNetwork, IdColumn::Network, id);
+        }
+        Named::TimeframeGroup => IdColumn::TimeframeGroup,
+        Named::RiderCategory => IdColumn::RiderCategory,
+        Named::FareMedia => IdColumn::FareMedia,
+        Named::FareProduct => IdColumn::FareProduct,
+        Named::LegGroup => IdColumn::LegGroup,
+    };
+    feed.index(column).is_unknown(id)
+}
+
+// Whether the ids of a row are looked at.
+fn is_judged(file: FileName, table: &NamedTable, row: u32) -> bool
+    requires { row < row_count table.now }
+    ensures { result ≡ is_judged file table.now row }
+{
+    file != FileName::Transfers || !is_passed_over(table, row)
+}
+
+// Whether the id of a row in a column names nothing that is there.
+fn is_reference_unknown(
+    feed: &JudgedFeed,
+    file: FileName,
+    name: ColumnName,
+    named: Named,
+    row: u32,
+) -> bool
+    requires within { row < row_count (table_in feed.now file) }
+    requires calls { AreCallColumns file name named }
+    ensures { result ≡ fails feed.now file (Known name named) row }
+{
+    match (file, named) {
+        (FileName::StopTimes, Named::Trip) => feed.is_trip_unknown(row),
+        (FileName::StopTimes, Named::Stop) => feed.is_stop_unknown(row),
+        _ => {
+            let table = feed.table(file);
+            is_judged(file, table, row) && is_unknown_id(feed, named, table.field(row, name))
+        }
+    }
+}
+
+// Whether a platform or a station names a parent.
+#[tactic(auto, unfolding(feed_faults::specs::StopRelations::has_parent))]
+fn has_parent(stops: &NamedTable, row: u32) -> bool
+    requires { row < row_count stops.now }
+    ensures { result ≡ has_parent stops.now row }
+{
+    stop_kind(stops, row) < 2 && is_filled(stops.field(row, ColumnName::ParentStation))
+}
+
+// Whether the parent of a row is a station.
+#[tactic(auto, unfolding(feed_faults::specs::StopRelations::is_at_station))]
+fn is_at_station(feed: &JudgedFeed, row: u32) -> bool
+    requires { row < row_count (table_in feed.now file.Stops) }
+    ensures { result ≡ is_at_station (table_in feed.now file.Stops) row }
+{
+    let stops = feed.table(FileName::Stops);
+    match feed
+        .index(IdColumn::Stop)
+        .row_of(stops.field(row, ColumnName::ParentStation))
+    {
+        Some(parent) => stop_kind(stops, parent) == u32::from(STATION),
+        None => false,
+    }
+}
+
+// Whether the parent that a platform or a station names isn't there.
+fn is_parent_unknown(feed: &JudgedFeed, row: u32) -> bool
+    requires { row < row_count (table_in feed.now file.Stops) }
+    ensures { result ≡ (has_parent (table_in feed.now file.Stops) row && is_unknown (table_in feed.now file.Stops) column.StopId (field (table_in feed.now file.Stops) row column.ParentStation)) }
+{
+    let stops = feed.table(FileName::Stops);
+    has_parent(stops, row)
+        && feed
+            .index(IdColumn::Stop)
+            .is_unknown(stops.field(row, ColumnName::ParentStation))
+}
+
+// Whether a parent is named that isn't good: only a platform has a parent, which is a station.
+fn is_parent_bad(feed: &JudgedFeed, row: u32) -> bool
+    requires { row < row_count (table_in feed.now file.Stops) }
+    ensures { result ≡ (has_parent (table_in feed.now file.Stops) row && not (is_parent_good (table_in feed.now file.Stops) row)) }
+{
+    let stops = feed.table(FileName::Stops);
+    has_parent(stops, row)
+        && !(stop_kind(stops, row) == u32::from(PLATFORM) && is_at_station(feed, row))
+}
+
+// Whether the last day of a row lies before its first.
+#[tactic(auto, unfolding(feed_faults::specs::ServiceRelations::are_dates_reversed))]
+fn are_dates_reversed(calendar: &NamedTable, row: u32) -> bool
+    requires { row < row_count calendar.now }
+    ensures { result ≡ are_dates_reversed calendar.now row }
+{
+    let start = day_or_past(calendar.field(row, ColumnName::StartDate));
+    day_or_past(calendar.field(row, ColumnName::EndDate)).0 < start.0
+}
+
+// Whether the currency differs from that of the first row.
+#[tactic(auto, unfolding(feed_faults::specs::FareRelations::is_currency_mixed))]
+fn is_currency_mixed(products: &NamedTable, row: u32) -> bool
+    requires { row < row_count products.now }
+    ensures { result ≡ is_currency_mixed products.now row }
+{
+    products.field(0, ColumnName::Currency) != products.field(row, ColumnName::Currency)
+}
+
+// Whether a count stands where the groups forbid it, or is lacking where they require it.
+#[tactic(auto, unfolding(feed_faults::specs::FareRelations::is_count_misplaced))]
+fn is_count_misplaced(rules: &NamedTable, row: u32) -> bool
+    requires { row < row_count rules.now }
+    ensures { result ≡ is_count_misplaced rules.now row }
+{
+    let from = rules.field(row, ColumnName::FromLegGroupId);
+    let to = rules.field(row, ColumnName::ToLegGroupId);
+    if !is_filled(from) && !is_filled(to) {
+        return false;
+    }
+    is_filled(rules.field(row, ColumnName::TransferCount)) != (from == to)
+}
+
+// Whether one of two fields is filled without the other.
+pub fn is_one_filled(a: &[u8], b: &[u8]) -> bool
+    ensures { result ≡ is_one_filled a.now b.now }
+{
+    is_filled(a) != is_filled(b)
+}
+
+// Whether a limit stands without its type, or a type without a limit.
+#[tactic(auto, unfolding(feed_faults::specs::FareRelations::is_limit_half))]
+fn is_limit_half(rules: &NamedTable, row: u32) -> bool
+    requires { row < row_count rules.now }
+    ensures { result ≡ is_limit_half rules.now row }
+{
+    is_one_filled(
+        rules.field(row, ColumnName::DurationLimit),
+        rules.field(row, ColumnName::DurationLimitType),
+    )
+}
+
+// Whether a check of a row fails, where it is judged row by row.
+#[tactic(auto, unfolding(stop_order::specs::Numbered::faults_at))]
+pub fn row_fails(feed: &JudgedFeed, file: FileName, check: RowCheck, row: u32) -> bool
+    requires within { row < row_count (table_in feed.now file) }
+    requires fits { Fits feed.now file check }
+    requires knows { Knows feed.now file check row }
+    requires by_row { IsByRow file check }
+    ensures { result ≡ fails feed.now file check row }
+{
+    match check {
+        RowCheck::NewId(_) => feed.index(own_ids(file)).is_doubled(row),
+        RowCheck::NewKey(_) => feed.order(row).is_repeated,
+        RowCheck::Known(name, named) => is_reference_unknown(feed, file, name, named, row),
+        RowCheck::KnownParent => is_parent_unknown(feed, row),
+        RowCheck::GoodParent => is_parent_bad(feed, row),
+        RowCheck::AtPlatform => !feed.is_at_platform(row),
+        RowCheck::TimedEnds => feed.order(row).is_end_time_missing,
+        RowCheck::RisingTimes => feed.order(row).do_times_decrease,
+        RowCheck::OrderedDays => are_dates_reversed(feed.table(file), row),
+        RowCheck::GoodTimeframe => unreachable!(),
+        RowCheck::OneCurrency => is_currency_mixed(feed.table(file), row),
+        RowCheck::GoodCount => is_count_misplaced(feed.table(file), row),
+        RowCheck::WholeLimit => is_limit_half(feed.table(file), row),
+    }
+}
