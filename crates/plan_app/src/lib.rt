@@ -1,6 +1,7 @@
 //! The program's commands: words in, a folder read, a text written.
 #![tactic(auto)]
 
+mod grammar;
 mod lines;
 mod made;
 mod outcome;

@@ -1,7 +1,7 @@
 //! What a command answers over a folder.
 ghost use Rattle.std.specs.Prelude.{◌≡◌, IfOk, IfErr, OnOk, IsErr};
 ghost use Rattle.plan_app.specs.Made.{IsMade, Stops};
-ghost use Rattle.plan_app.specs.OneRideWords.{asked_of};
+ghost use Rattle.plan_app.specs.Words.{asked_of};
 ghost use Rattle.plan_app.specs.Run.{Reads};
 
 use crate::outcome::{Outcome, Stop, refused};

@@ -1,16 +1,16 @@
 //! What a command answers over a feed.
-ghost use Rattle.std.specs.Prelude.{IfOk, Ok};
+ghost use Rattle.std.specs.Prelude.{◌≤◌, IfOk, Ok};
 ghost use Rattle.feed_rows.specs.Queries.{query_of};
 ghost use Rattle.plan_app.specs.Due.{Task, plan_task, task_of};
 ghost use Rattle.plan_app.specs.Made.{IsOutcome};
-ghost use Rattle.plan_app.specs.Request.{request_of, asked_request, IsUsualMoment, IsUsualRequest};
+ghost use Rattle.plan_app.specs.Request.{request_of, asked_request, IsUsualPlan, IsUsualRequest};
 ghost use Rattle.plan_app.specs.Unplanned.{unplanned_fault};
 
 use crate::lines::check_line_of;
 use crate::outcome::{Outcome, behind_line, refused};
 use crate::query::query_of;
 use crate::refusal::Refusal;
-use crate::request::{Asked, OneRide};
+use crate::request::{Asked, PlanWords};
 use crate::status::Status;
 use crate::unplanned::unplanned_fault;
 use feed_rows::Feed;
@@ -28,8 +28,9 @@ fn check_outcome(alloc: Global, feed: &Feed) -> Result<Outcome, AllocError>
 }
 
 // What a plan answers.
-fn plan_outcome(alloc: Global, feed: &Feed, plan: &OneRide) -> Result<Outcome, AllocError>
-    requires { IsUsualMoment plan.now.departure.0 }
+fn plan_outcome(alloc: Global, feed: &Feed, plan: &PlanWords) -> Result<Outcome, AllocError>
+    requires usual { IsUsualPlan plan.now }
+    requires one { plan.now.rides ≤ 1 }
     ensures { IfOk result (IsOutcome (plan_task feed.now (unplanned_fault feed.now) (query_of feed.now (request_of plan.now)))) }
 {
     if let Some(fault) = unplanned_fault(feed) {

@@ -1,15 +1,22 @@
-//! What a plan's words ask for.
-ghost use Rattle.std.specs.Prelude.{◌≡◌, ◌<◌, ◌≤ℤ◌, pos, negsuc, IfSome, IfOk, Ok, option_map, length, bytes_eq, codes};
-ghost use Rattle.feed_rows.specs.CommandWords.{word_at};
-ghost use Rattle.feed_rows.specs.WordValues.{word_date, word_time};
+//! What a command's words ask for.
+ghost use Rattle.std.specs.Prelude.{◌≡◌, ◌<◌, ◌≤◌, ◌≤ℤ◌, pos, negsuc, true, Ok, IfSome, IfOk, option_map};
+ghost use Rattle.feed_rows.specs.CommandWords.{option_value, positional_words, fits_form};
+ghost use Rattle.feed_rows.specs.Commands.{read_plan};
+ghost use Rattle.feed_rows.specs.Numerals.{within};
+ghost use Rattle.feed_rows.specs.Requests.{Request};
+ghost use Rattle.feed_rows.specs.WordValues.{word_date, word_number, word_time, option_number};
 ghost use Rattle.feed_rows.specs.UsageFaults.{unless_fault};
-ghost use Rattle.plan_app.specs.OneRideWords.{has_check_word, asked_of, has_plan_words, is_stop_word, named_moment, one_ride_request};
-ghost use Rattle.plan_app.specs.Request.{request_of, asked_request, IsUsualMoment, IsUsualRequest};
+ghost use Rattle.plan_app.specs.Words.{asked_of, behind, form_of, command_of, command_named};
+ghost use Rattle.plan_app.specs.Request.{request_of, asked_request, IsUsualPlan, IsUsualRequest};
 
+use crate::grammar::{Form, option_value};
 use crate::words::WordList;
-use feed_rows::UsageFault;
-use feed_text::{day_of_parts, time_of};
+use feed_rows::{USUAL_WINDOW, UsageFault};
+use feed_text::{day_of_parts, int_of, time_of};
 use transit_base::{Day, Moment};
+
+// The seconds within which a plan may ask to arrive, at most.
+const MOST_WINDOW: u32 = 259_200;
 
 /// What a command's words ask for.
 #[derive(Clone, Copy)]
@@ -17,17 +24,23 @@ pub(crate) enum Asked<'a> {
     /// Whether the feed is accepted.
     Check,
     /// The journeys of a plan.
-    Plan(OneRide<'a>),
+    Plan(PlanWords<'a>),
 }
 
-/// A plan of at most one ride within a day.
+/// A plan, as its words say it.
 #[derive(Clone, Copy)]
-pub(crate) struct OneRide<'a> {
+pub(crate) struct PlanWords<'a> {
     /// The id of the stop where it starts.
     pub from: &'a str,
     /// The id of the stop where it ends.
     pub to: &'a str,
     pub departure: Moment,
+    /// The greatest number of rides.
+    pub rides: u8,
+    /// The id of the rider category.
+    pub rider: Option<&'a [u8]>,
+    /// The seconds after the departure within which a journey arrives.
+    pub window: u32,
 }
 
 // The day of the form YYYY-MM-DD, from 1900-01-01 to 2999-12-31.
@@ -47,71 +60,92 @@ fn date_in(word: &str) -> Option<Day>
     Some(day)
 }
 
-// The moment that a date and a time of the day name.
-fn moment_in(date: &str, time: &str) -> Option<Moment>
-    ensures value { option_map (λ m. m.0) result ≡ named_moment date.now time.now }
-    ensures usual { IfSome result (λ m. IsUsualMoment m.0) }
+// The number of one to ten digits, from `least` to `most`.
+fn number_in(word: &[u8], least: u32, most: u32) -> Option<u32>
+    ensures value { result ≡ within least most (word_number word.now) }
+    ensures high { IfSome result (λ n. n ≤ most) }
 {
-    let day = date_in(date)?;
-    let seconds = time_of(time.as_bytes(), 86_399)?;
-    Some(Moment::at(day, i64::from(seconds)))
-}
-
-// Whether a word can name a stop.
-fn is_stop(word: &str) -> bool
-    ensures { result ≡ is_stop_word word.now }
-{
-    !word.is_empty() && !word.starts_with("-")
-}
-
-// Whether the words stand where those of a plan do.
-fn is_plan(words: &WordList) -> bool
-    ensures { result ≡ has_plan_words words.now }
-{
-    words.len() == 7
-        && words.word(0) == "plan"
-        && is_stop(words.word(1))
-        && is_stop(words.word(2))
-        && words.word(5) == "--rides"
-        && words.word(6) == "1"
-}
-
-// The plan that the words ask for; none where they are not those of a plan.
-#[tactic(auto, unfolding(crate::specs::OneRideWords::one_ride_request))]
-fn one_ride_of(words: &WordList) -> Option<OneRide<'_>>
-    ensures value { option_map request_of result ≡ one_ride_request words.now }
-    ensures usual { IfSome result (λ plan. IsUsualMoment plan.departure.0) }
-{
-    if !is_plan(words) {
+    if word.is_empty() || word.len() > 10 || word[0] == b'-' {
         return None;
     }
-    let departure = moment_in(words.word(3), words.word(4))?;
-    Some(OneRide {
-        from: words.word(1),
-        to: words.word(2),
-        departure,
+    let value = int_of(word, i64::from(least), i64::from(most))?;
+    Some(value as u32)
+}
+
+// The number of an option, or the default where the words give none.
+fn option_number(words: &WordList, option: &str, default: u32, least: u32, most: u32) -> Option<u32>
+    requires { default ≤ most }
+    ensures value { result ≡ option_number default least most (option_value (behind words.now) option.now) }
+    ensures high { IfSome result (λ n. n ≤ most) }
+{
+    match option_value(words, option) {
+        None => Some(default),
+        Some(word) => number_in(word, least, most),
+    }
+}
+
+// The plan that the words ask for, or their first fault.
+fn plan_of(words: &WordList) -> Result<PlanWords<'_>, UsageFault>
+    requires { fits_form (form_of Form.Plan) (behind words.now) ≡ true }
+    ensures value { unless_fault result (λ plan. Ok (Request.Plan (request_of plan))) ≡ read_plan (positional_words (form_of Form.Plan) (behind words.now)) (behind words.now) }
+    ensures usual { IfOk result IsUsualPlan }
+{
+    let Some(day) = date_in(Form::Plan.positional(words, 2)) else {
+        return Err(UsageFault::BadDate);
+    };
+    let Some(seconds) = time_of(Form::Plan.positional(words, 3).as_bytes(), 86_399) else {
+        return Err(UsageFault::BadTime);
+    };
+    let Some(rides) = option_number(words, "--rides", 4, 0, 8) else {
+        return Err(UsageFault::BadRides);
+    };
+    let Some(window) = option_number(words, "--within", USUAL_WINDOW, 1, MOST_WINDOW) else {
+        return Err(UsageFault::BadWindow);
+    };
+    Ok(PlanWords {
+        from: Form::Plan.positional(words, 0),
+        to: Form::Plan.positional(words, 1),
+        departure: Moment::at(day, i64::from(seconds)),
+        rides: rides as u8,
+        rider: option_value(words, "--rider"),
+        window,
     })
 }
 
-// Whether the word `check` stands alone.
-#[tactic(auto, unfolding(crate::specs::OneRideWords::has_check_word))]
-fn is_check(words: &WordList) -> bool
-    ensures { result ≡ has_check_word words.now }
+// The command of that name.
+fn form_named(name: &str) -> Option<Form>
+    ensures { option_map command_of result ≡ command_named name.now }
 {
-    words.len() == 1 && words.word(0) == "check"
+    match name {
+        "plan" => Some(Form::Plan),
+        "check" => Some(Form::Check),
+        _ => None,
+    }
 }
 
 /// What the words ask for, or their first fault.
-#[tactic(auto, unfolding(crate::specs::OneRideWords::asked_of))]
+#[tactic(auto, unfolding(crate::specs::Words::asked_of, feed_rows::specs::Commands::read_words))]
 pub(crate) fn asked_of(words: &WordList) -> Result<Asked<'_>, UsageFault>
     ensures value { unless_fault result (λ asked. Ok (asked_request asked)) ≡ asked_of words.now }
     ensures usual { IfOk result IsUsualRequest }
 {
-    if is_check(words) {
-        return Ok(Asked::Check);
+    if words.is_empty() {
+        return Err(UsageFault::WrongWords);
     }
-    let Some(plan) = one_ride_of(words) else {
+    let Some(form) = form_named(words.word(0)) else {
         return Err(UsageFault::WrongWords);
     };
-    Ok(Asked::Plan(plan))
+    if !form.fits(words) {
+        return Err(UsageFault::WrongWords);
+    }
+    match form {
+        Form::Check => Ok(Asked::Check),
+        Form::Plan => {
+            let plan = plan_of(words)?;
+            if plan.rides > 1 {
+                return Err(UsageFault::WrongWords);
+            }
+            Ok(Asked::Plan(plan))
+        }
+    }
 }

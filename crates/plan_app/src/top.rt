@@ -1,6 +1,6 @@
 //! The top call.
 ghost use Rattle.std.specs.Prelude.{◌≡◌, IsErr};
-ghost use Rattle.plan_app.specs.OneRideWords.{asked_of};
+ghost use Rattle.plan_app.specs.Words.{asked_of};
 ghost use Rattle.plan_app.specs.Run.{AnswersAll, Explains};
 
 use crate::lines::write_text;

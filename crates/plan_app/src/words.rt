@@ -1,6 +1,7 @@
 //! The words of a command.
 ghost use Rattle.std.specs.Prelude.{◌≡◌, ◌<◌, ◌==◌, ◌++◌, ◌∷◌, [], List, ℕ, OnOk, OnErr, length};
 ghost use Rattle.feed_rows.specs.CommandWords.{word_at};
+ghost use Rattle.plan_app.specs.Words.{behind};
 
 use std::alloc::{AllocError, Global};
 use std::marker::Model;
@@ -56,6 +57,24 @@ impl WordList {
         ensures { result ≡ (length self.now == 0) }
     {
         self.words.is_empty()
+    }
+
+    /// How many words there are behind the first.
+    #[tactic(auto, using(crate::proofs::WordLaws::length_behind))]
+    pub(crate) fn count_behind(&self) -> usize
+        ensures { result ≡ length (behind self.now) }
+    {
+        self.words.len().saturating_sub(1)
+    }
+
+    /// A word behind the first, counted from 0.
+    #[tactic(auto, using(crate::proofs::WordLaws::length_behind, crate::proofs::WordLaws::word_behind))]
+    pub(crate) fn behind(&self, i: usize) -> &str
+        requires { i < length (behind self.now) }
+        ensures { result.now ≡ word_at (behind self.now) i }
+    {
+        let first = self.words.len() - self.count_behind();
+        self.word(first + i)
     }
 
     /// A word.

@@ -1,0 +1,117 @@
+-- Words behind a command, and what is counted and picked of them.
+use Rattle.std.proofs.Common.{◌≡◌, ℕ, zero, suc, ◌+◌, ◌-◌, ◌<◌, ◌≤◌, ◌⊎◌, inl, inr, Bool, true, false, List, [], ◌∷◌, ◌++◌, length, slice_get, Some, None, refl, sym, subst, ◌∙◌, arith, add-one, length-append, nat_lt, ◌&&◌}
+use Rattle.std.specs.Prelude.{if◌then◌else◌, is_some, codes, bytes_eq}
+use Rattle.std.specs.List.{list_any}
+use Rattle.std.proofs.lemmas.Bool.{cases_lt}
+use Rattle.std.proofs.lemmas.Option.{slice_get_within, slice_get-get_or}
+use Rattle.plain_laws.specs.Plain.{count_below, picks_below, all_below, any_below}
+use Rattle.plain_laws.proofs.Laws.{slice_get-push_last, slice_get-append_left, all_below-at, bytes_eq-true}
+use Rattle.feed_rows.specs.CommandWords.{CommandForm, word_at, is_one_of, is_dashed, joined_value, follows_option, role_at, is_taken, has_flag, fits_form}
+use Rattle.feed_rows.specs.declared.usage.WordRole.{WordRole}
+use Rattle.feed_rows.specs.declared.usage.WordRole.TheVariants as role
+use Rattle.plan_app.specs.declared.grammar.Form.TheVariants as form
+use Rattle.plan_app.specs.Words.{behind, form_of}
+
+pub length_behind : (words : List (List ℕ)) → length (behind words) ≡ length words - 1
+length_behind [] = refl
+length_behind (word ∷ words) = omega arith
+
+pub word_behind : (words : List (List ℕ)) (i : ℕ) → word_at (behind words) i ≡ word_at words (i + 1)
+word_behind [] i = refl
+word_behind (word ∷ words) i = rw (add-one i) refl
+
+-- one number more
+pub count_below_next : (i : ℕ) (test : ℕ → Bool) → count_below (i + 1) test ≡ count_below i test + (if test i then 1 else 0)
+count_below_next i test = rw (add-one i) refl
+
+pub all_below_next : (i : ℕ) (test : ℕ → Bool) → all_below i test ≡ true → test i ≡ true → all_below (i + 1) test ≡ true
+all_below_next i test before here = rw (add-one i, before, here) refl
+
+-- a number that fails
+pub all_below_fails : (n i : ℕ) (test : ℕ → Bool) → i < n → test i ≡ false → all_below n test ≡ false
+all_below_fails n i test lt fails = step (all_below n test) refl
+  where
+    step : (all : Bool) → all_below n test ≡ all → all_below n test ≡ false
+    step false e = e
+    step true e = absurd (let passes = all_below-at n test e i lt in cc)
+
+-- where each fails, none passes
+any_below_none : (n : ℕ) (test : ℕ → Bool) → ((i : ℕ) → i < n → test i ≡ false) → any_below n test ≡ false
+any_below_none zero test fail = refl
+any_below_none (suc n) test fail = rw (any_below_none n test (λ i lt. fail i (omega arith)), fail n (omega arith)) refl
+
+-- how many are picked
+pub picks_next : {X : Type 0} (i : ℕ) (test : ℕ → Bool) (f : ℕ → X) → length (picks_below (i + 1) test f) ≡ length (picks_below i test f) + (if test i then 1 else 0)
+picks_next i test f = rw (add-one i) (step (test i))
+  where
+    step : (here : Bool) → length (picks_below i test f ++ (if here then f i ∷ [] else [])) ≡ length (picks_below i test f) + (if here then 1 else 0)
+    step true = length-append (picks_below i test f) (f i ∷ [])
+    step false = length-append (picks_below i test f) []
+
+-- a number that is picked stands behind those before it
+pub picked_at : {X : Type 0} (n i k : ℕ) (test : ℕ → Bool) (f : ℕ → X) → i < n → test i ≡ true → length (picks_below i test f) ≡ k → slice_get (picks_below n test f) k ≡ Some (f i)
+picked_at zero i k test f lt passes before = absurd (omega arith)
+picked_at (suc n) i k test f lt passes before = step (cases_lt i n) (λ lower. picked_at n i k test f lower passes before)
+  where
+    inside : slice_get (picks_below n test f) k ≡ Some (f i) → slice_get (picks_below (suc n) test f) k ≡ Some (f i)
+    inside at = slice_get-append_left (picks_below n test f) (if test n then f n ∷ [] else []) k (slice_get_within (picks_below n test f) k (f i) at) ∙ at
+
+    last_at : n ≡ i → slice_get (picks_below (suc n) test f) k ≡ Some (f i)
+    last_at same = rw (same, passes) (slice_get-push_last (picks_below i test f) (f i) k (sym before))
+
+    step : (i < n) ⊎ (n ≤ i) → (i < n → slice_get (picks_below n test f) k ≡ Some (f i)) → slice_get (picks_below (suc n) test f) k ≡ Some (f i)
+    step (inl lower) rest = inside (rest lower)
+    step (inr last) rest = last_at (let same : n ≡ i = omega arith in same)
+
+-- a word by its place
+pub word_there : (words : List (List ℕ)) (i : ℕ) → i < length words → slice_get words i ≡ Some (word_at words i)
+word_there words i lt = slice_get-get_or words i [] lt
+
+pub no_word : (words : List (List ℕ)) (i : ℕ) → length words ≤ i → slice_get words i ≡ None
+no_word [] i past = refl
+no_word (word ∷ words) zero past = absurd (omega arith)
+no_word (word ∷ words) (suc i) past = no_word words i (omega arith)
+
+-- what a word is, by its text
+abbrev role_of_word : CommandForm → List (List ℕ) → ℕ → List ℕ → WordRole
+role_of_word form words i word =
+    if is_one_of ([] ∷ codes "-" ∷ codes "--" ∷ []) word then role.Refused
+    else if follows_option form words i then (if is_dashed word then role.Refused else role.OptionValue)
+    else if is_one_of form.options word then (if nat_lt (i + 1) (length words) then role.OptionName else role.Refused)
+    else if list_any (λ option. is_some (joined_value option word)) form.options then role.OptionWithValue
+    else if is_one_of form.flags word then role.Flag
+    else if is_dashed word then role.Refused
+    else role.Positional
+
+role_by_word : (form : CommandForm) (words : List (List ℕ)) (i : ℕ) → role_at form words i ≡ role_of_word form words i (word_at words i)
+unfolding role_at
+role_by_word form words i = refl
+
+-- the flag that isn't taken yet
+stats_refused : (words : List (List ℕ)) (i : ℕ) → role_of_word (form_of form.Plan) words i (codes "--stats") ≡ role.Refused
+stats_refused words i = step (follows_option (form_of form.Plan) words i)
+  where
+    step : (follows : Bool) → (if follows then role.Refused else role.Refused) ≡ role.Refused
+    step true = refl
+    step false = refl
+
+first_of_two : (a b : Bool) → (a && b) ≡ true → a ≡ true
+first_of_two true b e = refl
+first_of_two false b e = e
+
+pub no_stats : (words : List (List ℕ)) → fits_form (form_of form.Plan) words ≡ true → has_flag words (codes "--stats") ≡ false
+unfolding fits_form
+no_stats words fits =
+    any_below_none (length words) (λ i. bytes_eq (word_at words i) (codes "--stats")) (λ i lt. step i lt (bytes_eq (word_at words i) (codes "--stats")) refl)
+  where
+    taken : all_below (length words) (λ i. is_taken (role_at (form_of form.Plan) words i)) ≡ true
+    taken = first_of_two _ _ (first_of_two _ _ (first_of_two _ _ (first_of_two _ _ fits)))
+
+    step : (i : ℕ) → i < length words → (is : Bool) → bytes_eq (word_at words i) (codes "--stats") ≡ is → bytes_eq (word_at words i) (codes "--stats") ≡ false
+    step i lt false e = e
+    step i lt true e =
+        let same = bytes_eq-true (word_at words i) (codes "--stats") e in
+        let refused = role_by_word (form_of form.Plan) words i ∙ subst (λ w. role_of_word (form_of form.Plan) words i w ≡ role.Refused) (sym same) (stats_refused words i) in
+        let passes = all_below-at (length words) (λ i. is_taken (role_at (form_of form.Plan) words i)) taken i lt in
+        let no : is_taken role.Refused ≡ true = subst (λ r. is_taken r ≡ true) refused passes in
+        absurd (cc)

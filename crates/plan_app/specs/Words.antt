@@ -1,0 +1,47 @@
+-- The words that the program takes.
+use Rattle.std.specs.Prelude.{ℕ, Bool, true, false, nat_le, if◌then◌else◌, List, [], ◌∷◌, Option, find, Result, Ok, Err, codes, bytes_eq}
+use Rattle.feed_rows.specs.CommandWords.{CommandForm}
+use Rattle.feed_rows.specs.Commands.{Command, plan, check, without, read_words}
+use Rattle.feed_rows.specs.Requests.{Request}
+use Rattle.feed_rows.specs.UsageFaults.{unless_fault}
+use Rattle.feed_rows.specs.declared.usage.UsageFault.{UsageFault}
+use Rattle.feed_rows.specs.declared.usage.UsageFault.TheVariants as usage
+use Rattle.plan_app.specs.declared.grammar.Form.{Form}
+use Rattle.plan_app.specs.declared.grammar.Form.TheVariants as form
+
+-- the command `plan`, which doesn't know the flag `--stats` yet
+abbrev pub taken_plan : Command
+taken_plan = without (codes "--stats" ∷ []) plan
+
+-- the commands that the program takes
+abbrev pub taken_commands : List Command
+taken_commands = taken_plan ∷ check ∷ []
+
+-- the command of that form
+abbrev pub command_of : Form → Command
+command_of form.Plan = taken_plan
+command_of form.Check = check
+
+-- the words that it takes behind its name
+abbrev pub form_of : Form → CommandForm
+form_of taken = (command_of taken).form
+
+-- the command of a name
+abbrev pub command_named : List ℕ → Option Command
+command_named name = find (λ command. bytes_eq name command.name) taken_commands
+
+-- what of this the program can do: it plans with at most one ride
+abbrev pub is_built : Request → Bool
+is_built (Request.Plan request) = nat_le request.rides 1
+is_built (Request.Price request) = false
+is_built Request.Check = true
+is_built (Request.Gen request) = false
+
+-- what the words ask for, or their first fault; what can't be done yet is refused as words of no command are
+unfoldable pub asked_of : List (List ℕ) → Result Request UsageFault
+asked_of words = unless_fault (read_words taken_commands words) (λ request. if is_built request then Ok request else Err usage.WrongWords)
+
+-- the words behind the first
+abbrev pub behind : List (List ℕ) → List (List ℕ)
+behind [] = []
+behind (word ∷ words) = words
