@@ -44,6 +44,10 @@ is_unplanned file.FareLegRules feed = feed.has_priority || list_any is_unplanned
 is_unplanned file.FareTransferRules feed = has_rows feed.transfer_rules
 is_unplanned name feed = false
 
--- the first such file, as a fault of the whole file
+-- that, as a fault of the whole file
+unfoldable pub unplanned_in : FeedRows → FileName → Option FeedFault
+unplanned_in feed name = when (is_unplanned name feed) (file_fault name kind.NotBuilt)
+
+-- the first such file
 unfoldable pub unplanned_fault : FeedRows → Option FeedFault
-unplanned_fault feed = first_in all_files (λ name. when (is_unplanned name feed) (file_fault name kind.NotBuilt))
+unplanned_fault feed = first_in all_files (unplanned_in feed)

@@ -1,7 +1,7 @@
 //! What a feed may hold and plans don't go by yet.
 ghost use Rattle.std.specs.Prelude.{◌≡◌};
 ghost use Rattle.std.specs.List.{list_any};
-ghost use Rattle.plan_app.specs.Unplanned.{is_unplanned_stop, is_unplanned_stop_time, is_unplanned_rule, has_rows, is_unplanned, unplanned_fault};
+ghost use Rattle.plan_app.specs.Unplanned.{is_unplanned_stop, is_unplanned_stop_time, is_unplanned_rule, has_rows, is_unplanned, unplanned_in, unplanned_fault};
 
 use feed_rows::{FaultKind, Feed, FeedFault, FileName, LegRuleRow, PLATFORM, StopRow, StopTimeRow};
 
@@ -82,19 +82,29 @@ fn is_unplanned(file: FileName, feed: &Feed) -> bool
     }
 }
 
+// The fault of a file that holds something which plans don't go by yet.
+#[tactic(auto, unfolding(crate::specs::Unplanned::unplanned_in))]
+fn unplanned_in(feed: &Feed, file: FileName) -> Option<FeedFault>
+    ensures { result ≡ unplanned_in feed.now file }
+{
+    if !is_unplanned(file, feed) {
+        return None;
+    }
+    Some(FeedFault {
+        kind: FaultKind::NotBuilt,
+        file,
+        row: 0,
+        column: None,
+    })
+}
+
 /// The first file of a feed that holds something which plans don't go by yet.
-#[tactic(auto, unfolding(crate::specs::Unplanned::unplanned_fault), using(plain_laws::proofs::Laws::first_in_found, plain_laws::proofs::Laws::first_in_next))]
 pub(crate) fn unplanned_fault(feed: &Feed) -> Option<FeedFault>
     ensures { result ≡ unplanned_fault feed.now }
 {
     for (i, file) in FileName::ALL.iter().enumerate() {
-        if is_unplanned(*file, feed) {
-            return Some(FeedFault {
-                kind: FaultKind::NotBuilt,
-                file: *file,
-                row: 0,
-                column: None,
-            });
+        if let Some(fault) = unplanned_in(feed, *file) {
+            return Some(fault);
         }
     }
     None

@@ -7,8 +7,8 @@ use Rattle.feed_soundness.specs.AcceptedTables.{AreFormed}
 use Rattle.feed_soundness.proofs.FormedFiles.{formed}
 use Rattle.feed_check.proofs.files.check.Goals as goal
 
-pub related_feed-requires-clause-formed : goal.related_feed-requires-clause-formed
-related_feed-requires-clause-formed c =
+pub related_feed-requires : goal.related_feed-requires
+related_feed-requires c =
     subst AreFormed (sym c.in-Ok.ensures.tables) (formed (held_in c.args.files) c.in-Ok.ensures.sound)
 
 pub returns-clause-feed : goal.returns-clause-feed
