@@ -23,4 +23,5 @@ pub mod SumBounds
 pub mod SumLaws
 pub mod TimedLaws
 pub mod TransferLaws
+pub mod UnarrangedLaws
 pub mod DateLaws
