@@ -41,5 +41,6 @@ plain_fares feed none =
       frames = no_rows feed.frame_names frames.1;
       timeframes = no_rows feed.timeframes frames.0;
       unranked = rules.0;
+      transfers = no_rows feed.transfer_rules (planned_file feed 17 file.FareTransferRules none refl);
       networks = λ k d lt. names_one (slice_index_or feed.leg_rules k d).network (none_holds is_unplanned_rule feed.leg_rules k d rules.1 lt);
     }

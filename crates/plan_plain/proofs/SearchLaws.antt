@@ -33,7 +33,7 @@ use Rattle.feed_laws.proofs.SoundTrips.{sound_trip}
 use Rattle.plain_laws.proofs.Laws.{chain_gives, after-push, filled_and-true}
 use Rattle.pareto_front.specs.Fronts.{CoversAll, IsFront}
 use Rattle.plan_plain.specs.declared.caught.CaughtRide.{CaughtRide}
-use Rattle.plan_plain.specs.InTime.{next_in_time, if_in_time, deadline, IsRight, HasCaught}
+use Rattle.plan_plain.specs.InTime.{next_in_time, if_in_time, deadline, IsRight, IsWithinWindow, HasCaught}
 use Rattle.plan_plain.specs.Searches.{rides_of, covers_entry, HasRides, EndsAt, IsBestAt, GoesOn, Gains, StartsAt, IsSearched, IsAmong, EndsAmong, StartsAmong, CoversWays, arrival_in_time}
 
 -- one step in time is a step
@@ -364,9 +364,10 @@ gains_end feed query first path stand left old new none here =
     no_rest (r ∷ rs) few = absurd (omega arith)
 
 -- where the path leads with the ride at a place
-pub searched_on : (feed : FeedRows) (query : Query) (first : StopId) (stand : Stand) (path longer : List CaughtRide) (caught : CaughtRide) → IsSearched feed query first stand path → IsRight feed query stand caught →
+pub searched_on : (feed : FeedRows) (query : Query) (first : StopId) (stand : Stand) (path longer : List CaughtRide) (caught : CaughtRide) → IsSearched feed query first stand path → IsRight feed query stand caught → IsWithinWindow query caught.facts.arrival.0 →
     longer ≡ path ++ caught ∷ [] → IsSearched feed query first (stand_at_end caught.facts) longer
-searched_on feed query first stand path longer caught searched right pushed = record {
+searched_on feed query first stand path longer caught searched right within pushed = record {
+  within = within;
   starts = searched.starts;
   facts = subst (All (λ (c : CaughtRide). ride_facts feed c.ride ≡ Some c.facts)) (sym pushed)
       (All-append (λ (c : CaughtRide). ride_facts feed c.ride ≡ Some c.facts) path (caught ∷ []) searched.facts (All-cons (λ (c : CaughtRide). ride_facts feed c.ride ≡ Some c.facts) caught [] right.facts (All-nil (λ (c : CaughtRide). ride_facts feed c.ride ≡ Some c.facts))));

@@ -1,9 +1,13 @@
 -- How the cheapest of several tickets is found part by part.
-use Rattle.std.proofs.Common.{◌≡◌, refl, sym, ◌∙◌, ap, subst, ℕ, ◌<◌, ◌⊎◌, inr, ⊎_elim, true, false, List, length, get_or, arith, ℤ, ◌≤ℤ◌}
-use Rattle.std.specs.Prelude.{Option, Some, None, slice_get}
+use Rattle.std.proofs.Common.{◌≡◌, refl, sym, ◌∙◌, ap, subst, ℕ, ◌<◌, ◌≤◌, ◌⊎◌, inr, ⊎_elim, true, false, List, length, get_or, arith, ℤ, ◌≤ℤ◌}
+use Rattle.std.specs.Prelude.{Option, Some, None, slice_get, ◌==◌}
 use Rattle.std.proofs.lemmas.Int.{ints}
 use Rattle.std.proofs.lemmas.Option.{slice_get-get_or, get_or_from_slice_get}
+use Rattle.std.proofs.lemmas.Bool.{eqb-true}
+use Rattle.std.specs.Option.{ForSome}
 use mathlib.Core.Bool.{true≢false}
+use Rattle.transit_base.specs.declared.numbers.RiderId.{RiderId}
+use Rattle.feed_rows.specs.SoundFeed.{IsSoundFeed}
 use Rattle.transit_base.specs.declared.numbers.NetworkId.{NetworkId}
 use Rattle.feed_rows.specs.declared.fares.LegChoice.{LegChoice}
 use Rattle.feed_rows.specs.declared.rows.LegRuleRow.{LegRuleRow}
@@ -11,10 +15,10 @@ use Rattle.feed_rows.specs.declared.rows.ProductRow.{ProductRow}
 use Rattle.feed_rows.specs.FeedRows.{FeedRows}
 use Rattle.feed_rows.specs.FareChoices.{is_open}
 use Rattle.plain_laws.specs.Plain.{at_and, filled_and}
-use Rattle.plain_laws.proofs.Laws.{filled_and-true}
-use Rattle.plan_plain.specs.declared.prices.Fare.{Fare}
-use Rattle.plan_plain.specs.declared.prices.Ticket.{Ticket}
-use Rattle.plan_plain.specs.Tickets.{is_of_network, IsPick, IsAtMost, IsRightTicket, AddsTicket, AddsPicks, IsOfRow, IsOfRule}
+use Rattle.plain_laws.proofs.Laws.{filled_and-true, All-slice_get}
+use Rattle.plan_plain.specs.declared.tickets.Fare.{Fare}
+use Rattle.plan_plain.specs.declared.tickets.Ticket.{Ticket}
+use Rattle.plan_plain.specs.Tickets.{is_of_network, IsPick, IsAtMost, IsRightTicket, AddsTicket, AddsPicks, AnyPick, IsOfRow, IsOfRule, IsCheapestTicket, AreTicketsOf, fare}
 
 -- any ticket is the cheapest where there was none
 pub takes_first : (ticket : Ticket) → AddsTicket ticket None (Some ticket)
@@ -103,3 +107,34 @@ takes_row feed fare ticket rules rows r p old new same_rules same_rows names lt 
           subst (λ z. IsAtMost z new) (costs ∙ ap (λ (x : ProductRow). x.amount.0) (sym found) ∙ other.costs) adds.takes;
       right = λ h. ⊎_elim (λ e. subst (IsRightTicket feed fare) (sym e) h) (λ e. subst (IsRightTicket feed fare) (sym e) is) adds.from;
     }
+
+-- a ride without a network has no ticket
+pub no_network : (feed : FeedRows) (network : Option NetworkId) (rider : Option RiderId) → network ≡ None → IsCheapestTicket feed (fare network rider) None
+unfolding is_of_network
+no_network feed network rider none =
+    picks_none feed (fare network rider) AnyPick None
+    (λ pick amount is whole. true≢false (sym is.network ∙ ap (λ (o : Option NetworkId). is_of_network o is.rule) none ∙ nowhere is.rule))
+  where
+    nowhere : (rule : LegRuleRow) → is_of_network None rule ≡ false
+    nowhere rule = refl
+
+-- nor has one with a network that no rule names
+pub no_ticket : (feed : FeedRows) (network : Option NetworkId) (rider : Option RiderId) (n : NetworkId) → IsSoundFeed feed → network ≡ Some n → length feed.network_names ≤ n.0 → IsCheapestTicket feed (fare network rider) None
+unfolding is_of_network
+no_ticket feed network rider n sound named past =
+    picks_none feed (fare network rider) AnyPick None
+    (λ pick amount is whole.
+    let names = named_one is.rule (sym (ap (λ (o : Option NetworkId). is_of_network o is.rule) named) ∙ is.network) in
+    let within = All-slice_get (λ (r : LegRuleRow). ForSome r.network (λ m. m.0 < length feed.network_names)) feed.leg_rules pick.rule.0 is.rule is.rule_is sound.leg_rules.networks in
+    let lt = within names.0 names.1 in
+    let same = names.2 in
+    omega (arith, lt, same, past))
+  where
+    named_one : (rule : LegRuleRow) → is_of_network (Some n) rule ≡ true → (m : NetworkId) × (rule.network ≡ Some m) × (m.0 ≡ n.0)
+    named_one rule h = let m = filled_and-true rule.network (λ (m : NetworkId). n.0 == m.0) h in (m.value, m.is, sym (eqb-true _ _ m.passes))
+
+-- the ticket at the place of a network
+pub ticket_at : (feed : FeedRows) (network : Option NetworkId) (rider : Option RiderId) (n : NetworkId) (tickets : List (Option Ticket)) (ticket : Option Ticket) → AreTicketsOf feed rider tickets → network ≡ Some n → n.0 < length tickets →
+    ticket ≡ get_or tickets n.0 ticket → IsCheapestTicket feed (fare network rider) ticket
+ticket_at feed network rider n tickets ticket are named lt is =
+    subst (λ (o : Option NetworkId). IsCheapestTicket feed (fare o rider) ticket) (sym named) (are.each n.0 ticket (slice_get-get_or tickets n.0 ticket lt ∙ ap Some (sym is)))

@@ -1,22 +1,31 @@
 -- The least price of rides, and feeds whose fares are plain.
-use Rattle.std.specs.Prelude.{◌≡◌, [], false, List, All, IsSome, Option, Some, None}
+use Rattle.std.specs.Prelude.{◌≡◌, ◌<◌, [], ◌∷◌, ◌++◌, ◌+ℤ◌, false, List, length, All, IsSome, Option, Some, None}
 use Rattle.transit_base.specs.declared.numbers.RiderId.{RiderId}
 use Rattle.feed_rows.specs.declared.journeys.Ride.{Ride}
 use Rattle.feed_rows.specs.declared.rows.LegRuleRow.{LegRuleRow}
 use Rattle.feed_rows.specs.FeedRows.{FeedRows}
 use Rattle.feed_rows.specs.PriceTexts.{IsLeastPrice, IsUncovered}
 use Rattle.plan_plain.specs.declared.prices.Priced.{Priced}
+use Rattle.plan_plain.specs.declared.tickets.Ticket.{Ticket}
 
 -- the choice and its sum are of least price, or no choice pays the rides for the rider
 abbrev pub IsCheapest : FeedRows → List Ride → Option RiderId → Option Priced → Type 0
 IsCheapest feed rides rider None = IsUncovered feed rides rider
 IsCheapest feed rides rider (Some priced) = IsLeastPrice feed rides rider priced.choice priced.sum.0
 
--- there are no areas, no timeframes and no priorities, and each leg rule names a network
+-- one leg more is paid by the ticket, and the change to it is not arranged
+pub record AddsLeg (old : Priced) (ticket : Ticket) (new : Priced) : Type 0 where
+  pub sum : new.sum.0 ≡ old.sum.0 +ℤ ticket.amount.0
+  pub legs : new.choice.legs ≡ old.choice.legs ++ ticket.pick ∷ []
+  pub first : length old.choice.legs ≡ 0 → new.choice.changes ≡ old.choice.changes
+  pub later : 0 < length old.choice.legs → new.choice.changes ≡ old.choice.changes ++ None ∷ []
+
+-- there are no areas, no timeframes, no priorities and no transfer rules, and each leg rule names a network
 pub record HasPlainFares (feed : FeedRows) : Type 0 where
   pub areas : feed.areas ≡ []
   pub stop_areas : feed.stop_areas ≡ []
   pub frames : feed.frame_names ≡ []
   pub timeframes : feed.timeframes ≡ []
   pub unranked : feed.has_priority ≡ false
+  pub transfers : feed.transfer_rules ≡ []
   pub networks : All (λ (rule : LegRuleRow). IsSome rule.network) feed.leg_rules

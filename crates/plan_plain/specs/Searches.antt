@@ -12,8 +12,16 @@ use Rattle.feed_rows.specs.Rides.{ride_facts}
 use Rattle.plain_laws.specs.Plain.{when, after}
 use Rattle.feed_rows.specs.ParetoTriples.{at_most}
 use Rattle.pareto_front.specs.Fronts.{has_as_good, CoversAll}
-use Rattle.plan_plain.specs.InTime.{next_in_time, deadline}
+use Rattle.plan_plain.specs.InTime.{next_in_time, deadline, IsWithinWindow}
 use Rattle.plan_plain.specs.declared.caught.CaughtRide.{CaughtRide}
+
+-- what is searched: a feed, and a query over it
+pub record Asked : Type 0 where
+  pub feed : FeedRows
+  pub query : Query
+
+abbrev pub asked : FeedRows → Query → Asked
+asked feed query = record { feed = feed; query = query }
 
 -- the rides of a path
 abbrev pub rides_of : List CaughtRide → List Ride
@@ -59,8 +67,9 @@ pub record StartsAt (feed : FeedRows) (query : Query) (first : StopId) (entry : 
   pub right : IsEntry feed query entry
   pub starts : entry.journey.first ≡ first
 
--- the rides of the path are caught in time one after another from the first stop, and lead here
+-- the rides of the path are caught in time one after another from the first stop, and lead here within the window
 pub record IsSearched (feed : FeedRows) (query : Query) (first : StopId) (stand : Stand) (path : List CaughtRide) : Type 0 where
+  pub within : IsWithinWindow query stand.at
   pub starts : IsTrue (stands_for feed query.from first)
   pub facts : All (λ (c : CaughtRide). ride_facts feed c.ride ≡ Some c.facts) path
   pub goes : after (next_in_time feed query) (first_stand query first) (rides_of path) ≡ Some stand

@@ -1,14 +1,15 @@
 -- The tickets of a ride on its own, and the cheapest of them.
-use Rattle.std.specs.Prelude.{◌≡◌, ℕ, ◌<◌, ◌⊎◌, Bool, true, ◌==◌, Option, Some, None, IfSome, ℤ, ◌≤ℤ◌, slice_get}
+use Rattle.std.specs.Prelude.{◌≡◌, ℕ, ◌<◌, ◌⊎◌, Bool, true, ◌==◌, Option, Some, None, IfSome, ℤ, ◌≤ℤ◌, List, length, slice_get}
 use Rattle.transit_base.specs.declared.numbers.NetworkId.{NetworkId}
+use Rattle.transit_base.specs.declared.numbers.RiderId.{RiderId}
 use Rattle.feed_rows.specs.declared.fares.LegChoice.{LegChoice}
 use Rattle.feed_rows.specs.declared.rows.LegRuleRow.{LegRuleRow}
 use Rattle.feed_rows.specs.declared.rows.ProductRow.{ProductRow}
 use Rattle.feed_rows.specs.FeedRows.{FeedRows}
 use Rattle.feed_rows.specs.FareChoices.{is_open}
 use Rattle.plain_laws.specs.Plain.{filled_and}
-use Rattle.plan_plain.specs.declared.prices.Fare.{Fare}
-use Rattle.plan_plain.specs.declared.prices.Ticket.{Ticket}
+use Rattle.plan_plain.specs.declared.tickets.Fare.{Fare}
+use Rattle.plan_plain.specs.declared.tickets.Ticket.{Ticket}
 
 -- the rule names the network
 unfoldable pub is_of_network : Option NetworkId → LegRuleRow → Bool
@@ -64,3 +65,28 @@ IsOfRules n pick = pick.rule.0 < n
 -- each pick is one
 abbrev pub AnyPick : LegChoice → Type 0
 AnyPick pick = Unit
+
+-- the ticket is for the ride and no other is cheaper, or the ride has none
+abbrev pub IsCheapestTicket : FeedRows → Fare → Option Ticket → Type 0
+IsCheapestTicket feed fare ticket = AddsPicks feed fare AnyPick None ticket
+
+-- what decides which tickets rides may have that are all one rider's
+pub record FareTerms : Type 0 where
+  pub feed : FeedRows
+  pub rider : Option RiderId
+
+abbrev pub terms : FeedRows → Option RiderId → FareTerms
+terms feed rider = record { feed = feed; rider = rider }
+
+-- what decides which tickets a ride of this network may have
+abbrev pub fare : Option NetworkId → Option RiderId → Fare
+fare network rider = record { network = network; rider = rider }
+
+-- the tickets are the cheapest of the networks before the n-th
+pub record AreTicketsBelow (feed : FeedRows) (rider : Option RiderId) (n : ℕ) (tickets : List (Option Ticket)) : Type 0 where
+  pub long : length tickets ≡ n
+  pub each : (k : ℕ) (ticket : Option Ticket) → slice_get tickets k ≡ Some ticket → IsCheapestTicket feed (fare (Some (record { 0 = k })) rider) ticket
+
+-- the tickets are the cheapest of each network
+abbrev pub AreTicketsOf : FeedRows → Option RiderId → List (Option Ticket) → Type 0
+AreTicketsOf feed rider tickets = AreTicketsBelow feed rider (length feed.network_names) tickets

@@ -4,5 +4,6 @@
 mod caught;
 mod prices;
 mod search;
+mod tickets;
 
 pub use search::plain_entries;

@@ -1,25 +1,28 @@
-use Rattle.std.proofs.Common.{◌∙◌, sym, ap, subst, [], ◌∷◌, ◌++◌}
-use Rattle.std.specs.Prelude.{None}
-use Rattle.feed_rows.specs.SoundFeed.{IsSoundFeed}
-use Rattle.plan_plain.specs.Tickets.{AddsPicks, AnyPick}
-use Rattle.plan_plain.proofs.PriceLaws.{least_of_path, uncovered_path, least_of_none, is_none, is_some}
+use Rattle.std.proofs.Common.{arith, subst}
+use Rattle.std.proofs.lemmas.Option.{slice_get-get_or}
+use Rattle.plan_plain.specs.Tickets.{IsCheapestTicket}
+use Rattle.plan_plain.proofs.PathPriceLaws.{IsPaid, paid_more, least_of_paid, uncovered_path, small_amount}
 use Rattle.plan_plain.proofs.prices.cheapest.Goals as goal
-
-pub returns-then-is_empty : goal.returns-then-is_empty
-returns-then-is_empty c =
-    let made = c.without_changes.ensures in
-    least_of_none c.args.feed.now c.args.path.now c.args.rider c.without_changes.result (is_none c.args.path.now (sym c.is_empty.ensures ∙ c.if-is_empty.true)) made.sum (made.legs ∙ c.empty-legs.ensures) made.changes
 
 pub returns-in_default : goal.returns-in_default
 returns-in_default c =
-    let sound = subst IsSoundFeed c.feed.view_is c.feed.invariant in
-    uncovered_path c.args.feed.now c.args.path.now _ c.args.rider c.requires.plain sound c.requires.rides c.requires.few (is_some c.args.path.now (sym c.is_empty.ensures ∙ c.if-is_empty.false))
-    (subst (AddsPicks c.args.feed.now _ AnyPick None) c.in_default.is c.cheapest_ticket.ensures)
+    uncovered_path c.args.tickets.now.feed c.args.tickets.now.rider c.args.path.now c.loop-caught.caught-index _ c.feed-feed.ensures.plain c.feed-feed.ensures.sound c.requires.rides
+    (slice_get-get_or c.args.path.now c.loop-caught.caught-index _ c.loop-caught-test.true)
+    (subst (IsCheapestTicket c.args.tickets.now.feed _) c.in_default.is c.of.ensures)
+
+pub add-requires-clause-amount : goal.add-requires-clause-amount
+add-requires-clause-amount c = small_amount _ _ _ c.feed-feed.ensures.sound (subst (IsCheapestTicket c.args.tickets.now.feed _) c.in-Some.is c.of.ensures)
+
+pub loop-caught-preserved : goal.loop-caught-preserved
+loop-caught-preserved c =
+    paid_more c.args.tickets.now.feed c.args.tickets.now.rider c.args.path.now c.loop-caught.caught-index _ c.in-Some.ticket _ _ c.feed-feed.ensures.plain c.feed-feed.ensures.sound
+    (slice_get-get_or c.args.path.now c.loop-caught.caught-index _ c.loop-caught-test.true)
+    (subst (IsCheapestTicket c.args.tickets.now.feed _) c.in-Some.is c.of.ensures)
+    c.loop-caught.invariant c.in_ok-add.ensures
 
 pub returns : goal.returns
 returns c =
-    let sound = subst IsSoundFeed c.feed.view_is c.feed.invariant in
-    let made = c.without_changes-2.ensures in
-    least_of_path c.args.feed.now c.args.path.now _ c.args.rider c.in-Some.ticket c.without_changes-2.result c.requires.plain sound c.requires.rides c.requires.few (is_some c.args.path.now (sym c.is_empty.ensures ∙ c.if-is_empty.false))
-    (subst (AddsPicks c.args.feed.now _ AnyPick None) c.in-Some.is c.cheapest_ticket.ensures) made.sum
-    (made.legs ∙ c.in_ok-push.ensures.ok ∙ ap (λ xs. xs ++ c.in-Some.ticket.pick ∷ []) c.empty-legs.ensures) made.changes
+    let past = c.loop-caught-test.false in
+    let upto = c.loop-caught.auto.caught-index-end in
+    least_of_paid _ _ _ _ c.feed-feed.ensures.plain c.requires.rides
+    (subst (λ n. IsPaid c.args.tickets.now.feed c.args.tickets.now.rider c.args.path.now n c.loop-caught.priced) (omega arith) c.loop-caught.invariant)

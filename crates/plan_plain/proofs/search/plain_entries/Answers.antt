@@ -1,10 +1,13 @@
-use Rattle.std.proofs.Common.{sym, subst}
+use Rattle.std.proofs.Common.{sym, subst, get_or}
+use Rattle.plan_plain.specs.Searches.{Asked, Gains, StartsAt}
 use Rattle.feed_rows.specs.JourneyEntries.{IsExactAnswer, CoversOffers}
-use Rattle.plan_plain.proofs.SearchLaws.{gains_first, exact_of_gains}
+use Rattle.plan_plain.proofs.SearchLaws.{stop_id, gains_first, exact_of_gains}
 use Rattle.plan_plain.proofs.search.plain_entries.Goals as goal
 
 pub loop-k-preserved : goal.loop-k-preserved
-loop-k-preserved c = gains_first _ _ _ _ _ _ _ _ c.loop-k-test.true c.loop-k.invariant c.in_ok-offer_from.ensures
+loop-k-preserved c =
+    gains_first _ _ _ _ _ _ _ _ c.loop-k-test.true c.loop-k.invariant
+    (subst (λ (a : Asked). Gains a.feed a.query (StartsAt a.feed a.query (get_or c.members-firsts.result.now c.loop-k.k (stop_id 0))) c.loop-k.front c.offer_from.new.front) c.in_ok-search.ensures c.in_ok-offer_from.ensures)
 
 pub returns-clause-exact : goal.returns-clause-exact
 returns-clause-exact c =
