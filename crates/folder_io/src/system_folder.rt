@@ -1,5 +1,5 @@
 //! A folder of the system.
-ghost use Rattle.std.specs.Prelude.{◌≡◌, IfOk, false};
+ghost use Rattle.std.specs.Prelude.{◌≡◌, ◌↔◌, IfOk, IsTrue, false};
 
 use crate::fault_count::FaultCount;
 use crate::{Folder, Opened, Piece};
@@ -42,6 +42,13 @@ impl<R: FileSystem + Clone + Drop> DirFolder<R> {
     }
 }
 
+// Whether an open that came to an error of this kind says that the folder doesn't hold the name: NotFound alone does.
+fn is_absent(kind: ErrorKind) -> bool
+    ensures { IsTrue result ↔ (kind ≡ ErrorKind.NotFound) }
+{
+    matches!(kind, ErrorKind::NotFound)
+}
+
 impl<R: FileSystem + Clone + Drop> Folder for DirFolder<R> {
     ghost use Rattle.folder_io.specs.SystemFolder.{system_folder_state};
 
@@ -61,7 +68,7 @@ impl<R: FileSystem + Clone + Drop> Folder for DirFolder<R> {
                 Opened::Present
             }
             Err(error) => {
-                if error.kind() == ErrorKind::NotFound {
+                if is_absent(error.kind()) {
                     return Opened::Absent;
                 }
                 self.faults.fail();

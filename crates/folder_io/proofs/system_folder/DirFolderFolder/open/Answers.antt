@@ -5,5 +5,5 @@ use Rattle.folder_io.proofs.system_folder.DirFolderFolder.open.Goals as goal
 pub returns : goal.returns
 returns g c = grind (arith, common_steps)
 
-pub returns-then-eq : goal.returns-then-eq
-returns-then-eq g c = grind (arith, common_steps)
+pub returns-then-is_absent : goal.returns-then-is_absent
+returns-then-is_absent g c = grind (arith, common_steps)
