@@ -8,8 +8,10 @@ use folder_io::{
     Sink, StdSink, SureFolder, SureSink, Wrote, read_file, read_files,
 };
 use std::alloc::{AllocError, Global};
-use std::fs;
+use std::fmt::Display;
+use std::io::ErrorKind;
 use std::test::Fail;
+use std::{fs, io};
 
 // What a read gave.
 #[derive(Clone, Copy, Debug, PartialEq, Eq)]
@@ -143,6 +145,47 @@ fn sure_sink(rt: HostRuntime) -> Result<(), Fail> {
     Ok(())
 }
 
+// An output that takes one byte of a piece at a time, and fails where no more than so many are left of it.
+#[derive(Clone, Copy)]
+struct NarrowOutput {
+    fails_at: usize,
+}
+
+impl Print for NarrowOutput {
+    fn print<D: Display + Drop>(&self, _value: D) -> io::Result<()> {
+        Err(io::Error::from(ErrorKind::Unsupported))
+    }
+
+    fn println<D: Display + Drop>(&self, _value: D) -> io::Result<()> {
+        Err(io::Error::from(ErrorKind::Unsupported))
+    }
+
+    fn write_all(&self, _bytes: &[u8]) -> io::Result<()> {
+        Err(io::Error::from(ErrorKind::Unsupported))
+    }
+
+    fn write_some(&self, bytes: &[u8]) -> io::Result<usize> {
+        if bytes.len() <= self.fails_at {
+            return Err(io::Error::from(ErrorKind::StorageFull));
+        }
+        Ok(1)
+    }
+}
+
+#[test]
+fn outputs_that_fail(rt: HostRuntime) {
+    // At once, after one byte, before the last byte, and never.
+    for (fails_at, want) in [
+        (3, Wrote::Failed),
+        (2, Wrote::Failed),
+        (1, Wrote::Failed),
+        (0, Wrote::All),
+    ] {
+        let mut sink = StdSink::new(NarrowOutput { fails_at });
+        assert_eq!(rt; sink.write(b"abc"), want);
+    }
+}
+
 #[test]
 fn sinks_that_tell_nothing(rt: HostRuntime) {
     assert_eq!(rt; CountSink::new().write(b"abc"), Wrote::All);
@@ -174,5 +217,28 @@ fn folder_of_the_system(rt: HostRuntime) -> Result<(), Fail> {
         assert_eq!(rt; read_in(rt, path, name)?, want);
     }
     fs::remove_dir_all(&rt, "folder_io_test")?;
+    Ok(())
+}
+
+// So many bytes, in which what one read gives starts with another byte than what the next gives.
+fn many_bytes(alloc: Global, count: u32) -> Result<Vec<u8>, AllocError> {
+    let mut bytes = Vec::new(alloc);
+    for place in 0..count {
+        bytes.push((place % 251) as u8)?;
+    }
+    Ok(bytes)
+}
+
+#[test]
+fn large_file_of_the_system(rt: HostRuntime) -> Result<(), Fail> {
+    let bytes = many_bytes(rt.alloc(), 1_100_000)?;
+    let _ = fs::remove_dir_all(&rt, "large_file_test");
+    fs::create_dir(&rt, "large_file_test")?;
+    fs::write(&rt, "large_file_test/stops.txt", bytes.as_slice())?;
+    let mut folder = DirFolder::new(rt, rt.alloc(), "large_file_test")?;
+    let bytes = bytes.as_slice();
+    let found = read_of(rt.alloc(), &mut folder, FileName::Stops, 1_100_000, bytes)?;
+    fs::remove_dir_all(&rt, "large_file_test")?;
+    assert_eq!(rt; found, Read::Wanted);
     Ok(())
 }
