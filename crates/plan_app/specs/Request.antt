@@ -31,7 +31,7 @@ pub record IsUsualPlan (plan : PlanWords) : Type 0 where
   pub late : plan.departure.0 ≤ℤ pos 32_503_680_000
   pub window : plan.window ≤ most_window
 
--- a plan is such a one, of at most one ride
+-- a plan is such a one
 abbrev pub IsUsualRequest : Asked → Type 0
 IsUsualRequest asked.Check = Unit {0}
-IsUsualRequest (asked.Plan plan) = IsUsualPlan plan × (plan.rides ≤ 1)
+IsUsualRequest (asked.Plan plan) = IsUsualPlan plan

@@ -1,26 +1,15 @@
 -- What a feed may hold and plans don't go by yet: a line for each file.
-use Rattle.std.specs.Prelude.{Bool, false, ◌||◌, ◌==◌, not, nat_lt, is_none, is_some, List, length, Option}
+use Rattle.std.specs.Prelude.{Bool, false, ◌||◌, nat_lt, is_none, List, length, Option}
 use Rattle.std.specs.List.{list_any}
 use Rattle.feed_rows.specs.Names.{all_files}
 use Rattle.feed_rows.specs.declared.names.FileName.{FileName}
 use Rattle.feed_rows.specs.declared.names.FileName.TheVariants as file
 use Rattle.feed_rows.specs.declared.faults.FaultKind.TheVariants as kind
 use Rattle.feed_rows.specs.declared.faults.FeedFault.{FeedFault}
-use Rattle.feed_rows.specs.declared.rows.StopRow.{StopRow}
-use Rattle.feed_rows.specs.declared.rows.StopTimeRow.{StopTimeRow}
 use Rattle.feed_rows.specs.declared.rows.LegRuleRow.{LegRuleRow}
-use Rattle.feed_rows.specs.Codes.{platform_type}
 use Rattle.feed_rows.specs.FeedRows.{FeedRows}
 use Rattle.plain_laws.specs.Plain.{when, first_in}
 use Rattle.feed_faults.specs.FaultPlaces.{file_fault}
-
--- a stop is no platform, or has a parent
-abbrev pub is_unplanned_stop : StopRow → Bool
-is_unplanned_stop stop = not (stop.kind == platform_type) || is_some stop.parent
-
--- a stop time lacks one of its times
-abbrev pub is_unplanned_stop_time : StopTimeRow → Bool
-is_unplanned_stop_time row = is_none row.arrival || is_none row.departure
 
 -- a leg rule names no network
 abbrev pub is_unplanned_rule : LegRuleRow → Bool
@@ -32,10 +21,7 @@ has_rows rows = nat_lt 0 (length rows)
 
 -- a file holds something that plans don't go by yet
 abbrev pub is_unplanned : FileName → FeedRows → Bool
-is_unplanned file.Stops feed = list_any is_unplanned_stop feed.stops
-is_unplanned file.StopTimes feed = list_any is_unplanned_stop_time feed.stop_times
 is_unplanned file.Frequencies feed = has_rows feed.frequencies
-is_unplanned file.Transfers feed = has_rows feed.links
 is_unplanned file.Areas feed = has_rows feed.areas
 is_unplanned file.StopAreas feed = has_rows feed.stop_areas
 is_unplanned file.Timeframes feed = has_rows feed.timeframes || has_rows feed.frame_names

@@ -1,5 +1,5 @@
 -- The words that the program takes.
-use Rattle.std.specs.Prelude.{ℕ, Bool, true, false, nat_le, if◌then◌else◌, List, [], ◌∷◌, Option, find, Result, Ok, Err, codes, bytes_eq}
+use Rattle.std.specs.Prelude.{ℕ, Bool, true, false, if◌then◌else◌, List, [], ◌∷◌, Option, find, Result, Ok, Err, codes, bytes_eq}
 use Rattle.feed_rows.specs.CommandWords.{CommandForm}
 use Rattle.feed_rows.specs.Commands.{Command, plan, check, without, read_words}
 use Rattle.feed_rows.specs.Requests.{Request}
@@ -30,9 +30,9 @@ form_of taken = (command_of taken).form
 abbrev pub command_named : List ℕ → Option Command
 command_named name = find (λ command. bytes_eq name command.name) taken_commands
 
--- what of this the program can do: it plans with at most one ride
+-- what of this the program can do
 abbrev pub is_built : Request → Bool
-is_built (Request.Plan request) = nat_le request.rides 1
+is_built (Request.Plan request) = true
 is_built (Request.Price request) = false
 is_built Request.Check = true
 is_built (Request.Gen request) = false

@@ -1,5 +1,5 @@
 //! What a command answers over a feed.
-ghost use Rattle.std.specs.Prelude.{◌≤◌, IfOk, Ok};
+ghost use Rattle.std.specs.Prelude.{IfOk, Ok};
 ghost use Rattle.feed_rows.specs.Queries.{query_of};
 ghost use Rattle.plan_app.specs.Due.{Task, plan_task, task_of};
 ghost use Rattle.plan_app.specs.Made.{IsOutcome};
@@ -30,7 +30,6 @@ fn check_outcome(alloc: Global, feed: &Feed) -> Result<Outcome, AllocError>
 // What a plan answers.
 fn plan_outcome(alloc: Global, feed: &Feed, plan: &PlanWords) -> Result<Outcome, AllocError>
     requires usual { IsUsualPlan plan.now }
-    requires one { plan.now.rides ≤ 1 }
     ensures { IfOk result (IsOutcome (plan_task feed.now (unplanned_fault feed.now) (query_of feed.now (request_of plan.now)))) }
 {
     if let Some(fault) = unplanned_fault(feed) {

@@ -140,12 +140,6 @@ pub(crate) fn asked_of(words: &WordList) -> Result<Asked<'_>, UsageFault>
     }
     match form {
         Form::Check => Ok(Asked::Check),
-        Form::Plan => {
-            let plan = plan_of(words)?;
-            if plan.rides > 1 {
-                return Err(UsageFault::WrongWords);
-            }
-            Ok(Asked::Plan(plan))
-        }
+        Form::Plan => Ok(Asked::Plan(plan_of(words)?)),
     }
 }

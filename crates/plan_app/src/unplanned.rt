@@ -1,43 +1,15 @@
 //! What a feed may hold and plans don't go by yet.
 ghost use Rattle.std.specs.Prelude.{◌≡◌};
 ghost use Rattle.std.specs.List.{list_any};
-ghost use Rattle.plan_app.specs.Unplanned.{is_unplanned_stop, is_unplanned_stop_time, is_unplanned_rule, has_rows, is_unplanned, unplanned_in, unplanned_fault};
+ghost use Rattle.plan_app.specs.Unplanned.{is_unplanned_rule, has_rows, is_unplanned, unplanned_in, unplanned_fault};
 
-use feed_rows::{FaultKind, Feed, FeedFault, FileName, LegRuleRow, PLATFORM, StopRow, StopTimeRow};
-
-// Whether a stop is no platform, or has a parent.
-fn is_unplanned_stop(stop: &StopRow) -> bool
-    ensures { result ≡ is_unplanned_stop stop.now }
-{
-    stop.kind != PLATFORM || stop.parent.is_some()
-}
-
-// Whether a stop time lacks one of its times.
-fn is_unplanned_stop_time(row: &StopTimeRow) -> bool
-    ensures { result ≡ is_unplanned_stop_time row.now }
-{
-    row.arrival.is_none() || row.departure.is_none()
-}
+use feed_rows::{FaultKind, Feed, FeedFault, FileName, LegRuleRow};
 
 // Whether a leg rule names no network.
 fn is_unplanned_rule(rule: &LegRuleRow) -> bool
     ensures { result ≡ is_unplanned_rule rule.now }
 {
     rule.network.is_none()
-}
-
-// Whether some stop is no platform, or has a parent.
-fn has_unplanned_stop(stops: &[StopRow]) -> bool
-    ensures { result ≡ list_any is_unplanned_stop stops.now }
-{
-    stops.iter().any(|stop| is_unplanned_stop(stop))
-}
-
-// Whether some stop time lacks one of its times.
-fn has_unplanned_stop_time(rows: &[StopTimeRow]) -> bool
-    ensures { result ≡ list_any is_unplanned_stop_time rows.now }
-{
-    rows.iter().any(|row| is_unplanned_stop_time(row))
 }
 
 // Whether some leg rule names no network.
@@ -59,10 +31,7 @@ fn is_unplanned(file: FileName, feed: &Feed) -> bool
     ensures { result ≡ is_unplanned file feed.now }
 {
     match file {
-        FileName::Stops => has_unplanned_stop(feed.stops.items()),
-        FileName::StopTimes => has_unplanned_stop_time(feed.stop_times.items()),
         FileName::Frequencies => has_rows(feed.frequencies.items()),
-        FileName::Transfers => has_rows(feed.links.items()),
         FileName::Areas => has_rows(feed.areas.items()),
         FileName::StopAreas => has_rows(feed.stop_areas.items()),
         FileName::Timeframes => {
@@ -71,10 +40,13 @@ fn is_unplanned(file: FileName, feed: &Feed) -> bool
         FileName::RiderCategories => has_rows(feed.riders.items()),
         FileName::FareLegRules => feed.has_priority || has_unplanned_rule(feed.leg_rules.items()),
         FileName::FareTransferRules => has_rows(feed.transfer_rules.items()),
-        FileName::Routes
+        FileName::Stops
+        | FileName::Routes
         | FileName::Trips
+        | FileName::StopTimes
         | FileName::Calendar
         | FileName::CalendarDates
+        | FileName::Transfers
         | FileName::Networks
         | FileName::RouteNetworks
         | FileName::FareMedia
