@@ -1,4 +1,5 @@
 pub mod CaughtLaws
+pub mod DepartureLaws
 pub mod PathPriceLaws
 pub mod PriceLaws
 pub mod SearchLaws

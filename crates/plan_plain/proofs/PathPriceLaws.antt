@@ -63,22 +63,6 @@ small_amount feed terms ticket sound cheapest =
     let is = cheapest.right tt in
     subst (λ z. nat_abs z ≤ 10 ^ 12) is.costs (All-slice_get (λ (p : ProductRow). nat_abs p.amount.0 ≤ 10 ^ 12) feed.products ticket.pick.product.0 is.row is.row_is sound.products.amounts)
 
--- no ride is paid by nothing
-pub paid_none : (feed : FeedRows) (rider : Option RiderId) (path : List CaughtRide) (priced : Priced) → priced.sum.0 ≡ pos 0 → priced.choice.legs ≡ [] → priced.choice.changes ≡ [] → IsPaid feed rider path 0 priced
-paid_none feed rider path priced sum legs changes =
-    let none = ap length changes in
-    record {
-      legs = ap length legs;
-      changes = none;
-      apart = λ i lt. absurd (omega (arith, lt, none));
-      paid = λ i c lt at. absurd (omega (arith, lt));
-      sum = sum;
-      small = within priced.sum.0 sum;
-    }
-  where
-    within : (z : ℤ) → z ≡ pos 0 → nat_abs z ≤ 0 * 10 ^ 12
-    within z e = omega (arith, ints)
-
 -- a sum with one amount more
 one_more : (old amount new : ℤ) (k : ℕ) → new ≡ old +ℤ amount → nat_abs old ≤ k * 10 ^ 12 → nat_abs amount ≤ 10 ^ 12 → nat_abs new ≤ (k + 1) * 10 ^ 12
 one_more old amount new k is p q = omega (arith, ints)

@@ -1,5 +1,5 @@
 -- Rides that are caught and end within a query's window.
-use Rattle.std.specs.Prelude.{◌≡◌, Bool, ◌&&◌, ℕ, ◌<◌, ◌≤◌, Option, Some, All, Contains, List, length, slice_index_or, ℤ, pos, negsuc, ◌+ℤ◌, ◌-ℤ◌, ◌≤ℤ◌, ◌<ℤ◌, int_le, option_and_then}
+use Rattle.std.specs.Prelude.{◌≡◌, Bool, ℕ, ◌<◌, ◌≤◌, Option, Some, All, Contains, List, length, slice_index_or, ℤ, pos, negsuc, ◌+ℤ◌, ◌-ℤ◌, ◌≤ℤ◌, ◌<ℤ◌, int_le, option_and_then}
 use Rattle.transit_base.specs.Moments.{moment_at, civil_day}
 use Rattle.transit_base.specs.declared.numbers.StopId.{StopId}
 use Rattle.feed_rows.specs.declared.journeys.Call.{Call}
@@ -10,7 +10,7 @@ use Rattle.feed_rows.specs.Limits.{most_window, least_shift, most_shift}
 use Rattle.feed_rows.specs.JourneyStands.{Stand, stand_at_end, next_stand, way_to}
 use Rattle.feed_rows.specs.Rides.{ride_facts}
 use Rattle.plain_laws.specs.Plain.{when, filled_and}
-use Rattle.plan_plain.specs.declared.caught.Run.{Run}
+use Rattle.plan_plain.specs.declared.departures.Run.{Run}
 use Rattle.plan_plain.specs.declared.caught.CaughtRide.{CaughtRide}
 
 -- the latest moment at which a journey may end
@@ -111,10 +111,6 @@ gets_there feed query stand stop by = filled_and (way_to feed query stand stop) 
 -- when a run departs from a call
 abbrev pub departure_of : Run → Call → ℤ
 departure_of run call = moment_at run.day.0 (run.shift +ℤ pos call.departure)
-
--- one may board at the call of a run: riders may board there, and one gets there in time
-unfoldable pub may_board : FeedRows → Query → Stand → Run → Call → Bool
-may_board feed query stand run call = call.pickup && gets_there feed query stand call.stop (departure_of run call)
 
 -- the first day on which a ride can run that is caught, and the day after the last
 abbrev pub first_day : Query → ℤ

@@ -1,3 +1,4 @@
+pub mod Departures
 pub mod InTime
 pub mod Prices
 pub mod Searches

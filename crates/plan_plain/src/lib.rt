@@ -2,6 +2,7 @@
 #![tactic(auto)]
 
 mod caught;
+mod departures;
 mod prices;
 mod search;
 mod tickets;

@@ -12,12 +12,14 @@ ghost use Rattle.plan_plain.specs.Prices.{HasPlainFares, IsCheapest};
 ghost use Rattle.plan_plain.specs.Searches.{rides_of, asked, IsBestAt, EndsAt, HasRides, GoesOn, Gains, StartsAt, IsSearched, arrival_in_time};
 ghost use Rattle.transit_base.specs.declared.moments.Moment.{Moment};
 
-use crate::caught::{CaughtRide, deadline, rides_from};
+use crate::caught::{CaughtRide, rides_from};
+use crate::departures::{Departure, deadline, departures_of};
 use crate::prices::{Priced, cheapest};
 use crate::tickets::Tickets;
 use feed_rows::{Entry, Journey, Query, RideList, Triple};
 use feed_timetable::{Standing, Timetable};
 use pareto_front::Front;
+use plain_laws::Groups;
 use std::alloc::{AllocError, Global};
 use std::marker::Model;
 use transit_base::{Moment, StopId};
@@ -38,6 +40,7 @@ struct Search<'s, 'f> {
     timetable: &'s Timetable<'f>,
     query: &'s Query,
     tickets: Tickets<'f>,
+    departures: Groups<Departure>,
     deadline: Moment,
 }
 
@@ -48,6 +51,7 @@ impl<'s, 'f> Drop for Search<'s, 'f> {
             timetable: _,
             query: _,
             tickets: _,
+            departures: _,
             deadline: _,
         } = self;
     }
@@ -58,12 +62,13 @@ impl<'s, 'f> Model for Search<'s, 'f> {
     ghost use Rattle.plan_plain.specs.InTime.{IsUsualQuery, IsDeadline};
     ghost use Rattle.plan_plain.specs.Searches.{Asked, asked};
     ghost use Rattle.plan_plain.specs.Tickets.{terms};
+    ghost use Rattle.plan_plain.specs.Departures.{AreDepartures};
 
     ghost Value = { Asked };
 
     ghost view = { λ s. asked s.timetable.now s.query.now };
 
-    ghost invariant = { λ s. IsUsualQuery s.query.now × IsDeadline s.query.now s.deadline.0 × (s.tickets ≡ terms s.timetable.now s.query.now.rider) };
+    ghost invariant = { λ s. IsUsualQuery s.query.now × IsDeadline s.query.now s.deadline.0 × (s.tickets ≡ terms s.timetable.now s.query.now.rider) × AreDepartures s.timetable.now s.query.now s.departures };
 }
 
 impl<'s, 'f> Search<'s, 'f> {
@@ -78,10 +83,12 @@ impl<'s, 'f> Search<'s, 'f> {
         ensures { IfOk result (λ search. search ≡ asked timetable.now query.now) }
     {
         let tickets = Tickets::build(alloc, timetable.feed(), query.rider)?;
+        let departures = departures_of(alloc, timetable, query)?;
         Ok(Search {
             timetable,
             query,
             tickets,
+            departures,
             deadline: deadline(query),
         })
     }
@@ -216,7 +223,13 @@ impl<'s, 'f> Search<'s, 'f> {
         ensures sound { IsSoundFeed self.now.feed }
     {
         let _feed = self.timetable.feed();
-        rides_from(alloc, self.timetable, self.query, standing)
+        rides_from(
+            alloc,
+            self.timetable,
+            self.query,
+            &self.departures,
+            standing,
+        )
     }
 
     // Offers the best entries that go on from here with at most so many rides more.

@@ -1,7 +1,7 @@
 use Rattle.std.proofs.Common.{arith}
 use Rattle.std.proofs.lemmas.Int.{ints}
-use Rattle.plan_plain.proofs.CaughtLaws.{civil_day_bounds}
-use Rattle.plan_plain.proofs.caught.first_day.Goals as goal
+use Rattle.plan_plain.proofs.DepartureLaws.{civil_day_bounds}
+use Rattle.plan_plain.proofs.departures.first_day.Goals as goal
 
 pub returns-clause-low : goal.returns-clause-low
 returns-clause-low c =

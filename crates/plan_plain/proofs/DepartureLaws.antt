@@ -1,0 +1,340 @@
+-- How the departures of a window are listed, part by part.
+use Rattle.std.proofs.Common.{◌≡◌, refl, sym, ◌∙◌, ap, subst, ℕ, ◌+◌, ◌*◌, ◌^◌, ◌<◌, ◌≤◌, ◌⊎◌, inl, inr, ⊎_elim, Bool, true, false, List, [], ◌∷◌, ◌++◌, length, get_or, arith, ℤ, pos, negsuc, ◌+ℤ◌, ◌-ℤ◌, ◌*ℤ◌, ◌≤ℤ◌, ◌<ℤ◌}
+use Rattle.std.specs.Prelude.{Some, slice_get, All, Contains, int_le}
+use Rattle.std.proofs.lemmas.Int.{ints}
+use Rattle.std.proofs.lemmas.Option.{same_Some, slice_get_within, slice_get-get_or, get_or_from_slice_get}
+use Rattle.std.proofs.lemmas.List.{get_or_default}
+use Rattle.std.proofs.lemmas.Bool.{cases_lt, and_from}
+use mathlib.Core.Bool.{true≢false}
+use Rattle.std.proofs.lemmas.List.Elements.{All-append, All-cons, All-nil, All-contains, Contains-append_left, Contains-push}
+use Rattle.transit_base.specs.Limits.{day_seconds, most_time}
+use Rattle.transit_base.specs.Moments.{moment_at, civil_day}
+use Rattle.transit_base.specs.declared.numbers.StopId.{StopId}
+use Rattle.transit_base.specs.declared.numbers.TripId.{TripId}
+use Rattle.transit_base.specs.declared.calendar.Day.{Day}
+use Rattle.feed_rows.specs.Calls.{calls_of}
+use Rattle.feed_rows.specs.FeedRows.{FeedRows}
+use Rattle.feed_rows.specs.Limits.{most_window, least_shift, most_shift}
+use Rattle.feed_rows.specs.Rides.{runs_on}
+use Rattle.feed_rows.specs.Shifts.{shifts_of}
+use Rattle.feed_rows.specs.SoundFeed.{IsSoundFeed}
+use Rattle.feed_rows.specs.declared.journeys.Call.{Call}
+use Rattle.feed_rows.specs.declared.journeys.Query.{Query}
+use Rattle.feed_rows.specs.declared.journeys.Ride.{Ride}
+use Rattle.feed_rows.specs.declared.journeys.RideFacts.{RideFacts}
+use Rattle.feed_rows.specs.declared.rows.StopTimeRow.{StopTimeRow}
+use Rattle.feed_laws.proofs.CallLaws.{calls_of_row}
+use Rattle.feed_laws.proofs.MomentLaws.{time_of_day_bound, moment_at-parts}
+use Rattle.feed_laws.proofs.RideLaws.{ride_facts_tells, ride_facts_timed}
+use Rattle.feed_laws.proofs.ShiftLaws.{Contains_from_found, list_any-shifts_of}
+use Rattle.feed_laws.proofs.SoundTrips.{row_at, sound_trip}
+use Rattle.plain_laws.specs.declared.groups.Grouped.{Grouped}
+use Rattle.plain_laws.specs.Plain.{list_below, group_of, groups_below}
+use Rattle.plain_laws.proofs.Laws.{slice_get-list_below, length-list_below, filled_and-true, int_le-true, le-int_le, Contains-group_of, group_of-tells, groups_below-at, groups_below-past, All-from}
+use Rattle.plan_plain.specs.declared.departures.Departure.{Departure}
+use Rattle.plan_plain.specs.declared.departures.Run.{Run}
+use Rattle.plan_plain.specs.Departures.{IsSpanned, departure_with, is_listed, Lists, HasDepartures, AreDepartures}
+use Rattle.plan_plain.specs.InTime.{deadline, IsUsualQuery, IsRunOfFeed, IsOfRun, IsAt, IsBefore, HasShift, IsOnTrip, IsOnDay, IsOnDays, departure_of, first_day, day_after}
+
+-- one part after another
+pub lists_more : (feed : FeedRows) (query : Query) (Part More Whole : Ride → Type 0) (old mid new : List (Grouped Departure)) →
+    Lists feed query Part old mid → Lists feed query More mid new →
+    ((ride : Ride) (facts : RideFacts) → IsSpanned feed query ride facts → Whole ride → Part ride ⊎ More ride) → Lists feed query Whole old new
+lists_more feed query Part More Whole old mid new a b split = record {
+  still = λ d h. b.still d (a.still d h);
+  all = λ ride facts e whole. ⊎_elim (λ p. b.still (departure_with ride facts) (a.all ride facts e p)) (λ m. b.all ride facts e m) (split ride facts e whole);
+  right = λ h. b.right (a.right h);
+}
+
+-- the same part, said otherwise
+pub lists_same : (feed : FeedRows) (query : Query) (Part Whole : Ride → Type 0) (old new : List (Grouped Departure)) → Lists feed query Part old new →
+    ((ride : Ride) (facts : RideFacts) → IsSpanned feed query ride facts → Whole ride → Part ride) → Lists feed query Whole old new
+lists_same feed query Part Whole old new a part = record { still = a.still; all = λ ride facts e whole. a.all ride facts e (part ride facts e whole); right = a.right }
+
+-- a part of which no ride is caught
+pub lists_none : (feed : FeedRows) (query : Query) (Whole : Ride → Type 0) (rides : List (Grouped Departure)) →
+    ((ride : Ride) (facts : RideFacts) → IsSpanned feed query ride facts → Whole ride → ⊥) → Lists feed query Whole rides rides
+lists_none feed query Whole rides never = record { still = λ d h. h; all = λ ride facts e whole. absurd (never ride facts e whole); right = λ h. h }
+
+-- no ride is on a day from the first to before the first
+pub lists_first : (feed : FeedRows) (query : Query) (first day : ℤ) (rides : List (Grouped Departure)) → day ≡ first → rides ≡ [] → Lists feed query (IsOnDays first day) [] rides
+lists_first feed query first day rides same empty =
+    subst (Lists feed query (IsOnDays first day) []) (sym empty) (lists_none feed query (IsOnDays first day) [] (λ ride facts e on. none ride.day.0 on.0 on.1))
+  where
+    none : (d : ℤ) → first ≤ℤ d → d <ℤ day → ⊥
+    none d since before = omega (arith, ints)
+
+-- the trip of a number
+abbrev pub trip_id : ℕ → TripId
+trip_id n = record { 0 = n }
+
+-- the seconds of a moment's civil day
+pub civil_day_bounds : (moment : ℤ) → ((civil_day moment *ℤ pos day_seconds) ≤ℤ moment) × (moment <ℤ (civil_day moment *ℤ pos day_seconds +ℤ pos day_seconds))
+civil_day_bounds moment = let parts = moment_at-parts moment in let bound = time_of_day_bound moment in (omega (arith, ints), omega (arith, ints))
+
+-- the last days of a query lie before 3001
+pub day_after_high : (query : Query) → IsUsualQuery query → day_after query ≤ℤ pos 3_000_000
+day_after_high query usual =
+    let bounds = civil_day_bounds (deadline query) in
+    let late = usual.late in
+    let window = usual.window in
+    small (civil_day (deadline query)) query.departure.0 query.window bounds.0 late window
+  where
+    small : (day departure : ℤ) (window : ℕ) → (day *ℤ pos day_seconds) ≤ℤ (departure +ℤ pos window) → departure ≤ℤ pos 32_504_284_800 → window ≤ most_window → (day +ℤ pos 1) ≤ℤ pos 3_000_000
+    small day departure window below late few = omega (arith, ints)
+
+day_bounds : (from departs arrives day : ℤ) → from ≤ℤ departs → departs ≤ℤ arrives → arrives ≤ℤ (day *ℤ pos day_seconds +ℤ pos (2 * most_time)) →
+    (civil_day from -ℤ pos 13) ≤ℤ day
+day_bounds from departs arrives day since forward low =
+    let parts = moment_at-parts from in let bound = time_of_day_bound from in omega (arith, ints)
+
+day_until : (until departs arrives day : ℤ) → (day *ℤ pos day_seconds) ≤ℤ departs → departs ≤ℤ arrives → arrives ≤ℤ until → day <ℤ (civil_day until +ℤ pos 1)
+day_until until departs arrives day begins forward ends =
+    let parts = moment_at-parts until in let bound = time_of_day_bound until in omega (arith, ints)
+
+-- it departs at the call of its run, where riders may board
+record BoardsAt (run : Run) (facts : RideFacts) (call : Call) : Type 0 where
+  pub stop : facts.from ≡ call.stop
+  pub at : facts.departure.0 ≡ departure_of run call
+  pub pickup : call.pickup ≡ true
+
+spanned_boards : (feed : FeedRows) (query : Query) (run : Run) (ride : Ride) (facts : RideFacts) (call : Call) → IsSpanned feed query ride facts → IsOfRun run ride → slice_get (calls_of feed run.trip) ride.from ≡ Some call → BoardsAt run facts call
+spanned_boards feed query run ride facts call e of at =
+    let r = ride_facts_tells feed ride facts e.is in
+    let same : r.boarding ≡ call = same_Some _ _ (sym r.boards ∙ ap (λ t. slice_get (calls_of feed t) ride.from) (ap trip_id of.trip) ∙ at) in
+    record {
+      stop = ap (λ (f : RideFacts). f.from) (sym r.facts_are) ∙ ap (λ (x : Call). x.stop) same;
+      at = ap (λ (f : RideFacts). f.departure.0) (sym r.facts_are)
+          ∙ ap (λ (x : Call). moment_at ride.day.0 (ride.shift +ℤ pos x.departure)) same
+          ∙ ap (λ d. moment_at d (ride.shift +ℤ pos call.departure)) of.day
+          ∙ ap (λ z. moment_at run.day.0 (z +ℤ pos call.departure)) of.shift;
+      pickup = ap (λ (x : Call). x.pickup) (sym same) ∙ r.pickup;
+    }
+
+-- so its moment is listed
+spanned_listed : (feed : FeedRows) (query : Query) (run : Run) (ride : Ride) (facts : RideFacts) (call : Call) → IsSoundFeed feed → IsSpanned feed query ride facts → BoardsAt run facts call → is_listed query call (departure_of run call) ≡ true
+unfolding is_listed
+spanned_listed feed query run ride facts call sound e boards =
+    let t = ride_facts_timed feed ride facts most_time (sound_trip feed ride.trip sound) e.is in
+    and_from _ _
+    (and_from _ _ boards.pickup (subst (λ z. int_le query.departure.0 z ≡ true) boards.at (le-int_le query.departure.0 facts.departure.0 e.since)))
+    (subst (λ z. int_le z (deadline query) ≡ true) boards.at (le-int_le facts.departure.0 (deadline query) (onward _ _ _ t.forward e.until)))
+  where
+    onward : (a b c : ℤ) → a ≤ℤ b → b ≤ℤ c → a ≤ℤ c
+    onward a b c p q = omega (arith, ints)
+
+-- where a call is not listed, nothing is to be listed
+pub lists_no_call : (feed : FeedRows) (query : Query) (run : Run) (calls : List Call) (from : ℕ) (d : Call) (listed : List (Grouped Departure)) → IsSoundFeed feed → calls ≡ calls_of feed run.trip → from < length calls →
+    false ≡ is_listed query (get_or calls from d) (departure_of run (get_or calls from d)) → Lists feed query (IsAt run from) listed listed
+lists_no_call feed query run calls from d listed sound same lt never =
+    lists_none feed query (IsAt run from) listed
+    (λ ride facts e at.
+    let here = ap (λ xs. slice_get xs ride.from) (sym same) ∙ ap (slice_get calls) at.1 ∙ slice_get-get_or calls from d lt in
+    true≢false (sym (spanned_listed feed query run ride facts (get_or calls from d) sound e (spanned_boards feed query run ride facts (get_or calls from d) e at.0 here)) ∙ sym never))
+
+-- the departure with these parts
+abbrev pub departure_of_parts : ℕ → ℕ → ℤ → ℤ → ℕ → ℤ → Grouped Departure
+departure_of_parts stop trip day shift from at =
+    record { group = stop; item = record { run = record { trip = record { 0 = trip }; day = record { 0 = day }; shift = shift }; from = from; at = record { 0 = at } } }
+
+-- a departure of a run from a call of it
+abbrev pub departure_from : Run → Call → ℕ → Grouped Departure
+departure_from run call from = departure_of_parts call.stop.0 run.trip.0 run.day.0 run.shift from (departure_of run call)
+
+pub departure_made : (run : Run) (call : Call) (from : ℕ) (shift at : ℤ) → shift ≡ run.shift → at ≡ departure_of run call → departure_of_parts call.stop.0 run.trip.0 run.day.0 shift from at ≡ departure_from run call from
+departure_made run call from shift at same is = rw (same, is) refl
+
+-- it is where each ride departs that boards the run there
+same_departure : (run : Run) (from : ℕ) (call : Call) (ride : Ride) (facts : RideFacts) → IsAt run from ride → BoardsAt run facts call → departure_with ride facts ≡ departure_from run call from
+same_departure run from call ride facts is boards =
+    ap (λ (s : StopId). departure_of_parts s.0 ride.trip.0 ride.day.0 ride.shift ride.from facts.departure.0) boards.stop
+    ∙ ap (λ t. departure_of_parts call.stop.0 t ride.day.0 ride.shift ride.from facts.departure.0) is.0.trip
+    ∙ ap (λ d. departure_of_parts call.stop.0 run.trip.0 d ride.shift ride.from facts.departure.0) is.0.day
+    ∙ ap (λ s. departure_of_parts call.stop.0 run.trip.0 run.day.0 s ride.from facts.departure.0) is.0.shift
+    ∙ ap (λ f. departure_of_parts call.stop.0 run.trip.0 run.day.0 run.shift f facts.departure.0) is.1
+    ∙ ap (λ at. departure_of_parts call.stop.0 run.trip.0 run.day.0 run.shift from at) boards.at
+
+-- a departure is listed
+pub lists_call : (feed : FeedRows) (query : Query) (run : Run) (calls : List Call) (from : ℕ) (d : Call) (made : Grouped Departure) (old new : List (Grouped Departure)) → IsRunOfFeed feed run → calls ≡ calls_of feed run.trip → from < length calls →
+    made ≡ departure_from run (get_or calls from d) from → new ≡ old ++ made ∷ [] → Lists feed query (IsAt run from) old new
+lists_call feed query run calls from d made old new of_feed same lt is pushed = record {
+  still = λ other h. subst (λ xs. Contains xs other) (sym pushed) (Contains-append_left old (made ∷ []) other h);
+  all = λ ride facts e at.
+      let here = ap (λ xs. slice_get xs ride.from) (sym same) ∙ ap (slice_get calls) at.1 ∙ slice_get-get_or calls from d lt in
+      let boards = spanned_boards feed query run ride facts (get_or calls from d) e at.0 here in
+      subst (λ xs. Contains xs (departure_with ride facts)) (sym pushed)
+      (subst (Contains (old ++ made ∷ [])) (is ∙ sym (same_departure run from (get_or calls from d) ride facts at boards)) (Contains-push old made));
+  right = λ h.
+      let here : IsRunOfFeed feed made.item.run = subst (λ (g : Grouped Departure). IsRunOfFeed feed g.item.run) (sym is) of_feed in
+      subst (All (λ (g : Grouped Departure). IsRunOfFeed feed g.item.run)) (sym pushed)
+      (All-append (λ (g : Grouped Departure). IsRunOfFeed feed g.item.run) old (made ∷ []) h (All-cons (λ (g : Grouped Departure). IsRunOfFeed feed g.item.run) made [] here (All-nil (λ (g : Grouped Departure). IsRunOfFeed feed g.item.run))));
+}
+
+-- the ride leaves its trip at a later call of it
+spanned_calls : (feed : FeedRows) (query : Query) (ride : Ride) (facts : RideFacts) → IsSpanned feed query ride facts → (ride.from < ride.to) × (ride.to < length (calls_of feed ride.trip))
+spanned_calls feed query ride facts e =
+    let r = ride_facts_tells feed ride facts e.is in
+    (r.forward, slice_get_within (calls_of feed ride.trip) ride.to r.alighting r.alights)
+
+-- it runs on its day, with one of its trip's shifts
+spanned_runs : (feed : FeedRows) (query : Query) (ride : Ride) (facts : RideFacts) → IsSpanned feed query ride facts → (runs_on feed ride.trip ride.day.0 ≡ true) × Contains (shifts_of feed ride.trip) ride.shift
+spanned_runs feed query ride facts e =
+    let r = ride_facts_tells feed ride facts e.is in
+    (r.runs, Contains_from_found (shifts_of feed ride.trip) ride.shift (list_any-shifts_of feed ride.trip ride.shift ∙ r.shift))
+
+-- and it is of a trip of the feed
+spanned_trip : (feed : FeedRows) (query : Query) (ride : Ride) (facts : RideFacts) → IsSpanned feed query ride facts → ride.trip.0 < length feed.trips
+spanned_trip feed query ride facts e =
+    let runs = spanned_runs feed query ride facts e in
+    let row = filled_and-true (slice_get feed.trips ride.trip.0) _ runs.0 in
+    slice_get_within feed.trips ride.trip.0 row.value row.is
+
+-- it runs on one of the days from 13 before the civil day of the query's departure to the last of the window
+spanned_day : (feed : FeedRows) (query : Query) (ride : Ride) (facts : RideFacts) → IsSoundFeed feed → IsSpanned feed query ride facts → (first_day query ≤ℤ ride.day.0) × (ride.day.0 <ℤ day_after query)
+spanned_day feed query ride facts sound e =
+    let t = ride_facts_timed feed ride facts most_time (sound_trip feed ride.trip sound) e.is in (
+      day_bounds query.departure.0 facts.departure.0 facts.arrival.0 ride.day.0 e.since t.forward t.arrives,
+      day_until (deadline query) facts.departure.0 facts.arrival.0 ride.day.0 t.departs t.forward e.until,
+    )
+
+-- all rides of a run board at one of its calls
+pub lists_whole_run : (feed : FeedRows) (query : Query) (run : Run) (n : ℕ) (old new : List (Grouped Departure)) → n ≡ length (calls_of feed run.trip) →
+    Lists feed query (IsBefore run n) old new → Lists feed query (IsOfRun run) old new
+lists_whole_run feed query run n old new all adds =
+    lists_same feed query (IsBefore run n) (IsOfRun run) old new adds
+    (λ ride facts e of.
+    let calls = spanned_calls feed query ride facts e in
+    let forward = calls.0 in
+    let last : ride.to < length (calls_of feed run.trip) = subst (λ t. ride.to < length (calls_of feed t)) (ap trip_id of.trip) calls.1 in
+    (of, omega arith))
+
+-- where a trip doesn't run on a day, nothing is to be added
+pub lists_no_trip : (feed : FeedRows) (query : Query) (trip : TripId) (day : ℤ) (rides : List (Grouped Departure)) → false ≡ runs_on feed trip day → Lists feed query (IsOnTrip trip.0 day) rides rides
+lists_no_trip feed query trip day rides never =
+    lists_none feed query (IsOnTrip trip.0 day) rides
+    (λ ride facts e is.
+    let runs = spanned_runs feed query ride facts e in
+    let here : runs_on feed trip day ≡ true = subst (λ t. runs_on feed t day ≡ true) (ap trip_id is.0) (subst (λ d. runs_on feed ride.trip d ≡ true) is.1 runs.0) in
+    true≢false (sym here ∙ sym never))
+
+-- whether a trip runs on a day stands at its number
+pub runs_at : (feed : FeedRows) (day : ℤ) (all : List Bool) (trip : ℕ) (runs : Bool) → all ≡ list_below (length feed.trips) (λ t. runs_on feed (record { 0 = t }) day) → trip < length feed.trips → runs ≡ get_or all trip runs → runs ≡ runs_on feed (record { 0 = trip }) day
+runs_at feed day all trip runs is lt read =
+    let on : ℕ → Bool = λ t. runs_on feed (record { 0 = t }) day in
+    let got = slice_get-list_below (length feed.trips) on trip lt in
+    read ∙ ap (λ (bs : List Bool). get_or bs trip runs) is ∙ get_or_from_slice_get (list_below (length feed.trips) on) trip (on trip) runs got
+
+-- one trip more
+pub lists_trip : (feed : FeedRows) (query : Query) (day : ℤ) (trip : ℕ) (old mid new : List (Grouped Departure)) →
+    Lists feed query (IsOnDay day trip) old mid → Lists feed query (IsOnTrip trip day) mid new → Lists feed query (IsOnDay day (trip + 1)) old new
+lists_trip feed query day trip old mid new before adds =
+    lists_more feed query (IsOnDay day trip) (IsOnTrip trip day) (IsOnDay day (trip + 1)) old mid new before adds
+    (λ ride facts e on.
+    let below = on.1 in
+    ⊎_elim (λ lower. inl (on.0, lower)) (λ upper. let same : ride.trip.0 ≡ trip = omega arith in inr (same, on.0)) (cases_lt ride.trip.0 trip))
+
+-- a run of a trip of the feed
+pub run_of_feed : (feed : FeedRows) (trip : TripId) (day : Day) (run : Run) → trip.0 < length feed.trips → negsuc 799_999 ≤ℤ day.0 → day.0 ≤ℤ pos 3_000_000 → run.trip ≡ trip → run.day ≡ day → least_shift ≤ℤ run.shift →
+    run.shift ≤ℤ most_shift → IsRunOfFeed feed run
+run_of_feed feed trip day run below low high of on least most = record {
+  trip = subst (λ (t : TripId). t.0 < length feed.trips) (sym of) below;
+  day_low = subst (λ (d : Day). negsuc 799_999 ≤ℤ d.0) (sym on) low;
+  day_high = subst (λ (d : Day). d.0 ≤ℤ pos 3_000_000) (sym on) high;
+  shift_low = least;
+  shift_high = most;
+}
+
+-- one shift more
+pub lists_shift : (feed : FeedRows) (query : Query) (trip : TripId) (day : Day) (shifts : List ℤ) (k : ℕ) (run : Run) (old mid new : List (Grouped Departure)) → k < length shifts → run.trip ≡ trip → run.day ≡ day → run.shift ≡ get_or shifts k (pos 0) →
+    Lists feed query (HasShift trip.0 day.0 shifts k) old mid → Lists feed query (IsOfRun run) mid new →
+    Lists feed query (HasShift trip.0 day.0 shifts (k + 1)) old new
+lists_shift feed query trip day shifts k run old mid new lt of on is before adds =
+    lists_more feed query (HasShift trip.0 day.0 shifts k) (IsOfRun run) (HasShift trip.0 day.0 shifts (k + 1)) old mid new before adds
+    (λ ride facts e has.
+    let at = has.2 in
+    let below = at.1 in
+    ⊎_elim (λ lower. inl (has.0, has.1, (at.0, lower, at.2)))
+    (λ upper.
+    let same : at.0 ≡ k = omega arith in
+    inr (record {
+      trip = has.0 ∙ ap (λ (t : TripId). t.0) (sym of);
+      day = has.1 ∙ ap (λ (d : Day). d.0) (sym on);
+      shift = sym at.2 ∙ ap (λ i. get_or shifts i ride.shift) same ∙ get_or_default shifts k ride.shift (pos 0) lt ∙ sym is;
+    }))
+    (cases_lt at.0 k))
+
+-- all shifts of a trip
+pub lists_whole_trip : (feed : FeedRows) (query : Query) (trip : TripId) (day : ℤ) (shifts : List ℤ) (n : ℕ) (old new : List (Grouped Departure)) → shifts ≡ shifts_of feed trip → length shifts ≤ n →
+    Lists feed query (HasShift trip.0 day shifts n) old new → Lists feed query (IsOnTrip trip.0 day) old new
+lists_whole_trip feed query trip day shifts n old new all whole adds =
+    lists_same feed query (HasShift trip.0 day shifts n) (IsOnTrip trip.0 day) old new adds
+    (λ ride facts e on.
+    let runs = spanned_runs feed query ride facts e in
+    let has : Contains shifts ride.shift = subst (λ zs. Contains zs ride.shift) (ap (shifts_of feed) (ap trip_id on.0) ∙ sym all) runs.1 in
+    let lt = has.1 in
+    (on.0, on.1, (has.0, omega arith, has.2)))
+
+-- all trips
+pub lists_whole_day : (feed : FeedRows) (query : Query) (day : ℤ) (n : ℕ) (old new : List (Grouped Departure)) → length feed.trips ≤ n →
+    Lists feed query (IsOnDay day n) old new → Lists feed query (λ ride. ride.day.0 ≡ day) old new
+lists_whole_day feed query day n old new all adds =
+    lists_same feed query (IsOnDay day n) (λ ride. ride.day.0 ≡ day) old new adds
+    (λ ride facts e on. let trip = spanned_trip feed query ride facts e in (on, omega arith))
+
+-- one day more
+pub lists_day : (feed : FeedRows) (query : Query) (first day : ℤ) (old mid new : List (Grouped Departure)) → first ≤ℤ day →
+    Lists feed query (IsOnDays first day) old mid → Lists feed query (λ ride. ride.day.0 ≡ day) mid new → Lists feed query (IsOnDays first (day +ℤ pos 1)) old new
+lists_day feed query first day old mid new since before adds =
+    lists_more feed query (IsOnDays first day) (λ ride. ride.day.0 ≡ day) (IsOnDays first (day +ℤ pos 1)) old mid new before adds
+    (λ ride facts e on. split ride.day.0 on.0 on.1)
+  where
+    between : (d day : ℤ) → d <ℤ (day +ℤ pos 1) → day ≤ℤ d → d ≡ day
+    between d day high ge = omega (arith, ints)
+
+    by : (d day : ℤ) (b : Bool) → int_le day d ≡ b → (d <ℤ day) ⊎ (day ≤ℤ d)
+    by d day true h = inr (int_le-true day d h)
+    by d day false h = inl (grind (arith, ints))
+
+    split : (d : ℤ) → first ≤ℤ d → d <ℤ (day +ℤ pos 1) → ((first ≤ℤ d) × (d <ℤ day)) ⊎ (d ≡ day)
+    split d low high = ⊎_elim (λ lt. inl (low, lt)) (λ ge. inr (between d day high ge)) (by d day (int_le day d) refl)
+
+-- all days
+pub has_departures : (feed : FeedRows) (query : Query) (day : ℤ) (listed : List (Grouped Departure)) → IsSoundFeed feed → day_after query ≤ℤ day →
+    Lists feed query (IsOnDays (first_day query) day) [] listed → HasDepartures feed query listed
+has_departures feed query day listed sound past lists = record {
+  all = λ ride facts e.
+      let days = spanned_day feed query ride facts sound e in
+      lists.all ride facts e (days.0, before ride.day.0 (day_after query) day days.1 past);
+  right = lists.right (All-nil (λ (d : Grouped Departure). IsRunOfFeed feed d.item.run));
+}
+  where
+    before : (d after day : ℤ) → d <ℤ after → after ≤ℤ day → d <ℤ day
+    before d after day lt le = omega (arith, ints)
+
+-- it departs from a stop of the feed
+spanned_stop : (feed : FeedRows) (query : Query) (ride : Ride) (facts : RideFacts) → IsSoundFeed feed → IsSpanned feed query ride facts → facts.from.0 < length feed.stops
+spanned_stop feed query ride facts sound e =
+    let r = ride_facts_tells feed ride facts e.is in
+    let row = calls_of_row feed ride.trip ride.from r.boarding (sound_trip feed ride.trip sound).ends r.boards in
+    let within = All-contains (λ (s : StopTimeRow). s.stop.0 < length feed.stops) feed.stop_times row.0 sound.stop_times.stops (row_at feed ride.trip ride.from row.0 row.1).member in
+    subst (λ (s : StopId). s.0 < length feed.stops) (sym (ap (λ (f : RideFacts). f.from) (sym r.facts_are) ∙ row.2.stop)) within
+
+-- the departures by stop
+pub are_departures : (feed : FeedRows) (query : Query) (listed : List (Grouped Departure)) (n : ℕ) (departures : List (List Departure)) → IsSoundFeed feed → n < 2 ^ 32 → n ≡ length feed.stops → HasDepartures feed query listed → departures ≡ groups_below n listed →
+    AreDepartures feed query departures
+unfolding groups_below
+are_departures feed query listed n departures sound small all_stops has is =
+    subst (AreDepartures feed query) (sym is) (record {
+      few = subst (λ k. k < 2 ^ 32) (sym (length-list_below n (group_of listed))) small;
+      all = λ ride facts e.
+          let lt : facts.from.0 < n = subst (λ k. facts.from.0 < k) (sym all_stops) (spanned_stop feed query ride facts sound e) in (
+            subst (λ k. facts.from.0 < k) (sym (length-list_below n (group_of listed))) lt,
+            subst (λ xs. Contains xs (departure_with ride facts).item) (sym (groups_below-at n listed facts.from.0 lt)) (Contains-group_of listed facts.from.0 (departure_with ride facts).item (has.all ride facts e)),
+          );
+      right = λ stop. ⊎_elim
+          (λ (below : stop < n). subst (All (λ (d : Departure). IsRunOfFeed feed d.run)) (sym (groups_below-at n listed stop below))
+          (All-from (λ (d : Departure). IsRunOfFeed feed d.run) (group_of listed stop)
+          (λ d at. All-contains (λ (g : Grouped Departure). IsRunOfFeed feed g.item.run) listed (record { group = stop; item = d }) has.right (group_of-tells listed stop d at))))
+          (λ (past : n ≤ stop). subst (All (λ (d : Departure). IsRunOfFeed feed d.run)) (sym (groups_below-past n listed stop past)) (All-nil (λ (d : Departure). IsRunOfFeed feed d.run)))
+          (cases_lt stop n);
+    })

@@ -1,0 +1,10 @@
+use Rattle.std.proofs.Common.{[], ◌≤ℤ◌}
+use Rattle.plan_plain.specs.InTime.{IsOnDays, first_day}
+use Rattle.plan_plain.specs.Departures.{Lists}
+use Rattle.plan_plain.proofs.departures.list_days.Given as goal
+
+abbrev pub invariant-loop-day : goal.invariant-loop-day
+invariant-loop-day l = record {
+  since : first_day l.query ≤ℤ l.day;
+  adds : Lists l.timetable l.query (IsOnDays (first_day l.query) l.day) [] l.listed.items;
+}
