@@ -1,0 +1,5 @@
+pub mod BagLaws
+pub mod FlightLaws
+pub mod HeightLaws
+pub mod StairLaws
+pub mod ThinLaws

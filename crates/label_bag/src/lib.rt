@@ -1,0 +1,12 @@
+//! Bags of labels: what is best of all that was offered, for any lawful order.
+#![tactic(auto)]
+
+mod bag;
+mod flights;
+mod list_bag;
+mod search;
+mod stair_bag;
+
+pub use bag::{Bag, NoRoom, Offered, offer_all};
+pub use list_bag::ListBag;
+pub use stair_bag::StairBag;

@@ -1,0 +1,203 @@
+// What bags keep of what they are offered.
+use label_bag::{Bag, ListBag, NoRoom, Offered, StairBag, offer_all};
+use label_order::{Both, LabelOrder, Least, Stair};
+use std::alloc::AllocError;
+use std::process::Abort;
+use std::test::Fail;
+use transit_base::{Moment, Money};
+
+type Pair = Both<Least<i64>, Least<i64>>;
+
+fn pair(arrival: i64, price: i64) -> Pair {
+    Both(Least(arrival), Least(price))
+}
+
+// Six offers, whether each is kept, and how many members there are then.
+const OFFERS: [(i64, i64, bool, usize); 6] = [
+    (3, 1, true, 1),
+    (1, 3, true, 2),
+    (2, 2, true, 3),
+    (2, 1, true, 2),
+    (2, 1, false, 2),
+    (5, 5, false, 2),
+];
+
+// The number of the member that covers the label; none where the label was kept.
+fn cover<L: LabelOrder>(answer: Result<Offered, NoRoom<L>>) -> Result<Option<usize>, AllocError> {
+    match answer {
+        Ok(Offered::Kept) => Ok(None),
+        Ok(Offered::Covered(number)) => Ok(Some(number)),
+        Err(_) => Err(AllocError),
+    }
+}
+
+// Whether a member is as good as the label, and the label as good as it.
+fn has<L: LabelOrder, B: Bag<L>>(bag: &B, label: &L) -> bool {
+    for number in 0..bag.len() {
+        let member = bag.member(number);
+        if member.leq(label) && label.leq(member) {
+            return true;
+        }
+    }
+    false
+}
+
+fn expect_two<B: Bag<Pair>>(rt: &impl Abort, bag: &B) {
+    assert_eq!(rt; bag.len(), 2);
+    assert!(rt; has(bag, &pair(1, 3)) && has(bag, &pair(2, 1)));
+}
+
+fn offer_six<B: Bag<Pair>>(rt: &impl Abort, bag: &mut B) -> Result<(), Fail> {
+    for (arrival, price, kept, members) in OFFERS {
+        let answer = cover(bag.offer(pair(arrival, price)))?;
+        assert_eq!(rt; answer.is_none(), kept, "({arrival}, {price})");
+        assert_eq!(rt; bag.len(), members, "after ({arrival}, {price})");
+    }
+    expect_two(rt, bag);
+    Ok(())
+}
+
+#[test]
+fn six_offers(rt: HostRuntime) -> Result<(), Fail> {
+    offer_six(&rt, &mut ListBag::new(rt.alloc()))?;
+    offer_six(&rt, &mut StairBag::new(rt.alloc()))
+}
+
+fn offer_six_at_once<B: Bag<Pair>>(rt: &impl Abort, bag: &mut B) -> Result<(), Fail> {
+    let labels = OFFERS.map(|(arrival, price, _, _)| pair(arrival, price));
+    offer_all(bag, &labels)?;
+    expect_two(rt, bag);
+    Ok(())
+}
+
+#[test]
+fn six_offers_at_once(rt: HostRuntime) -> Result<(), Fail> {
+    offer_six_at_once(&rt, &mut ListBag::new(rt.alloc()))?;
+    offer_six_at_once(&rt, &mut StairBag::new(rt.alloc()))
+}
+
+// The first of two equal labels is kept, and covers the second.
+fn offer_twice<L: LabelOrder + Copy, B: Bag<L>>(
+    rt: &impl Abort,
+    bag: &mut B,
+    label: L,
+) -> Result<(), Fail> {
+    bag.reserve(2)?;
+    assert_eq!(rt; cover(bag.offer(label))?, None);
+    assert_eq!(rt; cover(bag.offer(label))?, Some(0));
+    assert_eq!(rt; bag.len(), 1);
+    Ok(())
+}
+
+#[test]
+fn twice_the_same(rt: HostRuntime) -> Result<(), Fail> {
+    let rest = Both(Least(2_u8), Least(Money(300)));
+    offer_twice(
+        &rt,
+        &mut ListBag::new(rt.alloc()),
+        Both(Least(Moment(30_600)), rest),
+    )?;
+    offer_twice(
+        &rt,
+        &mut StairBag::new(rt.alloc()),
+        Both(Least(30_600), rest),
+    )
+}
+
+// An arrival and a price in a network: those of two networks aren't compared.
+#[derive(Clone, Copy, Drop)]
+struct InNetwork {
+    network: u8,
+    arrival: u32,
+    price: u32,
+}
+
+impl LabelOrder for InNetwork {
+    ghost use Rattle.std.specs.Prelude.{◌&&◌, ◌==◌, nat_le};
+    ghost use Rattle.std.proofs.Common.{arith};
+    ghost use Rattle.std.proofs.lemmas.Bool.Decides.{nat_tests};
+
+    ghost at_most = { λ a b. (a.network == b.network) && nat_le a.arrival b.arrival && nat_le a.price b.price };
+
+    fn leq(&self, other: &Self) -> bool {
+        self.network == other.network && self.arrival <= other.arrival && self.price <= other.price
+    }
+
+    ghost laws = { record { reflexive = λ a. Prim.grind (arith, nat_tests); transitive = λ a b c p q. Prim.grind (arith, nat_tests) } };
+}
+
+impl Stair for InNetwork {
+    ghost use Rattle.std.specs.Prelude.{pos};
+    ghost use Rattle.std.proofs.Common.{arith};
+    ghost use Rattle.std.proofs.lemmas.Bool.Decides.{nat_tests};
+    ghost use Rattle.std.proofs.lemmas.Int.{ints};
+
+    type Class = u8;
+
+    ghost class_of = { λ a. a.network };
+
+    ghost height_of = { λ a. pos a.arrival };
+
+    fn class(&self) -> u8 {
+        self.network
+    }
+
+    fn height(&self) -> i64 {
+        i64::from(self.arrival)
+    }
+
+    ghost stairs = { record { class = λ a b h. Prim.grind (arith, nat_tests); height = λ a b h. Prim.grind (arith, nat_tests, ints) } };
+}
+
+// Offers to two networks, and the number of the member that covers each.
+const NETWORKS: [(u8, u32, u32, Option<usize>); 8] = [
+    (1, 5, 5, None),
+    (2, 3, 3, None),
+    (1, 3, 6, None),
+    (2, 1, 9, None),
+    (1, 3, 7, Some(0)),
+    (2, 3, 4, Some(3)),
+    (1, 5, 4, None),
+    (1, 1, 1, None),
+];
+
+// The members of each network stand together, in order of arrival.
+const MEMBERS: [InNetwork; 3] = [
+    InNetwork {
+        network: 1,
+        arrival: 1,
+        price: 1,
+    },
+    InNetwork {
+        network: 2,
+        arrival: 1,
+        price: 9,
+    },
+    InNetwork {
+        network: 2,
+        arrival: 3,
+        price: 3,
+    },
+];
+
+#[test]
+fn stairs_of_two_networks(rt: HostRuntime) -> Result<(), Fail> {
+    let mut bag = StairBag::new(rt.alloc());
+    for (network, arrival, price, covered_by) in NETWORKS {
+        let label = InNetwork {
+            network,
+            arrival,
+            price,
+        };
+        let answer = cover(bag.offer(label))?;
+        assert_eq!(rt; answer, covered_by, "({network}, {arrival}, {price})");
+    }
+    assert_eq!(rt; bag.len(), 3);
+    for (number, label) in MEMBERS.iter().enumerate() {
+        assert!(rt;
+            number < bag.len() && bag.member(number).leq(label),
+            "{number}"
+        );
+    }
+    Ok(())
+}
