@@ -1,7 +1,5 @@
 pub mod PlaceLaws
 pub mod RuleLaws
-pub mod PairLaws
-pub mod ReachLaws
-pub mod LinkLaws
+pub mod OrderLaws
+pub mod NearLaws
 pub mod StepLaws
-pub mod LoopLaws

@@ -1,14 +1,12 @@
--- Laws of what is found in a list.
-use Rattle.std.proofs.Common.{◌≡◌, refl, ℕ, zero, suc, ◌<◌, ◌⊎◌, inl, inr, true, false, List, [], ◌∷◌, get_or, length, ◌-◌, arith}
-use Rattle.std.specs.Prelude.{◌==◌, not, if◌then◌else◌, slice_get, find, option_and_then}
-use Rattle.std.specs.Option.{option_map_or}
+-- Laws of what is found in a list, and of groups that are made one after another.
+use Rattle.std.proofs.Common.{◌≡◌, refl, subst, ℕ, zero, suc, ◌+◌, ◌<◌, ◌≤◌, ◌⊎◌, inl, inr, ⊎_elim, true, false, List, [], ◌∷◌, ◌++◌, get_or, length, Option, Some, None, arith}
+use Rattle.std.specs.Prelude.{◌==◌, slice_get, find, option_and_then}
 use Rattle.std.specs.List.Sorted.{IsNonDecreasingBy}
-use Rattle.std.proofs.lemmas.Bool.{cases_Bool}
+use Rattle.std.proofs.lemmas.Bool.{cases_Bool, cases_lt}
 use Rattle.std.proofs.lemmas.Bool.Decides.{nat_tests}
-use Rattle.std.proofs.lemmas.Option.{slice_get-get_or}
 use Rattle.plain_laws.specs.Plain.{when}
-use Rattle.feed_walks.specs.Places.{IsPlace, is_anew}
-use Rattle.plain_laws.proofs.Laws.{find_none}
+use Rattle.plain_laws.proofs.Laws.{find_none, slice_get-push_before, slice_get-push_last}
+use Rattle.feed_walks.specs.Rules.{IsPlace, group_at}
 
 module _ {X : Type 0} where
   -- what is found in a list by numbers stands at the number's place
@@ -32,17 +30,23 @@ module _ {X : Type 0} where
         after = λ k d low lt. is.after (suc k) d (omega arith) (omega arith);
       }))
 
-  -- the item at a place other than the first is another than the one before it
-  pub anew_at : (number : X → ℕ) (xs : List X) (at : ℕ) (d : X) → (at ≡ 0 → ⊥) → at < length xs → not (number (get_or xs (at - 1) d) == number (get_or xs at d)) ≡ is_anew number xs at
-  anew_at number xs zero d some lt = absurd (some refl)
-  anew_at number xs (suc k) d some lt =
-      let before : suc k - 1 ≡ k = omega arith in
-      rw (before, slice_get-get_or xs k d (omega arith), slice_get-get_or xs (suc k) d lt) refl
+  -- so it is what stands there, where that has the number
+  module _ (number : X → ℕ) (xs : List X) (n place : ℕ) (o : Option X) (rises : IsNonDecreasingBy number xs) (is : IsPlace number xs n place) (got : o ≡ slice_get xs place) where
+    found : find (λ x. number x == n) xs ≡ option_and_then (λ x. when (number x == n) x) o
+    found = rw got (find-place number xs n place rises is)
 
-  module _ {Y : Type 0} (number : X → ℕ) (xs : List X) (at : ℕ) (f : X → List Y) where
-    -- what is made of the item at a place, where it is another than the one before it
-    pub if_anew : (d : X) → at < length xs → is_anew number xs at ≡ true → (if is_anew number xs at then option_map_or f (slice_get xs at) [] else []) ≡ f (get_or xs at d)
-    if_anew d lt anew = rw (anew, slice_get-get_or xs at d lt) refl
+    pub find_past : o ≡ None → find (λ x. number x == n) xs ≡ None
+    find_past none = rw none at found
 
-    pub unless_anew : is_anew number xs at ≡ false → (if is_anew number xs at then option_map_or f (slice_get xs at) [] else []) ≡ []
-    unless_anew same = rw same refl
+    pub find_hit : (x : X) → o ≡ Some x → number x ≡ n → find (λ x. number x == n) xs ≡ Some x
+    find_hit x here same = let hit : (number x == n) ≡ true = grind (arith, nat_tests, same) in rw (here, hit) at found
+
+    pub find_miss : (x : X) → o ≡ Some x → (number x ≡ n → ⊥) → find (λ x. number x == n) xs ≡ None
+    find_miss x here other = let miss : (number x == n) ≡ false = grind (arith, nat_tests, other) in rw (here, miss) at found
+
+-- what holds of each of the groups so far, and of the next, holds of each with it
+pub groups_more : {X : Type 0} (P : ℕ → List X → Type 0) (xs ys : List (List X)) (x : List X) (n : ℕ) → length xs ≡ n → ((i : ℕ) → i < n → P i (group_at xs i)) → ys ≡ xs ++ x ∷ [] → P n x → (i : ℕ) → i < n + 1 → P i (group_at ys i)
+groups_more P xs ys x n long so_far push here i lt = ⊎_elim
+    (λ (below : i < n). rw (push, slice_get-push_before xs x i (omega arith)) (so_far i below))
+    (λ (past : n ≤ i). let same : n ≡ i = omega arith in rw (push, slice_get-push_last xs x i (omega arith)) (subst (λ k. P k x) same here))
+    (cases_lt i n)

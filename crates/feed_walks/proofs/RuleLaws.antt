@@ -10,7 +10,7 @@ use Rattle.feed_rows.specs.declared.rows.LinkRow.{LinkRow}
 use Rattle.plain_laws.specs.declared.groups.Grouped.{Grouped}
 use Rattle.plain_laws.specs.Plain.{group_of, groups_below}
 use Rattle.plain_laws.proofs.Laws.{same_ties, group_rises, groups_below-at, groups_below-past, find_none, find-filter, filter-filter, filter-map}
-use Rattle.feed_walks.specs.Rules.{by_start, AreByTarget, rows_from, AreRules}
+use Rattle.feed_walks.specs.Rules.{group_at, by_start, AreByTarget, AreRules}
 
 -- what a stable sort by the rows' targets gives
 pub by_target : (old new : List (Grouped LinkRow)) → IsNonDecreasingBy (λ (m : Grouped LinkRow). m.item.to.0) new → IsPermutation old new → IsStableByKey (λ (m : Grouped LinkRow). m.item.to.0) nat_cmp old new → AreByTarget old new
@@ -52,8 +52,8 @@ rules_from_groups links old members rules n within is by are =
           (cases_lt i n);
     }
   where
-    group : (i : ℕ) → i < n → rows_from rules i ≡ group_of members i
+    group : (i : ℕ) → i < n → group_at rules i ≡ group_of members i
     group i lt = rw are (groups_below-at n members i lt)
 
-    none : (i : ℕ) → n ≤ i → rows_from rules i ≡ []
+    none : (i : ℕ) → n ≤ i → group_at rules i ≡ []
     none i past = rw are (groups_below-past n members i past)

@@ -1,66 +1,20 @@
--- The steps that are gathered are the walks out of each platform.
-use Rattle.std.proofs.Common.{◌≡◌, refl, sym, ◌∙◌, ap, subst, ℕ, zero, suc, ◌<◌, ◌≤◌, ⊎_elim, Bool, true, false, List, [], ◌∷◌, length, get_or, Contains, AllPairs, Option, Some, None, arith}
-use Rattle.std.specs.Prelude.{◌==◌, ◌&&◌, if◌then◌else◌, not, slice_get, unwrap_or, find, map, option_map}
-use Rattle.std.specs.Option.{option_map_or}
+-- The steps to the platforms near a platform are the walks out of it.
+use Rattle.std.proofs.Common.{◌≡◌, refl, sym, ◌∙◌, ap, subst, ℕ, ◌<◌, ◌≤◌, ⊎_elim, List, [], ◌∷◌, length, get_or, Contains, AllPairs, Option, Some, None, arith}
+use Rattle.std.specs.Prelude.{◌==◌, slice_get, unwrap_or, find, option_map}
 use Rattle.std.specs.List.Sorted.{IsNonDecreasingBy}
-use Rattle.std.proofs.lemmas.Bool.{cases_Bool, cases_lt}
+use Rattle.std.proofs.lemmas.Bool.{cases_lt}
 use Rattle.std.proofs.lemmas.Bool.Decides.{nat_tests}
-use Rattle.std.proofs.lemmas.Option.{none-some, slice_get_within, slice_get_past, slice_get-get_or, get_or_from_slice_get}
+use Rattle.std.proofs.lemmas.List.{get_or_default}
+use Rattle.std.proofs.lemmas.Option.{slice_get_within, slice_get_past}
 use Rattle.transit_base.specs.declared.numbers.StopId.{StopId}
-use Rattle.feed_rows.specs.declared.rows.StopRow.{StopRow}
-use Rattle.feed_rows.specs.declared.rows.LinkRow.{LinkRow}
-use Rattle.plain_laws.specs.declared.groups.Grouped.{Grouped}
 use Rattle.feed_rows.specs.FeedRows.{FeedRows}
-use Rattle.feed_rows.specs.SoundTimetable.{AreSoundStops}
-use Rattle.plain_laws.specs.Plain.{joined_below, list_below, group_of, groups_below}
-use Rattle.feed_rows.specs.StopLinks.{is_platform, link_by, governing_row, link}
-use Rattle.feed_rows.specs.StopSets.{stop_sets}
-use Rattle.plain_laws.proofs.Laws.{IsStrictOrder, same_from_members, Contains-cons_first, Contains-cons_cases, list_below-same, length-list_below, slice_get-list_below, joined_below-same, joined_below-none, joined_below-one, Contains-joined_below, joined_below-tells, AllPairs-joined_below, Contains-slice_get, slice_get-Contains, find-tells, group_of-joined_below, group_of-own, group_of-other, find-some}
+use Rattle.feed_rows.specs.StopLinks.{link}
+use Rattle.plain_laws.specs.Plain.{joined_below, list_below}
+use Rattle.plain_laws.proofs.Laws.{IsStrictOrder, same_from_members, Contains-cons_first, Contains-cons_cases, length-list_below, slice_get-list_below, Contains-joined_below, joined_below-tells, AllPairs-joined_below, Contains-slice_get, find-tells, find-some}
 use Rattle.feed_walks.specs.declared.steps.Step.{Step}
-use Rattle.feed_walks.specs.Places.{is_anew}
-use Rattle.feed_walks.specs.Rules.{AreRules}
-use Rattle.feed_walks.specs.Pairs.{set_at, AreNear}
-use Rattle.feed_walks.specs.Reaches.{pairs_below}
-use Rattle.feed_walks.specs.OutOf.{step_list, out_of, walk_steps, step_at, grouped_step, grouped_steps, grouped_steps_below}
-use Rattle.feed_walks.proofs.PairLaws.{kind_of_platform}
-use Rattle.feed_walks.proofs.LinkLaws.{walk_pair, pairs_platforms}
-
--- the first item of a number at or before a place
-pub record IsFirstOf {X : Type 0} (number : X → ℕ) (xs : List X) (x : X) : Type 0 where
-  pub at : ℕ
-  pub item : X
-  pub got : slice_get xs at ≡ Some item
-  pub anew : is_anew number xs at ≡ true
-  pub same : number item ≡ number x
-
-pub first_of_number : {X : Type 0} (number : X → ℕ) (xs : List X) (k : ℕ) (x : X) → slice_get xs k ≡ Some x → IsFirstOf number xs x
-first_of_number number xs zero x got = record { at = 0; item = x; got = got; anew = refl; same = refl }
-first_of_number {X} number xs (suc k) x got = step (slice_get xs k) refl (first_of_number number xs k)
-  where
-    step : (o : Option X) → slice_get xs k ≡ o → ((w : X) → slice_get xs k ≡ Some w → IsFirstOf number xs w) → IsFirstOf number xs x
-    step None none earlier = let lt = slice_get_within xs (suc k) x got in absurd (none-some _ (sym none ∙ slice_get-get_or xs k x (omega arith)))
-    step (Some w) there earlier = ⊎_elim
-        (λ (hit : (number w == number x) ≡ true). let one : number w ≡ number x = grind (arith, nat_tests, hit) in let first = earlier w there in record { at = first.at; item = first.item; got = first.got; anew = first.anew; same = first.same ∙ one })
-        (λ (miss : (number w == number x) ≡ false). record { at = suc k; item = x; got = got; anew = rw (there, got, miss) refl; same = refl })
-        (cases_Bool (number w == number x))
-
--- items that are anew in a list by numbers ascend
-pub anew_ascends : {X : Type 0} (number : X → ℕ) (xs : List X) (i j : ℕ) (x y : X) → IsNonDecreasingBy number xs → i < j → slice_get xs i ≡ Some x → slice_get xs j ≡ Some y → is_anew number xs j ≡ true → number x < number y
-anew_ascends number xs i zero x y rises lt gx gy anew = absurd (omega arith)
-anew_ascends {X} number xs i (suc k) x y rises lt gx gy anew =
-    let within = slice_get_within xs (suc k) y gy in
-    let there = slice_get-get_or xs k x (omega arith) in
-    let low : number (get_or xs i x) ≤ number (get_or xs k x) = rises i k x (omega arith) (omega arith) in
-    let high : number (get_or xs k x) ≤ number (get_or xs (suc k) x) = rises k (suc k) x (omega arith) within in
-    let first : get_or xs i x ≡ x = get_or_from_slice_get xs i x x gx in
-    let last : get_or xs (suc k) x ≡ y = get_or_from_slice_get xs (suc k) y x gy in
-    let apart : not (number (get_or xs k x) == number y) ≡ true = rw (there, gy) at anew in
-    let from : number x ≤ number (get_or xs k x) = subst (λ z. number z ≤ number (get_or xs k x)) first low in
-    let to : number (get_or xs k x) ≤ number y = subst (λ z. number (get_or xs k x) ≤ number z) last high in
-    strict (number (get_or xs k x)) apart from to
-  where
-    strict : (w : ℕ) → not (w == number y) ≡ true → number x ≤ w → w ≤ number y → number x < number y
-    strict w apart from to = grind (arith, nat_tests, apart, from, to)
+use Rattle.feed_walks.specs.Near.{AreNear}
+use Rattle.feed_walks.specs.OutOf.{step_list, out_of, walk_steps}
+use Rattle.feed_walks.proofs.NearLaws.{kind_of_platform, link-tells}
 
 -- one step is before another in the order of their stops
 abbrev pub Before : Step → Step → Type 0
@@ -88,25 +42,6 @@ step_list-tells to (Some s) t at = ⊎_elim
 pub Contains-step_list : (to : StopId) (o : Option ℕ) (t : Step) → o ≡ Some t.seconds.0 → t.to ≡ to → Contains (step_list to o) t
 Contains-step_list to o t is leads = rw is (subst (λ s. Contains (step_list s (Some t.seconds.0)) t) leads (Contains-cons_first t []))
 
--- a walk has both ends at platforms
-pub record IsWalk (feed : FeedRows) (a b : StopId) (seconds : ℕ) : Type 0 where
-  pub from : is_platform feed a ≡ true
-  pub to : is_platform feed b ≡ true
-  pub by : link_by feed a b (governing_row feed a b) ≡ Some seconds
-
-pub link-tells : (feed : FeedRows) (a b : StopId) (seconds : ℕ) → link feed a b ≡ Some seconds → IsWalk feed a b seconds
-unfolding link
-link-tells feed a b seconds e = step (is_platform feed a) refl (is_platform feed b) refl e
-  where
-    step : (p : Bool) → is_platform feed a ≡ p → (q : Bool) → is_platform feed b ≡ q → (if p && q then link_by feed a b (governing_row feed a b) else None) ≡ Some seconds → IsWalk feed a b seconds
-    step true pa true pb by = record { from = pa; to = pb; by = by }
-    step true pa false pb fails = absurd (none-some seconds fails)
-    step false pa q pb fails = absurd (none-some seconds fails)
-
-pub link-between : (feed : FeedRows) (a b : StopId) → is_platform feed a ≡ true → is_platform feed b ≡ true → link feed a b ≡ link_by feed a b (governing_row feed a b)
-unfolding link
-link-between feed a b pa pb = rw (pa, pb) refl
-
 -- the walks out of a platform ascend by their stops
 pub out_of-ascends : (feed : FeedRows) (a : StopId) → AllPairs Before (out_of feed a)
 unfolding out_of
@@ -131,95 +66,33 @@ Contains-out_of feed a t e =
     let kind = kind_of_platform feed t.to walk.to in
     Contains-joined_below (length feed.stops) (λ i. step_list (record { 0 = i }) (link feed a (record { 0 = i }))) t.to.0 t (slice_get_within feed.stops t.to.0 kind.row kind.got) (Contains-step_list t.to (link feed a t.to) t e refl)
 
--- what the step at a place tells
-pub record IsStepAt (feed : FeedRows) (a : StopId) (near : List StopId) (at : ℕ) (t : Step) : Type 0 where
-  pub got : slice_get near at ≡ Some t.to
-  pub anew : is_anew (λ s. s.0) near at ≡ true
-  pub by : link_by feed a t.to (governing_row feed a t.to) ≡ Some t.seconds.0
+-- the step to the stop at a place, where there is a walk to it
+abbrev pub step_at : FeedRows → StopId → List StopId → ℕ → List Step
+step_at feed from near k = step_list (get_or near k (record { 0 = 0 })) (link feed from (get_or near k (record { 0 = 0 })))
 
-pub step_at-tells : (feed : FeedRows) (a : StopId) (near : List StopId) (at : ℕ) (t : Step) → Contains (step_at feed a near at) t → IsStepAt feed a near at t
-unfolding step_at
-step_at-tells feed a near at t there = step (is_anew (λ s. s.0) near at) refl (slice_get near at) refl there
+-- the steps to those near a stop are the walks out of it
+pub steps_exact : (feed : FeedRows) (from : StopId) (near : List StopId) → AreNear feed from near → joined_below (length near) (step_at feed from near) ≡ out_of feed from
+steps_exact feed from near is = same_from_members Before before_strict (joined_below (length near) (step_at feed from near)) (out_of feed from) ups (out_of-ascends feed from) (record { there = there; back = back })
   where
-    step : (anew : Bool) → is_anew (λ s. s.0) near at ≡ anew → (o : Option StopId) → slice_get near at ≡ o → Contains (if anew then option_map_or (λ to. step_list to (link_by feed a to (governing_row feed a to))) o [] else []) t → IsStepAt feed a near at t
-    step false fails o got in_none = let lt = in_none.1 in absurd (omega arith)
-    step true anew None got in_none = let lt = in_none.1 in absurd (omega arith)
-    step true anew (Some to) got in_one =
-        let is = step_list-tells to (link_by feed a to (governing_row feed a to)) t in_one in
-        record { got = got ∙ ap Some (sym is.1); anew = anew; by = subst (λ s. link_by feed a s (governing_row feed a s) ≡ Some t.seconds.0) (sym is.1) is.0 }
+    tells : (k : ℕ) (t : Step) → Contains (step_at feed from near k) t → (link feed from (get_or near k (record { 0 = 0 })) ≡ Some t.seconds.0) × (t.to ≡ get_or near k (record { 0 = 0 }))
+    tells k t at = step_list-tells (get_or near k (record { 0 = 0 })) (link feed from (get_or near k (record { 0 = 0 }))) t at
 
-pub Contains-step_at : (feed : FeedRows) (a : StopId) (near : List StopId) (at : ℕ) (t : Step) → IsStepAt feed a near at t → Contains (step_at feed a near at) t
-unfolding step_at
-Contains-step_at feed a near at t is = rw (is.anew, is.got) (Contains-step_list t.to (link_by feed a t.to (governing_row feed a t.to)) t is.by refl)
+    ups : AllPairs Before (joined_below (length near) (step_at feed from near))
+    ups = AllPairs-joined_below Before (length near) (step_at feed from near) (λ k lt. AllPairs-short Before (step_at feed from near k) (length-step_list (get_or near k (record { 0 = 0 })) (link feed from (get_or near k (record { 0 = 0 })))))
+        (λ i j x y lt within at also. let left = ap (λ (s : StopId). s.0) (tells i x at).1 in let right = ap (λ (s : StopId). s.0) (tells j y also).1 in let up = is.ascends i j (record { 0 = 0 }) lt within in omega arith)
 
-length-step_at : (feed : FeedRows) (a : StopId) (near : List StopId) (at : ℕ) → length (step_at feed a near at) ≤ 1
-unfolding step_at
-length-step_at feed a near at = step (is_anew (λ s. s.0) near at) (slice_get near at)
-  where
-    step : (anew : Bool) (o : Option StopId) → length (if anew then option_map_or (λ to. step_list to (link_by feed a to (governing_row feed a to))) o [] else []) ≤ 1
-    step false o = omega arith
-    step true None = omega arith
-    step true (Some to) = length-step_list to (link_by feed a to (governing_row feed a to))
-
--- the steps out of a stop are the walks out of it
-pub steps_exact : (feed : FeedRows) (rules : List (List LinkRow)) (near : List (List StopId)) (i : ℕ) → AreSoundStops feed → AreRules feed.links rules → AreNear (pairs_below feed (stop_sets feed) rules (length feed.stops)) near (length feed.stops) → i < length feed.stops → joined_below (length (set_at near i)) (step_at feed (record { 0 = i }) (set_at near i)) ≡ out_of feed (record { 0 = i })
-steps_exact feed rules near i sound are is within = same_from_members Before before_strict steps (out_of feed from) ups (out_of-ascends feed from) (record { there = there; back = back })
-  where
-    from : StopId
-    from = record { 0 = i }
-
-    steps : List Step
-    steps = joined_below (length (set_at near i)) (step_at feed (record { 0 = i }) (set_at near i))
-
-    ups : AllPairs Before (joined_below (length (set_at near i)) (step_at feed (record { 0 = i }) (set_at near i)))
-    ups = AllPairs-joined_below Before (length (set_at near i)) (step_at feed (record { 0 = i }) (set_at near i)) (λ k lt. AllPairs-short Before (step_at feed (record { 0 = i }) (set_at near i) k) (length-step_at feed (record { 0 = i }) (set_at near i) k))
-        (λ k j x y lt inside at also. let one = step_at-tells feed (record { 0 = i }) (set_at near i) k x at in let other = step_at-tells feed (record { 0 = i }) (set_at near i) j y also in anew_ascends (λ (s : StopId). s.0) (set_at near i) k j x.to y.to (is.rises i) lt one.got other.got other.anew)
-
-    there : (t : Step) → Contains (joined_below (length (set_at near i)) (step_at feed (record { 0 = i }) (set_at near i))) t → Contains (out_of feed (record { 0 = i })) t
+    there : (t : Step) → Contains (joined_below (length near) (step_at feed from near)) t → Contains (out_of feed from) t
     there t at =
-        let found = joined_below-tells (length (set_at near i)) (step_at feed (record { 0 = i }) (set_at near i)) t at in
-        let step = step_at-tells feed (record { 0 = i }) (set_at near i) found.0 t found.2 in
-        let both = pairs_platforms feed rules (length feed.stops) (record { group = i; item = t.to }) (is.back i t.to (Contains-slice_get (set_at near i) found.0 t.to step.got)) in
-        Contains-out_of feed (record { 0 = i }) t (link-between feed (record { 0 = i }) t.to both.from both.to ∙ step.by)
+        let found = joined_below-tells (length near) (step_at feed from near) t at in
+        let step = tells found.0 t found.2 in
+        Contains-out_of feed from t (ap (link feed from) step.1 ∙ step.0)
 
-    back : (t : Step) → Contains (out_of feed (record { 0 = i })) t → Contains (joined_below (length (set_at near i)) (step_at feed (record { 0 = i }) (set_at near i))) t
+    back : (t : Step) → Contains (out_of feed from) t → Contains (joined_below (length near) (step_at feed from near)) t
     back t at =
-        let walk = link-tells feed (record { 0 = i }) t.to t.seconds.0 (out_of-tells feed (record { 0 = i }) t at) in
-        let paired = is.there i t.to within (walk_pair feed rules sound are (record { 0 = i }) t.to t.seconds.0 walk.from walk.to walk.by) in
-        let place = slice_get-Contains (set_at near i) t.to paired in
-        let first = first_of_number (λ (s : StopId). s.0) (set_at near i) place.0 t.to place.1 in
-        let same : first.item ≡ t.to = ap (λ k. record { 0 = k }) first.same in
-        let got : slice_get (set_at near i) first.at ≡ Some t.to = first.got ∙ ap Some same in
-        Contains-joined_below (length (set_at near i)) (step_at feed (record { 0 = i }) (set_at near i)) first.at t (slice_get_within (set_at near i) first.at t.to got) (Contains-step_at feed (record { 0 = i }) (set_at near i) first.at t (record { got = got; anew = first.anew; by = walk.by }))
-
--- the steps of one stop among those of all
-group_of-steps : (feed : FeedRows) (near : List StopId) (i : ℕ) → group_of (grouped_steps feed i near) i ≡ joined_below (length near) (step_at feed (record { 0 = i }) near)
-unfolding grouped_steps
-group_of-steps feed near i =
-    group_of-joined_below (length near) (λ at. map (grouped_step i) (step_at feed (record { 0 = i }) near at)) i
-    ∙ joined_below-same (length near) (λ at. group_of (map (grouped_step i) (step_at feed (record { 0 = i }) near at)) i) (step_at feed (record { 0 = i }) near) (λ at lt. group_of-own i (step_at feed (record { 0 = i }) near at))
-
-group_of-others : (feed : FeedRows) (near : List StopId) (k i : ℕ) → (k ≡ i → ⊥) → group_of (grouped_steps feed k near) i ≡ []
-unfolding grouped_steps
-group_of-others feed near k i apart =
-    group_of-joined_below (length near) (λ at. map (grouped_step k) (step_at feed (record { 0 = k }) near at)) i
-    ∙ joined_below-none (length near) (λ at. group_of (map (grouped_step k) (step_at feed (record { 0 = k }) near at)) i) (λ at lt. group_of-other k i (step_at feed (record { 0 = k }) near at) apart)
-
--- so the groups are the walks out of each stop
-pub walk_steps-from_groups : (feed : FeedRows) (rules : List (List LinkRow)) (near : List (List StopId)) (n : ℕ) → n ≡ length feed.stops → AreSoundStops feed → AreRules feed.links rules → AreNear (pairs_below feed (stop_sets feed) rules n) near n → groups_below n (grouped_steps_below feed near n) ≡ walk_steps feed
-unfolding groups_below walk_steps grouped_steps_below
-walk_steps-from_groups feed rules near n long sound are is =
-    rw long (list_below-same (length feed.stops) (group_of (joined_below (length feed.stops) (λ k. grouped_steps feed k (set_at near k)))) (λ i. out_of feed (record { 0 = i })) each)
-  where
-    are_near : AreNear (pairs_below feed (stop_sets feed) rules (length feed.stops)) near (length feed.stops)
-    are_near = subst (λ k. AreNear (pairs_below feed (stop_sets feed) rules k) near k) long is
-
-    each : (i : ℕ) → i < length feed.stops → group_of (joined_below (length feed.stops) (λ k. grouped_steps feed k (set_at near k))) i ≡ out_of feed (record { 0 = i })
-    each i lt =
-        group_of-joined_below (length feed.stops) (λ k. grouped_steps feed k (set_at near k)) i
-        ∙ joined_below-one (length feed.stops) i (λ k. group_of (grouped_steps feed k (set_at near k)) i) lt (λ k kn apart. group_of-others feed (set_at near k) k i apart)
-        ∙ group_of-steps feed (set_at near i) i
-        ∙ steps_exact feed rules near i sound are are_near lt
+        let linked = out_of-tells feed from t at in
+        let place = is.there t.to t.seconds.0 linked in
+        let here : t.to ≡ get_or near place.0 (record { 0 = 0 }) = sym place.2 ∙ get_or_default near place.0 t.to _ place.1 in
+        Contains-joined_below (length near) (step_at feed from near) place.0 t place.1 (Contains-step_list (get_or near place.0 (record { 0 = 0 })) (link feed from (get_or near place.0 (record { 0 = 0 }))) t (ap (link feed from) (sym here) ∙ linked) here)
 
 -- the walk to a stop is found among the walks out of the platform
 pub find-out_of : (feed : FeedRows) (a b : StopId) → option_map (λ (s : Step). s.seconds.0) (find (λ s. s.to.0 == b.0) (out_of feed a)) ≡ link feed a b
@@ -256,8 +129,3 @@ walk_steps-at feed a = ⊎_elim
         let kind = kind_of_platform feed a walk.from in
         let lt = slice_get_within feed.stops a.0 kind.row kind.got in
         absurd (omega arith)
-
--- the same, from what each step of the building made
-pub walk_steps-from_parts : (feed inside : FeedRows) (stops : List StopRow) (links : List LinkRow) (rules : List (List LinkRow)) (sets : List (List StopId)) (pairs : List (Grouped StopId)) (near : List (List StopId)) (steps : List (List Step)) → inside ≡ feed → AreSoundStops inside → stops ≡ inside.stops → links ≡ inside.links → AreRules links rules → sets ≡ stop_sets feed → pairs ≡ pairs_below feed sets rules (length stops) → AreNear pairs near (length stops) → steps ≡ groups_below (length stops) (grouped_steps_below feed near (length stops)) → steps ≡ walk_steps feed
-walk_steps-from_parts feed inside stops links rules sets pairs near steps view sound same_stops same_links are same_sets same_pairs is made =
-    made ∙ walk_steps-from_groups feed rules near (length stops) (ap length same_stops ∙ ap (λ (f : FeedRows). length f.stops) view) (subst AreSoundStops view sound) (subst (λ f. AreRules f.links rules) view (subst (λ rows. AreRules rows rules) same_links are)) (subst (λ ps. AreNear ps near (length stops)) (same_pairs ∙ ap (λ xs. pairs_below feed xs rules (length stops)) same_sets) is)

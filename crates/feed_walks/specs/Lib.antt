@@ -1,7 +1,4 @@
-pub mod Places
 pub mod Rules
-pub mod Pairs
-pub mod Reaches
-pub mod AtHand
+pub mod Near
 pub mod OutOf
 pub mod BuiltWalks

@@ -1,4 +1,5 @@
-//! The walks between the platforms of a feed.
+//! The walks between the platforms of a feed, in three steps: the rows of `transfers.txt` by their two stops (`rules`), the
+//! platforms near each platform (`near`), and of these the ones that there is a walk to (`steps`).
 #![tactic(auto)]
 
 ghost use Rattle.std.specs.Prelude.{◌≡◌, IfOk, option_map};
@@ -7,20 +8,18 @@ ghost use Rattle.feed_rows.specs.StopLinks.{link};
 ghost use Rattle.feed_walks.specs.OutOf.{out_of};
 ghost use Rattle.feed_walks.specs.BuiltWalks.{AreWalksOf};
 
-mod pairs;
-mod reaches;
+mod near;
 mod rules;
-mod station_pairs;
 mod steps;
 
 use feed_rows::Feed;
 use feed_stops::stop_sets;
-use pairs::{near_of, pairs_of};
+use near::reached_of;
 use plain_laws::Groups;
 use rules::rules_of;
 use std::alloc::{AllocError, Global};
 pub use steps::Step;
-use steps::{step_to, steps_of};
+use steps::{seconds_to, steps_of};
 use transit_base::{Secs, StopId};
 
 /// The walks between the platforms of a feed.
@@ -41,18 +40,20 @@ impl Drop for Walks {
 impl Walks {
     /// The walks of the feed.
     ///
+    /// A pair of platforms is tried where a row for it, or for the station of one or of both, allows the change, and where
+    /// no row says otherwise of a platform or of two of one station. So the time grows with the rows, the stops and the
+    /// walks, and besides with the pairs that one row allows and a closer one forbids.
+    ///
     /// # Errors
     /// Want of memory.
     pub fn build(alloc: Global, feed: &Feed) -> Result<Walks, AllocError>
         ensures { IfOk result (λ walks. AreWalksOf feed.now walks) }
     {
         let count = feed.stops.items().len() as u32;
-        let links = feed.links.items();
-        let rules = rules_of(alloc, links, count)?;
+        let rules = rules_of(alloc, feed.links.items(), count)?;
         let sets = stop_sets(alloc, feed)?;
-        let pairs = pairs_of(alloc, feed, &rules, &sets, count)?;
-        let near = near_of(alloc, pairs, count)?;
-        let steps = steps_of(alloc, feed, &rules, &near, count)?;
+        let reached = reached_of(alloc, feed, &rules, &sets)?;
+        let steps = steps_of(alloc, feed, &rules, &reached)?;
         Ok(Walks { steps })
     }
 
@@ -61,7 +62,7 @@ impl Walks {
     pub fn link(&self, from: StopId, to: StopId) -> Option<Secs>
         ensures { (feed : FeedRows) → AreWalksOf feed self.now → option_map (λ (seconds : Secs). seconds.0) result ≡ link feed from to }
     {
-        seconds_of(step_to(self.out_of(from), to))
+        seconds_to(self.out_of(from), to)
     }
 
     /// The walks out of the platform, to itself among them where there is one, in file order of the platforms that they
@@ -70,15 +71,5 @@ impl Walks {
         ensures { (feed : FeedRows) → AreWalksOf feed self.now → result.now ≡ out_of feed from }
     {
         self.steps.get(from.0 as usize)
-    }
-}
-
-/// The seconds of the step, if there is one.
-fn seconds_of(step: Option<Step>) -> Option<Secs>
-    ensures { option_map (λ (seconds : Secs). seconds.0) result ≡ option_map (λ (step : Step). step.seconds.0) step }
-{
-    match step {
-        Some(step) => Some(step.seconds),
-        None => None,
     }
 }

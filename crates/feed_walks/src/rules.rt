@@ -1,13 +1,13 @@
 //! The rows of `transfers.txt`, to be looked up by their two stops, and the walks that they rule.
-ghost use Rattle.std.specs.Prelude.{◌≡◌, ℕ, ◌<◌, ◌≤◌, ◌==◌, length, All, IfOk, OnOk, Some, find, map, option_map, option_and_then, slice_get};
+ghost use Rattle.std.specs.Prelude.{◌≡◌, ℕ, ◌<◌, ◌≤◌, ◌==◌, All, IfOk, OnOk, Some, find, map, option_map, slice_get};
+ghost use Rattle.std.specs.Option.{option_copied};
 ghost use Rattle.std.specs.List.Sorted.{IsNonDecreasingBy};
 ghost use Rattle.feed_rows.specs.FeedRows.{FeedRows};
 ghost use Rattle.feed_rows.specs.StopLinks as linked;
-ghost use Rattle.plain_laws.specs.Plain.{filled_and, when};
-ghost use Rattle.feed_walks.specs.Places.{IsPlace, is_anew};
-ghost use Rattle.feed_walks.specs.Rules.{by_start, AreByTarget, AreRules};
+ghost use Rattle.plain_laws.specs.Plain.{filled_and};
+ghost use Rattle.feed_walks.specs.Rules.{IsPlace, by_start, AreByTarget, AreRules};
 
-use feed_rows::{Feed, LinkRow, PLATFORM};
+use feed_rows::{Feed, LinkRow, PLATFORM, StopRow};
 use plain_laws::{Grouped, Groups};
 use std::alloc::{AllocError, Global};
 use transit_base::{Secs, StopId};
@@ -49,17 +49,10 @@ fn sort_by_target(rows: &mut Vec<Grouped<LinkRow>>) -> Result<(), AllocError>
 }
 
 /// How many of the rows lead to an earlier stop.
-pub fn place_of(rows: &[LinkRow], to: StopId) -> usize
+fn place_of(rows: &[LinkRow], to: StopId) -> usize
     ensures { IsNonDecreasingBy (λ (row : LinkRow). row.to.0) rows.now → IsPlace (λ (row : LinkRow). row.to.0) rows.now to.0 result }
 {
     rows.partition_point(|row| row.to.0 < to.0)
-}
-
-/// The first of the rows that leads to the stop.
-pub fn row_to(rows: &[LinkRow], to: StopId) -> Option<LinkRow>
-    ensures { IsNonDecreasingBy (λ (row : LinkRow). row.to.0) rows.now → result ≡ find (λ row. row.to.0 == to.0) rows.now }
-{
-    row_if_to(row_at(rows, place_of(rows, to)), to)
 }
 
 /// The row at this place, if there is one.
@@ -69,56 +62,37 @@ fn row_at(rows: &[LinkRow], place: usize) -> Option<LinkRow>
     rows.get(place).copied()
 }
 
-/// The row, where it leads to the stop.
-fn row_if_to(row: Option<LinkRow>, to: StopId) -> Option<LinkRow>
-    ensures { result ≡ option_and_then (λ (row : LinkRow). when (row.to.0 == to.0) row) row }
+/// The first of the rows that leads to the stop.
+fn row_to(rows: &[LinkRow], to: StopId) -> Option<LinkRow>
+    ensures { IsNonDecreasingBy (λ (row : LinkRow). row.to.0) rows.now → result ≡ find (λ row. row.to.0 == to.0) rows.now }
 {
-    match row {
-        Some(row) => { if row.to.0 == to.0 { Some(row) } else { None } }
-        None => None,
-    }
-}
-
-/// The earliest row from the one stop to the other.
-pub fn row_between(rules: &Groups<LinkRow>, from: StopId, to: StopId) -> Option<LinkRow>
-    ensures { (feed : FeedRows) → AreRules feed.links rules.now → result ≡ linked.row_between feed (Some from) (Some to) }
-{
-    row_to(rules.get(from.0 as usize), to)
+    let row = row_at(rows, place_of(rows, to))?;
+    if row.to.0 == to.0 { Some(row) } else { None }
 }
 
 /// The earliest row from the one stop to the other, where both are there.
-fn row_between_both(
+pub fn row_between(
     rules: &Groups<LinkRow>,
     from: Option<StopId>,
     to: Option<StopId>,
 ) -> Option<LinkRow>
     ensures { (feed : FeedRows) → AreRules feed.links rules.now → result ≡ linked.row_between feed from to }
 {
-    match from {
-        Some(from) => match to {
-            Some(to) => row_between(rules, from, to),
-            None => None,
-        },
-        None => None,
-    }
+    row_to(rules.get(from?.0 as usize), to?)
 }
 
-/// Whether the row at this place leads to another stop than the one before it.
-pub fn leads_anew(rows: &[LinkRow], at: usize) -> bool
-    requires { at < length rows.now }
-    ensures { result ≡ is_anew (λ (row : LinkRow). row.to.0) rows.now at }
+/// The row of the stop.
+fn row_of(feed: &Feed, stop: StopId) -> Option<&StopRow>
+    ensures { option_copied result ≡ slice_get feed.now.stops stop.0 }
 {
-    if at == 0 {
-        return true;
-    }
-    rows[at - 1].to.0 != rows[at].to.0
+    feed.stops.items().get(stop.0 as usize)
 }
 
 /// Whether the stop is a platform.
 pub fn is_platform(feed: &Feed, stop: StopId) -> bool
     ensures { result ≡ linked.is_platform feed.now stop }
 {
-    match feed.stops.items().get(stop.0 as usize) {
+    match row_of(feed, stop) {
         Some(row) => row.kind == PLATFORM,
         None => false,
     }
@@ -128,8 +102,7 @@ pub fn is_platform(feed: &Feed, stop: StopId) -> bool
 pub fn station_of(feed: &Feed, stop: StopId) -> Option<StopId>
     ensures { result ≡ linked.parent_of feed.now stop }
 {
-    let row = feed.stops.items().get(stop.0 as usize)?;
-    row.parent
+    row_of(feed, stop)?.parent
 }
 
 /// The row that governs the change from the one platform to the other.
@@ -139,16 +112,16 @@ fn governing_row(feed: &Feed, rules: &Groups<LinkRow>, from: StopId, to: StopId)
 {
     let from_station = station_of(feed, from);
     let to_station = station_of(feed, to);
-    if let Some(row) = row_between(rules, from, to) {
+    if let Some(row) = row_between(rules, Some(from), Some(to)) {
         return Some(row);
     }
-    if let Some(row) = row_between_both(rules, Some(from), to_station) {
+    if let Some(row) = row_between(rules, Some(from), to_station) {
         return Some(row);
     }
-    if let Some(row) = row_between_both(rules, from_station, Some(to)) {
+    if let Some(row) = row_between(rules, from_station, Some(to)) {
         return Some(row);
     }
-    row_between_both(rules, from_station, to_station)
+    row_between(rules, from_station, to_station)
 }
 
 /// The walk between two platforms that no row governs.
@@ -169,20 +142,21 @@ fn unruled_link(feed: &Feed, from: StopId, to: StopId) -> Option<Secs>
 fn are_of_one_station(one: Option<StopId>, other: Option<StopId>) -> bool
     ensures { result ≡ filled_and one (λ p. filled_and other (λ q. p.0 == q.0)) }
 {
-    match one {
-        Some(one) => match other {
-            Some(other) => one.0 == other.0,
-            None => false,
-        },
-        None => false,
+    match (one, other) {
+        (Some(one), Some(other)) => one.0 == other.0,
+        _ => false,
     }
 }
 
-/// The walk between two platforms.
+/// The walk from the one stop to the other: none where one of them is no platform.
+#[tactic(auto, unfolding(feed_rows::specs::StopLinks::link))]
 pub fn link_between(feed: &Feed, rules: &Groups<LinkRow>, from: StopId, to: StopId) -> Option<Secs>
     requires { AreRules feed.now.links rules.now }
-    ensures { option_map (λ (s : Secs). s.0) result ≡ linked.link_by feed.now from to (linked.governing_row feed.now from to) }
+    ensures { option_map (λ (s : Secs). s.0) result ≡ linked.link feed.now from to }
 {
+    if !is_platform(feed, from) || !is_platform(feed, to) {
+        return None;
+    }
     match governing_row(feed, rules, from, to) {
         Some(row) => {
             if row.forbidden {

@@ -1,0 +1,215 @@
+-- A walk leads to a platform of a stop that its own platform, or the station of that, leads to.
+use Rattle.std.proofs.Common.{◌≡◌, refl, sym, ◌∙◌, ap, subst, ℕ, ◌<◌, ◌⊎◌, inl, inr, ⊎_elim, Bool, true, false, List, [], ◌++◌, length, get_or, Contains, Option, Some, None, ◌≤◌, arith}
+use Rattle.std.specs.Prelude.{◌==◌, ◌&&◌, if◌then◌else◌, not, slice_get, filter, map}
+use Rattle.std.specs.Option.{ForSome, option_map_or, option_or}
+use Rattle.std.proofs.lemmas.Bool.{cases_Bool}
+use Rattle.std.proofs.lemmas.Bool.Decides.{nat_tests}
+use Rattle.std.proofs.lemmas.List.{get_or_default}
+use Rattle.std.proofs.lemmas.List.Elements.{Contains-append_left, Contains-append_right}
+use Rattle.std.proofs.lemmas.Option.{same_Some, none-some, slice_get-get_or, slice_get_within}
+use Rattle.transit_base.specs.declared.numbers.StopId.{StopId}
+use Rattle.feed_rows.specs.declared.rows.StopRow.{StopRow}
+use Rattle.feed_rows.specs.declared.rows.LinkRow.{LinkRow}
+use Rattle.feed_rows.specs.FeedRows.{FeedRows}
+use Rattle.feed_rows.specs.SoundTimetable.{AreSoundStops}
+use Rattle.feed_rows.specs.StopLinks.{is_platform, is_member, parent_of, stop_set, row_between, governing_row, same_station, unruled_link, link_by, link}
+use Rattle.feed_rows.specs.StopSets.{stop_sets}
+use Rattle.plain_laws.specs.Plain.{at_and, filled_and, joined_below}
+use Rattle.plain_laws.proofs.Laws.{All-slice_get, Contains-cons_first, Contains-joined_below, joined_below-picks, one_where, option_or-cases, none_either, find-tells, Contains-slice_get, Contains-filter, Contains-map}
+use Rattle.feed_laws.proofs.FeedReadings.{parent_kind}
+use Rattle.feed_laws.proofs.StopSetLaws.{stop_sets-at}
+use Rattle.feed_walks.specs.Rules.{group_at, AreRules}
+use Rattle.feed_walks.specs.Near.{IsInOrder, leads_to, Leads, Reaches, AreReached, AreNear}
+
+-- the row of a stop whose kind passes a test
+pub record HasKind (feed : FeedRows) (a : StopId) (kind : ℕ) : Type 0 where
+  pub row : StopRow
+  pub got : slice_get feed.stops a.0 ≡ Some row
+  pub is : row.kind ≡ kind
+
+pub kind_of_platform : (feed : FeedRows) (a : StopId) → is_platform feed a ≡ true → HasKind feed a 0
+kind_of_platform feed a platform = step (slice_get feed.stops a.0) refl platform
+  where
+    step : (o : Option StopRow) → slice_get feed.stops a.0 ≡ o → filled_and o (λ row. row.kind == 0) ≡ true → HasKind feed a 0
+    step None got fails = absurd (cc)
+    step (Some row) got flat = record { row = row; got = got; is = grind (arith, nat_tests, flat) }
+
+-- a platform stands for itself
+in_own_set : (feed : FeedRows) (a : StopId) → is_platform feed a ≡ true → Contains (stop_set feed a) a
+unfolding stop_set
+in_own_set feed a platform = rw platform (Contains-cons_first a [])
+
+-- and belongs to its station's set
+record IsInStation (feed : FeedRows) (a station : StopId) : Type 0 where
+  within : station.0 < length feed.stops
+  member : Contains (stop_set feed station) a
+
+belongs : (feed : FeedRows) (a station : StopId) (row of : StopRow) → slice_get feed.stops a.0 ≡ Some row → row.kind ≡ 0 → row.parent ≡ Some station → slice_get feed.stops station.0 ≡ Some of → of.kind ≡ 1 → Contains (stop_set feed station) a
+unfolding stop_set
+belongs feed a station row of got flat named there one =
+    let first : (of.kind == 0) ≡ false = grind (arith, nat_tests, one) in
+    let second : (of.kind == 1) ≡ true = grind (arith, nat_tests, one) in
+    let zeroth : (row.kind == 0) ≡ true = grind (arith, nat_tests, flat) in
+    let own : (station.0 == station.0) ≡ true = grind (arith, nat_tests) in
+    rw (there, first, second) (subst (λ xs. Contains xs a) (joined_below-picks (length feed.stops) (λ r. at_and feed.stops r (is_member station)) (λ r. record { 0 = r }))
+    (Contains-joined_below (length feed.stops) (λ r. one_where (at_and feed.stops r (is_member station)) (record { 0 = r })) a.0 a (slice_get_within feed.stops a.0 row got) (rw (got, zeroth, named, own) (Contains-cons_first a []))))
+
+in_station_set : (feed : FeedRows) (a station : StopId) → AreSoundStops feed → is_platform feed a ≡ true → parent_of feed a ≡ Some station → IsInStation feed a station
+in_station_set feed a station sound platform parent =
+    let kinds = kind_of_platform feed a platform in
+    let there = kinds.got in
+    let named : kinds.row.parent ≡ Some station = let p = parent in rw there at p in
+    let within : station.0 < length feed.stops = All-slice_get (λ s. ForSome s.parent (λ p. p.0 < length feed.stops)) feed.stops a.0 kinds.row kinds.got sound.parents station named in
+    let got = slice_get-get_or feed.stops station.0 kinds.row within in
+    record { within = within; member = belongs feed a station kinds.row _ kinds.got kinds.is named got (parent_kind feed a.0 kinds.row _ station sound kinds.got named got) }
+
+-- a walk has both ends at platforms
+pub record IsWalk (feed : FeedRows) (a b : StopId) (seconds : ℕ) : Type 0 where
+  pub from : is_platform feed a ≡ true
+  pub to : is_platform feed b ≡ true
+  pub by : link_by feed a b (governing_row feed a b) ≡ Some seconds
+
+pub link-tells : (feed : FeedRows) (a b : StopId) (seconds : ℕ) → link feed a b ≡ Some seconds → IsWalk feed a b seconds
+unfolding link
+link-tells feed a b seconds e = step (is_platform feed a) refl (is_platform feed b) refl e
+  where
+    step : (p : Bool) → is_platform feed a ≡ p → (q : Bool) → is_platform feed b ≡ q → (if p && q then link_by feed a b (governing_row feed a b) else None) ≡ Some seconds → IsWalk feed a b seconds
+    step true pa true pb by = record { from = pa; to = pb; by = by }
+    step true pa false pb fails = absurd (none-some seconds fails)
+    step false pa q pb fails = absurd (none-some seconds fails)
+
+-- the platform, or its station
+pub record IsHome (feed : FeedRows) (a home : StopId) : Type 0 where
+  pub of : (home ≡ a) ⊎ (parent_of feed a ≡ Some home)
+  pub within : home.0 < length feed.stops
+
+own_home : (feed : FeedRows) (a home : StopId) → is_platform feed a ≡ true → Some a ≡ Some home → IsHome feed a home
+own_home feed a home platform named =
+    let same = same_Some a home named in
+    let kind = kind_of_platform feed a platform in
+    record { of = inl (sym same); within = subst (λ (s : StopId). s.0 < length feed.stops) same (slice_get_within feed.stops a.0 kind.row kind.got) }
+
+-- the platform is reached from the other, or from its station, through a stop that this leads to
+pub record IsReached (feed : FeedRows) (a b : StopId) : Type 0 where
+  pub home : StopId
+  pub via : StopId
+  pub of : IsHome feed a home
+  pub leads : leads_to feed home via ≡ true
+  pub member : Contains (stop_set feed via) b
+
+module _ (feed : FeedRows) (a b : StopId) where
+  -- by the row of a pair, or by none where the two are one
+  by_row : (x y : Option StopId) (row : LinkRow) → ((home : StopId) → x ≡ Some home → IsHome feed a home) → ((via : StopId) → y ≡ Some via → Contains (stop_set feed via) b) → row.forbidden ≡ false → row_between feed x y ≡ Some row → IsReached feed a b
+  by_row None y row homes vias allowed found = absurd (none-some row found)
+  by_row (Some x) None row homes vias allowed found = absurd (none-some row found)
+  by_row (Some x) (Some y) row homes vias allowed found = record { home = x; via = y; of = homes x refl; leads = rw (found, allowed) refl; member = vias y refl }
+
+  by_none : (x y : Option StopId) → ((home : StopId) → x ≡ Some home → IsHome feed a home) → ((via : StopId) → y ≡ Some via → Contains (stop_set feed via) b) → row_between feed x y ≡ None → filled_and x (λ p. filled_and y (λ q. p.0 == q.0)) ≡ true → IsReached feed a b
+  by_none None y homes vias none one = absurd (cc)
+  by_none (Some x) None homes vias none one = absurd (cc)
+  by_none (Some x) (Some y) homes vias none one = record { home = x; via = y; of = homes x refl; leads = rw none one; member = vias y refl }
+
+-- a walk reaches its platform
+pub walk_reaches : (feed : FeedRows) (a b : StopId) (seconds : ℕ) → AreSoundStops feed → link feed a b ≡ Some seconds → IsReached feed a b
+walk_reaches feed a b seconds sound linked = governed (governing_row feed a b) refl walk.by
+  where
+    walk : IsWalk feed a b seconds
+    walk = link-tells feed a b seconds linked
+
+    from_a : (home : StopId) → Some a ≡ Some home → IsHome feed a home
+    from_a home named = own_home feed a home walk.from named
+
+    from_station : (home : StopId) → parent_of feed a ≡ Some home → IsHome feed a home
+    from_station home named = let its = in_station_set feed a home sound walk.from named in record { of = inr named; within = its.within }
+
+    to_b : (via : StopId) → Some b ≡ Some via → Contains (stop_set feed via) b
+    to_b via named = subst (λ s. Contains (stop_set feed s) b) (same_Some b via named) (in_own_set feed b walk.to)
+
+    to_station : (via : StopId) → parent_of feed b ≡ Some via → Contains (stop_set feed via) b
+    to_station via named = let its = in_station_set feed b via sound walk.to named in its.member
+
+    ruled : (row : LinkRow) → row.forbidden ≡ false → governing_row feed a b ≡ Some row → IsReached feed a b
+    ruled row allowed is = ⊎_elim
+        (λ (e : row_between feed (Some a) (Some b) ≡ Some row). by_row feed a b (Some a) (Some b) row from_a to_b allowed e)
+        (λ (rest : (row_between feed (Some a) (Some b) ≡ None) × (option_or (row_between feed (Some a) (parent_of feed b)) (option_or (row_between feed (parent_of feed a) (Some b)) (row_between feed (parent_of feed a) (parent_of feed b))) ≡ Some row)). ⊎_elim
+        (λ (e : row_between feed (Some a) (parent_of feed b) ≡ Some row). by_row feed a b (Some a) (parent_of feed b) row from_a to_station allowed e)
+        (λ (more : (row_between feed (Some a) (parent_of feed b) ≡ None) × (option_or (row_between feed (parent_of feed a) (Some b)) (row_between feed (parent_of feed a) (parent_of feed b)) ≡ Some row)). ⊎_elim
+        (λ (e : row_between feed (parent_of feed a) (Some b) ≡ Some row). by_row feed a b (parent_of feed a) (Some b) row from_station to_b allowed e)
+        (λ (last : (row_between feed (parent_of feed a) (Some b) ≡ None) × (row_between feed (parent_of feed a) (parent_of feed b) ≡ Some row)). by_row feed a b (parent_of feed a) (parent_of feed b) row from_station to_station allowed last.1)
+        (option_or-cases (row_between feed (parent_of feed a) (Some b)) (row_between feed (parent_of feed a) (parent_of feed b)) row more.1))
+        (option_or-cases (row_between feed (Some a) (parent_of feed b)) (option_or (row_between feed (parent_of feed a) (Some b)) (row_between feed (parent_of feed a) (parent_of feed b))) row rest.1))
+        (option_or-cases (row_between feed (Some a) (Some b)) (option_or (row_between feed (Some a) (parent_of feed b)) (option_or (row_between feed (parent_of feed a) (Some b)) (row_between feed (parent_of feed a) (parent_of feed b)))) row is)
+
+    unruled : governing_row feed a b ≡ None → unruled_link feed a b ≡ Some seconds → IsReached feed a b
+    unruled none e =
+        let first = none_either (row_between feed (Some a) (Some b)) _ none in
+        let second = none_either (row_between feed (Some a) (parent_of feed b)) _ first.1 in
+        let third = none_either (row_between feed (parent_of feed a) (Some b)) _ second.1 in
+        ⊎_elim
+        (λ (one : (a.0 == b.0) ≡ true). by_none feed a b (Some a) (Some b) from_a to_b first.0 one)
+        (λ (other : (a.0 == b.0) ≡ false). ⊎_elim
+        (λ (one : same_station feed a b ≡ true). by_none feed a b (parent_of feed a) (parent_of feed b) from_station to_station third.1 one)
+        (λ (apart : same_station feed a b ≡ false). absurd (none-some seconds (rw (other, apart) at e)))
+        (cases_Bool (same_station feed a b)))
+        (cases_Bool (a.0 == b.0))
+
+    governed : (o : Option LinkRow) → governing_row feed a b ≡ o → link_by feed a b o ≡ Some seconds → IsReached feed a b
+    governed None is e = unruled is e
+    governed (Some row) is e = ⊎_elim
+        (λ (barred : row.forbidden ≡ true). absurd (none-some seconds (rw barred at e)))
+        (λ (allowed : row.forbidden ≡ false). ruled row allowed is)
+        (cases_Bool row.forbidden)
+
+-- so the platforms that a platform and its station reach, in order, are those near it
+pub near_reached : (feed : FeedRows) (reached : List (List StopId)) (a : StopId) (station : Option StopId) (found near : List StopId) → AreSoundStops feed → AreReached feed reached → parent_of feed a ≡ station → found ≡ group_at reached a.0 ++ option_map_or (λ s. group_at reached s.0) station [] → IsInOrder found near → AreNear feed a near
+near_reached feed reached a station found near sound are parent is by =
+    record {
+      ascends = by.ascends;
+      there = λ b seconds linked.
+          let at = walk_reaches feed a b seconds sound linked in
+          by.keeps b (rw is (of station parent at.home b at.of.of (are at.home.0 at.of.within at.via b at.leads at.member)));
+    }
+  where
+    of : (o : Option StopId) → parent_of feed a ≡ o → (home b : StopId) → (home ≡ a) ⊎ (parent_of feed a ≡ Some home) → Contains (group_at reached home.0) b → Contains (group_at reached a.0 ++ option_map_or (λ s. group_at reached s.0) o []) b
+    of o e home b (inl own) at = Contains-append_left (group_at reached a.0) (option_map_or (λ s. group_at reached s.0) o []) b (subst (λ (s : StopId). Contains (group_at reached s.0) b) own at)
+    of None e home b (inr its) at = absurd (none-some home (sym e ∙ its))
+    of (Some s) e home b (inr its) at = Contains-append_right (group_at reached a.0) (group_at reached s.0) b (subst (λ (s : StopId). Contains (group_at reached s.0) b) (same_Some home s (sym its ∙ e)) at)
+
+-- there are none near a stop that is no platform
+pub near_none : (feed : FeedRows) (a : StopId) → is_platform feed a ≡ false → AreNear feed a []
+near_none feed a fails =
+    record {
+      ascends = λ i j d lt within. absurd (omega arith);
+      there = λ b seconds linked. let walk = link-tells feed a b seconds linked in absurd (true_not_false (sym walk.from ∙ fails));
+    }
+  where
+    true_not_false : true ≡ false → ⊥
+    true_not_false e = absurd (cc)
+
+-- what a stop leads to: the stops of its rows that allow the change, and itself where no row says otherwise
+pub stops_led_to : (feed : FeedRows) (rules : List (List LinkRow)) (from : StopId) (leads : List StopId) → AreRules feed.links rules
+    → ((to : StopId) → Contains (map (λ row. row.to) (filter (λ row. not row.forbidden) (group_at rules from.0))) to → Contains leads to)
+    → (row_between feed (Some from) (Some from) ≡ None → Contains leads from) → (to : StopId) → leads_to feed from to ≡ true → Contains leads to
+stops_led_to feed rules from leads are rows own to led = step (row_between feed (Some from) (Some to)) refl led
+  where
+    same : (p q : StopId) → (p.0 == q.0) ≡ true → p ≡ q
+    same p q e = let n : p.0 ≡ q.0 = grind (arith, nat_tests, e) in ap (λ k. record { 0 = k }) n
+
+    step : (o : Option LinkRow) → row_between feed (Some from) (Some to) ≡ o → option_map_or (λ row. not row.forbidden) o (from.0 == to.0) ≡ true → Contains leads to
+    step None none one = let is = same from to one in subst (λ s. Contains leads s) is (own (subst (λ s. row_between feed (Some from) (Some s) ≡ None) (sym is) none))
+    step (Some row) found allowed =
+        let is = find-tells (λ (r : LinkRow). r.to.0 == to.0) (group_at rules from.0) row (are.first from.0 to.0 ∙ found) in
+        let there = Contains-filter (λ (r : LinkRow). not r.forbidden) (group_at rules from.0) row (Contains-slice_get (group_at rules from.0) is.at row is.got) allowed in
+        subst (λ s. Contains leads s) (same row.to to is.passes) (rows row.to (Contains-map (λ (r : LinkRow). r.to) (filter (λ r. not r.forbidden) (group_at rules from.0)) row there))
+
+-- the set of the stop at a place
+abbrev pub set_of : List (List StopId) → List StopId → ℕ → List StopId
+set_of sets stops k = group_at sets (get_or stops k (record { 0 = 0 })).0
+
+-- the sets of all that a stop leads to
+pub sets_reach : (feed : FeedRows) (sets : List (List StopId)) (from : StopId) (leads : List StopId) (n : ℕ) → sets ≡ stop_sets feed → length leads ≤ n → Leads feed from leads → Reaches feed from (joined_below n (set_of sets leads))
+sets_reach feed sets from leads n are all led via to leads_on member =
+    let place = led via leads_on in
+    let lt = place.1 in
+    let here : get_or leads place.0 (record { 0 = 0 }) ≡ via = get_or_default leads place.0 _ via lt ∙ place.2 in
+    Contains-joined_below n (set_of sets leads) place.0 to (omega arith) (rw (here, are, stop_sets-at feed via) member)
