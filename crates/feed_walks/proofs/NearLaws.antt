@@ -1,23 +1,22 @@
 -- A walk leads to a platform of a stop that its own platform, or the station of that, leads to.
-use Rattle.std.proofs.Common.{◌≡◌, refl, sym, ◌∙◌, ap, subst, ℕ, ◌<◌, ◌⊎◌, inl, inr, ⊎_elim, Bool, true, false, List, [], ◌++◌, length, get_or, Contains, Option, Some, None, ◌≤◌, arith}
+use Rattle.std.proofs.Common.{◌≡◌, refl, sym, ◌∙◌, ap, subst, ℕ, ◌<◌, ◌⊎◌, inl, inr, ⊎_elim, Bool, true, false, List, [], ◌∷◌, ◌++◌, length, get_or, Contains, Option, Some, None, ◌≤◌, arith}
 use Rattle.std.specs.Prelude.{◌==◌, ◌&&◌, if◌then◌else◌, not, slice_get, filter, map}
 use Rattle.std.specs.Option.{ForSome, option_map_or, option_or}
 use Rattle.std.proofs.lemmas.Bool.{cases_Bool}
 use Rattle.std.proofs.lemmas.Bool.Decides.{nat_tests}
 use Rattle.std.proofs.lemmas.List.{get_or_default}
 use Rattle.std.proofs.lemmas.List.Elements.{Contains-append_left, Contains-append_right}
-use Rattle.std.proofs.lemmas.Option.{same_Some, none-some, slice_get-get_or, slice_get_within}
+use Rattle.std.proofs.lemmas.Option.{same_Some, none-some, slice_get_within}
 use Rattle.transit_base.specs.declared.numbers.StopId.{StopId}
 use Rattle.feed_rows.specs.declared.rows.StopRow.{StopRow}
 use Rattle.feed_rows.specs.declared.rows.LinkRow.{LinkRow}
 use Rattle.feed_rows.specs.FeedRows.{FeedRows}
 use Rattle.feed_rows.specs.SoundTimetable.{AreSoundStops}
-use Rattle.feed_rows.specs.StopLinks.{is_platform, is_member, parent_of, stop_set, row_between, governing_row, same_station, unruled_link, link_by, link}
-use Rattle.feed_rows.specs.StopSets.{stop_sets}
-use Rattle.plain_laws.specs.Plain.{at_and, filled_and, joined_below}
-use Rattle.plain_laws.proofs.Laws.{All-slice_get, Contains-cons_first, Contains-joined_below, joined_below-picks, one_where, option_or-cases, none_either, find-tells, Contains-slice_get, Contains-filter, Contains-map}
-use Rattle.feed_laws.proofs.FeedReadings.{parent_kind}
-use Rattle.feed_laws.proofs.StopSetLaws.{stop_sets-at}
+use Rattle.feed_rows.specs.StopLinks.{is_platform, parent_of, stop_set, row_between, governing_row, same_station, unruled_link, link_by, link}
+use Rattle.feed_rows.specs.StopSets.{stop_sets, own_set, row_sets_at}
+use Rattle.plain_laws.specs.Plain.{filled_and, joined_below}
+use Rattle.plain_laws.proofs.Laws.{All-slice_get, Contains-cons_first, Contains-joined_below, none_either, find-tells, Contains-slice_get, Contains-filter, Contains-map}
+use Rattle.feed_laws.proofs.StopSetLaws.{joined_below-set, stop_sets-at}
 use Rattle.feed_walks.specs.Rules.{group_at, AreRules}
 use Rattle.feed_walks.specs.Near.{IsInOrder, leads_to, Leads, Reaches, AreReached, AreNear}
 
@@ -44,24 +43,22 @@ record IsInStation (feed : FeedRows) (a station : StopId) : Type 0 where
   within : station.0 < length feed.stops
   member : Contains (stop_set feed station) a
 
-belongs : (feed : FeedRows) (a station : StopId) (row of : StopRow) → slice_get feed.stops a.0 ≡ Some row → row.kind ≡ 0 → row.parent ≡ Some station → slice_get feed.stops station.0 ≡ Some of → of.kind ≡ 1 → Contains (stop_set feed station) a
-unfolding stop_set
-belongs feed a station row of got flat named there one =
-    let first : (of.kind == 0) ≡ false = grind (arith, nat_tests, one) in
-    let second : (of.kind == 1) ≡ true = grind (arith, nat_tests, one) in
-    let zeroth : (row.kind == 0) ≡ true = grind (arith, nat_tests, flat) in
-    let own : (station.0 == station.0) ≡ true = grind (arith, nat_tests) in
-    rw (there, first, second) (subst (λ xs. Contains xs a) (joined_below-picks (length feed.stops) (λ r. at_and feed.stops r (is_member station)) (λ r. record { 0 = r }))
-    (Contains-joined_below (length feed.stops) (λ r. one_where (at_and feed.stops r (is_member station)) (record { 0 = r })) a.0 a (slice_get_within feed.stops a.0 row got) (rw (got, zeroth, named, own) (Contains-cons_first a []))))
-
 in_station_set : (feed : FeedRows) (a station : StopId) → AreSoundStops feed → is_platform feed a ≡ true → parent_of feed a ≡ Some station → IsInStation feed a station
+unfolding row_sets_at
 in_station_set feed a station sound platform parent =
     let kinds = kind_of_platform feed a platform in
     let there = kinds.got in
+    let flat = kinds.is in
     let named : kinds.row.parent ≡ Some station = let p = parent in rw there at p in
-    let within : station.0 < length feed.stops = All-slice_get (λ s. ForSome s.parent (λ p. p.0 < length feed.stops)) feed.stops a.0 kinds.row kinds.got sound.parents station named in
-    let got = slice_get-get_or feed.stops station.0 kinds.row within in
-    record { within = within; member = belongs feed a station kinds.row _ kinds.got kinds.is named got (parent_kind feed a.0 kinds.row _ station sound kinds.got named got) }
+    let within : station.0 < length feed.stops = All-slice_get (λ s. ForSome s.parent (λ p. p.0 < length feed.stops)) feed.stops a.0 kinds.row there sound.parents station named in
+    let zeroth : (kinds.row.kind == 0) ≡ true = grind (arith, nat_tests, flat) in
+    let own : (station.0 == station.0) ≡ true = grind (arith, nat_tests) in
+    record {
+      within = within;
+      member = subst (λ xs. Contains xs a) (joined_below-set feed sound station.0 within)
+          (Contains-joined_below (length feed.stops) (λ r. row_sets_at feed.stops r station.0) a.0 a (slice_get_within feed.stops a.0 kinds.row there)
+          (rw (there, zeroth, named, own) (Contains-append_right (own_set a.0 station.0) (a ∷ []) a (Contains-cons_first a []))));
+    }
 
 -- a walk has both ends at platforms
 pub record IsWalk (feed : FeedRows) (a b : StopId) (seconds : ℕ) : Type 0 where
@@ -109,6 +106,11 @@ module _ (feed : FeedRows) (a b : StopId) where
   by_none (Some x) None homes vias none one = absurd (cc)
   by_none (Some x) (Some y) homes vias none one = record { home = x; via = y; of = homes x refl; leads = rw none one; member = vias y refl }
 
+-- what is found first is found in the one place or in the others
+either : {X C : Type 0} (o p : Option X) (x : X) → option_or o p ≡ Some x → (o ≡ Some x → C) → (p ≡ Some x → C) → C
+either None p x e here later = later e
+either (Some y) p x e here later = here e
+
 -- a walk reaches its platform
 pub walk_reaches : (feed : FeedRows) (a b : StopId) (seconds : ℕ) → AreSoundStops feed → link feed a b ≡ Some seconds → IsReached feed a b
 walk_reaches feed a b seconds sound linked = governed (governing_row feed a b) refl walk.by
@@ -129,16 +131,11 @@ walk_reaches feed a b seconds sound linked = governed (governing_row feed a b) r
     to_station via named = let its = in_station_set feed b via sound walk.to named in its.member
 
     ruled : (row : LinkRow) → row.forbidden ≡ false → governing_row feed a b ≡ Some row → IsReached feed a b
-    ruled row allowed is = ⊎_elim
-        (λ (e : row_between feed (Some a) (Some b) ≡ Some row). by_row feed a b (Some a) (Some b) row from_a to_b allowed e)
-        (λ (rest : (row_between feed (Some a) (Some b) ≡ None) × (option_or (row_between feed (Some a) (parent_of feed b)) (option_or (row_between feed (parent_of feed a) (Some b)) (row_between feed (parent_of feed a) (parent_of feed b))) ≡ Some row)). ⊎_elim
-        (λ (e : row_between feed (Some a) (parent_of feed b) ≡ Some row). by_row feed a b (Some a) (parent_of feed b) row from_a to_station allowed e)
-        (λ (more : (row_between feed (Some a) (parent_of feed b) ≡ None) × (option_or (row_between feed (parent_of feed a) (Some b)) (row_between feed (parent_of feed a) (parent_of feed b)) ≡ Some row)). ⊎_elim
-        (λ (e : row_between feed (parent_of feed a) (Some b) ≡ Some row). by_row feed a b (parent_of feed a) (Some b) row from_station to_b allowed e)
-        (λ (last : (row_between feed (parent_of feed a) (Some b) ≡ None) × (row_between feed (parent_of feed a) (parent_of feed b) ≡ Some row)). by_row feed a b (parent_of feed a) (parent_of feed b) row from_station to_station allowed last.1)
-        (option_or-cases (row_between feed (parent_of feed a) (Some b)) (row_between feed (parent_of feed a) (parent_of feed b)) row more.1))
-        (option_or-cases (row_between feed (Some a) (parent_of feed b)) (option_or (row_between feed (parent_of feed a) (Some b)) (row_between feed (parent_of feed a) (parent_of feed b))) row rest.1))
-        (option_or-cases (row_between feed (Some a) (Some b)) (option_or (row_between feed (Some a) (parent_of feed b)) (option_or (row_between feed (parent_of feed a) (Some b)) (row_between feed (parent_of feed a) (parent_of feed b)))) row is)
+    ruled row allowed is =
+        either (row_between feed (Some a) (Some b)) _ row is (by_row feed a b (Some a) (Some b) row from_a to_b allowed) (λ second.
+        either (row_between feed (Some a) (parent_of feed b)) _ row second (by_row feed a b (Some a) (parent_of feed b) row from_a to_station allowed) (λ third.
+        either (row_between feed (parent_of feed a) (Some b)) _ row third (by_row feed a b (parent_of feed a) (Some b) row from_station to_b allowed)
+        (by_row feed a b (parent_of feed a) (parent_of feed b) row from_station to_station allowed)))
 
     unruled : governing_row feed a b ≡ None → unruled_link feed a b ≡ Some seconds → IsReached feed a b
     unruled none e =
@@ -180,11 +177,8 @@ pub near_none : (feed : FeedRows) (a : StopId) → is_platform feed a ≡ false 
 near_none feed a fails =
     record {
       ascends = λ i j d lt within. absurd (omega arith);
-      there = λ b seconds linked. let walk = link-tells feed a b seconds linked in absurd (true_not_false (sym walk.from ∙ fails));
+      there = λ b seconds linked. let walk = link-tells feed a b seconds linked in let gone = sym fails ∙ walk.from in absurd (cc);
     }
-  where
-    true_not_false : true ≡ false → ⊥
-    true_not_false e = absurd (cc)
 
 -- what a stop leads to: the stops of its rows that allow the change, and itself where no row says otherwise
 pub stops_led_to : (feed : FeedRows) (rules : List (List LinkRow)) (from : StopId) (leads : List StopId) → AreRules feed.links rules

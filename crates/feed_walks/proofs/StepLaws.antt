@@ -42,29 +42,46 @@ step_list-tells to (Some s) t at = ⊎_elim
 pub Contains-step_list : (to : StopId) (o : Option ℕ) (t : Step) → o ≡ Some t.seconds.0 → t.to ≡ to → Contains (step_list to o) t
 Contains-step_list to o t is leads = rw is (subst (λ s. Contains (step_list s (Some t.seconds.0)) t) leads (Contains-cons_first t []))
 
+-- the steps to stops one after another, where there are walks to them
+module _ (feed : FeedRows) (from : StopId) (n : ℕ) (at : ℕ → StopId) where
+  abbrev steps_along : List Step
+  steps_along = joined_below n (λ k. step_list (at k) (link feed from (at k)))
+
+  -- they ascend as the stops do
+  along-ascends : ((i j : ℕ) → i < j → j < n → (at i).0 < (at j).0) → AllPairs Before steps_along
+  along-ascends up = AllPairs-joined_below Before n (λ k. step_list (at k) (link feed from (at k))) (λ k lt. AllPairs-short Before (step_list (at k) (link feed from (at k))) (length-step_list (at k) (link feed from (at k))))
+      (λ i j x y lt within here there. let left = ap (λ (s : StopId). s.0) (step_list-tells (at i) (link feed from (at i)) x here).1 in let right = ap (λ (s : StopId). s.0) (step_list-tells (at j) (link feed from (at j)) y there).1 in let less = up i j lt within in omega arith)
+
+  -- each is a walk
+  along-tells : (t : Step) → Contains steps_along t → link feed from t.to ≡ Some t.seconds.0
+  along-tells t there =
+      let found = joined_below-tells n (λ k. step_list (at k) (link feed from (at k))) t there in
+      let is = step_list-tells (at found.0) (link feed from (at found.0)) t found.2 in
+      ap (link feed from) is.1 ∙ is.0
+
+  -- and each walk is there that leads to one of them
+  Contains-along : (t : Step) (k : ℕ) → k < n → t.to ≡ at k → link feed from t.to ≡ Some t.seconds.0 → Contains steps_along t
+  Contains-along t k lt is linked = Contains-joined_below n (λ i. step_list (at i) (link feed from (at i))) k t lt (Contains-step_list (at k) (link feed from (at k)) t (ap (link feed from) (sym is) ∙ linked) is)
+
 -- the walks out of a platform ascend by their stops
-pub out_of-ascends : (feed : FeedRows) (a : StopId) → AllPairs Before (out_of feed a)
+out_of-ascends : (feed : FeedRows) (a : StopId) → AllPairs Before (out_of feed a)
 unfolding out_of
-out_of-ascends feed a = AllPairs-joined_below Before (length feed.stops) (λ i. step_list (record { 0 = i }) (link feed a (record { 0 = i }))) (λ i lt. AllPairs-short Before (step_list (record { 0 = i }) (link feed a (record { 0 = i }))) (length-step_list (record { 0 = i }) (link feed a (record { 0 = i }))))
-    (λ i j x y lt within at also. let one = step_list-tells (record { 0 = i }) (link feed a (record { 0 = i })) x at in let other = step_list-tells (record { 0 = j }) (link feed a (record { 0 = j })) y also in let left = ap (λ (s : StopId). s.0) one.1 in let right = ap (λ (s : StopId). s.0) other.1 in omega arith)
+out_of-ascends feed a = along-ascends feed a (length feed.stops) (λ i. record { 0 = i }) (λ i j lt within. lt)
 
 pub out_of-rises : (feed : FeedRows) (a : StopId) → IsNonDecreasingBy (λ (s : Step). s.to.0) (out_of feed a)
 out_of-rises feed a i j d le lt = ⊎_elim (λ (below : i < j). let up = out_of-ascends feed a i j d below lt in omega arith) (λ (past : j ≤ i). let same : i ≡ j = omega arith in subst (λ k. (get_or (out_of feed a) i d).to.0 ≤ (get_or (out_of feed a) k d).to.0) same (omega arith)) (cases_lt i j)
 
 -- their members are the walks
-pub out_of-tells : (feed : FeedRows) (a : StopId) (t : Step) → Contains (out_of feed a) t → link feed a t.to ≡ Some t.seconds.0
+out_of-tells : (feed : FeedRows) (a : StopId) (t : Step) → Contains (out_of feed a) t → link feed a t.to ≡ Some t.seconds.0
 unfolding out_of
-out_of-tells feed a t at =
-    let found = joined_below-tells (length feed.stops) (λ i. step_list (record { 0 = i }) (link feed a (record { 0 = i }))) t at in
-    let is = step_list-tells (record { 0 = found.0 }) (link feed a (record { 0 = found.0 })) t found.2 in
-    subst (λ s. link feed a s ≡ Some t.seconds.0) (sym is.1) is.0
+out_of-tells feed a = along-tells feed a (length feed.stops) (λ i. record { 0 = i })
 
-pub Contains-out_of : (feed : FeedRows) (a : StopId) (t : Step) → link feed a t.to ≡ Some t.seconds.0 → Contains (out_of feed a) t
+Contains-out_of : (feed : FeedRows) (a : StopId) (t : Step) → link feed a t.to ≡ Some t.seconds.0 → Contains (out_of feed a) t
 unfolding out_of
-Contains-out_of feed a t e =
-    let walk = link-tells feed a t.to t.seconds.0 e in
+Contains-out_of feed a t linked =
+    let walk = link-tells feed a t.to t.seconds.0 linked in
     let kind = kind_of_platform feed t.to walk.to in
-    Contains-joined_below (length feed.stops) (λ i. step_list (record { 0 = i }) (link feed a (record { 0 = i }))) t.to.0 t (slice_get_within feed.stops t.to.0 kind.row kind.got) (Contains-step_list t.to (link feed a t.to) t e refl)
+    Contains-along feed a (length feed.stops) (λ i. record { 0 = i }) t t.to.0 (slice_get_within feed.stops t.to.0 kind.row kind.got) refl linked
 
 -- the step to the stop at a place, where there is a walk to it
 abbrev pub step_at : FeedRows → StopId → List StopId → ℕ → List Step
@@ -72,27 +89,18 @@ step_at feed from near k = step_list (get_or near k (record { 0 = 0 })) (link fe
 
 -- the steps to those near a stop are the walks out of it
 pub steps_exact : (feed : FeedRows) (from : StopId) (near : List StopId) → AreNear feed from near → joined_below (length near) (step_at feed from near) ≡ out_of feed from
-steps_exact feed from near is = same_from_members Before before_strict (joined_below (length near) (step_at feed from near)) (out_of feed from) ups (out_of-ascends feed from) (record { there = there; back = back })
+steps_exact feed from near is =
+    same_from_members Before before_strict (joined_below (length near) (step_at feed from near)) (out_of feed from) (along-ascends feed from (length near) at (λ i j lt within. is.ascends i j _ lt within)) (out_of-ascends feed from)
+    (record {
+      there = λ t here. Contains-out_of feed from t (along-tells feed from (length near) at t here);
+      back = λ t here.
+          let linked = out_of-tells feed from t here in
+          let place = is.there t.to t.seconds.0 linked in
+          Contains-along feed from (length near) at t place.0 place.1 (sym place.2 ∙ get_or_default near place.0 t.to _ place.1) linked;
+    })
   where
-    tells : (k : ℕ) (t : Step) → Contains (step_at feed from near k) t → (link feed from (get_or near k (record { 0 = 0 })) ≡ Some t.seconds.0) × (t.to ≡ get_or near k (record { 0 = 0 }))
-    tells k t at = step_list-tells (get_or near k (record { 0 = 0 })) (link feed from (get_or near k (record { 0 = 0 }))) t at
-
-    ups : AllPairs Before (joined_below (length near) (step_at feed from near))
-    ups = AllPairs-joined_below Before (length near) (step_at feed from near) (λ k lt. AllPairs-short Before (step_at feed from near k) (length-step_list (get_or near k (record { 0 = 0 })) (link feed from (get_or near k (record { 0 = 0 })))))
-        (λ i j x y lt within at also. let left = ap (λ (s : StopId). s.0) (tells i x at).1 in let right = ap (λ (s : StopId). s.0) (tells j y also).1 in let up = is.ascends i j (record { 0 = 0 }) lt within in omega arith)
-
-    there : (t : Step) → Contains (joined_below (length near) (step_at feed from near)) t → Contains (out_of feed from) t
-    there t at =
-        let found = joined_below-tells (length near) (step_at feed from near) t at in
-        let step = tells found.0 t found.2 in
-        Contains-out_of feed from t (ap (link feed from) step.1 ∙ step.0)
-
-    back : (t : Step) → Contains (out_of feed from) t → Contains (joined_below (length near) (step_at feed from near)) t
-    back t at =
-        let linked = out_of-tells feed from t at in
-        let place = is.there t.to t.seconds.0 linked in
-        let here : t.to ≡ get_or near place.0 (record { 0 = 0 }) = sym place.2 ∙ get_or_default near place.0 t.to _ place.1 in
-        Contains-joined_below (length near) (step_at feed from near) place.0 t place.1 (Contains-step_list (get_or near place.0 (record { 0 = 0 })) (link feed from (get_or near place.0 (record { 0 = 0 }))) t (ap (link feed from) (sym here) ∙ linked) here)
+    at : ℕ → StopId
+    at k = get_or near k (record { 0 = 0 })
 
 -- the walk to a stop is found among the walks out of the platform
 pub find-out_of : (feed : FeedRows) (a b : StopId) → option_map (λ (s : Step). s.seconds.0) (find (λ s. s.to.0 == b.0) (out_of feed a)) ≡ link feed a b

@@ -27,17 +27,13 @@ pub fn rules_of(alloc: Global, links: &[LinkRow], count: u32) -> Result<Groups<L
 fn grouped_rows(alloc: Global, links: &[LinkRow]) -> Result<Vec<Grouped<LinkRow>>, AllocError>
     ensures { IfOk result (λ rows. rows.items ≡ map by_start links.now) }
 {
-    links.iter().map(|row| grouped(row)).collect(alloc)
-}
-
-/// The row with the stop that it leads from.
-fn grouped(row: &LinkRow) -> Grouped<LinkRow>
-    ensures { result ≡ by_start row.now }
-{
-    Grouped {
-        group: row.from.0,
-        item: *row,
-    }
+    links
+        .iter()
+        .map(|row| Grouped {
+            group: row.from.0,
+            item: *row,
+        })
+        .collect(alloc)
 }
 
 /// Puts rows in the order of the stops that they lead to. Rows to one stop keep their order.
@@ -131,20 +127,9 @@ fn unruled_link(feed: &Feed, from: StopId, to: StopId) -> Option<Secs>
     if from.0 == to.0 {
         return Some(Secs(0));
     }
-    if are_of_one_station(station_of(feed, from), station_of(feed, to)) {
-        Some(Secs(180))
-    } else {
-        None
-    }
-}
-
-/// Whether both stations are there and are one.
-fn are_of_one_station(one: Option<StopId>, other: Option<StopId>) -> bool
-    ensures { result ≡ filled_and one (λ p. filled_and other (λ q. p.0 == q.0)) }
-{
-    match (one, other) {
-        (Some(one), Some(other)) => one.0 == other.0,
-        _ => false,
+    match (station_of(feed, from), station_of(feed, to)) {
+        (Some(one), Some(other)) if one.0 == other.0 => Some(Secs(180)),
+        _ => None,
     }
 }
 
