@@ -1,0 +1,3 @@
+pub mod AreaRows
+pub mod AreaTables
+pub mod BuiltAreas
