@@ -1,0 +1,3 @@
+pub mod Marks
+pub mod Fits
+pub mod BuiltLegRules
