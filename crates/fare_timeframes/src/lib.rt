@@ -1,0 +1,172 @@
+//! The timeframe groups of a feed: which of them hold at a moment, and what fare rules look at in a leg.
+#![tactic(auto)]
+
+ghost use Rattle.std.specs.Prelude.{◌≡◌, filter, map, nat_le, IfOk};
+ghost use Rattle.std.specs.List.{list_any};
+ghost use Rattle.std.specs.List.Sorted.{IsNonDecreasingBy};
+ghost use Rattle.feed_rows.specs.FeedRows.{FeedRows};
+ghost use Rattle.feed_rows.specs.Legs.{holds_at, frames_at, leg_facts};
+ghost use Rattle.fare_areas.specs.AreaRows.{DoRise};
+ghost use Rattle.fare_timeframes.specs.FrameRows.{by_frame, lasts_on, AreByStart};
+ghost use Rattle.fare_timeframes.specs.BuiltTimeframes.{AreTimeframesOf};
+
+use fare_areas::Areas;
+use feed_calendar::Calendar;
+use feed_rows::{AreaList, Feed, FrameList, LegFacts, RideFacts, TimeframeRow};
+use plain_laws::{Grouped, Groups};
+use std::alloc::{AllocError, Global};
+use transit_base::{AreaId, Day, FrameId, Moment};
+
+/// The timeframe groups of a feed, with its calendar and its areas.
+///
+/// What the calls answer is about the feed that the value was built from.
+pub struct Timeframes {
+    calendar: Calendar,
+    areas: Areas,
+    /// How many timeframe groups there are.
+    count: u32,
+    /// The rows of each timeframe group, by start.
+    rows: Groups<TimeframeRow>,
+}
+
+// Written out, so that what holds one needn't look into it to let go of it.
+impl Drop for Timeframes {
+    fn drop(self) {
+        let Timeframes {
+            calendar: _,
+            areas: _,
+            count: _,
+            rows: _,
+        } = self;
+    }
+}
+
+impl Timeframes {
+    /// The timeframe groups of the feed.
+    ///
+    /// # Errors
+    /// Want of memory.
+    pub fn build(alloc: Global, feed: &Feed) -> Result<Timeframes, AllocError>
+        ensures { IfOk result (λ timeframes. AreTimeframesOf feed.now timeframes) }
+    {
+        let count = feed.frame_names.items().len() as u32;
+        Ok(Timeframes {
+            calendar: Calendar::build(alloc, feed)?,
+            areas: Areas::build(alloc, feed)?,
+            count,
+            rows: rows_by_frame(alloc, feed.timeframes.items(), count)?,
+        })
+    }
+
+    /// Whether the timeframe group holds at the moment: a row of it has a service that is active on the moment's own civil
+    /// day, and the time of day lies from its start to before its end. A number that is no group's never holds.
+    pub fn holds(&self, frame: FrameId, at: Moment) -> bool
+        ensures { (feed : FeedRows) → AreTimeframesOf feed self.now → result ≡ holds_at feed frame at.0 }
+    {
+        let time = at.time_of_day().0;
+        let rows = started_by(self.rows.get(frame.0 as usize), time);
+        self.has_active(rows, at.day(), time)
+    }
+
+    /// What fare rules look at in the leg that is this ride.
+    ///
+    /// # Errors
+    /// Want of memory.
+    pub fn leg_facts(&self, alloc: Global, ride: &RideFacts) -> Result<LegFacts, AllocError>
+        ensures { IfOk result (λ facts. (feed : FeedRows) → AreTimeframesOf feed self.now → facts ≡ leg_facts feed ride.now) }
+    {
+        let from_areas = area_list(alloc, self.areas.areas_of(ride.from))?;
+        let to_areas = area_list(alloc, self.areas.areas_of(ride.to))?;
+        let from_frames = self.frames_at(alloc, ride.departure)?;
+        let to_frames = self.frames_at(alloc, ride.arrival)?;
+        Ok(LegFacts {
+            network: ride.network,
+            from_areas,
+            to_areas,
+            from_frames,
+            to_frames,
+            departure: ride.departure,
+            arrival: ride.arrival,
+        })
+    }
+
+    /// The timeframe groups that hold at the moment, ascending.
+    fn frames_at(&self, alloc: Global, at: Moment) -> Result<FrameList, AllocError>
+        ensures { IfOk result (λ frames. (feed : FeedRows) → AreTimeframesOf feed self.now → frames ≡ frames_at feed at) }
+    {
+        let mut frames = FrameList::empty(alloc);
+        for number in 0..self.count {
+            let frame = FrameId(number);
+            if self.holds(frame, at) {
+                frames.push(frame)?;
+            }
+        }
+        Ok(frames)
+    }
+
+    /// Whether one of these rows ends after the time and has a service that is active on the day.
+    fn has_active(&self, rows: &[TimeframeRow], day: Day, time: u32) -> bool
+        ensures { (feed : FeedRows) → AreTimeframesOf feed self.now → result ≡ list_any (lasts_on feed day.0 time) rows.now }
+    {
+        for row in rows {
+            if time < row.end && self.calendar.active(row.service, day) {
+                return true;
+            }
+        }
+        false
+    }
+}
+
+/// Those of the rows, which stand by start, that start by the time.
+fn started_by(rows: &[TimeframeRow], time: u32) -> &[TimeframeRow]
+    ensures { IsNonDecreasingBy (λ (row : TimeframeRow). row.start) rows.now → result.now ≡ filter (λ row. nat_le row.start time) rows.now }
+{
+    let started = rows.partition_point(|row| row.start <= time);
+    &rows[..started]
+}
+
+/// The rows of each timeframe group with a number below `count`, by start.
+fn rows_by_frame(
+    alloc: Global,
+    rows: &[TimeframeRow],
+    count: u32,
+) -> Result<Groups<TimeframeRow>, AllocError>
+    ensures { IfOk result (AreByStart rows.now count) }
+{
+    let mut members = grouped_rows(alloc, rows)?;
+    members.sort_unstable_by_key(|member| member.item.start);
+    let groups = Groups::of(alloc, members, count)?;
+    Ok(groups)
+}
+
+/// The rows, each with its timeframe group.
+fn grouped_rows(
+    alloc: Global,
+    rows: &[TimeframeRow],
+) -> Result<Vec<Grouped<TimeframeRow>>, AllocError>
+    ensures { IfOk result (λ members. members.items ≡ map by_frame rows.now) }
+{
+    rows.iter().map(|row| grouped(row)).collect(alloc)
+}
+
+/// The row with its timeframe group.
+fn grouped(row: &TimeframeRow) -> Grouped<TimeframeRow>
+    ensures { result ≡ by_frame row.now }
+{
+    Grouped {
+        group: row.frame.0,
+        item: *row,
+    }
+}
+
+/// The areas, which ascend.
+fn area_list(alloc: Global, areas: &[AreaId]) -> Result<AreaList, AllocError>
+    requires { DoRise areas.now }
+    ensures { IfOk result (λ list. list ≡ areas.now) }
+{
+    let mut list = AreaList::empty(alloc);
+    for i in 0..areas.len() {
+        list.push(areas[i])?;
+    }
+    Ok(list)
+}
