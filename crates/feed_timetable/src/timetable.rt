@@ -8,7 +8,7 @@ ghost use Rattle.feed_rows.specs.declared.journeys.Call.{Call};
 ghost use Rattle.feed_rows.specs.SoundFeed.{IsSoundFeed};
 ghost use Rattle.feed_rows.specs.Calls.{calls_of, first_departure};
 ghost use Rattle.feed_rows.specs.Shifts.{has_frequencies, shifts_of};
-ghost use Rattle.feed_rows.specs.Rides.{runs_on, ride_facts};
+ghost use Rattle.feed_rows.specs.Rides.{runs_on, ride_facts, trip_network};
 ghost use Rattle.feed_rows.specs.ServiceDays.{is_active};
 ghost use Rattle.plain_laws.specs.Plain.{list_below};
 ghost use Rattle.feed_rows.specs.Queries.{find_stop};
@@ -16,16 +16,17 @@ ghost use Rattle.feed_rows.specs.StopLinks.{link, stop_set};
 ghost use Rattle.feed_rows.specs.Journeys.{stands_for, access, egress, direct, is_caught};
 ghost use Rattle.feed_rows.specs.JourneyStands.{way_to, way_out, end_arrival};
 ghost use Rattle.feed_timetable.specs.Standings.{stand_of, IsNear, AreShifts};
+ghost use Rattle.feed_walks.specs.OutOf.{out_of};
 
 use crate::standing::Standing;
 use feed_calendar::Calendar;
 use feed_rows::{Call, Feed, Query, Ride, RideFacts, Shifts};
 use feed_stops::Stops;
 use feed_trips::Trips;
-use feed_walks::Walks;
+use feed_walks::{Step, Walks};
 use std::alloc::{AllocError, Global};
 use std::marker::Model;
-use transit_base::{Day, Moment, Secs, ServiceId, StopId, TripId};
+use transit_base::{Day, Moment, NetworkId, Secs, ServiceId, StopId, TripId};
 
 /// The stops, trips, walks and services of a feed. Contracts see it as the rows of its feed.
 pub struct Timetable<'f> {
@@ -131,6 +132,14 @@ impl<'f> Timetable<'f> {
         self.walks.link(from, to)
     }
 
+    /// The walks out of the platform, to itself among them where there is one, in file order of the platforms that they
+    /// lead to.
+    pub fn walks_from(&self, platform: StopId) -> &[Step]
+        ensures { result.now ≡ out_of self.now platform }
+    {
+        self.walks.out_of(platform)
+    }
+
     /// Whether the trip's service is active on the day.
     pub fn runs_on(&self, trip: TripId, day: Day) -> bool
         requires { trip.0 < length self.now.trips }
@@ -178,7 +187,7 @@ impl<'f> Timetable<'f> {
     pub fn calls_of(&self, trip: TripId) -> &[Call]
         requires { trip.0 < length self.now.trips }
         ensures value { result.now ≡ calls_of self.now trip }
-        ensures times { All (λ (c : Call). c.departure ≤ most_time) result.now }
+        ensures times { All (λ (c : Call). (c.arrival ≤ most_time) × (c.departure ≤ most_time)) result.now }
         ensures few { length result.now < 2 ^ 32 }
     {
         let feed = self.feed;
@@ -199,6 +208,14 @@ impl<'f> Timetable<'f> {
         let feed = self.feed;
         let _rows = &feed.trips;
         self.trips.shifts_of(alloc, trip)
+    }
+
+    /// The fare network of a trip's route.
+    pub fn network(&self, trip: TripId) -> Option<NetworkId>
+        requires { trip.0 < length self.now.trips }
+        ensures { result ≡ trip_network self.now trip }
+    {
+        self.trips.network(trip)
     }
 
     /// Whether a trip has frequency rows.

@@ -157,8 +157,8 @@ impl<'f> Trips<'f> {
         has_run_at(rows, shifted(shift, self.first_departure(trip)))
     }
 
-    // The fare network of a trip's route.
-    fn network(&self, trip: TripId) -> Option<NetworkId>
+    /// The fare network of a trip's route.
+    pub fn network(&self, trip: TripId) -> Option<NetworkId>
         requires { trip.0 < length self.now.trips }
         ensures { result ≡ trip_network self.now trip }
     {
