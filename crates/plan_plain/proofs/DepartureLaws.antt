@@ -1,20 +1,25 @@
 -- How the departures of a window are listed, part by part.
-use Rattle.std.proofs.Common.{◌≡◌, refl, sym, ◌∙◌, ap, subst, ℕ, ◌+◌, ◌*◌, ◌^◌, ◌<◌, ◌≤◌, ◌⊎◌, inl, inr, ⊎_elim, Bool, true, false, List, [], ◌∷◌, ◌++◌, length, get_or, arith, ℤ, pos, negsuc, ◌+ℤ◌, ◌-ℤ◌, ◌*ℤ◌, ◌≤ℤ◌, ◌<ℤ◌}
-use Rattle.std.specs.Prelude.{Some, slice_get, All, Contains, int_le}
+use Rattle.std.proofs.Common.{◌≡◌, refl, sym, ◌∙◌, ap, subst, ℕ, zero, suc, ◌+◌, ◌*◌, ◌<◌, ◌≤◌, ◌⊎◌, inl, inr, ⊎_elim, Bool, true, false, List, [], ◌∷◌, ◌++◌, length, get_or, arith, ℤ, pos, ◌+ℤ◌, ◌-ℤ◌, ◌*ℤ◌, ◌≤ℤ◌, ◌<ℤ◌}
+use Rattle.std.specs.Prelude.{◌==◌, Some, slice_get, All, Contains, int_le, map, filter}
+use Rattle.std.specs.List.Sorted.{IsPermutation, IsSortedByKey}
+use Rattle.std.specs.Cmp.{int_cmp_total}
+use Rattle.std.specs.Ordering.{int_cmp, is_lt}
 use Rattle.std.proofs.lemmas.Int.{ints}
-use Rattle.std.proofs.lemmas.Option.{same_Some, slice_get_within, slice_get-get_or, get_or_from_slice_get}
-use Rattle.std.proofs.lemmas.List.{get_or_default}
-use Rattle.std.proofs.lemmas.Bool.{cases_lt, and_from}
+use Rattle.std.proofs.lemmas.Option.{same_Some, slice_get_within, get_or_from_slice_get}
+use Rattle.std.proofs.lemmas.List.{get_or_default, length-map}
+use Rattle.std.proofs.lemmas.List.Kept.{AllPairs-filter}
+use Rattle.std.proofs.lemmas.List.Sorted.{All-permutation, Contains-permutation, ranks_by, sorted_far}
+use Rattle.std.proofs.lemmas.Bool.{cases_lt, and_from, and_parts}
 use mathlib.Core.Bool.{true≢false}
-use Rattle.std.proofs.lemmas.List.Elements.{All-append, All-cons, All-nil, All-contains, Contains-append_left, Contains-push}
+use Rattle.std.proofs.lemmas.List.Elements.{All-append, All-cons, All-nil, All-contains, Contains-append_left, Contains-get_or, Contains-push}
 use Rattle.transit_base.specs.Limits.{day_seconds, most_time}
-use Rattle.transit_base.specs.Moments.{moment_at, civil_day}
+use Rattle.transit_base.specs.Moments.{civil_day}
 use Rattle.transit_base.specs.declared.numbers.StopId.{StopId}
 use Rattle.transit_base.specs.declared.numbers.TripId.{TripId}
 use Rattle.transit_base.specs.declared.calendar.Day.{Day}
 use Rattle.feed_rows.specs.Calls.{calls_of}
 use Rattle.feed_rows.specs.FeedRows.{FeedRows}
-use Rattle.feed_rows.specs.Limits.{most_window, least_shift, most_shift}
+use Rattle.feed_rows.specs.Limits.{most_window}
 use Rattle.feed_rows.specs.Rides.{runs_on}
 use Rattle.feed_rows.specs.Shifts.{shifts_of}
 use Rattle.feed_rows.specs.SoundFeed.{IsSoundFeed}
@@ -23,6 +28,7 @@ use Rattle.feed_rows.specs.declared.journeys.Query.{Query}
 use Rattle.feed_rows.specs.declared.journeys.Ride.{Ride}
 use Rattle.feed_rows.specs.declared.journeys.RideFacts.{RideFacts}
 use Rattle.feed_rows.specs.declared.rows.StopTimeRow.{StopTimeRow}
+use Rattle.feed_timetable.specs.Standings.{AreShifts}
 use Rattle.feed_laws.proofs.CallLaws.{calls_of_row}
 use Rattle.feed_laws.proofs.MomentLaws.{time_of_day_bound, moment_at-parts}
 use Rattle.feed_laws.proofs.RideLaws.{ride_facts_tells, ride_facts_timed}
@@ -30,11 +36,11 @@ use Rattle.feed_laws.proofs.ShiftLaws.{Contains_from_found, list_any-shifts_of}
 use Rattle.feed_laws.proofs.SoundTrips.{row_at, sound_trip}
 use Rattle.plain_laws.specs.declared.groups.Grouped.{Grouped}
 use Rattle.plain_laws.specs.Plain.{list_below, group_of, groups_below}
-use Rattle.plain_laws.proofs.Laws.{slice_get-list_below, length-list_below, filled_and-true, int_le-true, le-int_le, Contains-group_of, group_of-tells, groups_below-at, groups_below-past, All-from}
+use Rattle.plain_laws.proofs.Laws.{slice_get-list_below, filled_and-true, int_le-true, le-int_le, Contains-group_of, group_of-tells, groups_below-at, groups_below-past, All-from}
 use Rattle.plan_plain.specs.declared.departures.Departure.{Departure}
-use Rattle.plan_plain.specs.declared.departures.Run.{Run}
-use Rattle.plan_plain.specs.Departures.{IsSpanned, departure_with, is_listed, Lists, HasDepartures, AreDepartures}
-use Rattle.plan_plain.specs.InTime.{deadline, IsUsualQuery, IsRunOfFeed, IsOfRun, IsAt, IsBefore, HasShift, IsOnTrip, IsOnDay, IsOnDays, departure_of, first_day, day_after}
+use Rattle.plan_plain.specs.Departures.{IsSpanned, departure_with, departure_from, grouped, IsDeparture, IsGrouped, IsFromStop, is_listed, Lists, HasDepartures, AreInOrder, DoRise, AreDepartures}
+use Rattle.plan_plain.specs.InTime.{deadline, IsUsualQuery, IsOfRun, IsAt, IsBefore, HasShift, IsOnTrip, IsOnDay, IsOnDays, departure_of, first_day, day_after}
+use Rattle.plan_plain.specs.Runs.{RunOf, run_of, IsServed, IsRun}
 
 -- one part after another
 pub lists_more : (feed : FeedRows) (query : Query) (Part More Whole : Ride → Type 0) (old mid new : List (Grouped Departure)) →
@@ -42,7 +48,7 @@ pub lists_more : (feed : FeedRows) (query : Query) (Part More Whole : Ride → T
     ((ride : Ride) (facts : RideFacts) → IsSpanned feed query ride facts → Whole ride → Part ride ⊎ More ride) → Lists feed query Whole old new
 lists_more feed query Part More Whole old mid new a b split = record {
   still = λ d h. b.still d (a.still d h);
-  all = λ ride facts e whole. ⊎_elim (λ p. b.still (departure_with ride facts) (a.all ride facts e p)) (λ m. b.all ride facts e m) (split ride facts e whole);
+  all = λ ride facts e whole. ⊎_elim (λ p. b.still (grouped (departure_with ride facts)) (a.all ride facts e p)) (λ m. b.all ride facts e m) (split ride facts e whole);
   right = λ h. b.right (a.right h);
 }
 
@@ -92,83 +98,70 @@ day_until : (until departs arrives day : ℤ) → (day *ℤ pos day_seconds) ≤
 day_until until departs arrives day begins forward ends =
     let parts = moment_at-parts until in let bound = time_of_day_bound until in omega (arith, ints)
 
--- it departs at the call of its run, where riders may board
-record BoardsAt (run : Run) (facts : RideFacts) (call : Call) : Type 0 where
-  pub stop : facts.from ≡ call.stop
-  pub at : facts.departure.0 ≡ departure_of run call
+-- a ride of the run, as the run's parts
+same_run : (run : RunOf) (ride : Ride) → IsOfRun run ride → run_of run.feed ride.trip ride.day ride.shift ≡ run
+same_run run ride of =
+    ap (λ t. run_of run.feed (trip_id t) ride.day ride.shift) of.trip
+    ∙ ap (λ d. run_of run.feed run.trip (record { 0 = d }) ride.shift) of.day
+    ∙ ap (λ z. run_of run.feed run.trip run.day z) of.shift
+
+-- the ride departs where its run departs from the call, and riders may board there
+record IsBoarded (run : RunOf) (ride : Ride) (facts : RideFacts) (call : Call) : Type 0 where
+  pub made : departure_with ride facts ≡ departure_from run call ride.from
   pub pickup : call.pickup ≡ true
 
-spanned_boards : (feed : FeedRows) (query : Query) (run : Run) (ride : Ride) (facts : RideFacts) (call : Call) → IsSpanned feed query ride facts → IsOfRun run ride → slice_get (calls_of feed run.trip) ride.from ≡ Some call → BoardsAt run facts call
-spanned_boards feed query run ride facts call e of at =
-    let r = ride_facts_tells feed ride facts e.is in
-    let same : r.boarding ≡ call = same_Some _ _ (sym r.boards ∙ ap (λ t. slice_get (calls_of feed t) ride.from) (ap trip_id of.trip) ∙ at) in
+spanned_boards : (query : Query) (run : RunOf) (ride : Ride) (facts : RideFacts) (call : Call) → IsSpanned run.feed query ride facts → IsOfRun run ride → slice_get (calls_of run.feed run.trip) ride.from ≡ Some call → IsBoarded run ride facts call
+spanned_boards query run ride facts call e of at =
+    let r = ride_facts_tells run.feed ride facts e.is in
+    let same : r.boarding ≡ call = same_Some _ _ (sym r.boards ∙ ap (λ t. slice_get (calls_of run.feed t) ride.from) (ap trip_id of.trip) ∙ at) in
     record {
-      stop = ap (λ (f : RideFacts). f.from) (sym r.facts_are) ∙ ap (λ (x : Call). x.stop) same;
-      at = ap (λ (f : RideFacts). f.departure.0) (sym r.facts_are)
-          ∙ ap (λ (x : Call). moment_at ride.day.0 (ride.shift +ℤ pos x.departure)) same
-          ∙ ap (λ d. moment_at d (ride.shift +ℤ pos call.departure)) of.day
-          ∙ ap (λ z. moment_at run.day.0 (z +ℤ pos call.departure)) of.shift;
+      made = ap (departure_with ride) (sym r.facts_are)
+          ∙ ap (λ (x : Call). departure_from (run_of run.feed ride.trip ride.day ride.shift) x ride.from) same
+          ∙ ap (λ (x : RunOf). departure_from x call ride.from) (same_run run ride of);
       pickup = ap (λ (x : Call). x.pickup) (sym same) ∙ r.pickup;
     }
 
 -- so its moment is listed
-spanned_listed : (feed : FeedRows) (query : Query) (run : Run) (ride : Ride) (facts : RideFacts) (call : Call) → IsSoundFeed feed → IsSpanned feed query ride facts → BoardsAt run facts call → is_listed query call (departure_of run call) ≡ true
+spanned_listed : (query : Query) (run : RunOf) (ride : Ride) (facts : RideFacts) (call : Call) → IsSoundFeed run.feed → IsSpanned run.feed query ride facts → IsBoarded run ride facts call → is_listed query call (departure_of run call) ≡ true
 unfolding is_listed
-spanned_listed feed query run ride facts call sound e boards =
-    let t = ride_facts_timed feed ride facts most_time (sound_trip feed ride.trip sound) e.is in
+spanned_listed query run ride facts call sound e boards =
+    let t = ride_facts_timed run.feed ride facts most_time (sound_trip run.feed ride.trip sound) e.is in
+    let at : facts.departure.0 ≡ departure_of run call = ap (λ (d : Departure). d.at.0) boards.made in
     and_from _ _
-    (and_from _ _ boards.pickup (subst (λ z. int_le query.departure.0 z ≡ true) boards.at (le-int_le query.departure.0 facts.departure.0 e.since)))
-    (subst (λ z. int_le z (deadline query) ≡ true) boards.at (le-int_le facts.departure.0 (deadline query) (onward _ _ _ t.forward e.until)))
+    (and_from _ _ boards.pickup (subst (λ z. int_le query.departure.0 z ≡ true) at (le-int_le query.departure.0 facts.departure.0 e.since)))
+    (subst (λ z. int_le z (deadline query) ≡ true) at (le-int_le facts.departure.0 (deadline query) (onward _ _ _ t.forward e.until)))
   where
     onward : (a b c : ℤ) → a ≤ℤ b → b ≤ℤ c → a ≤ℤ c
     onward a b c p q = omega (arith, ints)
 
 -- where a call is not listed, nothing is to be listed
-pub lists_no_call : (feed : FeedRows) (query : Query) (run : Run) (calls : List Call) (from : ℕ) (d : Call) (listed : List (Grouped Departure)) → IsSoundFeed feed → calls ≡ calls_of feed run.trip → from < length calls →
-    false ≡ is_listed query (get_or calls from d) (departure_of run (get_or calls from d)) → Lists feed query (IsAt run from) listed listed
-lists_no_call feed query run calls from d listed sound same lt never =
-    lists_none feed query (IsAt run from) listed
+pub lists_no_call : (query : Query) (run : RunOf) (from : ℕ) (call : Call) (listed : List (Grouped Departure)) → IsSoundFeed run.feed → slice_get (calls_of run.feed run.trip) from ≡ Some call →
+    false ≡ is_listed query call (departure_of run call) → Lists run.feed query (IsAt run from) listed listed
+lists_no_call query run from call listed sound is never =
+    lists_none run.feed query (IsAt run from) listed
     (λ ride facts e at.
-    let here = ap (λ xs. slice_get xs ride.from) (sym same) ∙ ap (slice_get calls) at.1 ∙ slice_get-get_or calls from d lt in
-    true≢false (sym (spanned_listed feed query run ride facts (get_or calls from d) sound e (spanned_boards feed query run ride facts (get_or calls from d) e at.0 here)) ∙ sym never))
+    let here = ap (slice_get (calls_of run.feed run.trip)) at.1 ∙ is in
+    true≢false (sym (spanned_listed query run ride facts call sound e (spanned_boards query run ride facts call e at.0 here)) ∙ sym never))
 
--- the departure with these parts
-abbrev pub departure_of_parts : ℕ → ℕ → ℤ → ℤ → ℕ → ℤ → Grouped Departure
-departure_of_parts stop trip day shift from at =
-    record { group = stop; item = record { run = record { trip = record { 0 = trip }; day = record { 0 = day }; shift = shift }; from = from; at = record { 0 = at } } }
-
--- a departure of a run from a call of it
-abbrev pub departure_from : Run → Call → ℕ → Grouped Departure
-departure_from run call from = departure_of_parts call.stop.0 run.trip.0 run.day.0 run.shift from (departure_of run call)
-
-pub departure_made : (run : Run) (call : Call) (from : ℕ) (shift at : ℤ) → shift ≡ run.shift → at ≡ departure_of run call → departure_of_parts call.stop.0 run.trip.0 run.day.0 shift from at ≡ departure_from run call from
-departure_made run call from shift at same is = rw (same, is) refl
-
--- it is where each ride departs that boards the run there
-same_departure : (run : Run) (from : ℕ) (call : Call) (ride : Ride) (facts : RideFacts) → IsAt run from ride → BoardsAt run facts call → departure_with ride facts ≡ departure_from run call from
-same_departure run from call ride facts is boards =
-    ap (λ (s : StopId). departure_of_parts s.0 ride.trip.0 ride.day.0 ride.shift ride.from facts.departure.0) boards.stop
-    ∙ ap (λ t. departure_of_parts call.stop.0 t ride.day.0 ride.shift ride.from facts.departure.0) is.0.trip
-    ∙ ap (λ d. departure_of_parts call.stop.0 run.trip.0 d ride.shift ride.from facts.departure.0) is.0.day
-    ∙ ap (λ s. departure_of_parts call.stop.0 run.trip.0 run.day.0 s ride.from facts.departure.0) is.0.shift
-    ∙ ap (λ f. departure_of_parts call.stop.0 run.trip.0 run.day.0 run.shift f facts.departure.0) is.1
-    ∙ ap (λ at. departure_of_parts call.stop.0 run.trip.0 run.day.0 run.shift from at) boards.at
+-- riders may board where a departure is listed
+listed_pickup : (query : Query) (call : Call) (at : ℤ) → is_listed query call at ≡ true → call.pickup ≡ true
+unfolding is_listed
+listed_pickup query call at e = let whole = and_parts _ _ e in let parts = and_parts _ _ whole.0 in parts.0
 
 -- a departure is listed
-pub lists_call : (feed : FeedRows) (query : Query) (run : Run) (calls : List Call) (from : ℕ) (d : Call) (made : Grouped Departure) (old new : List (Grouped Departure)) → IsRunOfFeed feed run → calls ≡ calls_of feed run.trip → from < length calls →
-    made ≡ departure_from run (get_or calls from d) from → new ≡ old ++ made ∷ [] → Lists feed query (IsAt run from) old new
-lists_call feed query run calls from d made old new of_feed same lt is pushed = record {
-  still = λ other h. subst (λ xs. Contains xs other) (sym pushed) (Contains-append_left old (made ∷ []) other h);
-  all = λ ride facts e at.
-      let here = ap (λ xs. slice_get xs ride.from) (sym same) ∙ ap (slice_get calls) at.1 ∙ slice_get-get_or calls from d lt in
-      let boards = spanned_boards feed query run ride facts (get_or calls from d) e at.0 here in
-      subst (λ xs. Contains xs (departure_with ride facts)) (sym pushed)
-      (subst (Contains (old ++ made ∷ [])) (is ∙ sym (same_departure run from (get_or calls from d) ride facts at boards)) (Contains-push old made));
-  right = λ h.
-      let here : IsRunOfFeed feed made.item.run = subst (λ (g : Grouped Departure). IsRunOfFeed feed g.item.run) (sym is) of_feed in
-      subst (All (λ (g : Grouped Departure). IsRunOfFeed feed g.item.run)) (sym pushed)
-      (All-append (λ (g : Grouped Departure). IsRunOfFeed feed g.item.run) old (made ∷ []) h (All-cons (λ (g : Grouped Departure). IsRunOfFeed feed g.item.run) made [] here (All-nil (λ (g : Grouped Departure). IsRunOfFeed feed g.item.run))));
-}
+pub lists_call : (query : Query) (run : RunOf) (from : ℕ) (call : Call) (old new : List (Grouped Departure)) → IsRun run → slice_get (calls_of run.feed run.trip) from ≡ Some call →
+    true ≡ is_listed query call (departure_of run call) → new ≡ old ++ grouped (departure_from run call from) ∷ [] → Lists run.feed query (IsAt run from) old new
+lists_call query run from call old new runs is listed pushed =
+    let made = departure_from run call from in
+    let here : IsDeparture run.feed made = record { run = runs; call = call; is = is; pickup = listed_pickup query call (departure_of run call) (sym listed); made = refl } in
+    subst (Lists run.feed query (IsAt run from) old) (sym pushed) (record {
+      still = λ other h. Contains-append_left old (grouped made ∷ []) other h;
+      all = λ ride facts e at.
+          let boards = spanned_boards query run ride facts call e at.0 (ap (slice_get (calls_of run.feed run.trip)) at.1 ∙ is) in
+          let same : departure_with ride facts ≡ made = boards.made ∙ ap (departure_from run call) at.1 in
+          subst (λ d. Contains (old ++ grouped made ∷ []) (grouped d)) (sym same) (Contains-push old (grouped made));
+      right = λ h. All-append (IsGrouped run.feed) old (grouped made ∷ []) h (All-cons (IsGrouped run.feed) (grouped made) [] (here, refl) (All-nil (IsGrouped run.feed)));
+    })
 
 -- the ride leaves its trip at a later call of it
 spanned_calls : (feed : FeedRows) (query : Query) (ride : Ride) (facts : RideFacts) → IsSpanned feed query ride facts → (ride.from < ride.to) × (ride.to < length (calls_of feed ride.trip))
@@ -198,14 +191,14 @@ spanned_day feed query ride facts sound e =
     )
 
 -- all rides of a run board at one of its calls
-pub lists_whole_run : (feed : FeedRows) (query : Query) (run : Run) (n : ℕ) (old new : List (Grouped Departure)) → n ≡ length (calls_of feed run.trip) →
-    Lists feed query (IsBefore run n) old new → Lists feed query (IsOfRun run) old new
-lists_whole_run feed query run n old new all adds =
-    lists_same feed query (IsBefore run n) (IsOfRun run) old new adds
+pub lists_whole_run : (query : Query) (run : RunOf) (n : ℕ) (old new : List (Grouped Departure)) → length (calls_of run.feed run.trip) ≤ n →
+    Lists run.feed query (IsBefore run n) old new → Lists run.feed query (IsOfRun run) old new
+lists_whole_run query run n old new all adds =
+    lists_same run.feed query (IsBefore run n) (IsOfRun run) old new adds
     (λ ride facts e of.
-    let calls = spanned_calls feed query ride facts e in
+    let calls = spanned_calls run.feed query ride facts e in
     let forward = calls.0 in
-    let last : ride.to < length (calls_of feed run.trip) = subst (λ t. ride.to < length (calls_of feed t)) (ap trip_id of.trip) calls.1 in
+    let last : ride.to < length (calls_of run.feed run.trip) = subst (λ t. ride.to < length (calls_of run.feed t)) (ap trip_id of.trip) calls.1 in
     (of, omega arith))
 
 -- where a trip doesn't run on a day, nothing is to be added
@@ -233,34 +226,32 @@ lists_trip feed query day trip old mid new before adds =
     let below = on.1 in
     ⊎_elim (λ lower. inl (on.0, lower)) (λ upper. let same : ride.trip.0 ≡ trip = omega arith in inr (same, on.0)) (cases_lt ride.trip.0 trip))
 
--- a run of a trip of the feed
-pub run_of_feed : (feed : FeedRows) (trip : TripId) (day : Day) (run : Run) → trip.0 < length feed.trips → negsuc 799_999 ≤ℤ day.0 → day.0 ≤ℤ pos 3_000_000 → run.trip ≡ trip → run.day ≡ day → least_shift ≤ℤ run.shift →
-    run.shift ≤ℤ most_shift → IsRunOfFeed feed run
-run_of_feed feed trip day run below low high of on least most = record {
-  trip = subst (λ (t : TripId). t.0 < length feed.trips) (sym of) below;
-  day_low = subst (λ (d : Day). negsuc 799_999 ≤ℤ d.0) (sym on) low;
-  day_high = subst (λ (d : Day). d.0 ≤ℤ pos 3_000_000) (sym on) high;
-  shift_low = least;
-  shift_high = most;
-}
+-- the run with the shift at a place
+pub run_at_place : (feed : FeedRows) (trip : TripId) (day : Day) (shifts : List ℤ) (k : ℕ) → IsServed feed trip day → shifts ≡ shifts_of feed trip → AreShifts shifts → k < length shifts → IsRun (run_of feed trip day (get_or shifts k (pos 0)))
+run_at_place feed trip day shifts k served is bounds lt =
+    let within = bounds k (pos 0) lt in
+    record {
+      served = served;
+      runs_so = subst (λ zs. Contains zs (get_or shifts k (pos 0))) is (Contains-get_or shifts k (pos 0) lt);
+      low = within.0;
+      high = within.1;
+    }
 
 -- one shift more
-pub lists_shift : (feed : FeedRows) (query : Query) (trip : TripId) (day : Day) (shifts : List ℤ) (k : ℕ) (run : Run) (old mid new : List (Grouped Departure)) → k < length shifts → run.trip ≡ trip → run.day ≡ day → run.shift ≡ get_or shifts k (pos 0) →
-    Lists feed query (HasShift trip.0 day.0 shifts k) old mid → Lists feed query (IsOfRun run) mid new →
+pub lists_shift : (feed : FeedRows) (query : Query) (trip : TripId) (day : Day) (shifts : List ℤ) (k : ℕ) (run : RunOf) (old mid new : List (Grouped Departure)) → k < length shifts → run ≡ run_of feed trip day (get_or shifts k (pos 0)) →
+    Lists feed query (HasShift trip.0 day.0 shifts k) old mid → Lists run.feed query (IsOfRun run) mid new →
     Lists feed query (HasShift trip.0 day.0 shifts (k + 1)) old new
-lists_shift feed query trip day shifts k run old mid new lt of on is before adds =
-    lists_more feed query (HasShift trip.0 day.0 shifts k) (IsOfRun run) (HasShift trip.0 day.0 shifts (k + 1)) old mid new before adds
+lists_shift feed query trip day shifts k run old mid new lt is before adds =
+    let made = run_of feed trip day (get_or shifts k (pos 0)) in
+    lists_more feed query (HasShift trip.0 day.0 shifts k) (IsOfRun made) (HasShift trip.0 day.0 shifts (k + 1)) old mid new before
+    (subst (λ (r : RunOf). Lists r.feed query (IsOfRun r) mid new) is adds)
     (λ ride facts e has.
     let at = has.2 in
     let below = at.1 in
     ⊎_elim (λ lower. inl (has.0, has.1, (at.0, lower, at.2)))
     (λ upper.
     let same : at.0 ≡ k = omega arith in
-    inr (record {
-      trip = has.0 ∙ ap (λ (t : TripId). t.0) (sym of);
-      day = has.1 ∙ ap (λ (d : Day). d.0) (sym on);
-      shift = sym at.2 ∙ ap (λ i. get_or shifts i ride.shift) same ∙ get_or_default shifts k ride.shift (pos 0) lt ∙ sym is;
-    }))
+    inr (record { trip = has.0; day = has.1; shift = sym at.2 ∙ ap (λ i. get_or shifts i ride.shift) same ∙ get_or_default shifts k ride.shift (pos 0) lt }))
     (cases_lt at.0 k))
 
 -- all shifts of a trip
@@ -305,36 +296,68 @@ has_departures feed query day listed sound past lists = record {
   all = λ ride facts e.
       let days = spanned_day feed query ride facts sound e in
       lists.all ride facts e (days.0, before ride.day.0 (day_after query) day days.1 past);
-  right = lists.right (All-nil (λ (d : Grouped Departure). IsRunOfFeed feed d.item.run));
+  right = lists.right (All-nil (IsGrouped feed));
 }
   where
     before : (d after day : ℤ) → d <ℤ after → after ≤ℤ day → d <ℤ day
     before d after day lt le = omega (arith, ints)
 
 -- it departs from a stop of the feed
-spanned_stop : (feed : FeedRows) (query : Query) (ride : Ride) (facts : RideFacts) → IsSoundFeed feed → IsSpanned feed query ride facts → facts.from.0 < length feed.stops
+pub spanned_stop : (feed : FeedRows) (query : Query) (ride : Ride) (facts : RideFacts) → IsSoundFeed feed → IsSpanned feed query ride facts → facts.from.0 < length feed.stops
 spanned_stop feed query ride facts sound e =
     let r = ride_facts_tells feed ride facts e.is in
     let row = calls_of_row feed ride.trip ride.from r.boarding (sound_trip feed ride.trip sound).ends r.boards in
     let within = All-contains (λ (s : StopTimeRow). s.stop.0 < length feed.stops) feed.stop_times row.0 sound.stop_times.stops (row_at feed ride.trip ride.from row.0 row.1).member in
     subst (λ (s : StopId). s.0 < length feed.stops) (sym (ap (λ (f : RideFacts). f.from) (sym r.facts_are) ∙ row.2.stop)) within
 
+-- what is sorted by its moments is in their order
+pub in_order : (listed : List (Grouped Departure)) → IsSortedByKey (λ (d : Grouped Departure). d.item.at.0) int_cmp listed → AreInOrder listed
+in_order listed sorted i j d lt within =
+    not_less (get_or listed j d).item.at.0 (get_or listed i d).item.at.0
+    (sorted_far (λ (a : Grouped Departure) (b : Grouped Departure). is_lt (int_cmp a.item.at.0 b.item.at.0)) (ranks_by int_cmp_total (λ (g : Grouped Departure). g.item.at.0)) listed sorted i j d (omega arith) within)
+  where
+    not_less : (x y : ℤ) → is_lt (int_cmp x y) ≡ false → y ≤ℤ x
+    not_less x y e = grind (arith, ints)
+
+-- departures in another order
+pub departures_moved : (feed : FeedRows) (query : Query) (old new : List (Grouped Departure)) → HasDepartures feed query old → IsPermutation old new → HasDepartures feed query new
+departures_moved feed query old new has moved = record {
+  all = λ ride facts e. Contains-permutation old new (grouped (departure_with ride facts)) moved (has.all ride facts e);
+  right = All-permutation (IsGrouped feed) old new moved has.right;
+}
+
+-- the departures of a group stand as they did among all
+get_or-items : (ms : List (Grouped Departure)) (i : ℕ) (d : Departure) → get_or (map (λ m. m.item) ms) i d ≡ (get_or ms i (grouped d)).item
+get_or-items [] i d = refl
+get_or-items (m ∷ ms) zero d = refl
+get_or-items (m ∷ ms) (suc i) d = get_or-items ms i d
+
+group_in_order : (ms : List (Grouped Departure)) (stop : ℕ) → AreInOrder ms → DoRise (group_of ms stop)
+group_in_order ms stop rises i j d lt within =
+    let here = filter (λ (m : Grouped Departure). m.group == stop) ms in
+    let kept = AllPairs-filter (λ (a : Grouped Departure) (b : Grouped Departure). a.item.at.0 ≤ℤ b.item.at.0) (λ m. m.group == stop) ms rises in
+    let long = length-map here (λ (m : Grouped Departure). m.item) in
+    rw (get_or-items here i d, get_or-items here j d) (kept i j (grouped d) lt (omega arith))
+
+none_rise : DoRise []
+none_rise i j d lt within = absurd (omega arith)
+
 -- the departures by stop
-pub are_departures : (feed : FeedRows) (query : Query) (listed : List (Grouped Departure)) (n : ℕ) (departures : List (List Departure)) → IsSoundFeed feed → n < 2 ^ 32 → n ≡ length feed.stops → HasDepartures feed query listed → departures ≡ groups_below n listed →
-    AreDepartures feed query departures
+pub are_departures : (feed : FeedRows) (query : Query) (listed : List (Grouped Departure)) (n : ℕ) (departures : List (List Departure)) → IsSoundFeed feed → n ≡ length feed.stops → HasDepartures feed query listed → AreInOrder listed →
+    departures ≡ groups_below n listed → AreDepartures feed query departures
 unfolding groups_below
-are_departures feed query listed n departures sound small all_stops has is =
+are_departures feed query listed n departures sound all_stops has rises is =
     subst (AreDepartures feed query) (sym is) (record {
-      few = subst (λ k. k < 2 ^ 32) (sym (length-list_below n (group_of listed))) small;
       all = λ ride facts e.
-          let lt : facts.from.0 < n = subst (λ k. facts.from.0 < k) (sym all_stops) (spanned_stop feed query ride facts sound e) in (
-            subst (λ k. facts.from.0 < k) (sym (length-list_below n (group_of listed))) lt,
-            subst (λ xs. Contains xs (departure_with ride facts).item) (sym (groups_below-at n listed facts.from.0 lt)) (Contains-group_of listed facts.from.0 (departure_with ride facts).item (has.all ride facts e)),
-          );
+          let lt : facts.from.0 < n = subst (λ k. facts.from.0 < k) (sym all_stops) (spanned_stop feed query ride facts sound e) in
+          subst (λ xs. Contains xs (departure_with ride facts)) (sym (groups_below-at n listed facts.from.0 lt)) (Contains-group_of listed facts.from.0 (departure_with ride facts) (has.all ride facts e));
       right = λ stop. ⊎_elim
-          (λ (below : stop < n). subst (All (λ (d : Departure). IsRunOfFeed feed d.run)) (sym (groups_below-at n listed stop below))
-          (All-from (λ (d : Departure). IsRunOfFeed feed d.run) (group_of listed stop)
-          (λ d at. All-contains (λ (g : Grouped Departure). IsRunOfFeed feed g.item.run) listed (record { group = stop; item = d }) has.right (group_of-tells listed stop d at))))
-          (λ (past : n ≤ stop). subst (All (λ (d : Departure). IsRunOfFeed feed d.run)) (sym (groups_below-past n listed stop past)) (All-nil (λ (d : Departure). IsRunOfFeed feed d.run)))
+          (λ (below : stop < n). subst (All (IsFromStop feed stop)) (sym (groups_below-at n listed stop below))
+          (All-from (IsFromStop feed stop) (group_of listed stop) (λ d at. All-contains (IsGrouped feed) listed (record { group = stop; item = d }) has.right (group_of-tells listed stop d at))))
+          (λ (past : n ≤ stop). subst (All (IsFromStop feed stop)) (sym (groups_below-past n listed stop past)) (All-nil (IsFromStop feed stop)))
+          (cases_lt stop n);
+      rises = λ stop. ⊎_elim
+          (λ (below : stop < n). subst DoRise (sym (groups_below-at n listed stop below)) (group_in_order listed stop rises))
+          (λ (past : n ≤ stop). subst DoRise (sym (groups_below-past n listed stop past)) none_rise)
           (cases_lt stop n);
     })

@@ -1,16 +1,15 @@
 -- Rides that are caught and end within a query's window.
-use Rattle.std.specs.Prelude.{◌≡◌, Bool, ℕ, ◌<◌, ◌≤◌, Option, Some, All, Contains, List, length, slice_index_or, ℤ, pos, negsuc, ◌+ℤ◌, ◌-ℤ◌, ◌≤ℤ◌, ◌<ℤ◌, int_le, option_and_then}
+use Rattle.std.specs.Prelude.{◌≡◌, ℕ, ◌<◌, ◌≤◌, Option, Some, All, Contains, List, slice_index_or, ℤ, pos, negsuc, ◌+ℤ◌, ◌-ℤ◌, ◌≤ℤ◌, ◌<ℤ◌, int_le, option_and_then}
 use Rattle.transit_base.specs.Moments.{moment_at, civil_day}
-use Rattle.transit_base.specs.declared.numbers.StopId.{StopId}
 use Rattle.feed_rows.specs.declared.journeys.Call.{Call}
 use Rattle.feed_rows.specs.declared.journeys.Query.{Query}
 use Rattle.feed_rows.specs.declared.journeys.Ride.{Ride}
 use Rattle.feed_rows.specs.FeedRows.{FeedRows}
-use Rattle.feed_rows.specs.Limits.{most_window, least_shift, most_shift}
-use Rattle.feed_rows.specs.JourneyStands.{Stand, stand_at_end, next_stand, way_to}
+use Rattle.feed_rows.specs.Limits.{most_window}
+use Rattle.feed_rows.specs.JourneyStands.{Stand, stand_at_end, next_stand}
 use Rattle.feed_rows.specs.Rides.{ride_facts}
-use Rattle.plain_laws.specs.Plain.{when, filled_and}
-use Rattle.plan_plain.specs.declared.departures.Run.{Run}
+use Rattle.plain_laws.specs.Plain.{when}
+use Rattle.plan_plain.specs.Runs.{RunOf}
 use Rattle.plan_plain.specs.declared.caught.CaughtRide.{CaughtRide}
 
 -- the latest moment at which a journey may end
@@ -58,34 +57,18 @@ pub record AddsCaught (feed : FeedRows) (query : Query) (stand : Stand) (Part : 
   pub all : (ride : Ride) (next : Stand) → next_in_time feed query stand ride ≡ Some next → Part ride → HasRide new ride
   pub right : All (IsRight feed query stand) old → All (IsRight feed query stand) new
 
--- the run is of a trip of the feed, on a day and with a shift within their bounds
-pub record IsRunOfFeed (feed : FeedRows) (run : Run) : Type 0 where
-  pub trip : run.trip.0 < length feed.trips
-  pub day_low : negsuc 799_999 ≤ℤ run.day.0
-  pub day_high : run.day.0 ≤ℤ pos 3_000_000
-  pub shift_low : least_shift ≤ℤ run.shift
-  pub shift_high : run.shift ≤ℤ most_shift
-
 -- the ride is of this run
-pub record IsOfRun (run : Run) (ride : Ride) : Type 0 where
+pub record IsOfRun (run : RunOf) (ride : Ride) : Type 0 where
   pub trip : ride.trip.0 ≡ run.trip.0
   pub day : ride.day.0 ≡ run.day.0
   pub shift : ride.shift ≡ run.shift
 
--- the ride is this one
-abbrev pub IsRideOf : Run → ℕ → ℕ → Ride → Type 0
-IsRideOf run from to ride = IsOfRun run ride × (ride.from ≡ from) × (ride.to ≡ to)
-
--- the ride boards the run at this call, and leaves it before the n-th
-abbrev pub IsFrom : Run → ℕ → ℕ → Ride → Type 0
-IsFrom run from n ride = IsOfRun run ride × (ride.from ≡ from) × (ride.to < n)
-
 -- the ride boards the run at this call
-abbrev pub IsAt : Run → ℕ → Ride → Type 0
+abbrev pub IsAt : RunOf → ℕ → Ride → Type 0
 IsAt run from ride = IsOfRun run ride × (ride.from ≡ from)
 
 -- the ride boards the run before the n-th call
-abbrev pub IsBefore : Run → ℕ → Ride → Type 0
+abbrev pub IsBefore : RunOf → ℕ → Ride → Type 0
 IsBefore run n ride = IsOfRun run ride × (ride.from < n)
 
 -- the ride is of this trip and day, with one of the first n of these shifts
@@ -104,12 +87,8 @@ IsOnDay day n ride = (ride.day.0 ≡ day) × (ride.trip.0 < n)
 abbrev pub IsOnDays : ℤ → ℤ → Ride → Type 0
 IsOnDays first after ride = (first ≤ℤ ride.day.0) × (ride.day.0 <ℤ after)
 
--- one gets from where one stands to a stop by a moment
-unfoldable pub gets_there : FeedRows → Query → Stand → StopId → ℤ → Bool
-gets_there feed query stand stop by = filled_and (way_to feed query stand stop) (λ s. int_le (stand.at +ℤ pos s) by)
-
 -- when a run departs from a call
-abbrev pub departure_of : Run → Call → ℤ
+abbrev pub departure_of : RunOf → Call → ℤ
 departure_of run call = moment_at run.day.0 (run.shift +ℤ pos call.departure)
 
 -- the first day on which a ride can run that is caught, and the day after the last

@@ -1,19 +1,21 @@
-//! The rides that are caught from where a traveller stands, and end within the query's window.
-ghost use Rattle.std.specs.Prelude.{◌≡◌, ◌<◌, ◌≤◌, ◌^◌, ◌≤ℤ◌, negsuc, pos, length, All, IfOk, OnOk, IfSome, Some, option_map};
-ghost use Rattle.feed_rows.specs.JourneyStands.{stand_at_end};
-ghost use Rattle.feed_rows.specs.Limits.{least_shift, most_shift};
-ghost use Rattle.feed_rows.specs.Rides.{ride_facts};
+//! The rides that a traveller may take next, which end within the query's window.
+ghost use Rattle.std.specs.Prelude.{◌≡◌, ◌<◌, ◌≤◌, ◌^◌, All, IfOk, OnOk, Some, length, slice_get};
+ghost use Rattle.feed_rows.specs.Calls.{calls_of};
+ghost use Rattle.feed_rows.specs.declared.journeys.Call.{Call};
 ghost use Rattle.feed_timetable.specs.Standings.{stand_of};
-ghost use Rattle.plan_plain.specs.Departures.{AreDepartures, DepartsBy, DepartsAmong};
-ghost use Rattle.plan_plain.specs.InTime.{next_in_time, IsUsualQuery, IsWithinWindow, AddsCaught, HasCaught, IsRight, IsRunOfFeed, IsRideOf, IsFrom, gets_there};
-ghost use Rattle.plan_plain.specs.declared.departures.Departure.{Departure};
+ghost use Rattle.plan_plain.specs.Departures.{AreDepartures, BoardsAt, DoRise, IsBy, IsDeparture, IsByTo, IsFirstSince, IsReached, facts_in_time};
+ghost use Rattle.plan_plain.specs.InTime.{IsUsualQuery, IsWithinWindow, AddsCaught, HasCaught, IsRight};
+ghost use Rattle.plan_plain.specs.Travelling.{IsBarred, travelling};
+ghost use Rattle.transit_base.specs.Limits.{most_time};
 
-use crate::departures::{Departure, Run, deadline};
-use feed_rows::{Query, Ride, RideFacts};
+use crate::departures::{Departure, deadline};
+use crate::runs::Run;
+use feed_rows::{Call, Query, Ride, RideFacts};
 use feed_timetable::{Standing, Timetable};
 use plain_laws::Groups;
 use std::alloc::{AllocError, Global};
-use transit_base::{Moment, StopId};
+use std::marker::Model;
+use transit_base::{Moment, Secs, StopId};
 
 /// A ride that is caught, and where and when it goes.
 #[derive(Clone, Copy)]
@@ -22,181 +24,172 @@ pub struct CaughtRide {
     pub facts: RideFacts,
 }
 
-// Where and when the ride goes; none where it is no ride of the feed, isn't caught, or ends past the window.
-#[tactic(auto, unfolding(feed_rows::specs::JourneyStands::next_stand, crate::specs::InTime::next_in_time))]
-fn facts_in_time(
-    timetable: &Timetable,
-    query: &Query,
-    standing: Standing,
-    ride: &Ride,
-) -> Option<RideFacts>
-    requires usual { IsUsualQuery query.now }
-    requires within { IsWithinWindow query.now standing.at.0 }
-    requires trip { ride.now.trip.0 < length timetable.now.trips }
-    requires day_low { negsuc 799_999 ≤ℤ ride.now.day.0 }
-    requires day_high { ride.now.day.0 ≤ℤ pos 3_000_000 }
-    requires shift_low { least_shift ≤ℤ ride.now.shift }
-    requires shift_high { ride.now.shift ≤ℤ most_shift }
-    ensures next { option_map stand_at_end result ≡ next_in_time timetable.now query.now (stand_of standing) ride.now }
-    ensures facts { IfSome result (λ facts. ride_facts timetable.now ride.now ≡ Some facts) }
+// How many of the departures are before the moment.
+fn first_since(departures: &[Departure], moment: Moment) -> usize
+    requires { DoRise departures.now }
+    ensures { IsFirstSince departures.now moment.0 result }
 {
-    let facts = timetable.facts(ride)?;
-    if !timetable.is_caught(query, standing, &facts) {
-        return None;
-    }
-    if facts.arrival.0 > deadline(query).0 {
-        return None;
-    }
-    Some(facts)
+    departures.partition_point(|departure| departure.at.0 < moment.0)
 }
 
-// Adds the ride where it is caught in time.
-fn add_ride(
-    timetable: &Timetable,
-    query: &Query,
+/// A traveller of a query, and where they stand. Contracts see it as the feed, the query and the stand.
+#[derive(Drop)]
+pub struct Traveller<'s, 'f> {
+    timetable: &'s Timetable<'f>,
+    query: &'s Query,
+    departures: &'s Groups<Departure>,
     standing: Standing,
-    run: Run,
-    from: u32,
-    to: u32,
-    rides: &mut Vec<CaughtRide>,
-) -> Result<(), AllocError>
-    requires usual { IsUsualQuery query.now }
-    requires within { IsWithinWindow query.now standing.at.0 }
-    requires run { IsRunOfFeed timetable.now run }
-    ensures { OnOk result (AddsCaught timetable.now query.now (stand_of standing) (IsRideOf run from to) rides.old.items rides.new.items) }
-{
-    if from >= to {
-        return Ok(());
-    }
-    let ride = Ride {
-        trip: run.trip,
-        day: run.day,
-        shift: run.shift,
-        from,
-        to,
-    };
-    if let Some(facts) = facts_in_time(timetable, query, standing, &ride) {
-        rides.push(CaughtRide { ride, facts })?;
-    }
-    Ok(())
 }
 
-// Adds the rides that board the run at this call.
-fn add_from(
-    timetable: &Timetable,
-    query: &Query,
-    standing: Standing,
-    run: Run,
-    from: u32,
-    calls: u32,
-    rides: &mut Vec<CaughtRide>,
-) -> Result<(), AllocError>
-    requires usual { IsUsualQuery query.now }
-    requires within { IsWithinWindow query.now standing.at.0 }
-    requires run { IsRunOfFeed timetable.now run }
-    ensures { OnOk result (AddsCaught timetable.now query.now (stand_of standing) (IsFrom run from calls) rides.old.items rides.new.items) }
-{
-    for to in 0..calls {
-        add_ride(timetable, query, standing, run, from, to, rides)?;
-    }
-    Ok(())
+impl<'s, 'f> Model for Traveller<'s, 'f> {
+    ghost use Rattle.feed_timetable.specs.Standings.{stand_of};
+    ghost use Rattle.plan_plain.specs.Departures.{AreDepartures};
+    ghost use Rattle.plan_plain.specs.InTime.{IsUsualQuery, IsWithinWindow};
+    ghost use Rattle.plan_plain.specs.Travelling.{Travelling, travelling};
+
+    ghost Value = { Travelling };
+
+    ghost view = { λ s. travelling s.timetable.now s.query.now (stand_of s.standing) };
+
+    ghost invariant = { λ s. IsUsualQuery s.query.now × IsWithinWindow s.query.now s.standing.at.0 × AreDepartures s.timetable.now s.query.now s.departures.now };
 }
 
-// Whether one gets from where one stands to a stop by a moment.
-#[tactic(auto, unfolding(crate::specs::InTime::gets_there))]
-fn gets_there(
-    timetable: &Timetable,
-    query: &Query,
-    standing: Standing,
-    stop: StopId,
-    by: Moment,
-) -> bool
-    requires usual { IsUsualQuery query.now }
-    requires within { IsWithinWindow query.now standing.at.0 }
-    ensures { result ≡ gets_there timetable.now query.now (stand_of standing) stop by.0 }
-{
-    match timetable.way_to(query, standing, stop) {
-        Some(seconds) => standing.at.0 + i64::from(seconds) <= by.0,
-        None => false,
+impl<'s, 'f> Traveller<'s, 'f> {
+    /// The traveller of the query, with the departures within its window, who stands there.
+    pub fn new(
+        timetable: &'s Timetable<'f>,
+        query: &'s Query,
+        departures: &'s Groups<Departure>,
+        standing: Standing,
+    ) -> Traveller<'s, 'f>
+        requires usual { IsUsualQuery query.now }
+        requires within { IsWithinWindow query.now standing.at.0 }
+        requires listed { AreDepartures timetable.now query.now departures.now }
+        ensures { result ≡ travelling timetable.now query.now (stand_of standing) }
+    {
+        Traveller {
+            timetable,
+            query,
+            departures,
+            standing,
+        }
     }
-}
 
-// Adds the rides by a departure from a stop.
-fn add_departure(
-    timetable: &Timetable,
-    query: &Query,
-    standing: Standing,
-    stop: StopId,
-    departure: Departure,
-    rides: &mut Vec<CaughtRide>,
-) -> Result<(), AllocError>
-    requires usual { IsUsualQuery query.now }
-    requires within { IsWithinWindow query.now standing.at.0 }
-    requires run { IsRunOfFeed timetable.now departure.run }
-    ensures { OnOk result (AddsCaught timetable.now query.now (stand_of standing) (DepartsBy timetable.now stop.0 departure) rides.old.items rides.new.items) }
-{
-    if !gets_there(timetable, query, standing, stop, departure.at) {
-        return Ok(());
+    // The calls of the departure's trip.
+    fn calls_of(&self, departure: &Departure) -> &'s [Call]
+        requires { IsDeparture self.now.feed departure.now }
+        ensures value { result.now ≡ calls_of self.now.feed departure.now.trip }
+        ensures times { All (λ (c : Call). (c.arrival ≤ most_time) × (c.departure ≤ most_time)) result.now }
+        ensures few { length result.now < 2 ^ 32 }
+    {
+        departure.run(self.timetable).calls()
     }
-    let run = departure.run;
-    let calls = timetable.calls_of(run.trip).len() as u32;
-    add_from(
-        timetable,
-        query,
-        standing,
-        run,
-        departure.from,
-        calls,
-        rides,
-    )?;
-    Ok(())
-}
 
-// Adds the rides by the departures from a stop.
-fn add_stop(
-    timetable: &Timetable,
-    query: &Query,
-    standing: Standing,
-    stop: StopId,
-    departures: &[Departure],
-    rides: &mut Vec<CaughtRide>,
-) -> Result<(), AllocError>
-    requires usual { IsUsualQuery query.now }
-    requires within { IsWithinWindow query.now standing.at.0 }
-    requires runs { All (λ (d : Departure). IsRunOfFeed timetable.now d.run) departures.now }
-    ensures { OnOk result (AddsCaught timetable.now query.now (stand_of standing) (DepartsAmong timetable.now stop.0 departures.now (length departures.now)) rides.old.items rides.new.items) }
-{
-    let Some(_seconds) = timetable.way_to(query, standing, stop) else {
-        return Ok(());
-    };
-    for k in 0..departures.len() {
-        add_departure(timetable, query, standing, stop, departures[k], rides)?;
+    // Where and when the ride by the departure goes that alights at the call; none where riders may not alight there,
+    // or it ends past the window.
+    #[tactic(auto, unfolding(crate::specs::Departures::facts_in_time))]
+    fn facts_in_time(&self, departure: &Departure, call: &Call) -> Option<RideFacts>
+        requires reached { IsReached self.now.feed self.now.query self.now.stand departure.now }
+        requires time { call.now.arrival ≤ most_time }
+        ensures { result ≡ facts_in_time self.now.query departure.now call.now }
+    {
+        let run = departure.run(self.timetable);
+        let arrival = run.moment(call.arrival);
+        if !call.drop_off || arrival.0 > deadline(self.query).0 {
+            return None;
+        }
+        Some(RideFacts {
+            from: departure.stop,
+            to: call.stop,
+            network: departure.network,
+            departure: departure.at,
+            arrival,
+        })
     }
-    Ok(())
-}
 
-/// All rides that are caught from where one stands and end within the query's window.
-///
-/// # Errors
-/// Want of memory.
-pub fn rides_from(
-    alloc: Global,
-    timetable: &Timetable,
-    query: &Query,
-    departures: &Groups<Departure>,
-    standing: Standing,
-) -> Result<Vec<CaughtRide>, AllocError>
-    requires usual { IsUsualQuery query.now }
-    requires within { IsWithinWindow query.now standing.at.0 }
-    requires listed { AreDepartures timetable.now query.now departures.now }
-    ensures all { IfOk result (λ rides. HasCaught timetable.now query.now (stand_of standing) rides.items) }
-    ensures right { IfOk result (λ rides. All (IsRight timetable.now query.now (stand_of standing)) rides.items) }
-{
-    let _feed = timetable.feed();
-    let mut rides = Vec::new(alloc);
-    for stop in 0..departures.count() as u32 {
-        let out = departures.get(stop as usize);
-        add_stop(timetable, query, standing, StopId(stop), out, &mut rides)?;
+    // Adds the ride by the departure that alights at the call.
+    fn add_ride(
+        &self,
+        departure: &Departure,
+        to: u32,
+        call: &Call,
+        rides: &mut Vec<CaughtRide>,
+    ) -> Result<(), AllocError>
+        requires reached { IsReached self.now.feed self.now.query self.now.stand departure.now }
+        requires later { departure.now.from < to }
+        requires is { slice_get (calls_of self.now.feed departure.now.trip) to ≡ Some call.now }
+        requires time { call.now.arrival ≤ most_time }
+        ensures { OnOk result (AddsCaught self.now.feed self.now.query self.now.stand (IsByTo self.now.feed departure.now to) rides.old.items rides.new.items) }
+    {
+        let Some(facts) = self.facts_in_time(departure, call) else {
+            return Ok(());
+        };
+        rides.push(CaughtRide {
+            ride: departure.ride_to(to),
+            facts,
+        })?;
+        Ok(())
     }
-    Ok(rides)
+
+    // Adds the rides by a departure that one reaches.
+    fn add_departure(
+        &self,
+        departure: &Departure,
+        rides: &mut Vec<CaughtRide>,
+    ) -> Result<(), AllocError>
+        requires reached { IsReached self.now.feed self.now.query self.now.stand departure.now }
+        ensures { OnOk result (AddsCaught self.now.feed self.now.query self.now.stand (IsBy self.now.feed departure.now) rides.old.items rides.new.items) }
+    {
+        let calls = self.calls_of(departure);
+        for to in departure.from + 1..calls.len() as u32 {
+            self.add_ride(departure, to, &calls[to as usize], rides)?;
+        }
+        Ok(())
+    }
+
+    // Adds the rides from a stop: by the departures since one gets there.
+    fn add_stop(&self, stop: StopId, rides: &mut Vec<CaughtRide>) -> Result<(), AllocError>
+        ensures { OnOk result (AddsCaught self.now.feed self.now.query self.now.stand (BoardsAt self.now.feed stop.0) rides.old.items rides.new.items) }
+    {
+        let Some(seconds) = self.timetable.way_to(self.query, self.standing, stop) else {
+            return Ok(());
+        };
+        let earliest = self.standing.at.plus(Secs(seconds));
+        let departures = self.departures.get(stop.0 as usize);
+        let first = first_since(departures, earliest);
+        for k in first..departures.len() {
+            self.add_departure(&departures[k], rides)?;
+        }
+        Ok(())
+    }
+
+    // Adds the rides from where one stands, where no walk leads from there to itself: a journey may still begin there.
+    fn add_barred(&self, rides: &mut Vec<CaughtRide>) -> Result<(), AllocError>
+        ensures { OnOk result (AddsCaught self.now.feed self.now.query self.now.stand (IsBarred self.now.feed self.now.stand) rides.old.items rides.new.items) }
+    {
+        let stop = self.standing.stop;
+        if let Some(_seconds) = self.timetable.link(stop, stop) {
+            return Ok(());
+        }
+        self.add_stop(stop, rides)?;
+        Ok(())
+    }
+
+    /// All rides that are caught and end within the query's window.
+    ///
+    /// # Errors
+    /// Want of memory.
+    pub fn rides(&self, alloc: Global) -> Result<Vec<CaughtRide>, AllocError>
+        ensures all { IfOk result (λ rides. HasCaught self.now.feed self.now.query self.now.stand rides.items) }
+        ensures right { IfOk result (λ rides. All (IsRight self.now.feed self.now.query self.now.stand) rides.items) }
+    {
+        let _feed = self.timetable.feed();
+        let mut rides = Vec::new(alloc);
+        self.add_barred(&mut rides)?;
+        let walks = self.timetable.walks_from(self.standing.stop);
+        for k in 0..walks.len() {
+            self.add_stop(walks[k].to, &mut rides)?;
+        }
+        Ok(rides)
+    }
 }

@@ -4,6 +4,7 @@
 mod caught;
 mod departures;
 mod prices;
+mod runs;
 mod search;
 mod tickets;
 

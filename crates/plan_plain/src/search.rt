@@ -12,7 +12,7 @@ ghost use Rattle.plan_plain.specs.Prices.{HasPlainFares, IsCheapest};
 ghost use Rattle.plan_plain.specs.Searches.{rides_of, asked, IsBestAt, EndsAt, HasRides, GoesOn, Gains, StartsAt, IsSearched, arrival_in_time};
 ghost use Rattle.transit_base.specs.declared.moments.Moment.{Moment};
 
-use crate::caught::{CaughtRide, rides_from};
+use crate::caught::{CaughtRide, Traveller};
 use crate::departures::{Departure, deadline, departures_of};
 use crate::prices::{Priced, cheapest};
 use crate::tickets::Tickets;
@@ -223,13 +223,7 @@ impl<'s, 'f> Search<'s, 'f> {
         ensures sound { IsSoundFeed self.now.feed }
     {
         let _feed = self.timetable.feed();
-        rides_from(
-            alloc,
-            self.timetable,
-            self.query,
-            &self.departures,
-            standing,
-        )
+        Traveller::new(self.timetable, self.query, &self.departures, standing).rides(alloc)
     }
 
     // Offers the best entries that go on from here with at most so many rides more.

@@ -10,11 +10,11 @@ index-requires c =
     let listed = ap length c.in_ok-runs.ensures ∙ length-list_below (length c.args.timetable.now.trips) (λ t. runs_on c.args.timetable.now (record { 0 = t }) c.args.day.0) in
     omega (arith, listed, c.in_ok-runs.runs.ok)
 
-pub list_trip-requires-clause-runs : goal.list_trip-requires-clause-runs
-list_trip-requires-clause-runs c =
+pub list_trip-requires-clause-served : goal.list_trip-requires-clause-served
+list_trip-requires-clause-served c =
     let below : c.loop-trip.trip < length c.args.timetable.now.trips = omega arith in
     let runs = runs_at c.args.timetable.now c.args.day.0 c.in_ok-runs.runs.items c.loop-trip.trip c.index.result.now c.in_ok-runs.ensures below c.index.ensures in
-    sym runs ∙ c.if-index.true
+    record { inside = below; low = c.requires.day_low; high = c.requires.day_high; runs = sym runs ∙ c.if-index.true }
 
 pub returns : goal.returns
 returns c = lists_whole_day _ _ _ _ _ _ (omega arith) c.loop-trip.invariant
