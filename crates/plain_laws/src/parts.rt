@@ -41,9 +41,10 @@ pub fn part_of(ends: &[u32], place: usize, size: usize) -> (usize, usize)
 /// Appends the end of a part, behind so many items. After a refusal the ends are as before.
 ///
 /// # Errors
-/// Want of memory; so counts an end of 2^32 or more.
+/// Want of memory; and always where the end is 2^32 or more, which no entry holds.
 pub fn push_end(ends: &mut Vec<u32>, end: usize) -> Result<(), AllocError>
     ensures ok { OnOk result (ends.new.items ≡ ends.old.items ++ end ∷ []) }
+    ensures fits { OnOk result (end < 2 ^ 32) }
     ensures err { OnErr result (ends.new.items ≡ ends.old.items) }
 {
     let Some(end) = end_of(end) else {
