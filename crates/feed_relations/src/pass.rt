@@ -58,7 +58,7 @@ fn relation_fault(
 fn fault_of_files(alloc: Global, feed: &JudgedFeed) -> Result<Option<FeedFault>, AllocError>
     ensures { IfOk result (λ fault. fault ≡ first_relation_fault feed.now) }
 {
-    for (i, file) in FileName::ALL.iter().enumerate() {
+    for (i, file) in FileName::all().iter().enumerate() {
         if let Some(fault) = relation_fault(alloc, feed, *file)? {
             return Ok(Some(fault));
         }

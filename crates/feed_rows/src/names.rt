@@ -1,6 +1,6 @@
 //! The files of a feed and their columns, by name.
 ghost use Rattle.std.specs.Prelude.{◌≡◌};
-ghost use Rattle.feed_rows.specs.Names.{column_text, file_text};
+ghost use Rattle.feed_rows.specs.Names.{all_columns, all_files, column_text, file_text};
 
 /// A file of a feed, in the order in which files are read and judged.
 #[derive(Clone, Copy, Debug, PartialEq, Eq)]
@@ -44,8 +44,7 @@ pub enum FileName {
 }
 
 impl FileName {
-    /// The files of a feed, in the order in which they are read and judged.
-    pub const ALL: [FileName; 18] = [
+    const ALL: [FileName; 18] = [
         FileName::Stops,
         FileName::Routes,
         FileName::Trips,
@@ -65,6 +64,13 @@ impl FileName {
         FileName::FareLegRules,
         FileName::FareTransferRules,
     ];
+
+    /// The files of a feed, in the order in which they are read and judged.
+    pub fn all() -> &'static [FileName]
+        ensures { result.now ≡ all_files }
+    {
+        &FileName::ALL
+    }
 
     /// The file's name in a feed's folder.
     pub fn text(self) -> &'static str
@@ -215,8 +221,7 @@ pub enum ColumnName {
 }
 
 impl ColumnName {
-    /// The columns, in the order in which they are declared.
-    pub const ALL: [ColumnName; 58] = [
+    const ALL: [ColumnName; 58] = [
         ColumnName::StopId,
         ColumnName::LocationType,
         ColumnName::ParentStation,
@@ -276,6 +281,13 @@ impl ColumnName {
         ColumnName::FromTripId,
         ColumnName::ToTripId,
     ];
+
+    /// The columns, in the order in which they are declared.
+    pub fn all() -> &'static [ColumnName]
+        ensures { result.now ≡ all_columns }
+    {
+        &ColumnName::ALL
+    }
 
     /// The column's name in a header.
     pub fn text(self) -> &'static str

@@ -12,7 +12,7 @@ use std::marker::Model;
 /// A file's table, whose fields are found by the names of their columns. Contracts see it as the table.
 pub struct NamedTable {
     table: Table,
-    // The place of each column in the header, in the order of `ColumnName::ALL`.
+    // The place of each column in the header, in the order of `ColumnName::all`.
     places: Vec<Option<u32>>,
 }
 
@@ -42,7 +42,7 @@ impl Drop for NamedTable {
 fn places_of(alloc: Global, table: &Table) -> Result<Vec<Option<u32>>, AllocError>
     ensures { IfOk result (λ places. places.items ≡ map (column_of table.now) all_columns) }
 {
-    ColumnName::ALL
+    ColumnName::all()
         .iter()
         .map(|name| table.column(*name))
         .collect(alloc)

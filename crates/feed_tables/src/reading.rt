@@ -49,8 +49,8 @@ impl Tables {
         ensures sound { OnOk result (first_form_fault (held_in files) ≡ None) }
         ensures tables { IfOk result (λ tables. tables ≡ tables_of (held_in files)) }
     {
-        let mut tables = Vec::with_capacity(alloc, FileName::ALL.len())?;
-        for (i, file) in FileName::ALL.iter().enumerate() {
+        let mut tables = Vec::with_capacity(alloc, FileName::all().len())?;
+        for (i, file) in FileName::all().iter().enumerate() {
             push_table(&mut tables, taken_table(alloc, &mut files, *file)?)?;
         }
         Ok(Tables { tables })

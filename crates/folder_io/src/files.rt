@@ -60,7 +60,7 @@ pub enum FileBytes {
 }
 
 /// What is known of each file of a feed. Contracts see it as the list of what is known, in the order of
-/// [`FileName::ALL`].
+/// [`FileName::all`].
 pub struct Files {
     files: [FileBytes; 18],
 }
@@ -144,7 +144,7 @@ impl Files {
 pub(crate) fn file_of(name: &str) -> Option<FileName>
     ensures { result ≡ file_named name.now }
 {
-    FileName::ALL
+    FileName::all()
         .iter()
         .copied()
         .find(|file| file.text() == name)

@@ -92,7 +92,7 @@ pub fn read_files<F: Folder>(alloc: Global, folder: &mut F) -> Result<Files, Rea
     ensures holds { (F.state folder.new).holds ≡ (F.state folder.old).holds }
 {
     let mut files = Files::empty();
-    for (i, name) in FileName::ALL.iter().enumerate() {
+    for (i, name) in FileName::all().iter().enumerate() {
         let bytes = read_file(alloc, folder, *name, MOST_BYTES)?;
         files.put_at(i, bytes);
     }

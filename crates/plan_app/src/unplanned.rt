@@ -74,7 +74,7 @@ fn unplanned_in(feed: &Feed, file: FileName) -> Option<FeedFault>
 pub(crate) fn unplanned_fault(feed: &Feed) -> Option<FeedFault>
     ensures { result ≡ unplanned_fault feed.now }
 {
-    for (i, file) in FileName::ALL.iter().enumerate() {
+    for (i, file) in FileName::all().iter().enumerate() {
         if let Some(fault) = unplanned_in(feed, *file) {
             return Some(fault);
         }

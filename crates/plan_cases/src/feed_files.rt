@@ -70,7 +70,7 @@ impl FeedFiles {
     // Adds the file that the section holds.
     fn add_file(&mut self, alloc: Global, section: &Section) -> Result<()> {
         let name = section.name();
-        let Some(file) = FileName::ALL.iter().find(|file| file.text() == name) else {
+        let Some(file) = FileName::all().iter().find(|file| file.text() == name) else {
             bail!("the section {name:?} is neither known nor a file");
         };
         self.files.push(FeedFile {

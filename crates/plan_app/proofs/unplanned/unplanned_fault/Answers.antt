@@ -6,15 +6,23 @@ use Rattle.plan_app.proofs.unplanned.unplanned_fault.Goals as goal
 
 pub returns-in-Some : goal.returns-in-Some
 unfolding unplanned_fault
-returns-in-Some c = sym (first_in_found all_files (unplanned_in c.args.feed.now) c.loop-i.i _ _ c.loop-i-test.true c.loop-i.invariant (sym c.in-Some.ensures))
+returns-in-Some c =
+    let named = rw c.all-file-items.ensures at c.loop-i-test.true in
+    let found = rw c.all-file-items.ensures at c.in-Some.ensures in
+    sym (first_in_found all_files (unplanned_in c.args.feed.now) c.loop-i.i _ _ named c.loop-i.invariant (sym found))
 
 pub loop-i-preserved : goal.loop-i-preserved
-loop-i-preserved c = first_in_next all_files (unplanned_in c.args.feed.now) c.loop-i.i _ c.loop-i-test.true c.loop-i.invariant (sym c.in_default.ensures)
+loop-i-preserved c =
+    let named = rw c.all-file-items.ensures at c.loop-i-test.true in
+    let none = rw c.all-file-items.ensures at c.in_default.ensures in
+    first_in_next all_files (unplanned_in c.args.feed.now) c.loop-i.i _ named c.loop-i.invariant (sym none)
 
 pub returns : goal.returns
 unfolding unplanned_fault
 returns c =
-    let all : c.loop-i.i ≡ 18 = omega (arith, c.loop-i.auto.i-end, c.loop-i-test.false) in
+    let ends = rw c.all-file-items.ensures at c.loop-i.auto.i-end in
+    let past = rw c.all-file-items.ensures at c.loop-i-test.false in
+    let all : c.loop-i.i ≡ 18 = omega (arith, ends, past) in
     let none = c.loop-i.invariant in
     let whole = rw all at none in
     sym whole

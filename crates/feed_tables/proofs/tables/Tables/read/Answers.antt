@@ -15,29 +15,37 @@ pub returns-in_err-taken_table-clause-fault : goal.returns-in_err-taken_table-cl
 unfolding first_form_fault
 returns-in_err-taken_table-clause-fault c =
     let before = c.loop-i.invariant in
-    let own = rw (next_fault c.args.files c.loop-i.files c.loop-i.i _ c.loop-i-test.true before.left) at c.in_err-taken_table.ensures.fault in
-    let first : IsErrorOf (first_form_fault (held_in c.args.files)) c.in_err-taken_table.field-0.0 = error_at all_files (form_fault (held_in c.args.files)) c.loop-i.i _ c.in_err-taken_table.field-0.0 c.loop-i-test.true before.none own in
+    let lt = rw c.all-file-items.ensures at c.loop-i-test.true in
+    let own = rw (c.all-file-items.ensures, next_fault c.args.files c.loop-i.files c.loop-i.i _ lt before.left) at c.in_err-taken_table.ensures.fault in
+    let first : IsErrorOf (first_form_fault (held_in c.args.files)) c.in_err-taken_table.field-0.0 = error_at all_files (form_fault (held_in c.args.files)) c.loop-i.i _ c.in_err-taken_table.field-0.0 lt before.none own in
     grind (arith, common_steps, first)
 
 pub loop-i-preserved : goal.loop-i-preserved
 loop-i-preserved c =
     let before = c.loop-i.invariant in
-    let lt = c.loop-i-test.true in
+    let lt = rw c.all-file-items.ensures at c.loop-i-test.true in
+    let table = rw c.all-file-items.ensures at c.in_ok-taken_table.ensures.table in
+    let sound = rw c.all-file-items.ensures at c.in_ok-taken_table.ensures.sound in
+    let others = rw c.all-file-items.ensures at c.in_ok-taken_table.ensures.others in
     record {
-      tables = rw (c.in_ok-push_table.ensures, before.tables, c.in_ok-taken_table.ensures.table, next_table c.args.files c.loop-i.files c.loop-i.i _ lt before.left)
+      tables = rw (c.in_ok-push_table.ensures, before.tables, table, next_table c.args.files c.loop-i.files c.loop-i.i _ lt before.left)
           (sym (map_more (λ file. table_of (held_in c.args.files file)) all_files c.loop-i.i _ lt));
-      none = first_in_next all_files (form_fault (held_in c.args.files)) c.loop-i.i _ lt before.none (sym (next_fault c.args.files c.loop-i.files c.loop-i.i _ lt before.left) ∙ c.in_ok-taken_table.ensures.sound);
-      left = left_next c.args.files c.loop-i.files c.loop-i.i _ lt before.left c.taken_table.new.files c.in_ok-taken_table.ensures.others;
+      none = first_in_next all_files (form_fault (held_in c.args.files)) c.loop-i.i _ lt before.none (sym (next_fault c.args.files c.loop-i.files c.loop-i.i _ lt before.left) ∙ sound);
+      left = left_next c.args.files c.loop-i.files c.loop-i.i _ lt before.left c.taken_table.new.files others;
       within = c.in_ok-taken_table.ensures.within;
     }
 
 pub returns-clause-tables : goal.returns-clause-tables
 unfolding tables_of
-returns-clause-tables c = rw (take_all c.loop-i.i all_files c.loop-i-test.false) at c.loop-i.invariant.tables
+returns-clause-tables c =
+    let past = rw c.all-file-items.ensures at c.loop-i-test.false in
+    rw (take_all c.loop-i.i all_files past) at c.loop-i.invariant.tables
 
 pub returns-clause-sound : goal.returns-clause-sound
 unfolding first_form_fault
 returns-clause-sound c =
-    let all : c.loop-i.i ≡ 18 = omega (arith, c.loop-i.auto.i-end, c.loop-i-test.false) in
+    let ends = rw c.all-file-items.ensures at c.loop-i.auto.i-end in
+    let past = rw c.all-file-items.ensures at c.loop-i-test.false in
+    let all : c.loop-i.i ≡ 18 = omega (arith, ends, past) in
     let none = c.loop-i.invariant.none in
     rw all at none
