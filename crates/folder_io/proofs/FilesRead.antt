@@ -29,8 +29,11 @@ IsWhole None left bytes = ⊥
 
 -- the same of the file under a name, where it is told
 abbrev pub IsSoFar : Option Contents → List ℕ → Option (List ℕ) → List ℕ → Type 0
-IsSoFar None name left bytes = Unit {0}
-IsSoFar (Some folder) name left bytes = IsWhole (folder name) left bytes
+IsSoFar holds name left bytes = IfSome holds (λ contents. IsWhole (contents name) left bytes)
+
+-- what was read of it, and what is left, where it is told
+abbrev pub AreRead : Option Contents → List ℕ → ℕ → Option (List ℕ) → FileBytes → Type 0
+AreRead holds name limit left bytes = IfSome holds (λ contents. IsRead contents name limit bytes) × IfSome holds (λ contents. StopsPast contents name limit left bytes)
 
 -- what is held of a file of a feed
 abbrev pub held_under : Contents → FileName → HeldFile
@@ -67,7 +70,7 @@ absent_held : (under left : Option (List ℕ)) (limit : ℕ) → Finds under lef
 absent_held None left limit finds = refl
 absent_held (Some all) left limit finds = absurd finds
 
-pub absent_read : (holds : Option Contents) (name : List ℕ) (left : Option (List ℕ)) (limit : ℕ) → IfSome holds (λ held. Finds (held name) left opened.Absent) → IsRead holds name limit kept.Absent × StopsPast holds name limit left kept.Absent
+pub absent_read : (holds : Option Contents) (name : List ℕ) (left : Option (List ℕ)) (limit : ℕ) → IfSome holds (λ held. Finds (held name) left opened.Absent) → AreRead holds name limit left kept.Absent
 absent_read None name left limit finds = (tt, tt)
 absent_read (Some folder) name left limit finds = (absent_held (folder name) left limit finds, tt)
 
@@ -81,7 +84,7 @@ end_held (Some all) (Some rest) later bytes room limit so_far takes le =
     rw (same, fits) refl
 
 pub end_read : (holds : Option Contents) (name bytes room : List ℕ) (left later : Option (List ℕ)) (limit : ℕ) → IsSoFar holds name left bytes → IfSome left (λ rest. Takes rest later room piece.End) → length bytes ≤ limit
-    → IsRead holds name limit (kept.Bytes bytes) × StopsPast holds name limit later (kept.Bytes bytes)
+    → AreRead holds name limit later (kept.Bytes bytes)
 end_read None name bytes room left later limit so_far takes le = (tt, tt)
 end_read (Some folder) name bytes room left later limit so_far takes le = (end_held (folder name) left later bytes room limit so_far takes le, tt)
 
@@ -93,18 +96,17 @@ large_held (Some all) (Some rest) bytes limit so_far size =
     let long : nat_lt limit (length all) ≡ true = grind (arith, nat_tests, ap length so_far, length-append bytes rest, size) in
     (rw long refl, rw (size, so_far, drop-append_seam bytes rest) refl)
 
-pub large_read : (holds : Option Contents) (name bytes : List ℕ) (left : Option (List ℕ)) (limit : ℕ) → IsSoFar holds name left bytes → limit + 1 ≡ length bytes → IsRead holds name limit kept.TooLarge × StopsPast holds name limit left kept.TooLarge
+pub large_read : (holds : Option Contents) (name bytes : List ℕ) (left : Option (List ℕ)) (limit : ℕ) → IsSoFar holds name left bytes → limit + 1 ≡ length bytes → AreRead holds name limit left kept.TooLarge
 large_read None name bytes left limit so_far size = (tt, tt)
 large_read (Some folder) name bytes left limit so_far size = large_held (folder name) left bytes limit so_far size
 
 -- the files so far are those that are held, where that is told
 abbrev pub AreReadSoFar : Option Contents → List FileName → List FileBytes → Type 0
-AreReadSoFar None names files = Unit {0}
-AreReadSoFar (Some folder) names files = map held_of files ≡ map (held_under folder) names
+AreReadSoFar holds names files = IfSome holds (λ contents. map held_of files ≡ map (held_under contents) names)
 
 -- one file more
 pub more_read : (holds : Option Contents) (files : List FileBytes) (i : ℕ) (bytes : FileBytes) (d : FileName) → i < length all_files → i < length files
-    → AreReadSoFar holds (take i all_files) (take i files) → IsRead holds (file_text (get_or all_files i d)) most_bytes bytes
+    → AreReadSoFar holds (take i all_files) (take i files) → IfSome holds (λ contents. IsRead contents (file_text (get_or all_files i d)) most_bytes bytes)
     → AreReadSoFar holds (take (i + 1) all_files) (take (i + 1) (slice_set files i bytes))
 more_read None files i bytes d named lt so_far read = tt
 more_read (Some folder) files i bytes d named lt so_far read =

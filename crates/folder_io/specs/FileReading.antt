@@ -1,5 +1,5 @@
 -- What reading files answers.
-use Rattle.std.specs.Prelude.{◌≡◌, ℕ, ◌+◌, List, map, take, drop, Option, option_map, true, IfSome}
+use Rattle.std.specs.Prelude.{◌≡◌, ℕ, ◌+◌, List, map, take, drop, Option, option_map, true}
 use Rattle.feed_rows.specs.FaultCounts.{Rose, Stayed}
 use Rattle.feed_rows.specs.HeldFiles.{HeldFile, held_within, held}
 use Rattle.feed_rows.specs.Names.{file_text}
@@ -10,7 +10,7 @@ use Rattle.folder_io.specs.declared.reading.ReadError.{ReadError}
 use Rattle.folder_io.specs.declared.reading.ReadError.TheVariants as error
 use Rattle.folder_io.specs.CallLogs.{Makes}
 use Rattle.feed_rows.specs.Names.{all_files}
-use Rattle.folder_io.specs.FolderCalls.{Contents, FolderState}
+use Rattle.folder_io.specs.FolderCalls.{Contents, FolderState, WhereTold}
 use Rattle.folder_io.specs.KeptFiles.{held_of}
 
 -- why a read gave up: a call of the folder failed, and it is the last one that was made; or memory was wanting
@@ -18,23 +18,19 @@ abbrev pub GivesUp : ReadError → FolderState → FolderState → Type 0
 GivesUp error.ReadFault before now = Rose before.faults now.faults × (now.failed ≡ true)
 GivesUp error.NoMemory before now = Stayed before.faults now.faults
 
--- what was read of a file is what is held of it, where that is told
-abbrev pub IsRead : Option Contents → List ℕ → ℕ → FileBytes → Type 0
-IsRead holds name limit bytes = IfSome holds (λ folder. held_of bytes ≡ held_within limit (folder name))
+-- what was read of a file is what is held under its name
+abbrev pub IsRead : Contents → List ℕ → ℕ → FileBytes → Type 0
+IsRead contents name limit bytes = held_of bytes ≡ held_within limit (contents name)
 
 -- of a file that is too large, so many bytes and one were taken
-abbrev pub TakesMost : List ℕ → Contents → ℕ → Option (List ℕ) → FileBytes → Type 0
-TakesMost name folder limit left kept.TooLarge = left ≡ option_map (drop (limit + 1)) (folder name)
-TakesMost name folder limit left kept.Absent = Unit {0}
-TakesMost name folder limit left (kept.Bytes bytes) = Unit {0}
+abbrev pub StopsPast : Contents → List ℕ → ℕ → Option (List ℕ) → FileBytes → Type 0
+StopsPast contents name limit left kept.TooLarge = left ≡ option_map (drop (limit + 1)) (contents name)
+StopsPast contents name limit left kept.Absent = Unit {0}
+StopsPast contents name limit left (kept.Bytes bytes) = Unit {0}
 
--- the same, where it is told what is held
-abbrev pub StopsPast : Option Contents → List ℕ → ℕ → Option (List ℕ) → FileBytes → Type 0
-StopsPast holds name limit left bytes = IfSome holds (λ folder. TakesMost name folder limit left bytes)
-
--- the files are those that a folder holds, where it tells what it holds; of one that doesn't tell, they are what it gave
+-- the files are those that a folder holds; of one that doesn't tell, they are what it gave
 abbrev pub Gives : FolderState → (FileName → HeldFile) → Type 0
-Gives folder files = IfSome folder.holds (λ contents. files ≡ held contents)
+Gives folder files = WhereTold folder (λ contents. files ≡ held contents)
 
 -- the names of a feed's files, in the order in which they are opened
 abbrev pub file_names : List (List ℕ)

@@ -1,5 +1,5 @@
 -- What the calls of a folder say, over plain values: counts, names, bytes and answers.
-use Rattle.std.specs.Prelude.{◌≡◌, ℕ, ◌≤◌, List, [], length, take, drop, Option, None, Some, Bool, true, false}
+use Rattle.std.specs.Prelude.{◌≡◌, ℕ, ◌≤◌, List, [], length, take, drop, Option, None, Some, Bool, true, false, IfSome}
 use Rattle.feed_rows.specs.FaultCounts.{Rose, Stayed}
 use Rattle.folder_io.specs.declared.folder.Opened.{Opened}
 use Rattle.folder_io.specs.declared.folder.Opened.TheVariants as opened
@@ -25,6 +25,10 @@ pub record FolderState : Type 0 where
   pub faults : ℕ
   -- the names that were opened
   pub opens : CallLog
+
+-- this is so of what a folder holds, where it tells that; of one that doesn't tell, nothing is said
+abbrev pub WhereTold : FolderState → (Contents → Type 0) → Type 0
+WhereTold folder fact = IfSome folder.holds fact
 
 -- the count before and after a call: it rose where the call failed, and stayed where it didn't
 abbrev pub CountsFault : Bool → ℕ → ℕ → Type 0

@@ -31,7 +31,7 @@ pub enum Piece {
 /// Every failure is counted: a call answers Failed only where the count of faults rose, and any other answer leaves the
 /// count as it was. Each open is told too, as far as the object counts them.
 pub trait Folder {
-    ghost use Rattle.folder_io.specs.FolderCalls.{FolderState, CountsFault, is_present, is_failed_open, is_failed_read, Finds, Takes, FitsRoom};
+    ghost use Rattle.folder_io.specs.FolderCalls.{FolderState, WhereTold, CountsFault, is_present, is_failed_open, is_failed_read, Finds, Takes, FitsRoom};
     ghost use Rattle.folder_io.specs.CallLogs.{Makes};
 
     /// What the folder tells of itself.
@@ -44,7 +44,7 @@ pub trait Folder {
         ensures failed { (state self.new).failed ≡ is_failed_open result }
         ensures present { (state self.new).present ≡ is_present result }
         ensures holds { (state self.new).holds ≡ (state self.old).holds }
-        ensures finds { IfSome (state self.old).holds (λ held. Finds (held name.now) (state self.new).left result) }
+        ensures finds { WhereTold (state self.old) (λ contents. Finds (contents name.now) (state self.new).left result) }
         ensures opens { Makes (state self.old).opens (name.now ∷ []) (state self.new).opens };
 
     /// Reads on in the open file, at most as much as the room takes.

@@ -4,6 +4,7 @@ ghost use Rattle.feed_rows.specs.FaultCounts.{Stayed};
 ghost use Rattle.feed_rows.specs.Names.{file_text};
 ghost use Rattle.folder_io.specs.CallLogs.{Makes};
 ghost use Rattle.folder_io.specs.KeptFiles.{IsWithin, AreWithin, held_in};
+ghost use Rattle.folder_io.specs.FolderCalls.{WhereTold};
 ghost use Rattle.folder_io.specs.FileReading.{GivesUp, IsRead, StopsPast, Gives, OpensAll, OpensSome};
 
 use crate::{ByteText, FileBytes, Files, Folder, Opened, Piece};
@@ -50,8 +51,8 @@ pub fn read_file<F: Folder>(
     limit: u32,
 ) -> Result<FileBytes, ReadError>
     ensures within { IfOk result (IsWithin limit) }
-    ensures bytes { IfOk result (IsRead (F.state folder.old).holds (file_text name) limit) }
-    ensures stops_past { IfOk result (StopsPast (F.state folder.old).holds (file_text name) limit (F.state folder.new).left) }
+    ensures bytes { IfOk result (λ bytes. WhereTold (F.state folder.old) (λ contents. IsRead contents (file_text name) limit bytes)) }
+    ensures stops_past { IfOk result (λ bytes. WhereTold (F.state folder.old) (λ contents. StopsPast contents (file_text name) limit (F.state folder.new).left bytes)) }
     ensures ok { OnOk result (Stayed (F.state folder.old).faults (F.state folder.new).faults) }
     ensures err { IfErr result (λ error. GivesUp error (F.state folder.old) (F.state folder.new)) }
     ensures holds { (F.state folder.new).holds ≡ (F.state folder.old).holds }

@@ -1,10 +1,10 @@
 -- Each answer of the program with its cause: what holds of the words, and of the folder and the sink before and after.
-use Rattle.std.specs.Prelude.{◌≡◌, ◌⊎◌, ℕ, List, Result, Ok, Err, IsOk, Some}
+use Rattle.std.specs.Prelude.{◌≡◌, ◌⊎◌, ℕ, List, Result, Ok, Err, IsOk}
 use Rattle.feed_rows.specs.FaultCounts.{Rose}
 use Rattle.feed_rows.specs.HeldFiles.{held}
 use Rattle.feed_rows.specs.Requests.{Request}
 use Rattle.feed_rows.specs.declared.usage.UsageFault.{UsageFault}
-use Rattle.folder_io.specs.FolderCalls.{Contents, FolderState}
+use Rattle.folder_io.specs.FolderCalls.{FolderState, WhereTold}
 use Rattle.folder_io.specs.FileReading.{OpensAll}
 use Rattle.folder_io.specs.SinkCalls.{SinkState}
 use Rattle.feed_check.specs.LoadErrors.{FailsReading, StopsReading}
@@ -34,5 +34,5 @@ pub data Explains (words : List (List ℕ)) (folder later : FolderState) (sink a
 -- wanting
 abbrev pub AnswersAll : List (List ℕ) → FolderState → FolderState → SinkState → SinkState → Status → Type 0
 AnswersAll words folder later sink after answer =
-    (contents : Contents) (task : Task) → folder.holds ≡ Some contents → due (held contents) words ≡ Ok task →
-    ¬ (Rose folder.faults later.faults) → ¬ (Rose sink.faults after.faults) → (answer ≡ status.Answered) ⊎ (answer ≡ status.NoMemory)
+    WhereTold folder (λ contents. (task : Task) → due (held contents) words ≡ Ok task →
+    ¬ (Rose folder.faults later.faults) → ¬ (Rose sink.faults after.faults) → (answer ≡ status.Answered) ⊎ (answer ≡ status.NoMemory))
