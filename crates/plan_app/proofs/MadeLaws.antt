@@ -7,7 +7,7 @@ use Rattle.feed_rows.specs.HeldFiles.{HeldFile, held}
 use Rattle.folder_io.specs.FolderCalls.{Contents, FolderState}
 use Rattle.folder_io.specs.FileReading.{OpensAll}
 use Rattle.feed_check.specs.LoadErrors.{StopsReading}
-use Rattle.plan_app.specs.Words.{asked_of}
+use Rattle.plan_words.specs.Words.{asked_of}
 use Rattle.plan_app.specs.Due.{task_for, IsDue, IsDueOver}
 use Rattle.plan_app.specs.declared.refusal.Refusal.TheVariants as refusal
 use Rattle.plan_app.specs.declared.status.Status.{Status}

@@ -1,5 +1,5 @@
 -- A feed of which nothing is left unplanned has plain fares.
-use Rattle.std.proofs.Common.{◌≡◌, refl, sym, ◌∙◌, arith, length, nat_lt, ℕ, Bool, true, false, List, [], ◌∷◌, slice_index_or, Option, None, Some}
+use Rattle.std.proofs.Common.{◌≡◌, refl, sym, ◌∙◌, arith, length, nat_lt, ℕ, true, false, List, [], ◌∷◌, slice_index_or, Option, None, Some}
 use Rattle.std.specs.Prelude.{IsSome, is_none, slice_get}
 use Rattle.std.specs.List.{list_any}
 use Rattle.std.proofs.lemmas.Bool.Decides.{nat_tests}

@@ -18,7 +18,7 @@ use Rattle.feed_faults.specs.AcceptedFeed.{feed_of}
 use Rattle.folder_io.specs.FolderCalls.{FolderState}
 use Rattle.folder_io.specs.FileReading.{Gives}
 use Rattle.feed_faults.specs.FirstFault.{first_fault}
-use Rattle.plan_app.specs.Words.{asked_of}
+use Rattle.plan_words.specs.Words.{asked_of}
 use Rattle.plan_app.specs.Unplanned.{unplanned_fault}
 use Rattle.plan_app.specs.declared.refusal.Refusal.{Refusal}
 use Rattle.plan_app.specs.declared.refusal.Refusal.TheVariants as refusal

@@ -2,7 +2,7 @@
 use Rattle.std.specs.Prelude.{ℕ, List, Result, IsOk}
 use Rattle.folder_io.specs.FolderCalls.{FolderState}
 use Rattle.feed_check.specs.LoadErrors.{FailsReading, StopsReading}
-use Rattle.plan_app.specs.Words.{asked_of}
+use Rattle.plan_words.specs.Words.{asked_of}
 use Rattle.plan_app.specs.Due.{Task, IsDue, IsDueOver}
 use Rattle.plan_app.specs.declared.refusal.Refusal.{Refusal}
 use Rattle.plan_app.specs.declared.outcome.Outcome.{Outcome}

@@ -8,7 +8,7 @@ use Rattle.folder_io.specs.FolderCalls.{FolderState, WhereTold}
 use Rattle.folder_io.specs.FileReading.{OpensAll}
 use Rattle.folder_io.specs.SinkCalls.{SinkState}
 use Rattle.feed_check.specs.LoadErrors.{FailsReading, StopsReading}
-use Rattle.plan_app.specs.Words.{asked_of}
+use Rattle.plan_words.specs.Words.{asked_of}
 use Rattle.plan_app.specs.Due.{Task, due, IsDueOver}
 use Rattle.plan_app.specs.Written.{WritesAll, WritesSome}
 use Rattle.plan_app.specs.declared.status.Status.{Status}

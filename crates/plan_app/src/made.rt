@@ -1,16 +1,15 @@
 //! What a command answers over a folder.
 ghost use Rattle.std.specs.Prelude.{◌≡◌, IfOk, IfErr, OnOk, IsErr};
 ghost use Rattle.plan_app.specs.Made.{IsMade, Stops};
-ghost use Rattle.plan_app.specs.Words.{asked_of};
+ghost use Rattle.plan_words.specs.Words.{asked_of};
 ghost use Rattle.plan_app.specs.Run.{Reads};
 
 use crate::outcome::{Outcome, Stop, refused};
 use crate::planning::outcome_of;
 use crate::refusal::Refusal;
-use crate::request::asked_of;
-use crate::words::WordList;
 use feed_check::{LoadError, load};
 use folder_io::Folder;
+use plan_words::{WordList, asked_of};
 use std::alloc::Global;
 
 /// What the words answer over a folder: they are judged first, then the files are read, each once and in order, then they

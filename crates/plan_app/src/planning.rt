@@ -3,19 +3,19 @@ ghost use Rattle.std.specs.Prelude.{IfOk, Ok};
 ghost use Rattle.feed_rows.specs.Queries.{query_of};
 ghost use Rattle.plan_app.specs.Due.{Task, plan_task, task_of};
 ghost use Rattle.plan_app.specs.Made.{IsOutcome};
-ghost use Rattle.plan_app.specs.Request.{request_of, asked_request, IsUsualPlan, IsUsualRequest};
+ghost use Rattle.plan_words.specs.Request.{request_of, asked_request, IsUsualPlan, IsUsualRequest};
 ghost use Rattle.plan_app.specs.Unplanned.{unplanned_fault};
 
 use crate::lines::check_line_of;
 use crate::outcome::{Outcome, behind_line, refused};
 use crate::query::query_of;
 use crate::refusal::Refusal;
-use crate::request::{Asked, PlanWords};
 use crate::status::Status;
 use crate::unplanned::unplanned_fault;
 use feed_rows::Feed;
 use feed_timetable::Timetable;
 use plan_plain::plain_entries;
+use plan_words::{Asked, PlanWords};
 use std::alloc::{AllocError, Global};
 use ticket_explain::lines_of;
 

@@ -3,11 +3,11 @@ ghost use Rattle.std.specs.Prelude.{◌≡◌, ◌||◌, [], IfOk};
 ghost use Rattle.feed_rows.specs.StopLinks.{is_platform, is_station};
 ghost use Rattle.feed_rows.specs.Queries.{named_stop, query_of};
 ghost use Rattle.plan_plain.specs.InTime.{IsUsualQuery};
-ghost use Rattle.plan_app.specs.Request.{request_of, IsUsualPlan};
+ghost use Rattle.plan_words.specs.Request.{request_of, IsUsualPlan};
 
-use crate::request::PlanWords;
 use feed_rows::{Feed, PLATFORM, Query, STATION, StopWord, UsageFault};
 use feed_timetable::Timetable;
+use plan_words::PlanWords;
 use transit_base::StopId;
 
 // Whether the stop is a platform or a station.

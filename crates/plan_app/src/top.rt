@@ -1,14 +1,14 @@
 //! The top call.
 ghost use Rattle.std.specs.Prelude.{◌≡◌, IsErr};
-ghost use Rattle.plan_app.specs.Words.{asked_of};
+ghost use Rattle.plan_words.specs.Words.{asked_of};
 ghost use Rattle.plan_app.specs.Run.{AnswersAll, Explains};
 
 use crate::lines::write_text;
 use crate::made::made;
 use crate::outcome::Stop;
 use crate::status::Status;
-use crate::words::WordList;
 use folder_io::{Folder, Sink, Wrote};
+use plan_words::WordList;
 use std::alloc::Global;
 
 /// Runs the command that the words name, over a folder, and writes its text to a sink.

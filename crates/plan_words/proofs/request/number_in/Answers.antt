@@ -1,9 +1,9 @@
 use Rattle.std.proofs.Common.{◌≡◌, false, inl, inr, arith, sym, ◌∙◌}
 use Rattle.std.proofs.lemmas.Bool.Decides.{nat_tests}
 use Rattle.feed_faults.specs.FieldGrammars.{is_negative}
-use Rattle.plan_app.proofs.RequestLaws.{no_number, number_missing, number_found, wide}
-use Rattle.plan_app.proofs.request.number_in.Goals as goal
-use Rattle.plan_app.proofs.request.number_in.Goals.{then-is_empty-via-then-is_empty, then-is_empty-via-else-is_empty+then-word-gt10, then-is_empty-via-else-is_empty+else-word-gt10+then-word-eq45}
+use Rattle.plan_words.proofs.RequestLaws.{no_number, number_missing, number_found, wide}
+use Rattle.plan_words.proofs.request.number_in.Goals as goal
+use Rattle.plan_words.proofs.request.number_in.Goals.{then-is_empty-via-then-is_empty, then-is_empty-via-else-is_empty+then-word-gt10, then-is_empty-via-else-is_empty+else-word-gt10+then-word-eq45}
 
 pub returns-then-is_empty-clause-value : goal.returns-then-is_empty-clause-value
 returns-then-is_empty-clause-value c =

@@ -6,8 +6,8 @@ use Rattle.feed_rows.specs.Requests.{Request}
 use Rattle.feed_rows.specs.UsageFaults.{unless_fault}
 use Rattle.feed_rows.specs.declared.usage.UsageFault.{UsageFault}
 use Rattle.feed_rows.specs.declared.usage.UsageFault.TheVariants as usage
-use Rattle.plan_app.specs.declared.grammar.Form.{Form}
-use Rattle.plan_app.specs.declared.grammar.Form.TheVariants as form
+use Rattle.plan_words.specs.declared.grammar.Form.{Form}
+use Rattle.plan_words.specs.declared.grammar.Form.TheVariants as form
 
 -- the command `plan`, which doesn't know the flag `--stats` yet
 abbrev pub taken_plan : Command

@@ -1,8 +1,8 @@
 use Rattle.std.proofs.Common.{◌≡◌, ◌≤◌, length}
 use Rattle.plain_laws.specs.Plain.{picks_below}
 use Rattle.feed_rows.specs.CommandWords.{is_positional, role_at, word_at}
-use Rattle.plan_app.specs.Words.{behind, form_of}
-use Rattle.plan_app.proofs.grammar.Form.count_positional.Given as goal
+use Rattle.plan_words.specs.Words.{behind, form_of}
+use Rattle.plan_words.proofs.grammar.Form.count_positional.Given as goal
 
 abbrev pub invariant-loop-i : goal.invariant-loop-i
 invariant-loop-i l = record {

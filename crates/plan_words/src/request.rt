@@ -6,8 +6,8 @@ ghost use Rattle.feed_rows.specs.Numerals.{within};
 ghost use Rattle.feed_rows.specs.Requests.{Request};
 ghost use Rattle.feed_rows.specs.WordValues.{word_date, word_number, word_time, option_number};
 ghost use Rattle.feed_rows.specs.UsageFaults.{unless_fault};
-ghost use Rattle.plan_app.specs.Words.{asked_of, behind, form_of, command_of, command_named};
-ghost use Rattle.plan_app.specs.Request.{request_of, asked_request, IsUsualPlan, IsUsualRequest};
+ghost use Rattle.plan_words.specs.Words.{asked_of, behind, form_of, command_of, command_named};
+ghost use Rattle.plan_words.specs.Request.{request_of, asked_request, IsUsualPlan, IsUsualRequest};
 
 use crate::grammar::{Form, option_value};
 use crate::words::WordList;
@@ -20,7 +20,7 @@ const MOST_WINDOW: u32 = 259_200;
 
 /// What a command's words ask for.
 #[derive(Clone, Copy)]
-pub(crate) enum Asked<'a> {
+pub enum Asked<'a> {
     /// Whether the feed is accepted.
     Check,
     /// The journeys of a plan.
@@ -29,7 +29,7 @@ pub(crate) enum Asked<'a> {
 
 /// A plan, as its words say it.
 #[derive(Clone, Copy)]
-pub(crate) struct PlanWords<'a> {
+pub struct PlanWords<'a> {
     /// The id of the stop where it starts.
     pub from: &'a str,
     /// The id of the stop where it ends.
@@ -125,7 +125,7 @@ fn form_named(name: &str) -> Option<Form>
 
 /// What the words ask for, or their first fault.
 #[tactic(auto, unfolding(crate::specs::Words::asked_of, feed_rows::specs::Commands::read_words))]
-pub(crate) fn asked_of(words: &WordList) -> Result<Asked<'_>, UsageFault>
+pub fn asked_of(words: &WordList) -> Result<Asked<'_>, UsageFault>
     ensures value { unless_fault result (λ asked. Ok (asked_request asked)) ≡ asked_of words.now }
     ensures usual { IfOk result IsUsualRequest }
 {

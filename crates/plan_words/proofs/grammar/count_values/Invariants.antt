@@ -2,8 +2,8 @@ use Rattle.std.proofs.Common.{◌≡◌, ◌≤◌}
 use Rattle.std.specs.Prelude.{is_some}
 use Rattle.plain_laws.specs.Plain.{count_below}
 use Rattle.feed_rows.specs.CommandWords.{value_at}
-use Rattle.plan_app.specs.Words.{behind}
-use Rattle.plan_app.proofs.grammar.count_values.Given as goal
+use Rattle.plan_words.specs.Words.{behind}
+use Rattle.plan_words.proofs.grammar.count_values.Given as goal
 
 abbrev pub invariant-loop-i : goal.invariant-loop-i
 invariant-loop-i l = record {

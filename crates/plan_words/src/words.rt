@@ -1,7 +1,7 @@
 //! The words of a command.
 ghost use Rattle.std.specs.Prelude.{◌≡◌, ◌<◌, ◌==◌, ◌++◌, ◌∷◌, [], List, ℕ, OnOk, OnErr, length};
 ghost use Rattle.feed_rows.specs.CommandWords.{word_at};
-ghost use Rattle.plan_app.specs.Words.{behind};
+ghost use Rattle.plan_words.specs.Words.{behind};
 
 use std::alloc::{AllocError, Global};
 use std::marker::Model;

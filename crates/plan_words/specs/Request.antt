@@ -3,9 +3,9 @@ use Rattle.std.specs.Prelude.{◌≤ℤ◌, ◌≤◌, false, pos, negsuc}
 use Rattle.std.specs.Option.{option_copied}
 use Rattle.feed_rows.specs.Limits.{most_window}
 use Rattle.feed_rows.specs.Requests.{PlanRequest, Request}
-use Rattle.plan_app.specs.declared.request.Asked.{Asked}
-use Rattle.plan_app.specs.declared.request.Asked.TheVariants as asked
-use Rattle.plan_app.specs.declared.request.PlanWords.{PlanWords}
+use Rattle.plan_words.specs.declared.request.Asked.{Asked}
+use Rattle.plan_words.specs.declared.request.Asked.TheVariants as asked
+use Rattle.plan_words.specs.declared.request.PlanWords.{PlanWords}
 
 -- the request of a plan
 abbrev pub request_of : PlanWords → PlanRequest

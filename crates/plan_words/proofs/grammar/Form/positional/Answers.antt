@@ -1,9 +1,9 @@
 use Rattle.std.proofs.Common.{sym, ◌∙◌, length, [], arith}
 use Rattle.std.proofs.lemmas.Option.{get_or_from_slice_get}
 use Rattle.feed_rows.specs.CommandWords.{is_positional, role_at, word_at, positional_words}
-use Rattle.plan_app.specs.Words.{behind, form_of}
-use Rattle.plan_app.proofs.WordLaws.{picked_at}
-use Rattle.plan_app.proofs.grammar.Form.positional.Goals as goal
+use Rattle.plan_words.specs.Words.{behind, form_of}
+use Rattle.plan_words.proofs.WordLaws.{picked_at}
+use Rattle.plan_words.proofs.grammar.Form.positional.Goals as goal
 
 pub returns-then-before-number : goal.returns-then-before-number
 returns-then-before-number c =

@@ -1,8 +1,8 @@
 use Rattle.std.proofs.Common.{sym, ◌∙◌, length, arith}
 use Rattle.feed_rows.specs.CommandWords.{is_taken, role_at}
-use Rattle.plan_app.specs.Words.{behind, form_of}
-use Rattle.plan_app.proofs.WordLaws.{all_below_fails}
-use Rattle.plan_app.proofs.grammar.Form.are_taken.Goals as goal
+use Rattle.plan_words.specs.Words.{behind, form_of}
+use Rattle.plan_words.proofs.WordLaws.{all_below_fails}
+use Rattle.plan_words.proofs.grammar.Form.are_taken.Goals as goal
 
 pub returns-then-not-is_taken : goal.returns-then-not-is_taken
 returns-then-not-is_taken c =

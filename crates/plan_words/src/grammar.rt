@@ -4,7 +4,7 @@ ghost use Rattle.std.specs.List.{list_any, list_all};
 ghost use Rattle.std.specs.Option.{option_copied};
 ghost use Rattle.plain_laws.specs.Plain.{all_below, count_below};
 ghost use Rattle.feed_rows.specs.CommandWords.{is_one_of, is_dashed, joined_value, follows_option, role_at, is_taken, is_positional, positional_words, value_at, option_value, is_single_option, fits_form, word_at};
-ghost use Rattle.plan_app.specs.Words.{behind};
+ghost use Rattle.plan_words.specs.Words.{behind};
 
 use crate::words::WordList;
 use feed_rows::WordRole;
@@ -19,7 +19,7 @@ pub(crate) enum Form {
 }
 
 impl Form {
-    ghost use Rattle.plan_app.specs.Words.{form_of};
+    ghost use Rattle.plan_words.specs.Words.{form_of};
 
     // Whether the word is the name of an option.
     fn is_option(self, word: &str) -> bool

@@ -2,11 +2,11 @@ use Rattle.std.proofs.Common.{arith, sym, subst, ◌∙◌, ◌≡◌, Some}
 use Rattle.std.specs.Prelude.{option_map}
 use Rattle.feed_rows.specs.CommandWords.{positional_words}
 use Rattle.feed_rows.specs.WordValues.{word_date, word_time}
-use Rattle.plan_app.specs.Words.{behind, form_of}
-use Rattle.plan_app.specs.declared.grammar.Form.TheVariants as form
-use Rattle.plan_app.proofs.RequestLaws.{bad_window, plan_read, wide}
-use Rattle.plan_app.proofs.WordLaws.{no_stats}
-use Rattle.plan_app.proofs.request.plan_of.Goals as goal
+use Rattle.plan_words.specs.Words.{behind, form_of}
+use Rattle.plan_words.specs.declared.grammar.Form.TheVariants as form
+use Rattle.plan_words.proofs.RequestLaws.{bad_window, plan_read, wide}
+use Rattle.plan_words.proofs.WordLaws.{no_stats}
+use Rattle.plan_words.proofs.request.plan_of.Goals as goal
 
 pub returns-in_default-option_number-2-clause-value : goal.returns-in_default-option_number-2-clause-value
 returns-in_default-option_number-2-clause-value c =

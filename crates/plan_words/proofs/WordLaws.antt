@@ -9,8 +9,8 @@ use Rattle.plain_laws.proofs.Laws.{slice_get-push_last, slice_get-append_left, a
 use Rattle.feed_rows.specs.CommandWords.{CommandForm, word_at, is_one_of, is_dashed, joined_value, follows_option, role_at, is_taken, has_flag, fits_form}
 use Rattle.feed_rows.specs.declared.usage.WordRole.{WordRole}
 use Rattle.feed_rows.specs.declared.usage.WordRole.TheVariants as role
-use Rattle.plan_app.specs.declared.grammar.Form.TheVariants as form
-use Rattle.plan_app.specs.Words.{behind, form_of}
+use Rattle.plan_words.specs.declared.grammar.Form.TheVariants as form
+use Rattle.plan_words.specs.Words.{behind, form_of}
 
 pub length_behind : (words : List (List ℕ)) → length (behind words) ≡ length words - 1
 length_behind [] = refl
