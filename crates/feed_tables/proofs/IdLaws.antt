@@ -97,7 +97,7 @@ ordered_from_sort table name rows sorted listed moved up =
     prefixed = All-permutation IsPrefixed rows sorted moved listed.prefixed
 
 -- rows in order are so by their ids alone
-ids_rise : (rows : List IdRow) → AllPairs IsNotAfter rows → (i j : ℕ) (d : IdRow) → i < j → j < length rows → is_lt (slice_cmp nat_cmp (get_or rows j d).id.now (get_or rows i d).id.now) ≡ false
+pub ids_rise : (rows : List IdRow) → AllPairs IsNotAfter rows → (i j : ℕ) (d : IdRow) → i < j → j < length rows → is_lt (slice_cmp nat_cmp (get_or rows j d).id.now (get_or rows i d).id.now) ≡ false
 ids_rise rows up i j d lt within = told (slice_cmp nat_cmp (get_or rows j d).id.now (get_or rows i d).id.now) (nat_cmp (get_or rows j d).row (get_or rows i d).row) (up i j d lt within)
   where
     told : (a b : Ordering) → is_lt (ordering_then a b) ≡ false → is_lt a ≡ false
@@ -111,7 +111,7 @@ is_less Equal e = absurd (let no : false ≡ true = e in cc)
 is_less Greater e = absurd (let no : false ≡ true = e in cc)
 
 -- an id before one that is less than this one is less too
-less_before : (x y id : List ℕ) → is_lt (slice_cmp nat_cmp y x) ≡ false → is_lt (slice_cmp nat_cmp y id) ≡ true → is_lt (slice_cmp nat_cmp x id) ≡ true
+pub less_before : (x y id : List ℕ) → is_lt (slice_cmp nat_cmp y x) ≡ false → is_lt (slice_cmp nat_cmp y id) ≡ true → is_lt (slice_cmp nat_cmp x id) ≡ true
 less_before x y id up lt = step (slice_cmp nat_cmp y x) refl
   where
     back : slice_cmp nat_cmp x y ≡ ordering_reverse (slice_cmp nat_cmp y x)
@@ -217,7 +217,7 @@ row_of_hit table name rows id place d ordered is_place lt same =
             absurd (omega arith)
 
 -- two ids of which neither is less are one
-one_id : (x y : List ℕ) → is_lt (slice_cmp nat_cmp x y) ≡ false → is_lt (slice_cmp nat_cmp y x) ≡ false → x ≡ y
+pub one_id : (x y : List ℕ) → is_lt (slice_cmp nat_cmp x y) ≡ false → is_lt (slice_cmp nat_cmp y x) ≡ false → x ≡ y
 one_id x y not_less not_more = step (slice_cmp nat_cmp x y) refl
   where
     back : slice_cmp nat_cmp y x ≡ ordering_reverse (slice_cmp nat_cmp x y)

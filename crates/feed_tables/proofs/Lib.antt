@@ -1,5 +1,6 @@
 pub mod PrefixLaws
 pub mod IdLaws
+pub mod GuessLaws
 pub mod PassLaws
 pub mod HeldLaws
 pub mod TakenFiles

@@ -3,9 +3,9 @@ ghost use Rattle.std.specs.Prelude.{◌≡◌, ◌<◌, IfOk, IfSome};
 ghost use Rattle.feed_faults.specs.Records.{row_count};
 ghost use Rattle.feed_faults.specs.RowKeys.{row_of, is_unknown, is_doubled};
 ghost use Rattle.feed_faults.specs.AcceptedFeed.{row_number};
-ghost use Rattle.feed_tables.specs.OrderedRows.{AreOrderedRows};
 
-use crate::id_rows::{IdRow, ordered_rows, place_of, row_at};
+use crate::guesses::{found_row, guesses_of};
+use crate::id_rows::{IdRow, ordered_rows};
 use crate::named::NamedTable;
 use feed_rows::ColumnName;
 use std::alloc::{AllocError, Global};
@@ -17,17 +17,19 @@ pub struct IdIndex<'t> {
     name: ColumnName,
     // All rows, in the order of their ids.
     rows: Vec<IdRow<'t>>,
+    // Where an id may stand among them, looked up before they are searched.
+    guesses: Vec<u32>,
 }
 
 impl<'t> Model for IdIndex<'t> {
     ghost use Rattle.feed_tables.specs.IndexedColumns.{IndexedColumn};
-    ghost use Rattle.feed_tables.specs.OrderedRows.{AreOrderedRows};
+    ghost use Rattle.feed_tables.specs.Guesses.{IsIndex};
 
     ghost Value = { IndexedColumn };
 
     ghost view = { λ i. record { table = i.table.now; name = i.name } };
 
-    ghost invariant = { λ i. AreOrderedRows i.table.now i.name i.rows.items };
+    ghost invariant = { λ i. IsIndex i.table.now i.name i.rows.items i.guesses.items };
 }
 
 // Written out, so that what lets go of an index needn't look into it.
@@ -37,6 +39,7 @@ impl<'t> Drop for IdIndex<'t> {
             table: _,
             name: _,
             rows: _,
+            guesses: _,
         } = self;
     }
 }
@@ -54,15 +57,21 @@ impl<'t> IdIndex<'t> {
         ensures { IfOk result (λ index. index ≡ record { table = table.now; name = name }) }
     {
         let rows = ordered_rows(alloc, table, name)?;
-        Ok(IdIndex { table, name, rows })
+        let guesses = guesses_of(alloc, &rows)?;
+        Ok(IdIndex {
+            table,
+            name,
+            rows,
+            guesses,
+        })
     }
 
-    /// The earliest row with this id, by a binary search.
+    /// The earliest row with this id: by a guess, or else by a binary search.
     pub fn row_of(&self, id: &[u8]) -> Option<u32>
         ensures row { result ≡ row_of self.now.table self.now.name id.now }
         ensures within { IfSome result (λ row. row < row_count self.now.table) }
     {
-        row_at(&self.rows, place_of(&self.rows, id), id)
+        found_row(&self.rows, &self.guesses, id)
     }
 
     /// The number of the earliest row with this id; that after the last row where no row has it.

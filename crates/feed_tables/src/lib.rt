@@ -3,6 +3,7 @@
 
 mod fields;
 mod files;
+mod guesses;
 mod id_rows;
 mod ids;
 mod index;

@@ -1,0 +1,86 @@
+//! Guesses where an id stands among rows that are in the order of their ids: one row for each slot of a table that is hashed.
+ghost use Rattle.std.specs.Prelude.{◌≤◌, ◌<◌, All, AllPairs, length, IfOk};
+ghost use Rattle.std.specs.Bool.{OnTrue};
+ghost use Rattle.feed_tables.specs.OrderedRows.{IsNotAfter, IsPrefixed};
+ghost use Rattle.feed_tables.specs.Guesses.{IsGuess, AreGuesses, IsFound};
+
+use crate::id_rows::{IdRow, place_of, row_at};
+use std::alloc::{AllocError, Global};
+
+// A number made of all bytes of an id. What it is has no meaning; ids that meet in a slot are searched for.
+#[inline(always)]
+fn hash_of(id: &[u8]) -> u64 {
+    let mut hash = 0u64;
+    for byte in id {
+        hash = (hash ^ u64::from(*byte)).wrapping_mul(0x9e37_79b9_7f4a_7c15);
+        hash ^= hash >> 29;
+    }
+    hash
+}
+
+// The slot of an id among so many.
+#[inline(always)]
+fn slot_of(id: &[u8], slots: usize) -> usize
+    requires { 1 ≤ slots }
+    ensures { result < slots }
+{
+    hash_of(id) as usize & (slots - 1)
+}
+
+// How many slots so many rows have: a power of two, and twice as many or more.
+fn slots_for(rows: usize) -> usize
+    ensures { 1 ≤ result }
+{
+    let mut slots = 1usize;
+    for _ in 0..32 {
+        if slots / 2 < rows {
+            slots = slots.saturating_mul(2);
+        }
+    }
+    slots
+}
+
+// Whether no earlier row has the id of the row at a place.
+fn is_first(rows: &[IdRow], place: usize) -> bool
+    requires sorted { AllPairs IsNotAfter rows.now }
+    requires within { place < length rows.now }
+    ensures { OnTrue result (IsGuess rows.now place) }
+{
+    if place == 0 {
+        return true;
+    }
+    rows[place - 1].id != rows[place].id
+}
+
+/// A guess for each slot.
+///
+/// # Errors
+/// Want of memory.
+pub fn guesses_of(alloc: Global, rows: &[IdRow]) -> Result<Vec<u32>, AllocError>
+    requires { AllPairs IsNotAfter rows.now }
+    ensures { IfOk result (λ guesses. AreGuesses rows.now guesses.items) }
+{
+    let mut guesses = Vec::new(alloc);
+    guesses.resize(slots_for(rows.len()), 0u32)?;
+    for place in 0..rows.len().min(u32::MAX as usize) {
+        if is_first(rows, place) {
+            let slot = slot_of(rows[place].id, guesses.len());
+            guesses[slot] = place as u32;
+        }
+    }
+    Ok(guesses)
+}
+
+/// The first row with an id: by the guess for it, or else by a binary search.
+pub fn found_row(rows: &[IdRow], guesses: &[u32], id: &[u8]) -> Option<u32>
+    requires sorted { AllPairs IsNotAfter rows.now }
+    requires prefixed { All IsPrefixed rows.now }
+    requires guessed { AreGuesses rows.now guesses.now }
+    ensures { IsFound rows.now id.now result }
+{
+    let guess = guesses[slot_of(id, guesses.len())];
+    if let Some(row) = row_at(rows, guess as usize, id) {
+        return Some(row);
+    }
+    row_at(rows, place_of(rows, id), id)
+}
