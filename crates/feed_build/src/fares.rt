@@ -8,13 +8,13 @@ ghost use Rattle.feed_soundness.specs.AcceptedTables.{AreFormed};
 
 use crate::rows::FileRow;
 use crate::source::Source;
-use crate::values::{MOST_INT, filled, finite_count, second_or};
+use crate::values::{MOST_INT, filled, finite_count};
 use feed_rows::{
     AreaRow, ColumnName, FileName, Id, LegRuleRow, Limit, MediumRow, ProductRow, RiderRow,
     StopAreaRow, TimeframeRow, TransferRuleRow,
 };
 use feed_tables::{IdColumn, NamedTable, Tables};
-use feed_text::{amount_or_past, currency_of, int_or_past, optional_int};
+use feed_text::{amount_or_past, currency_of, int_or_past, optional_int, second_or};
 use std::alloc::AllocError;
 use transit_base::{
     AreaId, DAY_SECONDS, FrameId, LegGroupId, MediumId, NetworkId, ProductId, RiderId, ServiceId,

@@ -10,13 +10,13 @@ ghost use Rattle.feed_faults.specs.AcceptedFeed.{accepted_parent, stop_row, netw
 
 use crate::rows::FileRow;
 use crate::source::Source;
-use crate::values::{MOST_INT, filled, time_or_past};
+use crate::values::{MOST_INT, filled};
 use feed_rows::{
     ColumnName, ExceptionRow, FileName, FrequencyRow, Id, LinkRow, LinkRows, PLATFORM, RouteRow,
     ServiceRow, StopRow, TripRow,
 };
 use feed_tables::{IdColumn, NamedTable, is_passed_over, stop_kind};
-use feed_text::{day_or_past, int_or_past, is_filled, optional_int};
+use feed_text::{day_or_past, int_or_past, is_filled, optional_int, time_or_past};
 use std::alloc::AllocError;
 use transit_base::{MOST_TIME, NetworkId, RouteId, ServiceId, StopId, TripId};
 

@@ -1,23 +1,21 @@
 //! Timeframes.
-ghost use Rattle.std.specs.Prelude.{◌≡◌, ◌<◌, ◌≤◌, ◌+◌, ◌-◌, ◌^◌, if◌then◌else◌, true, All, length, None, Some, IfOk, IfSome};
+ghost use Rattle.std.specs.Prelude.{◌≡◌, ◌<◌, ◌≤◌, ◌+◌, ◌-◌, ◌^◌, true, All, length, None, Some, IfOk, IfSome};
 ghost use Rattle.std.specs.List.Sorted.{IsPermutation};
 ghost use Rattle.feed_rows.specs.declared.names.ColumnName.TheVariants as column;
 ghost use Rattle.feed_rows.specs.declared.names.FileName.TheVariants as file;
 ghost use Rattle.plain_laws.specs.Plain.{find_below, any_below, list_below};
-ghost use Rattle.transit_base.specs.Limits.{day_seconds};
-ghost use Rattle.feed_faults.specs.Records.{row_count, is_filled};
+ghost use Rattle.feed_faults.specs.Records.{row_count};
 ghost use Rattle.feed_faults.specs.FeedTables.{table_in};
-ghost use Rattle.feed_faults.specs.FieldValues.{time_or_past, frame_start, frame_end};
+ghost use Rattle.feed_faults.specs.FieldValues.{frame_start, frame_end};
 ghost use Rattle.feed_faults.specs.FareRelations.{do_frames_overlap, is_bad_frame};
 ghost use Rattle.feed_faults.specs.RowKeys.{is_repeated};
 ghost use Rattle.feed_relations.specs.Frames.{frame_of, is_malformed, IsOpen, do_overlap, overlaps_earlier, has_overlap, DoAscend, neighbours_overlap};
 
 use crate::judged::JudgedFeed;
 use crate::rows::is_one_filled;
-use crate::times::time_or_past;
 use feed_rows::{ColumnName, FileName};
 use feed_tables::{IdColumn, IdIndex, NamedTable};
-use feed_text::is_filled;
+use feed_text::second_or;
 use std::alloc::{AllocError, Global};
 use transit_base::DAY_SECONDS;
 
@@ -30,23 +28,12 @@ pub struct Frame {
     pub end: u32,
 }
 
-// The time of a field; another where it is empty.
-fn time_or(text: &[u8], empty: u32) -> u32
-    ensures { result ≡ (if is_filled text.now then time_or_past day_seconds text.now else empty) }
-{
-    if is_filled(text) {
-        time_or_past(text, DAY_SECONDS)
-    } else {
-        empty
-    }
-}
-
 // The first second of a row's timeframe.
 fn frame_start(frames: &NamedTable, row: u32) -> u32
     requires { row < row_count frames.now }
     ensures { result ≡ frame_start frames.now row }
 {
-    time_or(frames.field(row, ColumnName::StartTime), 0)
+    second_or(frames.field(row, ColumnName::StartTime), 0)
 }
 
 // The second before which it ends.
@@ -54,7 +41,7 @@ fn frame_end(frames: &NamedTable, row: u32) -> u32
     requires { row < row_count frames.now }
     ensures { result ≡ frame_end frames.now row }
 {
-    time_or(frames.field(row, ColumnName::EndTime), DAY_SECONDS)
+    second_or(frames.field(row, ColumnName::EndTime), DAY_SECONDS)
 }
 
 // Whether a row has one time without the other, or a start not before the end.

@@ -8,10 +8,9 @@ ghost use Rattle.feed_tables.specs.IdColumns.{indexed};
 ghost use Rattle.feed_relations.specs.RowKeys.{row_key, is_key_repeated, AreSeen};
 
 use crate::judged::JudgedFeed;
-use crate::times::time_or_past;
 use feed_rows::{ColumnName, FileName};
 use feed_tables::IdColumn;
-use feed_text::day_or_past;
+use feed_text::{day_or_past, time_or_past};
 use std::alloc::{AllocError, Global};
 use std::collections::BTreeSet;
 use transit_base::MOST_TIME;

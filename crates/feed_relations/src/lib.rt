@@ -9,6 +9,5 @@ mod keys;
 mod pass;
 mod places;
 mod rows;
-mod times;
 
 pub use pass::first_relation_fault;

@@ -19,4 +19,6 @@ pub use ids::{currency_of, id_ok};
 pub use numbers::{count_of, int_of, time_of};
 pub use reading::is_always_needed;
 pub use table::{Table, has_record};
-pub use values::{amount_or_past, day_or_past, int_or_past, is_filled, optional_int};
+pub use values::{
+    amount_or_past, day_or_past, int_or_past, is_filled, optional_int, second_or, time_or_past,
+};

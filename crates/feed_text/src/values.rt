@@ -1,13 +1,14 @@
 //! The values of fields. One that is no value of its column gives the one after the greatest.
-ghost use Rattle.std.specs.Prelude.{◌≡◌, ◌≤◌, ◌<◌, ◌+◌, ◌^◌};
+ghost use Rattle.std.specs.Prelude.{◌≡◌, ◌≤◌, ◌<◌, ◌+◌, ◌^◌, if◌then◌else◌};
+ghost use Rattle.transit_base.specs.Limits.{day_seconds};
 ghost use Rattle.feed_faults.specs.Records.{is_filled};
-ghost use Rattle.feed_faults.specs.FieldValues.{int_or_past, optional_int, day_or_past, amount_or_past};
+ghost use Rattle.feed_faults.specs.FieldValues.{int_or_past, optional_int, time_or_past, day_or_past, amount_or_past};
 
 use crate::amounts::amount_of;
 use crate::dates::date_of;
 use crate::ids::currency_of;
-use crate::numbers::int_of;
-use transit_base::{Day, Money};
+use crate::numbers::{int_of, time_of};
+use transit_base::{DAY_SECONDS, Day, Money};
 
 /// Whether a field isn't empty.
 pub fn is_filled(text: &[u8]) -> bool
@@ -42,6 +43,30 @@ pub fn optional_int(text: &[u8], most: u32) -> u32
         int_or_past(text, most)
     } else {
         0
+    }
+}
+
+/// The time of at most so many seconds, or one second more.
+#[tactic(auto, unfolding(feed_faults::specs::FieldValues::time_or_past))]
+pub fn time_or_past(text: &[u8], most: u32) -> u32
+    requires { most < 2 ^ 31 }
+    ensures value { result ≡ time_or_past most text.now }
+    ensures bound { result ≤ most + 1 }
+{
+    match time_of(text, most) {
+        Some(time) => time,
+        None => most + 1,
+    }
+}
+
+/// The second of the day that a text tells, or another one where it is empty.
+pub fn second_or(text: &[u8], other: u32) -> u32
+    ensures { result ≡ if is_filled text.now then time_or_past day_seconds text.now else other }
+{
+    if is_filled(text) {
+        time_or_past(text, DAY_SECONDS)
+    } else {
+        other
     }
 }
 
