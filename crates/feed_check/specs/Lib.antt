@@ -1,2 +1,1 @@
-pub mod CheckErrors
 pub mod LoadErrors

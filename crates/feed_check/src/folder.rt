@@ -3,8 +3,9 @@ ghost use Rattle.std.specs.Prelude.{◌≡◌, IfOk, IfErr, OnOk};
 ghost use Rattle.folder_io.specs.FileReading.{OpensAll};
 ghost use Rattle.feed_check.specs.LoadErrors.{GivesUpLoading, IsFeedOf};
 
-use crate::files::{CheckError, check};
+use crate::files::check;
 use feed_rows::{Feed, FeedFault};
+use feed_text::TextError;
 use folder_io::{Folder, ReadError, read_files};
 use std::alloc::Global;
 
@@ -37,7 +38,7 @@ pub fn load<F: Folder>(alloc: Global, folder: &mut F) -> Result<Feed, LoadError>
     };
     match check(alloc, files) {
         Ok(feed) => Ok(feed),
-        Err(CheckError::Fault(fault)) => Err(LoadError::Fault(fault)),
-        Err(CheckError::NoMemory) => Err(LoadError::NoMemory),
+        Err(TextError::Fault(fault)) => Err(LoadError::Fault(fault)),
+        Err(TextError::NoMemory) => Err(LoadError::NoMemory),
     }
 }

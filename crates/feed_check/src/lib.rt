@@ -4,5 +4,5 @@
 mod files;
 mod folder;
 
-pub use files::{CheckError, check};
+pub use files::check;
 pub use folder::{LoadError, load};

@@ -9,10 +9,10 @@ use Rattle.feed_check.proofs.files.check.Goals as goal
 
 pub related_feed-requires : goal.related_feed-requires
 related_feed-requires c =
-    subst AreFormed (sym c.in-Ok.ensures.tables) (formed (held_in c.args.files) c.in-Ok.ensures.sound)
+    subst AreFormed (sym c.in_ok-tables.ensures.tables) (formed (held_in c.args.files) c.in_ok-tables.ensures.sound)
 
 pub returns-clause-feed : goal.returns-clause-feed
 unfolding feed_of
 returns-clause-feed c =
-    IfOk-weaker c.related_feed.result (λ (feed : FeedRows). feed ≡ rows_of_tables c.in-Ok.tables) (λ feed. feed ≡ feed_of (held_in c.args.files))
-    (λ feed is. is ∙ ap rows_of_tables c.in-Ok.ensures.tables) c.related_feed.ensures.feed
+    IfOk-weaker c.related_feed.result (λ (feed : FeedRows). feed ≡ rows_of_tables c.in_ok-tables.tables) (λ feed. feed ≡ feed_of (held_in c.args.files))
+    (λ feed is. is ∙ ap rows_of_tables c.in_ok-tables.ensures.tables) c.related_feed.ensures.feed
