@@ -1,11 +1,13 @@
 //! What the rows of a feed are made of.
-ghost use Rattle.std.specs.Prelude.{◌≡◌, ◌<◌, IfOk, IfSome};
+ghost use Rattle.std.specs.Prelude.{◌≡◌, ◌<◌, ◌≤◌, ◌*◌, length, IfOk, IfSome};
+ghost use Rattle.feed_rows.specs.Limits.{most_rows};
 ghost use Rattle.feed_tables.specs.IdColumns.{file_of, name_of};
 ghost use Rattle.feed_faults.specs.Records.{row_count};
 ghost use Rattle.feed_faults.specs.RowKeys.{row_of};
 ghost use Rattle.feed_faults.specs.FeedTables.{table_in};
 ghost use Rattle.feed_faults.specs.AcceptedFeed.{row_number, service_names, network_names, frame_names, product_names, group_names};
 ghost use Rattle.feed_soundness.specs.AcceptedTables.{AreFormed};
+ghost use Rattle.feed_build.specs.NameNumbers.{calendar_services};
 
 use crate::name_hash::NameHash;
 use crate::numbering::Numbering;
@@ -55,8 +57,24 @@ impl<'t> Drop for Source<'t> {
     }
 }
 
-// The names of services: those of trips, and behind them the new ones of calendars, of their exceptions and of timeframes.
-#[tactic(auto, unfolding(feed_faults::specs::AcceptedFeed::service_names), using(crate::proofs::ShortNames::trip_services_short, crate::proofs::ShortNames::calendar_services_short, crate::proofs::ShortNames::exception_services_short, crate::proofs::ShortNames::frame_services_short))]
+// The names of services in trips, and behind them the new ones of calendars.
+#[tactic(auto, using(crate::proofs::ShortNames::trip_services_short, crate::proofs::ShortNames::calendar_services_short))]
+fn calendar_services<'t>(
+    alloc: Global,
+    hash: NameHash,
+    tables: &'t Tables,
+) -> Result<Numbering<'t>, AllocError>
+    requires { AreFormed tables.now }
+    ensures names { IfOk result (λ names. names ≡ calendar_services tables.now) }
+    ensures few { IfOk result (λ names. length names ≤ 2 * most_rows) }
+{
+    Numbering::empty(alloc, hash)
+        .with_column(tables, FileName::Trips, ColumnName::ServiceId)?
+        .with_column(tables, FileName::Calendar, ColumnName::ServiceId)
+}
+
+// The names of services: behind those the new ones of the exceptions of calendars, and of timeframes.
+#[tactic(auto, unfolding(feed_faults::specs::AcceptedFeed::service_names), using(crate::proofs::ShortNames::exception_services_short, crate::proofs::ShortNames::frame_services_short))]
 fn service_names<'t>(
     alloc: Global,
     hash: NameHash,
@@ -65,9 +83,7 @@ fn service_names<'t>(
     requires { AreFormed tables.now }
     ensures { IfOk result (λ names. names ≡ service_names tables.now) }
 {
-    Numbering::empty(alloc, hash)
-        .with_column(tables, FileName::Trips, ColumnName::ServiceId)?
-        .with_column(tables, FileName::Calendar, ColumnName::ServiceId)?
+    calendar_services(alloc, hash, tables)?
         .with_column(tables, FileName::CalendarDates, ColumnName::ServiceId)?
         .with_column(tables, FileName::Timeframes, ColumnName::ServiceId)
 }
