@@ -11,7 +11,7 @@ pub use Rattle.plain_laws.proofs.NumberLaws.{less_order, int_lt-true, int_same-t
 pub use Rattle.plain_laws.proofs.OptionalLaws.{Filled, filled_and-true, cond_gives, none_either, none_when, none_map, none_first, none_given, some_value, option_or-cases, none_if, option_and_then-assoc, ChainGives, chain_gives}
 pub use Rattle.plain_laws.proofs.OrderLaws.{IsStrictOrder, AllPairs-cons, AllPairs-tail, AllPairs-head, Contains-cons_cases, Contains-cons_first, Contains-cons_later, HaveSameMembers, same_from_members}
 pub use Rattle.plain_laws.proofs.PartLaws.{rise_le, rise_push, length_parts, parts_push, start_zero, start_after, rise_at, part_at, slice_get-parts, parts-list_below, pushed_part}
-pub use Rattle.plain_laws.proofs.PickLaws.{picks_below_all, picks_below_first}
+pub use Rattle.plain_laws.proofs.PickLaws.{picks_below_all, picks_below_first, picks_below-same, picks_below-none, Contains-picks_below, IsPicked, picks_below-tells, AllPairs-picks_below, picks_from_ascending}
 pub use Rattle.plain_laws.proofs.PlaceLaws.{slice_get-push_before, slice_get-push_last, slice_get-append_left, slice_get-old_item, slice_get-new_item, All-slice_get, ForItem-slice_get, same-place, same-key, same-keys, All-from, AllPairs-append, Contains-slice_get, slice_get-Contains, none_holds, one_item, no_item, cut_further}
 pub use Rattle.plain_laws.proofs.StepLaws.{after_first-same, after_first-append, after_first-push, after_first-cons, after_first-all, after-append, after-push}
 pub use Rattle.plain_laws.proofs.TestLaws.{same_test, holds_else, rest_fails, or_false}
