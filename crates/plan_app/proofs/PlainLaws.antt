@@ -1,26 +1,20 @@
 -- A feed of which nothing is left unplanned has plain fares.
-use Rattle.std.proofs.Common.{◌≡◌, refl, sym, ◌∙◌, arith, length, nat_lt, ℕ, true, false, List, [], ◌∷◌, slice_index_or, Option, None, Some}
-use Rattle.std.specs.Prelude.{IsSome, is_none, slice_get}
-use Rattle.std.specs.List.{list_any}
+use Rattle.std.proofs.Common.{◌≡◌, refl, sym, ◌∙◌, arith, length, nat_lt, ℕ, true, false, List, [], ◌∷◌, None, Some}
+use Rattle.std.specs.Prelude.{slice_get}
 use Rattle.std.proofs.lemmas.Bool.Decides.{nat_tests}
-use Rattle.transit_base.specs.declared.numbers.NetworkId.{NetworkId}
 use Rattle.feed_rows.specs.Names.{all_files}
 use Rattle.feed_rows.specs.declared.names.FileName.{FileName}
 use Rattle.feed_rows.specs.declared.names.FileName.TheVariants as file
 use Rattle.feed_rows.specs.declared.faults.FaultKind.TheVariants as kind
 use Rattle.feed_rows.specs.FeedRows.{FeedRows}
 use Rattle.feed_faults.specs.FaultPlaces.{file_fault}
-use Rattle.plain_laws.proofs.Laws.{none_in, none_when, or_false, none_holds}
+use Rattle.plain_laws.proofs.Laws.{none_in, none_when}
 use Rattle.plan_plain.specs.Prices.{HasPlainFares}
-use Rattle.plan_app.specs.Unplanned.{has_rows, is_unplanned, is_unplanned_rule, unplanned_in, unplanned_fault}
+use Rattle.plan_app.specs.Unplanned.{has_rows, is_unplanned, unplanned_in, unplanned_fault}
 
 no_rows : {X : Type 0} (rows : List X) → has_rows rows ≡ false → rows ≡ []
 no_rows [] e = refl
 no_rows (row ∷ rows) e = absurd (let some : nat_lt 0 (length (row ∷ rows)) ≡ true = grind (arith, nat_tests) in let wrong : true ≡ false = sym some ∙ e in cc)
-
-names_one : (network : Option NetworkId) → is_none network ≡ false → IsSome network
-names_one None e = absurd (cc)
-names_one (Some network) e = refl
 
 -- each file of such a feed holds nothing that plans don't go by
 planned_file : (feed : FeedRows) (k : ℕ) (name : FileName) → unplanned_fault feed ≡ None → slice_get all_files k ≡ Some name → is_unplanned name feed ≡ false
@@ -31,16 +25,6 @@ planned_file feed k name none at = none_when (is_unplanned name feed) (file_faul
 pub no_riders : (feed : FeedRows) → unplanned_fault feed ≡ None → feed.riders ≡ []
 no_riders feed none = no_rows feed.riders (planned_file feed 13 file.RiderCategories none refl)
 
+-- it has no transfer rules
 pub plain_fares : (feed : FeedRows) → unplanned_fault feed ≡ None → HasPlainFares feed
-plain_fares feed none =
-    let frames = or_false (has_rows feed.timeframes) (has_rows feed.frame_names) (planned_file feed 12 file.Timeframes none refl) in
-    let rules = or_false feed.has_priority (list_any is_unplanned_rule feed.leg_rules) (planned_file feed 16 file.FareLegRules none refl) in
-    record {
-      areas = no_rows feed.areas (planned_file feed 8 file.Areas none refl);
-      stop_areas = no_rows feed.stop_areas (planned_file feed 9 file.StopAreas none refl);
-      frames = no_rows feed.frame_names frames.1;
-      timeframes = no_rows feed.timeframes frames.0;
-      unranked = rules.0;
-      transfers = no_rows feed.transfer_rules (planned_file feed 17 file.FareTransferRules none refl);
-      networks = λ k d lt. names_one (slice_index_or feed.leg_rules k d).network (none_holds is_unplanned_rule feed.leg_rules k d rules.1 lt);
-    }
+plain_fares feed none = no_rows feed.transfer_rules (planned_file feed 17 file.FareTransferRules none refl)

@@ -1,19 +1,13 @@
 -- What a feed may hold and plans don't go by yet: a line for each file.
-use Rattle.std.specs.Prelude.{Bool, false, ◌||◌, nat_lt, is_none, List, length, Option}
-use Rattle.std.specs.List.{list_any}
+use Rattle.std.specs.Prelude.{Bool, false, nat_lt, List, length, Option}
 use Rattle.feed_rows.specs.Names.{all_files}
 use Rattle.feed_rows.specs.declared.names.FileName.{FileName}
 use Rattle.feed_rows.specs.declared.names.FileName.TheVariants as file
 use Rattle.feed_rows.specs.declared.faults.FaultKind.TheVariants as kind
 use Rattle.feed_rows.specs.declared.faults.FeedFault.{FeedFault}
-use Rattle.feed_rows.specs.declared.rows.LegRuleRow.{LegRuleRow}
 use Rattle.feed_rows.specs.FeedRows.{FeedRows}
 use Rattle.plain_laws.specs.Plain.{when, first_in}
 use Rattle.feed_faults.specs.FaultPlaces.{file_fault}
-
--- a leg rule names no network
-abbrev pub is_unplanned_rule : LegRuleRow → Bool
-is_unplanned_rule rule = is_none rule.network
 
 -- there is a row
 abbrev pub has_rows : {X : Type 0} → List X → Bool
@@ -22,11 +16,7 @@ has_rows rows = nat_lt 0 (length rows)
 -- a file holds something that plans don't go by yet
 abbrev pub is_unplanned : FileName → FeedRows → Bool
 is_unplanned file.Frequencies feed = has_rows feed.frequencies
-is_unplanned file.Areas feed = has_rows feed.areas
-is_unplanned file.StopAreas feed = has_rows feed.stop_areas
-is_unplanned file.Timeframes feed = has_rows feed.timeframes || has_rows feed.frame_names
 is_unplanned file.RiderCategories feed = has_rows feed.riders
-is_unplanned file.FareLegRules feed = feed.has_priority || list_any is_unplanned_rule feed.leg_rules
 is_unplanned file.FareTransferRules feed = has_rows feed.transfer_rules
 is_unplanned name feed = false
 

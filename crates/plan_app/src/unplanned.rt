@@ -1,23 +1,8 @@
 //! What a feed may hold and plans don't go by yet.
 ghost use Rattle.std.specs.Prelude.{◌≡◌};
-ghost use Rattle.std.specs.List.{list_any};
-ghost use Rattle.plan_app.specs.Unplanned.{is_unplanned_rule, has_rows, is_unplanned, unplanned_in, unplanned_fault};
+ghost use Rattle.plan_app.specs.Unplanned.{has_rows, is_unplanned, unplanned_in, unplanned_fault};
 
-use feed_rows::{FaultKind, Feed, FeedFault, FileName, LegRuleRow};
-
-// Whether a leg rule names no network.
-fn is_unplanned_rule(rule: &LegRuleRow) -> bool
-    ensures { result ≡ is_unplanned_rule rule.now }
-{
-    rule.network.is_none()
-}
-
-// Whether some leg rule names no network.
-fn has_unplanned_rule(rules: &[LegRuleRow]) -> bool
-    ensures { result ≡ list_any is_unplanned_rule rules.now }
-{
-    rules.iter().any(|rule| is_unplanned_rule(rule))
-}
+use feed_rows::{FaultKind, Feed, FeedFault, FileName};
 
 // Whether there is a row.
 fn has_rows<T>(rows: &[T]) -> bool
@@ -32,13 +17,7 @@ fn is_unplanned(file: FileName, feed: &Feed) -> bool
 {
     match file {
         FileName::Frequencies => has_rows(feed.frequencies.items()),
-        FileName::Areas => has_rows(feed.areas.items()),
-        FileName::StopAreas => has_rows(feed.stop_areas.items()),
-        FileName::Timeframes => {
-            has_rows(feed.timeframes.items()) || has_rows(feed.frame_names.items())
-        }
         FileName::RiderCategories => has_rows(feed.riders.items()),
-        FileName::FareLegRules => feed.has_priority || has_unplanned_rule(feed.leg_rules.items()),
         FileName::FareTransferRules => has_rows(feed.transfer_rules.items()),
         FileName::Stops
         | FileName::Routes
@@ -47,10 +26,14 @@ fn is_unplanned(file: FileName, feed: &Feed) -> bool
         | FileName::Calendar
         | FileName::CalendarDates
         | FileName::Transfers
+        | FileName::Areas
+        | FileName::StopAreas
         | FileName::Networks
         | FileName::RouteNetworks
+        | FileName::Timeframes
         | FileName::FareMedia
-        | FileName::FareProducts => false,
+        | FileName::FareProducts
+        | FileName::FareLegRules => false,
     }
 }
 

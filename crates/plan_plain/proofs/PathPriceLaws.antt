@@ -1,4 +1,4 @@
--- The least price of the rides of a path is the sum of their cheapest tickets, on a feed with plain fares.
+-- The least price of the rides of a path is the sum of their cheapest tickets, on a feed without transfer rules.
 use Rattle.std.proofs.Common.{◌≡◌, refl, sym, ◌∙◌, ap, subst, ℕ, zero, suc, ◌+◌, ◌-◌, ◌*◌, ◌^◌, ◌<◌, ◌≤◌, ⊎_elim, List, [], ◌∷◌, length, arith, ℤ, pos, ◌≤ℤ◌, ◌+ℤ◌}
 use Rattle.std.specs.Prelude.{Option, Some, None, All, nat_abs, slice_get, option_map}
 use Rattle.std.specs.Option.{option_map_or}
@@ -24,12 +24,11 @@ use Rattle.feed_laws.proofs.SumLaws.{leg_amount_at}
 use Rattle.feed_laws.proofs.UnarrangedLaws.{IsLeastPick, HasNoChange, least_of_picks, uncovered_by_leg}
 use Rattle.plan_plain.specs.declared.caught.CaughtRide.{CaughtRide}
 use Rattle.plan_plain.specs.declared.prices.Priced.{Priced}
-use Rattle.plan_plain.specs.declared.tickets.Fare.{Fare}
 use Rattle.plan_plain.specs.declared.tickets.Ticket.{Ticket}
 use Rattle.plan_plain.specs.Prices.{HasPlainFares, AddsLeg}
 use Rattle.plan_plain.specs.Searches.{rides_of}
-use Rattle.plan_plain.specs.Tickets.{IsCheapestTicket, fare}
-use Rattle.plan_plain.proofs.PriceLaws.{amount_at, pick_of_choice, choice_of_pick}
+use Rattle.plan_plain.specs.Tickets.{IsCheapestTicket, IsFrom, IsSelected}
+use Rattle.plan_plain.proofs.PriceLaws.{amount_at, ticket_of_choice, choice_of_ticket}
 
 -- each ride of the path goes as its facts say
 abbrev pub HasFacts : FeedRows → List CaughtRide → Type 0
@@ -45,22 +44,26 @@ pub record IsPaid (feed : FeedRows) (rider : Option RiderId) (path : List Caught
   pub sum : priced.sum.0 ≡ sum_below k (leg_amount feed priced.choice)
   pub small : nat_abs priced.sum.0 ≤ k * 10 ^ 12
 
--- a cheapest ticket is a choice for the leg of its ride, and of least amount
-pub least_pick : (feed : FeedRows) (caught : CaughtRide) (rider : Option RiderId) (ticket : Ticket) → HasPlainFares feed → IsSoundFeed feed → IsCheapestTicket feed (fare caught.facts.network rider) (Some ticket) →
-    IsLeastPick feed rider (leg_facts feed caught.facts) ticket.pick
-least_pick feed caught rider ticket plain sound cheapest =
-    let is = cheapest.right tt in
+-- a cheapest ticket is one of the selected rules
+from_selected : (feed : FeedRows) (leg : LegFacts) (rider : Option RiderId) (ticket : Ticket) → IsCheapestTicket feed leg rider (Some ticket) → IsFrom feed rider (IsSelected feed leg) (Some ticket)
+from_selected feed leg rider ticket cheapest = ⊎_elim (λ (none : Some ticket ≡ None). absurd (cc)) (λ (is : IsFrom feed rider (IsSelected feed leg) (Some ticket)). is) cheapest.from
+
+-- a choice for the leg, and of least amount
+pub least_pick : (feed : FeedRows) (leg : LegFacts) (rider : Option RiderId) (ticket : Ticket) → IsCheapestTicket feed leg rider (Some ticket) → IsLeastPick feed rider leg ticket.pick
+least_pick feed leg rider ticket cheapest =
+    let is = from_selected feed leg rider ticket cheapest in
     record {
-      right = choice_of_pick feed caught.facts rider ticket.pick ticket.amount.0 plain sound is;
+      right = choice_of_ticket feed leg rider ticket.pick ticket.amount.0 is.0 is.1;
       least = λ other h.
-          subst (λ z. z ≤ℤ amount_of feed other.product) (sym (amount_at feed ticket.pick.product is.row is.row_is ∙ is.costs))
-          (cheapest.all other (amount_of feed other.product) (pick_of_choice feed caught.facts rider other plain sound h) tt);
+          let one = ticket_of_choice feed leg rider other h in
+          subst (λ z. z ≤ℤ amount_of feed other.product) (sym (amount_at feed ticket.pick.product is.0.row is.0.row_is ∙ is.0.costs))
+          (cheapest.all other (amount_of feed other.product) one.pick_is one.selected);
     }
 
 -- its amount is one of the feed's
-pub small_amount : (feed : FeedRows) (terms : Fare) (ticket : Ticket) → IsSoundFeed feed → IsCheapestTicket feed terms (Some ticket) → nat_abs ticket.amount.0 ≤ 10 ^ 12
-small_amount feed terms ticket sound cheapest =
-    let is = cheapest.right tt in
+pub small_amount : (feed : FeedRows) (leg : LegFacts) (rider : Option RiderId) (ticket : Ticket) → IsSoundFeed feed → IsCheapestTicket feed leg rider (Some ticket) → nat_abs ticket.amount.0 ≤ 10 ^ 12
+small_amount feed leg rider ticket sound cheapest =
+    let is = (from_selected feed leg rider ticket cheapest).0 in
     subst (λ z. nat_abs z ≤ 10 ^ 12) is.costs (All-slice_get (λ (p : ProductRow). nat_abs p.amount.0 ≤ 10 ^ 12) feed.products ticket.pick.product.0 is.row is.row_is sound.products.amounts)
 
 -- a sum with one amount more
@@ -68,10 +71,10 @@ one_more : (old amount new : ℤ) (k : ℕ) → new ≡ old +ℤ amount → nat_
 one_more old amount new k is p q = omega (arith, ints)
 
 -- one ride more is paid by its cheapest ticket
-pub paid_more : (feed : FeedRows) (rider : Option RiderId) (path : List CaughtRide) (k : ℕ) (caught : CaughtRide) (ticket : Ticket) (old new : Priced) → HasPlainFares feed → IsSoundFeed feed →
-    slice_get path k ≡ Some caught → IsCheapestTicket feed (fare caught.facts.network rider) (Some ticket) → IsPaid feed rider path k old → AddsLeg old ticket new → IsPaid feed rider path (k + 1) new
-paid_more feed rider path k caught ticket old new plain sound at cheapest before adds =
-    let pick = least_pick feed caught rider ticket plain sound cheapest in
+pub paid_more : (feed : FeedRows) (rider : Option RiderId) (path : List CaughtRide) (k : ℕ) (caught : CaughtRide) (ticket : Ticket) (old new : Priced) → IsSoundFeed feed →
+    slice_get path k ≡ Some caught → IsCheapestTicket feed (leg_facts feed caught.facts) rider (Some ticket) → IsPaid feed rider path k old → AddsLeg old ticket new → IsPaid feed rider path (k + 1) new
+paid_more feed rider path k caught ticket old new sound at cheapest before adds =
+    let pick = least_pick feed (leg_facts feed caught.facts) rider ticket cheapest in
     let long = before.legs in
     let pushed = ap length adds.legs ∙ length_push old.choice.legs ticket.pick in
     record {
@@ -90,7 +93,7 @@ paid_more feed rider path k caught ticket old new plain sound at cheapest before
           ))
           (cases_lt i k);
       sum = adds.sum ∙ sums (suc_is k);
-      small = one_more old.sum.0 ticket.amount.0 new.sum.0 k adds.sum before.small (small_amount feed (fare caught.facts.network rider) ticket sound cheapest);
+      small = one_more old.sum.0 ticket.amount.0 new.sum.0 k adds.sum before.small (small_amount feed (leg_facts feed caught.facts) rider ticket sound cheapest);
     }
   where
     last : slice_get new.choice.legs k ≡ Some ticket.pick
@@ -100,7 +103,7 @@ paid_more feed rider path k caught ticket old new plain sound at cheapest before
     suc_is n = omega arith
 
     amount : amount_of feed ticket.pick.product ≡ ticket.amount.0
-    amount = let is = cheapest.right tt in amount_at feed ticket.pick.product is.row is.row_is ∙ is.costs
+    amount = let is = (from_selected feed (leg_facts feed caught.facts) rider ticket cheapest).0 in amount_at feed ticket.pick.product is.row is.row_is ∙ is.costs
 
     sums : suc k ≡ k + 1 → old.sum.0 +ℤ ticket.amount.0 ≡ sum_below (k + 1) (leg_amount feed new.choice)
     sums e =
@@ -171,7 +174,7 @@ pub least_of_paid : (feed : FeedRows) (rider : Option RiderId) (path : List Caug
     IsLeastPrice feed (rides_of path) rider priced.choice priced.sum.0
 least_of_paid feed rider path priced plain facts paid =
     let has = legs_of_path feed path facts in
-    let least = least_of_picks feed plain.transfers has.legs priced.choice rider (record {
+    let least = least_of_picks feed plain has.legs priced.choice rider (record {
       picks = paid.legs ∙ sym has.long;
       changes = paid.changes ∙ ap (λ n. n - 1) (sym has.long);
       paid = λ i leg at.
@@ -186,10 +189,10 @@ least_of_paid feed rider path priced plain facts paid =
     (least_price_of_rides feed (rides_of path) has.legs rider has.are priced.choice (sum_below (length has.legs) (leg_amount feed priced.choice)) least)
 
 -- rides of which one has no ticket are uncovered
-pub uncovered_path : (feed : FeedRows) (rider : Option RiderId) (path : List CaughtRide) (k : ℕ) (caught : CaughtRide) → HasPlainFares feed → IsSoundFeed feed → HasFacts feed path →
-    slice_get path k ≡ Some caught → IsCheapestTicket feed (fare caught.facts.network rider) None → IsUncovered feed (rides_of path) rider
-uncovered_path feed rider path k caught plain sound facts at none =
+pub uncovered_path : (feed : FeedRows) (rider : Option RiderId) (path : List CaughtRide) (k : ℕ) (caught : CaughtRide) → HasFacts feed path → slice_get path k ≡ Some caught →
+    IsCheapestTicket feed (leg_facts feed caught.facts) rider None → IsUncovered feed (rides_of path) rider
+uncovered_path feed rider path k caught facts at none =
     let has = legs_of_path feed path facts in
     uncovered_rides feed (rides_of path) has.legs rider has.are
     (uncovered_by_leg feed has.legs rider k (leg_facts feed caught.facts) (has.each k caught at)
-    (λ pick h. none.all pick (amount_of feed pick.product) (pick_of_choice feed caught.facts rider pick plain sound h) tt))
+    (λ pick h. let one = ticket_of_choice feed (leg_facts feed caught.facts) rider pick h in none.all pick (amount_of feed pick.product) one.pick_is one.selected))

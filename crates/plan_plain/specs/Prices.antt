@@ -1,8 +1,7 @@
 -- The least price of rides, and feeds whose fares are plain.
-use Rattle.std.specs.Prelude.{◌≡◌, ◌<◌, [], ◌∷◌, ◌++◌, ◌+ℤ◌, false, List, length, All, IsSome, Option, Some, None}
+use Rattle.std.specs.Prelude.{◌≡◌, ◌<◌, [], ◌∷◌, ◌++◌, ◌+ℤ◌, List, length, Option, Some, None}
 use Rattle.transit_base.specs.declared.numbers.RiderId.{RiderId}
 use Rattle.feed_rows.specs.declared.journeys.Ride.{Ride}
-use Rattle.feed_rows.specs.declared.rows.LegRuleRow.{LegRuleRow}
 use Rattle.feed_rows.specs.FeedRows.{FeedRows}
 use Rattle.feed_rows.specs.PriceTexts.{IsLeastPrice, IsUncovered}
 use Rattle.plan_plain.specs.declared.prices.Priced.{Priced}
@@ -20,12 +19,6 @@ pub record AddsLeg (old : Priced) (ticket : Ticket) (new : Priced) : Type 0 wher
   pub first : length old.choice.legs ≡ 0 → new.choice.changes ≡ old.choice.changes
   pub later : 0 < length old.choice.legs → new.choice.changes ≡ old.choice.changes ++ None ∷ []
 
--- there are no areas, no timeframes, no priorities and no transfer rules, and each leg rule names a network
-pub record HasPlainFares (feed : FeedRows) : Type 0 where
-  pub areas : feed.areas ≡ []
-  pub stop_areas : feed.stop_areas ≡ []
-  pub frames : feed.frame_names ≡ []
-  pub timeframes : feed.timeframes ≡ []
-  pub unranked : feed.has_priority ≡ false
-  pub transfers : feed.transfer_rules ≡ []
-  pub networks : All (λ (rule : LegRuleRow). IsSome rule.network) feed.leg_rules
+-- there are no transfer rules
+abbrev pub HasPlainFares : FeedRows → Type 0
+HasPlainFares feed = feed.transfer_rules ≡ []

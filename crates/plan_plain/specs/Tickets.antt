@@ -1,28 +1,24 @@
 -- The tickets of a ride on its own, and the cheapest of them.
-use Rattle.std.specs.Prelude.{◌≡◌, ℕ, ◌<◌, ◌⊎◌, Bool, true, ◌==◌, Option, Some, None, IfSome, ℤ, ◌≤ℤ◌, List, length, slice_get}
-use Rattle.transit_base.specs.declared.numbers.NetworkId.{NetworkId}
+use Rattle.std.specs.Prelude.{◌≡◌, ℕ, ◌<◌, ◌⊎◌, true, Option, Some, None, ℤ, ◌≤ℤ◌, List, slice_get}
 use Rattle.transit_base.specs.declared.numbers.RiderId.{RiderId}
+use Rattle.transit_base.specs.declared.numbers.RuleId.{RuleId}
 use Rattle.feed_rows.specs.declared.fares.LegChoice.{LegChoice}
+use Rattle.feed_rows.specs.declared.journeys.LegFacts.{LegFacts}
 use Rattle.feed_rows.specs.declared.rows.LegRuleRow.{LegRuleRow}
 use Rattle.feed_rows.specs.declared.rows.ProductRow.{ProductRow}
 use Rattle.feed_rows.specs.FeedRows.{FeedRows}
 use Rattle.feed_rows.specs.FareChoices.{is_open}
-use Rattle.plain_laws.specs.Plain.{filled_and}
-use Rattle.plan_plain.specs.declared.tickets.Fare.{Fare}
+use Rattle.feed_rows.specs.LegRules.{is_selected_rule}
+use Rattle.plain_laws.specs.Plain.{at_and}
 use Rattle.plan_plain.specs.declared.tickets.Ticket.{Ticket}
 
--- the rule names the network
-unfoldable pub is_of_network : Option NetworkId → LegRuleRow → Bool
-is_of_network network rule = filled_and network (λ m. filled_and rule.network (λ n. m.0 == n.0))
-
--- the rule names the ride's network, and the row is an open row of its product, with this amount
-pub record IsPick (feed : FeedRows) (fare : Fare) (pick : LegChoice) (amount : ℤ) : Type 0 where
+-- the row is an open row of the rule's product, with this amount
+pub record IsPick (feed : FeedRows) (rider : Option RiderId) (pick : LegChoice) (amount : ℤ) : Type 0 where
   pub rule : LegRuleRow
   pub rule_is : slice_get feed.leg_rules pick.rule.0 ≡ Some rule
-  pub network : is_of_network fare.network rule ≡ true
   pub row : ProductRow
   pub row_is : slice_get feed.products pick.product.0 ≡ Some row
-  pub admits : is_open rule.product fare.rider row ≡ true
+  pub admits : is_open rule.product rider row ≡ true
   pub costs : row.amount.0 ≡ amount
 
 -- there is a ticket, at this amount or less
@@ -36,15 +32,16 @@ pub record AddsTicket (ticket : Ticket) (old new : Option Ticket) : Type 0 where
   pub takes : IsAtMost ticket.amount.0 new
   pub from : (new ≡ old) ⊎ (new ≡ Some ticket)
 
--- a ticket, if there is one, is one for the ride
-abbrev pub IsRightTicket : FeedRows → Fare → Option Ticket → Type 0
-IsRightTicket feed fare best = IfSome best (λ (ticket : Ticket). IsPick feed fare ticket.pick ticket.amount.0)
+-- there is a ticket, and it is one of this part
+abbrev pub IsFrom : FeedRows → Option RiderId → (LegChoice → Type 0) → Option Ticket → Type 0
+IsFrom feed rider Part None = ⊥
+IsFrom feed rider Part (Some ticket) = IsPick feed rider ticket.pick ticket.amount.0 × Part ticket.pick
 
--- the new ticket is no dearer than the old one, nor than any of this part, and stays one for the ride
-pub record AddsPicks (feed : FeedRows) (fare : Fare) (Part : LegChoice → Type 0) (old new : Option Ticket) : Type 0 where
+-- the new ticket is the old one or one of this part, and no dearer than the old one, nor than any of the part
+pub record AddsPicks (feed : FeedRows) (rider : Option RiderId) (Part : LegChoice → Type 0) (old new : Option Ticket) : Type 0 where
   pub still : (amount : ℤ) → IsAtMost amount old → IsAtMost amount new
-  pub all : (pick : LegChoice) (amount : ℤ) → IsPick feed fare pick amount → Part pick → IsAtMost amount new
-  pub right : IsRightTicket feed fare old → IsRightTicket feed fare new
+  pub all : (pick : LegChoice) (amount : ℤ) → IsPick feed rider pick amount → Part pick → IsAtMost amount new
+  pub from : (new ≡ old) ⊎ IsFrom feed rider Part new
 
 -- the pick has this rule and this row
 abbrev pub IsOfRow : ℕ → ℕ → LegChoice → Type 0
@@ -58,17 +55,17 @@ IsOfRows rule n pick = (pick.rule.0 ≡ rule) × (pick.product.0 < n)
 abbrev pub IsOfRule : ℕ → LegChoice → Type 0
 IsOfRule rule pick = pick.rule.0 ≡ rule
 
--- the pick has a rule before the n-th
-abbrev pub IsOfRules : ℕ → LegChoice → Type 0
-IsOfRules n pick = pick.rule.0 < n
+-- the pick has one of these rules before the n-th
+abbrev pub IsOfRules : List RuleId → ℕ → LegChoice → Type 0
+IsOfRules rules n pick = (i : ℕ) × (i < n) × (slice_get rules i ≡ Some pick.rule)
 
--- each pick is one
-abbrev pub AnyPick : LegChoice → Type 0
-AnyPick pick = Unit
+-- the leg selects the pick's rule
+abbrev pub IsSelected : FeedRows → LegFacts → LegChoice → Type 0
+IsSelected feed leg pick = at_and feed.leg_rules pick.rule.0 (is_selected_rule feed leg) ≡ true
 
--- the ticket is for the ride and no other is cheaper, or the ride has none
-abbrev pub IsCheapestTicket : FeedRows → Fare → Option Ticket → Type 0
-IsCheapestTicket feed fare ticket = AddsPicks feed fare AnyPick None ticket
+-- the ticket is for the leg and no other is cheaper, or the leg has none
+abbrev pub IsCheapestTicket : FeedRows → LegFacts → Option RiderId → Option Ticket → Type 0
+IsCheapestTicket feed leg rider ticket = AddsPicks feed rider (IsSelected feed leg) None ticket
 
 -- what decides which tickets rides may have that are all one rider's
 pub record FareTerms : Type 0 where
@@ -77,16 +74,3 @@ pub record FareTerms : Type 0 where
 
 abbrev pub terms : FeedRows → Option RiderId → FareTerms
 terms feed rider = record { feed = feed; rider = rider }
-
--- what decides which tickets a ride of this network may have
-abbrev pub fare : Option NetworkId → Option RiderId → Fare
-fare network rider = record { network = network; rider = rider }
-
--- the tickets are the cheapest of the networks before the n-th
-pub record AreTicketsBelow (feed : FeedRows) (rider : Option RiderId) (n : ℕ) (tickets : List (Option Ticket)) : Type 0 where
-  pub long : length tickets ≡ n
-  pub each : (k : ℕ) (ticket : Option Ticket) → slice_get tickets k ≡ Some ticket → IsCheapestTicket feed (fare (Some (record { 0 = k })) rider) ticket
-
--- the tickets are the cheapest of each network
-abbrev pub AreTicketsOf : FeedRows → Option RiderId → List (Option Ticket) → Type 0
-AreTicketsOf feed rider tickets = AreTicketsBelow feed rider (length feed.network_names) tickets

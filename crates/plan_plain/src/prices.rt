@@ -66,7 +66,8 @@ pub fn cheapest(
     let _feed = tickets.feed();
     let mut priced = Priced::nothing(alloc);
     for caught in path {
-        let Some(ticket) = tickets.of(caught.facts.network) else {
+        let found = tickets.of(alloc, &caught.facts)?;
+        let Some(ticket) = found else {
             return Ok(None);
         };
         priced.add(ticket)?;

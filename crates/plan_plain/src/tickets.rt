@@ -1,39 +1,23 @@
 //! The cheapest ticket of a ride on its own.
-ghost use Rattle.std.specs.Prelude.{◌≡◌, ◌<◌, length, IfOk, Some, None, true};
+ghost use Rattle.std.specs.Prelude.{◌≡◌, ◌<◌, length, All, IfOk, None};
 ghost use Rattle.feed_rows.specs.FareChoices.{is_open};
+ghost use Rattle.feed_rows.specs.Legs.{leg_facts};
 ghost use Rattle.feed_rows.specs.SoundFeed.{IsSoundFeed};
-ghost use Rattle.plain_laws.specs.Plain.{at_and};
 ghost use Rattle.plan_plain.specs.Prices.{HasPlainFares};
-ghost use Rattle.plan_plain.specs.Tickets.{is_of_network, AddsPicks, AddsTicket, IsOfRow, IsOfRule, IsCheapestTicket, FareTerms, fare};
+ghost use Rattle.plan_plain.specs.Tickets.{AddsPicks, AddsTicket, IsOfRow, IsOfRule, IsOfRules, IsCheapestTicket, FareTerms};
 
-use feed_rows::{Feed, LegChoice, LegRuleRow, ProductRow};
+use fare_leg_rules::LegRules;
+use fare_timeframes::Timeframes;
+use feed_rows::{Feed, LegChoice, ProductRow, RideFacts};
 use std::alloc::{AllocError, Global};
 use std::marker::Model;
-use transit_base::{Money, NetworkId, ProductId, ProductRowId, RiderId, RuleId};
-
-/// What decides which tickets a ride may have: its fare network, and the rider's category.
-#[derive(Clone, Copy)]
-pub struct Fare {
-    pub network: Option<NetworkId>,
-    pub rider: Option<RiderId>,
-}
+use transit_base::{Money, ProductId, ProductRowId, RiderId, RuleId};
 
 /// A rule and a product row for a ride, and the row's amount.
 #[derive(Clone, Copy)]
 pub struct Ticket {
     pub pick: LegChoice,
     pub amount: Money,
-}
-
-// Whether the rule is one for rides of the network.
-#[tactic(auto, unfolding(crate::specs::Tickets::is_of_network))]
-fn is_of_network(network: Option<NetworkId>, rule: &LegRuleRow) -> bool
-    ensures { result ≡ is_of_network network rule.now }
-{
-    match (network, rule.network) {
-        (Some(ridden), Some(named)) => ridden.0 == named.0,
-        _ => false,
-    }
 }
 
 // Whether the row is of the product, and open to the rider.
@@ -64,19 +48,18 @@ fn cheaper(best: Option<Ticket>, ticket: Ticket) -> Option<Ticket>
 // The cheapest ticket, with this product row for this rule.
 fn with_row(
     feed: &Feed,
-    fare: Fare,
+    rider: Option<RiderId>,
     rule: RuleId,
     row: ProductRowId,
     best: Option<Ticket>,
 ) -> Option<Ticket>
-    requires rule { at_and feed.now.leg_rules rule.0 (is_of_network fare.network) ≡ true }
     requires inside { rule.0 < length feed.now.leg_rules }
     requires row { row.0 < length feed.now.products }
-    ensures { AddsPicks feed.now fare (IsOfRow rule.0 row.0) best result }
+    ensures { AddsPicks feed.now rider (IsOfRow rule.0 row.0) best result }
 {
     let product = feed.leg_rules.items()[rule.0 as usize].product;
     let priced = feed.products.items()[row.0 as usize];
-    if !is_open(product, fare.rider, &priced) {
+    if !is_open(product, rider, &priced) {
         return best;
     }
     let ticket = Ticket {
@@ -87,36 +70,40 @@ fn with_row(
 }
 
 // The cheapest ticket, with the product rows for this rule.
-fn with_rule(feed: &Feed, fare: Fare, rule: RuleId, best: Option<Ticket>) -> Option<Ticket>
+fn with_rule(
+    feed: &Feed,
+    rider: Option<RiderId>,
+    rule: RuleId,
+    best: Option<Ticket>,
+) -> Option<Ticket>
     requires inside { rule.0 < length feed.now.leg_rules }
-    ensures { AddsPicks feed.now fare (IsOfRule rule.0) best result }
+    ensures { AddsPicks feed.now rider (IsOfRule rule.0) best result }
 {
-    if !is_of_network(fare.network, &feed.leg_rules.items()[rule.0 as usize]) {
-        return best;
-    }
     let mut cheapest = best;
     for row in 0..feed.products.items().len() as u32 {
-        cheapest = with_row(feed, fare, rule, ProductRowId(row), cheapest);
+        cheapest = with_row(feed, rider, rule, ProductRowId(row), cheapest);
     }
     cheapest
 }
 
-// The cheapest ticket of all; none where there is none.
-fn cheapest_ticket(feed: &Feed, fare: Fare) -> Option<Ticket>
-    ensures { IsCheapestTicket feed.now fare result }
+// The cheapest ticket of these rules; none where they have none.
+fn cheapest_of(feed: &Feed, rider: Option<RiderId>, rules: &[RuleId]) -> Option<Ticket>
+    requires { All (λ (rule : RuleId). rule.0 < length feed.now.leg_rules) rules.now }
+    ensures { AddsPicks feed.now rider (IsOfRules rules.now (length rules.now)) None result }
 {
     let mut cheapest = None;
-    for rule in 0..feed.leg_rules.items().len() as u32 {
-        cheapest = with_rule(feed, fare, RuleId(rule), cheapest);
+    for i in 0..rules.len() {
+        cheapest = with_rule(feed, rider, rules[i], cheapest);
     }
     cheapest
 }
 
-/// The cheapest tickets for a rider, by the networks of rides. Contracts see it as the feed and the rider.
+/// The cheapest tickets of rides for a rider. Contracts see it as the feed and the rider.
 pub struct Tickets<'f> {
     feed: &'f Feed,
     rider: Option<RiderId>,
-    by_network: Vec<Option<Ticket>>,
+    timeframes: Timeframes,
+    rules: LegRules,
 }
 
 // Written out, so that what holds one needn't look into it to let go of it.
@@ -125,20 +112,23 @@ impl<'f> Drop for Tickets<'f> {
         let Tickets {
             feed: _,
             rider: _,
-            by_network: _,
+            timeframes: _,
+            rules: _,
         } = self;
     }
 }
 
 impl<'f> Model for Tickets<'f> {
+    ghost use Rattle.fare_leg_rules.specs.BuiltLegRules.{AreLegRulesOf};
+    ghost use Rattle.fare_timeframes.specs.BuiltTimeframes.{AreTimeframesOf};
     ghost use Rattle.plan_plain.specs.Prices.{HasPlainFares};
-    ghost use Rattle.plan_plain.specs.Tickets.{FareTerms, AreTicketsOf};
+    ghost use Rattle.plan_plain.specs.Tickets.{FareTerms};
 
     ghost Value = { FareTerms };
 
     ghost view = { λ s. record { feed = s.feed.now; rider = s.rider } };
 
-    ghost invariant = { λ s. HasPlainFares s.feed.now × AreTicketsOf s.feed.now s.rider s.by_network.items };
+    ghost invariant = { λ s. HasPlainFares s.feed.now × AreTimeframesOf s.feed.now s.timeframes × AreLegRulesOf s.feed.now s.rules };
 }
 
 impl<'f> Tickets<'f> {
@@ -155,19 +145,13 @@ impl<'f> Tickets<'f> {
         ensures feed { IfOk result (λ tickets. tickets.feed ≡ feed.now) }
         ensures rider { IfOk result (λ tickets. tickets.rider ≡ rider) }
     {
-        let networks = feed.network_names.items().len() as u32;
-        let mut by_network = Vec::with_capacity(alloc, networks as usize)?;
-        for number in 0..networks {
-            let fare = Fare {
-                network: Some(NetworkId(number)),
-                rider,
-            };
-            by_network.push(cheapest_ticket(feed, fare))?;
-        }
+        let timeframes = Timeframes::build(alloc, feed)?;
+        let rules = LegRules::build(alloc, feed)?;
         Ok(Tickets {
             feed,
             rider,
-            by_network,
+            timeframes,
+            rules,
         })
     }
 
@@ -182,19 +166,15 @@ impl<'f> Tickets<'f> {
         feed
     }
 
-    /// The cheapest ticket of a ride with this network; none where it has none.
-    pub fn of(&self, network: Option<NetworkId>) -> Option<Ticket>
-        ensures { IsCheapestTicket self.now.feed (fare network self.now.rider) result }
+    /// The cheapest ticket of a ride; none where it has none.
+    ///
+    /// # Errors
+    /// Want of memory.
+    pub fn of(&self, alloc: Global, ride: &RideFacts) -> Result<Option<Ticket>, AllocError>
+        ensures { IfOk result (IsCheapestTicket self.now.feed (leg_facts self.now.feed ride.now) self.now.rider) }
     {
-        // Its feed has no fault: rules name only networks that it has.
-        let feed = self.feed;
-        let _rules = &feed.leg_rules;
-        let Some(network) = network else {
-            return None;
-        };
-        match self.by_network.get(network.0 as usize) {
-            Some(ticket) => *ticket,
-            None => None,
-        }
+        let leg = self.timeframes.leg_facts(alloc, ride)?;
+        let rules = self.rules.selected(alloc, &leg)?;
+        Ok(cheapest_of(self.feed, self.rider, rules.items()))
     }
 }

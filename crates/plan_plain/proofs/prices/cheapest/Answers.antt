@@ -6,18 +6,18 @@ use Rattle.plan_plain.proofs.prices.cheapest.Goals as goal
 
 pub returns-in_default : goal.returns-in_default
 returns-in_default c =
-    uncovered_path c.args.tickets.now.feed c.args.tickets.now.rider c.args.path.now c.loop-caught.caught-index _ c.feed-feed.ensures.plain c.feed-feed.ensures.sound c.requires.rides
+    uncovered_path c.args.tickets.now.feed c.args.tickets.now.rider c.args.path.now c.loop-caught.caught-index _ c.requires.rides
     (slice_get-get_or c.args.path.now c.loop-caught.caught-index _ c.loop-caught-test.true)
-    (subst (IsCheapestTicket c.args.tickets.now.feed _) c.in_default.is c.of.ensures)
+    (subst (IsCheapestTicket c.args.tickets.now.feed _ _) c.in_default.is c.in_ok-found.ensures)
 
 pub add-requires-clause-amount : goal.add-requires-clause-amount
-add-requires-clause-amount c = small_amount _ _ _ c.feed-feed.ensures.sound (subst (IsCheapestTicket c.args.tickets.now.feed _) c.in-Some.is c.of.ensures)
+add-requires-clause-amount c = small_amount _ _ _ _ c.feed-feed.ensures.sound (subst (IsCheapestTicket c.args.tickets.now.feed _ _) c.in-Some.is c.in_ok-found.ensures)
 
 pub loop-caught-preserved : goal.loop-caught-preserved
 loop-caught-preserved c =
-    paid_more c.args.tickets.now.feed c.args.tickets.now.rider c.args.path.now c.loop-caught.caught-index _ c.in-Some.ticket _ _ c.feed-feed.ensures.plain c.feed-feed.ensures.sound
+    paid_more c.args.tickets.now.feed c.args.tickets.now.rider c.args.path.now c.loop-caught.caught-index _ c.in-Some.ticket _ _ c.feed-feed.ensures.sound
     (slice_get-get_or c.args.path.now c.loop-caught.caught-index _ c.loop-caught-test.true)
-    (subst (IsCheapestTicket c.args.tickets.now.feed _) c.in-Some.is c.of.ensures)
+    (subst (IsCheapestTicket c.args.tickets.now.feed _ _) c.in-Some.is c.in_ok-found.ensures)
     c.loop-caught.invariant c.in_ok-add.ensures
 
 pub returns : goal.returns

@@ -9,5 +9,5 @@ returns-then-not-is_open c =
 
 pub returns : goal.returns
 returns c =
-    takes_row _ _ _ _ _ _ _ _ _ (c.items.ensures.value ∙ ap (λ (f : FeedRows). f.leg_rules) c.feed.view_is) (c.items-2.ensures.value ∙ ap (λ (f : FeedRows). f.products) c.feed.view_is) c.requires.rule c.requires.row
+    takes_row _ _ _ _ _ _ _ _ _ (c.items.ensures.value ∙ ap (λ (f : FeedRows). f.leg_rules) c.feed.view_is) (c.items-2.ensures.value ∙ ap (λ (f : FeedRows). f.products) c.feed.view_is) c.requires.inside c.requires.row
     c.if-not-is_open.ensures refl c.cheaper.ensures
