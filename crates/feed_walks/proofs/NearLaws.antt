@@ -1,5 +1,5 @@
 -- A walk leads to a platform of a stop that its own platform, or the station of that, leads to.
-use Rattle.std.proofs.Common.{◌≡◌, refl, sym, ◌∙◌, ap, subst, ℕ, ◌<◌, ◌⊎◌, inl, inr, ⊎_elim, Bool, true, false, List, [], ◌∷◌, ◌++◌, length, get_or, Contains, Option, Some, None, ◌≤◌, arith}
+use Rattle.std.proofs.Common.{◌≡◌, refl, sym, ◌∙◌, subst, ℕ, ◌<◌, ◌⊎◌, inl, inr, ⊎_elim, Bool, true, false, List, [], ◌∷◌, ◌++◌, length, get_or, Contains, Option, Some, None, ◌≤◌, arith}
 use Rattle.std.specs.Prelude.{◌==◌, ◌&&◌, if◌then◌else◌, not, slice_get, filter, map}
 use Rattle.std.specs.Option.{ForSome, option_map_or, option_or}
 use Rattle.std.proofs.lemmas.Bool.{cases_Bool}
@@ -8,30 +8,21 @@ use Rattle.std.proofs.lemmas.List.{get_or_default}
 use Rattle.std.proofs.lemmas.List.Elements.{Contains-append_left, Contains-append_right}
 use Rattle.std.proofs.lemmas.Option.{same_Some, none-some, slice_get_within}
 use Rattle.transit_base.specs.declared.numbers.StopId.{StopId}
-use Rattle.feed_rows.specs.declared.rows.StopRow.{StopRow}
 use Rattle.feed_rows.specs.declared.rows.LinkRow.{LinkRow}
+use Rattle.feed_rows.specs.Codes.{platform_type}
 use Rattle.feed_rows.specs.FeedRows.{FeedRows}
 use Rattle.feed_rows.specs.SoundTimetable.{AreSoundStops}
 use Rattle.feed_rows.specs.StopLinks.{is_platform, parent_of, stop_set, row_between, governing_row, same_station, unruled_link, link_by, link}
 use Rattle.feed_rows.specs.StopSets.{stop_sets, own_set, row_sets_at}
 use Rattle.plain_laws.specs.Plain.{filled_and, joined_below}
-use Rattle.plain_laws.proofs.Laws.{All-slice_get, Contains-cons_first, Contains-joined_below, none_either, find-tells, Contains-slice_get, Contains-filter, Contains-map}
+use Rattle.plain_laws.proofs.Laws.{filled_and-true, All-slice_get, Contains-cons_first, Contains-joined_below, none_either, find-tells, Contains-slice_get, Contains-filter, Contains-map}
 use Rattle.feed_laws.proofs.StopSetLaws.{joined_below-set, stop_sets-at}
 use Rattle.feed_walks.specs.Rules.{group_at, AreRules}
+use Rattle.feed_walks.proofs.OrderLaws.{same_stop}
 use Rattle.feed_walks.specs.Near.{IsInOrder, leads_to, Leads, Reaches, AreReached, AreNear}
 
--- the row of a stop whose kind passes a test
-pub record HasKind (feed : FeedRows) (a : StopId) (kind : ℕ) : Type 0 where
-  pub row : StopRow
-  pub got : slice_get feed.stops a.0 ≡ Some row
-  pub is : row.kind ≡ kind
-
-pub kind_of_platform : (feed : FeedRows) (a : StopId) → is_platform feed a ≡ true → HasKind feed a 0
-kind_of_platform feed a platform = step (slice_get feed.stops a.0) refl platform
-  where
-    step : (o : Option StopRow) → slice_get feed.stops a.0 ≡ o → filled_and o (λ row. row.kind == 0) ≡ true → HasKind feed a 0
-    step None got fails = absurd (cc)
-    step (Some row) got flat = record { row = row; got = got; is = grind (arith, nat_tests, flat) }
+pub platform_within : (feed : FeedRows) (a : StopId) → is_platform feed a ≡ true → a.0 < length feed.stops
+platform_within feed a platform = let row = filled_and-true (slice_get feed.stops a.0) (λ s. s.kind == platform_type) platform in slice_get_within feed.stops a.0 row.value row.is
 
 -- a platform stands for itself
 in_own_set : (feed : FeedRows) (a : StopId) → is_platform feed a ≡ true → Contains (stop_set feed a) a
@@ -46,18 +37,16 @@ record IsInStation (feed : FeedRows) (a station : StopId) : Type 0 where
 in_station_set : (feed : FeedRows) (a station : StopId) → AreSoundStops feed → is_platform feed a ≡ true → parent_of feed a ≡ Some station → IsInStation feed a station
 unfolding row_sets_at
 in_station_set feed a station sound platform parent =
-    let kinds = kind_of_platform feed a platform in
-    let there = kinds.got in
-    let flat = kinds.is in
-    let named : kinds.row.parent ≡ Some station = let p = parent in rw there at p in
-    let within : station.0 < length feed.stops = All-slice_get (λ s. ForSome s.parent (λ p. p.0 < length feed.stops)) feed.stops a.0 kinds.row there sound.parents station named in
-    let zeroth : (kinds.row.kind == 0) ≡ true = grind (arith, nat_tests, flat) in
+    let row = filled_and-true (slice_get feed.stops a.0) (λ s. s.kind == platform_type) platform in
+    let there = row.is in
+    let named : row.value.parent ≡ Some station = let p = parent in rw there at p in
+    let within : station.0 < length feed.stops = All-slice_get (λ s. ForSome s.parent (λ p. p.0 < length feed.stops)) feed.stops a.0 row.value there sound.parents station named in
     let own : (station.0 == station.0) ≡ true = grind (arith, nat_tests) in
     record {
       within = within;
       member = subst (λ xs. Contains xs a) (joined_below-set feed sound station.0 within)
-          (Contains-joined_below (length feed.stops) (λ r. row_sets_at feed.stops r station.0) a.0 a (slice_get_within feed.stops a.0 kinds.row there)
-          (rw (there, zeroth, named, own) (Contains-append_right (own_set a.0 station.0) (a ∷ []) a (Contains-cons_first a []))));
+          (Contains-joined_below (length feed.stops) (λ r. row_sets_at feed.stops r station.0) a.0 a (platform_within feed a platform)
+          (rw (there, row.passes, named, own) (Contains-append_right (own_set a.0 station.0) (a ∷ []) a (Contains-cons_first a []))));
     }
 
 -- a walk has both ends at platforms
@@ -83,8 +72,7 @@ pub record IsHome (feed : FeedRows) (a home : StopId) : Type 0 where
 own_home : (feed : FeedRows) (a home : StopId) → is_platform feed a ≡ true → Some a ≡ Some home → IsHome feed a home
 own_home feed a home platform named =
     let same = same_Some a home named in
-    let kind = kind_of_platform feed a platform in
-    record { of = inl (sym same); within = subst (λ (s : StopId). s.0 < length feed.stops) same (slice_get_within feed.stops a.0 kind.row kind.got) }
+    record { of = inl (sym same); within = subst (λ (s : StopId). s.0 < length feed.stops) same (platform_within feed a platform) }
 
 -- the platform is reached from the other, or from its station, through a stop that this leads to
 pub record IsReached (feed : FeedRows) (a b : StopId) : Type 0 where
@@ -186,15 +174,12 @@ pub stops_led_to : (feed : FeedRows) (rules : List (List LinkRow)) (from : StopI
     → (row_between feed (Some from) (Some from) ≡ None → Contains leads from) → (to : StopId) → leads_to feed from to ≡ true → Contains leads to
 stops_led_to feed rules from leads are rows own to led = step (row_between feed (Some from) (Some to)) refl led
   where
-    same : (p q : StopId) → (p.0 == q.0) ≡ true → p ≡ q
-    same p q e = let n : p.0 ≡ q.0 = grind (arith, nat_tests, e) in ap (λ k. record { 0 = k }) n
-
     step : (o : Option LinkRow) → row_between feed (Some from) (Some to) ≡ o → option_map_or (λ row. not row.forbidden) o (from.0 == to.0) ≡ true → Contains leads to
-    step None none one = let is = same from to one in subst (λ s. Contains leads s) is (own (subst (λ s. row_between feed (Some from) (Some s) ≡ None) (sym is) none))
+    step None none one = let is = same_stop from to one in subst (λ s. Contains leads s) is (own (subst (λ s. row_between feed (Some from) (Some s) ≡ None) (sym is) none))
     step (Some row) found allowed =
         let is = find-tells (λ (r : LinkRow). r.to.0 == to.0) (group_at rules from.0) row (are.first from.0 to.0 ∙ found) in
         let there = Contains-filter (λ (r : LinkRow). not r.forbidden) (group_at rules from.0) row (Contains-slice_get (group_at rules from.0) is.at row is.got) allowed in
-        subst (λ s. Contains leads s) (same row.to to is.passes) (rows row.to (Contains-map (λ (r : LinkRow). r.to) (filter (λ r. not r.forbidden) (group_at rules from.0)) row there))
+        subst (λ s. Contains leads s) (same_stop row.to to is.passes) (rows row.to (Contains-map (λ (r : LinkRow). r.to) (filter (λ r. not r.forbidden) (group_at rules from.0)) row there))
 
 -- the set of the stop at a place
 abbrev pub set_of : List (List StopId) → List StopId → ℕ → List StopId

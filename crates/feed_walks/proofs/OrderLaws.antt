@@ -1,5 +1,5 @@
 -- Stops that are sorted by their numbers, each once.
-use Rattle.std.proofs.Common.{◌≡◌, sym, ap, ℕ, ◌<◌, List, arith}
+use Rattle.std.proofs.Common.{◌≡◌, sym, ap, ℕ, ◌<◌, true, List, arith}
 use Rattle.std.specs.Prelude.{◌==◌, Bool}
 use Rattle.std.specs.Cmp.{IsEquivalence}
 use Rattle.std.specs.List.{dedup}
@@ -18,6 +18,9 @@ use Rattle.feed_walks.specs.Near.{IsInOrder}
 abbrev pub same : StopId → StopId → Bool
 same x y = x.0 == y.0
 
+pub same_stop : (x y : StopId) → (x.0 == y.0) ≡ true → x ≡ y
+same_stop x y e = let number : x.0 ≡ y.0 = grind (arith, nat_tests, e) in ap (λ n. record { 0 = n }) number
+
 same_equivalence : IsEquivalence same
 same_equivalence = record { refl = λ x. nat_eq_equiv.refl x.0; symm = λ x y. nat_eq_equiv.symm x.0 y.0; congr = λ x y z. nat_eq_equiv.congr x.0 y.0 z.0 }
 
@@ -32,7 +35,7 @@ pub in_order : (old moved new : List StopId) → IsPermutation old moved → IsS
 in_order old moved new turned sorted is =
     record {
       ascends = λ i j d lt within. less _ _ (Less-from_sorted (λ x y. nat_cmp x.0 y.0) new i j d strict lt within);
-      keeps = λ stop at. rw is (Contains-dedup same_equivalence (λ x y e. ap (λ n. record { 0 = n }) (grind (arith, nat_tests, e))) moved stop (Contains-permutation old moved stop turned at));
+      keeps = λ stop at. rw is (Contains-dedup same_equivalence same_stop moved stop (Contains-permutation old moved stop turned at));
     }
   where
     strict : IsStrictlySortedBy (λ (x y : StopId). nat_cmp x.0 y.0) new

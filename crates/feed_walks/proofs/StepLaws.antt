@@ -1,20 +1,21 @@
 -- The steps to the platforms near a platform are the walks out of it.
-use Rattle.std.proofs.Common.{◌≡◌, refl, sym, ◌∙◌, ap, subst, ℕ, ◌<◌, ◌≤◌, ⊎_elim, List, [], ◌∷◌, length, get_or, Contains, AllPairs, Option, Some, None, arith}
+use Rattle.std.proofs.Common.{◌≡◌, refl, sym, ◌∙◌, ap, subst, ℕ, ◌<◌, ◌≤◌, ⊎_elim, List, [], length, get_or, Contains, AllPairs, Option, Some, None, arith}
 use Rattle.std.specs.Prelude.{◌==◌, slice_get, unwrap_or, find, option_map}
 use Rattle.std.specs.List.Sorted.{IsNonDecreasingBy}
 use Rattle.std.proofs.lemmas.Bool.{cases_lt}
 use Rattle.std.proofs.lemmas.Bool.Decides.{nat_tests}
 use Rattle.std.proofs.lemmas.List.{get_or_default}
-use Rattle.std.proofs.lemmas.Option.{slice_get_within, slice_get_past}
+use Rattle.std.proofs.lemmas.Option.{slice_get_past}
 use Rattle.transit_base.specs.declared.numbers.StopId.{StopId}
 use Rattle.feed_rows.specs.FeedRows.{FeedRows}
 use Rattle.feed_rows.specs.StopLinks.{link}
 use Rattle.plain_laws.specs.Plain.{joined_below, list_below}
-use Rattle.plain_laws.proofs.Laws.{IsStrictOrder, same_from_members, Contains-cons_first, Contains-cons_cases, length-list_below, slice_get-list_below, Contains-joined_below, joined_below-tells, AllPairs-joined_below, Contains-slice_get, find-tells, find-some}
+use Rattle.plain_laws.proofs.Laws.{IsStrictOrder, same_from_members, Contains-cons_first, Contains-cons_cases, length-list_below, slice_get-list_below, Contains-joined_below, joined_below-tells, AllPairs-joined_below, Contains-slice_get, find-tells, find-some, none_if, joined_below-none}
 use Rattle.feed_walks.specs.declared.steps.Step.{Step}
 use Rattle.feed_walks.specs.Near.{AreNear}
 use Rattle.feed_walks.specs.OutOf.{step_list, out_of, walk_steps}
-use Rattle.feed_walks.proofs.NearLaws.{kind_of_platform, link-tells}
+use Rattle.feed_walks.proofs.OrderLaws.{same_stop}
+use Rattle.feed_walks.proofs.NearLaws.{platform_within, link-tells}
 
 -- one step is before another in the order of their stops
 abbrev pub Before : Step → Step → Type 0
@@ -80,8 +81,7 @@ Contains-out_of : (feed : FeedRows) (a : StopId) (t : Step) → link feed a t.to
 unfolding out_of
 Contains-out_of feed a t linked =
     let walk = link-tells feed a t.to t.seconds.0 linked in
-    let kind = kind_of_platform feed t.to walk.to in
-    Contains-along feed a (length feed.stops) (λ i. record { 0 = i }) t t.to.0 (slice_get_within feed.stops t.to.0 kind.row kind.got) refl linked
+    Contains-along feed a (length feed.stops) (λ i. record { 0 = i }) t t.to.0 (platform_within feed t.to walk.to) refl linked
 
 -- the step to the stop at a place, where there is a walk to it
 abbrev pub step_at : FeedRows → StopId → List StopId → ℕ → List Step
@@ -109,31 +109,23 @@ find-out_of feed a b = step (find (λ s. s.to.0 == b.0) (out_of feed a)) refl
     step : (o : Option Step) → find (λ s. s.to.0 == b.0) (out_of feed a) ≡ o → option_map (λ (s : Step). s.seconds.0) o ≡ link feed a b
     step (Some t) found =
         let is = find-tells (λ (s : Step). s.to.0 == b.0) (out_of feed a) t found in
-        let hit = is.passes in
-        let number : t.to.0 ≡ b.0 = grind (arith, nat_tests, hit) in
-        let same : t.to ≡ b = ap (λ k. record { 0 = k }) number in
-        sym (subst (λ s. link feed a s ≡ Some t.seconds.0) same (out_of-tells feed a t (Contains-slice_get (out_of feed a) is.at t is.got)))
-    step None none = other (link feed a b) refl
-      where
-        other : (o : Option ℕ) → link feed a b ≡ o → None ≡ o
-        other None e = refl
-        other (Some seconds) e = absurd (find-some (λ (s : Step). s.to.0 == b.0) (out_of feed a) (record { to = b; seconds = record { 0 = seconds } }) (Contains-out_of feed a (record { to = b; seconds = record { 0 = seconds } }) e) (grind (arith, nat_tests)) none)
+        sym (subst (λ s. link feed a s ≡ Some t.seconds.0) (same_stop t.to b is.passes) (out_of-tells feed a t (Contains-slice_get (out_of feed a) is.at t is.got)))
+    step None none = sym (none_if (link feed a b) (λ seconds linked.
+        let t : Step = record { to = b; seconds = record { 0 = seconds } } in
+        find-some (λ (s : Step). s.to.0 == b.0) (out_of feed a) t (Contains-out_of feed a t linked) (grind (arith, nat_tests)) none))
 
--- the walks out of a stop; there are none for a number that is no stop's
+-- there are none out of a number that is no stop's
+out_of-past : (feed : FeedRows) (a : StopId) → length feed.stops ≤ a.0 → out_of feed a ≡ []
+unfolding out_of
+out_of-past feed a past = joined_below-none (length feed.stops) (λ i. step_list (record { 0 = i }) (link feed a (record { 0 = i }))) (λ i lt. rw (none_if (link feed a (record { 0 = i })) (λ seconds linked.
+    let walk = link-tells feed a (record { 0 = i }) seconds linked in let inside = platform_within feed a walk.from in omega arith)) refl)
+
+-- so the walks out of a stop stand at its place
 pub walk_steps-at : (feed : FeedRows) (a : StopId) → unwrap_or (slice_get (walk_steps feed) a.0) [] ≡ out_of feed a
 unfolding walk_steps
 walk_steps-at feed a = ⊎_elim
     (λ (lt : a.0 < length feed.stops). rw (slice_get-list_below (length feed.stops) (λ i. out_of feed (record { 0 = i })) a.0 lt) refl)
     (λ (past : length feed.stops ≤ a.0).
     let long = length-list_below (length feed.stops) (λ i. out_of feed (record { 0 = i })) in
-    rw (slice_get_past (list_below (length feed.stops) (λ i. out_of feed (record { 0 = i }))) a.0 (omega arith)) (sym (none past (out_of feed a) refl)))
+    rw (slice_get_past (list_below (length feed.stops) (λ i. out_of feed (record { 0 = i }))) a.0 (omega arith)) (sym (out_of-past feed a past)))
     (cases_lt a.0 (length feed.stops))
-  where
-    none : length feed.stops ≤ a.0 → (xs : List Step) → out_of feed a ≡ xs → xs ≡ []
-    none past [] is = refl
-    none past (t ∷ ts) is =
-        let at : Contains (out_of feed a) t = rw is (Contains-cons_first t ts) in
-        let walk = link-tells feed a t.to t.seconds.0 (out_of-tells feed a t at) in
-        let kind = kind_of_platform feed a walk.from in
-        let lt = slice_get_within feed.stops a.0 kind.row kind.got in
-        absurd (omega arith)

@@ -51,19 +51,16 @@ fn place_of(rows: &[LinkRow], to: StopId) -> usize
     rows.partition_point(|row| row.to.0 < to.0)
 }
 
-/// The row at this place, if there is one.
-fn row_at(rows: &[LinkRow], place: usize) -> Option<LinkRow>
-    ensures { result ≡ slice_get rows.now place }
-{
-    rows.get(place).copied()
-}
-
 /// The first of the rows that leads to the stop.
 fn row_to(rows: &[LinkRow], to: StopId) -> Option<LinkRow>
     ensures { IsNonDecreasingBy (λ (row : LinkRow). row.to.0) rows.now → result ≡ find (λ row. row.to.0 == to.0) rows.now }
 {
-    let row = row_at(rows, place_of(rows, to))?;
-    if row.to.0 == to.0 { Some(row) } else { None }
+    let place = place_of(rows, to);
+    if place < rows.len() && rows[place].to.0 == to.0 {
+        Some(rows[place])
+    } else {
+        None
+    }
 }
 
 /// The earliest row from the one stop to the other, where both are there.

@@ -1,5 +1,5 @@
 //! The walks out of each platform.
-ghost use Rattle.std.specs.Prelude.{◌≡◌, ◌<◌, ◌≤◌, ◌++◌, ◌==◌, IfOk, OnOk, find, option_map, slice_get};
+ghost use Rattle.std.specs.Prelude.{◌≡◌, ◌<◌, ◌≤◌, ◌++◌, ◌==◌, IfOk, OnOk, find, option_map};
 ghost use Rattle.std.specs.List.Sorted.{IsNonDecreasingBy};
 ghost use Rattle.feed_rows.specs.SoundTimetable.{AreSoundStops};
 ghost use Rattle.feed_rows.specs.StopLinks.{link};
@@ -84,9 +84,9 @@ fn push_step(
 pub fn seconds_to(steps: &[Step], to: StopId) -> Option<Secs>
     ensures { IsNonDecreasingBy (λ (step : Step). step.to.0) steps.now → option_map (λ (s : Secs). s.0) result ≡ option_map (λ (step : Step). step.seconds.0) (find (λ step. step.to.0 == to.0) steps.now) }
 {
-    let step = step_at(steps, place_of(steps, to))?;
-    if step.to.0 == to.0 {
-        Some(step.seconds)
+    let place = place_of(steps, to);
+    if place < steps.len() && steps[place].to.0 == to.0 {
+        Some(steps[place].seconds)
     } else {
         None
     }
@@ -97,11 +97,4 @@ fn place_of(steps: &[Step], to: StopId) -> usize
     ensures { IsNonDecreasingBy (λ (step : Step). step.to.0) steps.now → IsPlace (λ (step : Step). step.to.0) steps.now to.0 result }
 {
     steps.partition_point(|step| step.to.0 < to.0)
-}
-
-/// The step at this place, if there is one.
-fn step_at(steps: &[Step], place: usize) -> Option<Step>
-    ensures { result ≡ slice_get steps.now place }
-{
-    steps.get(place).copied()
 }

@@ -1,13 +1,16 @@
-use Rattle.std.proofs.Common.{◌∙◌, sym}
+use Rattle.std.proofs.Common.{sym, arith}
 use Rattle.feed_rows.specs.declared.rows.LinkRow.{LinkRow}
-use Rattle.feed_walks.proofs.PlaceLaws.{find_past, find_hit, find_miss}
+use Rattle.feed_walks.proofs.PlaceLaws.{find_hit, find_miss}
 use Rattle.feed_walks.proofs.rules.row_to.Goals as goal
+use Rattle.feed_walks.proofs.rules.row_to.Goals.{else-place-rows-via-then-place-rows+else-rows-place, else-place-rows-via-else-place-rows}
 
-pub returns-in_err-row : goal.returns-in_err-row
-returns-in_err-row c = λ rises. c.from_residual.ensures ∙ sym (find_past (λ (row : LinkRow). row.to.0) _ _ _ _ rises (c.place_of.ensures rises) c.row_at.ensures c.in_err-row.was)
+pub returns-then-rows-place : goal.returns-then-rows-place
+returns-then-rows-place c = λ rises. let is = c.place_of-place.ensures rises in sym (find_hit (λ (row : LinkRow). row.to.0) c.args.to.0 _ _ _ is.before c.if-place-rows.true c.if-rows-place.true)
 
-pub returns-then-row-to : goal.returns-then-row-to
-returns-then-row-to c = λ rises. sym (find_hit (λ (row : LinkRow). row.to.0) _ _ _ _ rises (c.place_of.ensures rises) c.row_at.ensures c.in_ok-row.row c.in_ok-row.was c.if-row-to.true)
-
-pub returns-else-row-to : goal.returns-else-row-to
-returns-else-row-to c = λ rises. sym (find_miss (λ (row : LinkRow). row.to.0) _ _ _ _ rises (c.place_of.ensures rises) c.row_at.ensures c.in_ok-row.row c.in_ok-row.was c.if-row-to.false)
+pub returns-else-place-rows : goal.returns-else-place-rows
+returns-else-place-rows c = λ rises.
+    let is = c.place_of-place.ensures rises in
+    sym (find_miss (λ (row : LinkRow). row.to.0) c.args.to.0 _ _ _ rises is (λ lt same. elim c.else-place-rows.branch [
+      | else-place-rows-via-then-place-rows+else-rows-place w ↦ w.if-rows-place.false same
+      | else-place-rows-via-else-place-rows w ↦ omega arith
+    ]))
