@@ -1,15 +1,19 @@
 -- Laws of what is found in a list, and of groups that are made one after another.
-use Rattle.std.proofs.Common.{◌≡◌, refl, subst, ℕ, zero, suc, ◌+◌, ◌<◌, ◌≤◌, ⊎_elim, true, false, List, [], ◌∷◌, ◌++◌, get_or, length, Some, None, arith}
+use Rattle.std.proofs.Common.{◌≡◌, refl, subst, ℕ, zero, suc, ◌+◌, ◌<◌, ◌≤◌, ⊎_elim, true, false, List, [], ◌∷◌, ◌++◌, get_or, length, Some, None, ltb, ltb-true, arith}
 use Rattle.std.specs.Prelude.{◌==◌, find}
 use Rattle.std.specs.List.{AllWithin}
-use Rattle.std.specs.List.Sorted.{IsNonDecreasingBy}
-use Rattle.std.proofs.lemmas.Bool.{cases_lt}
+use Rattle.std.specs.List.Sorted.{IsNonDecreasingBy, IsPartitionPoint}
+use Rattle.std.proofs.lemmas.Bool.{cases_lt, ltb-false}
 use Rattle.std.proofs.lemmas.Bool.Decides.{nat_tests}
 use Rattle.std.proofs.lemmas.List.{get_or_default}
 use Rattle.plain_laws.proofs.Laws.{find_none, slice_get-push_before, slice_get-push_last}
 use Rattle.feed_walks.specs.Rules.{IsPlace, group_at}
 
 module _ {X : Type 0} (number : X → ℕ) (n : ℕ) where
+  -- a number's place parts a list by whether the items have lesser ones
+  pub parts_there : (xs : List X) (place : ℕ) → place ≤ length xs → IsPartitionPoint (λ x. ltb (number x) n ≡ true) (λ x. ltb (number x) n ≡ false) xs place → IsPlace number xs n place
+  parts_there xs place within point = record { within = within; before = λ k d low lt. ltb-true _ _ (point.0 k d low lt); after = λ k d low lt. ltb-false _ _ (point.1 k d low lt) }
+
   -- in a list by numbers, the first item of a number stands at the number's place
   pub find_hit : (xs : List X) (place : ℕ) (d : X) → AllWithin (λ x. number x < n) xs 0 place → place < length xs → number (get_or xs place d) ≡ n → find (λ x. number x == n) xs ≡ Some (get_or xs place d)
   find_hit [] place d before lt same = absurd (omega arith)

@@ -1,8 +1,9 @@
 -- Laws of the rows of transfers.txt, sorted by their two stops.
-use Rattle.std.proofs.Common.{◌≡◌, refl, sym, ◌∙◌, ap, subst, ℕ, ◌<◌, ◌≤◌, ⊎_elim, Bool, true, false, List, [], ◌∷◌, get_or, arith}
+use Rattle.std.proofs.Common.{◌≡◌, refl, sym, ◌∙◌, ap, subst, ℕ, ◌<◌, ◌≤◌, ⊎_elim, false, List, [], ◌∷◌, get_or, arith}
 use Rattle.std.specs.Prelude.{◌==◌, ◌&&◌, slice_get, filter, map, All}
 use Rattle.std.specs.List.Sorted.{IsNonDecreasingBy, IsPermutation, IsStableByKey}
 use Rattle.std.specs.Ordering.{nat_cmp}
+use Rattle.std.proofs.Math.Bool.{and_comm}
 use Rattle.std.proofs.lemmas.Bool.{cases_lt}
 use Rattle.std.proofs.lemmas.Bool.Decides.{nat_tests}
 use Rattle.std.proofs.lemmas.List.Elements.{filter_agree}
@@ -29,14 +30,8 @@ items-grouped (row ∷ rows) = ap (λ rest. row ∷ rest) (items-grouped rows)
 group_to : (links : List LinkRow) (members : List (Grouped LinkRow)) (i j : ℕ) → AreByTarget (map by_start links) members → filter (λ row. row.to.0 == j) (group_of members i) ≡ filter (λ row. (row.from.0 == i) && (row.to.0 == j)) links
 group_to links members i j by =
     filter-map (λ (row : LinkRow). row.to.0 == j) (λ (m : Grouped LinkRow). m.item) (filter (λ m. m.group == i) members)
-    ∙ ap (map (λ m. m.item)) (filter-filter (λ (m : Grouped LinkRow). m.item.to.0 == j) (λ m. m.group == i) members ∙ filter_agree (λ m. (m.item.to.0 == j) && (m.group == i)) (λ m. (m.group == i) && (m.item.to.0 == j)) (λ m. turned (m.item.to.0 == j) (m.group == i)) members ∙ sym (filter-filter (λ (m : Grouped LinkRow). m.group == i) (λ m. m.item.to.0 == j) members) ∙ ap (filter (λ m. m.group == i)) (by.same j) ∙ filter-filter (λ (m : Grouped LinkRow). m.group == i) (λ m. m.item.to.0 == j) (map by_start links) ∙ filter-map (λ (m : Grouped LinkRow). (m.group == i) && (m.item.to.0 == j)) by_start links)
+    ∙ ap (map (λ m. m.item)) (filter-filter (λ (m : Grouped LinkRow). m.item.to.0 == j) (λ m. m.group == i) members ∙ filter_agree (λ m. (m.item.to.0 == j) && (m.group == i)) (λ m. (m.group == i) && (m.item.to.0 == j)) (λ m. and_comm (m.item.to.0 == j) (m.group == i)) members ∙ sym (filter-filter (λ (m : Grouped LinkRow). m.group == i) (λ m. m.item.to.0 == j) members) ∙ ap (filter (λ m. m.group == i)) (by.same j) ∙ filter-filter (λ (m : Grouped LinkRow). m.group == i) (λ m. m.item.to.0 == j) (map by_start links) ∙ filter-map (λ (m : Grouped LinkRow). (m.group == i) && (m.item.to.0 == j)) by_start links)
     ∙ items-grouped (filter (λ row. (row.from.0 == i) && (row.to.0 == j)) links)
-  where
-    turned : (a b : Bool) → (a && b) ≡ (b && a)
-    turned true true = refl
-    turned true false = refl
-    turned false true = refl
-    turned false false = refl
 
 -- the rows in groups, each by the stops that they lead to
 pub rules_from_groups : (links : List LinkRow) (old members : List (Grouped LinkRow)) (rules : List (List LinkRow)) (n : ℕ) → All (λ row. row.from.0 < n) links → old ≡ map by_start links → AreByTarget old members → rules ≡ groups_below n members → AreRules links rules

@@ -24,13 +24,10 @@ Before s t = s.to.0 < t.to.0
 before_strict : IsStrictOrder Before
 before_strict = record { irreflexive = λ x lt. omega arith; transitive = λ x y z one other. omega arith }
 
--- a list of at most one item ascends
-AllPairs-short : (R : Step → Step → Type 0) (xs : List Step) → length xs ≤ 1 → AllPairs R xs
-AllPairs-short R xs short i j d lt within = absurd (omega arith)
-
-length-step_list : (to : StopId) (o : Option ℕ) → length (step_list to o) ≤ 1
-length-step_list to None = omega arith
-length-step_list to (Some s) = omega arith
+-- a list of at most one step ascends
+step_list-ascends : (to : StopId) (o : Option ℕ) → AllPairs Before (step_list to o)
+step_list-ascends to None i j d lt within = absurd (omega arith)
+step_list-ascends to (Some s) i j d lt within = absurd (omega arith)
 
 -- the one step of such a list
 pub step_list-tells : (to : StopId) (o : Option ℕ) (t : Step) → Contains (step_list to o) t → (o ≡ Some t.seconds.0) × (t.to ≡ to)
@@ -50,7 +47,7 @@ module _ (feed : FeedRows) (from : StopId) (n : ℕ) (at : ℕ → StopId) where
 
   -- they ascend as the stops do
   along-ascends : ((i j : ℕ) → i < j → j < n → (at i).0 < (at j).0) → AllPairs Before steps_along
-  along-ascends up = AllPairs-joined_below Before n (λ k. step_list (at k) (link feed from (at k))) (λ k lt. AllPairs-short Before (step_list (at k) (link feed from (at k))) (length-step_list (at k) (link feed from (at k))))
+  along-ascends up = AllPairs-joined_below Before n (λ k. step_list (at k) (link feed from (at k))) (λ k lt. step_list-ascends (at k) (link feed from (at k)))
       (λ i j x y lt within here there. let left = ap (λ (s : StopId). s.0) (step_list-tells (at i) (link feed from (at i)) x here).1 in let right = ap (λ (s : StopId). s.0) (step_list-tells (at j) (link feed from (at j)) y there).1 in let less = up i j lt within in omega arith)
 
   -- each is a walk

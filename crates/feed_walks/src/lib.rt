@@ -40,9 +40,9 @@ impl Drop for Walks {
 impl Walks {
     /// The walks of the feed.
     ///
-    /// A pair of platforms is tried where a row for it, or for the station of one or of both, allows the change, and where
-    /// no row says otherwise of a platform or of two of one station. So the time grows with the rows, the stops and the
-    /// walks, and besides with the pairs that one row allows and a closer one forbids.
+    /// Each platform is tried with those that it or its station leads to, by a row that allows the change or, within
+    /// itself, by none. So the time grows with the rows, the stops and the walks, and besides with the pairs that stations
+    /// lead to and a closer row forbids.
     ///
     /// # Errors
     /// Want of memory.
