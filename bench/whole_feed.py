@@ -120,4 +120,5 @@ def main():
     print(f"{rows}\t{size / 1e6:.1f} MB\t{seconds:.2f} s\t{most} MB\t{said}")
 
 
-main()
+if __name__ == "__main__":
+    main()
