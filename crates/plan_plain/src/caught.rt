@@ -9,7 +9,6 @@ ghost use Rattle.plan_plain.specs.Travelling.{IsBarred, travelling};
 ghost use Rattle.transit_base.specs.Limits.{most_time};
 
 use crate::departures::{Departure, deadline};
-use crate::runs::Run;
 use feed_rows::{Call, Query, Ride, RideFacts};
 use feed_timetable::{Standing, Timetable};
 use plain_laws::Groups;
@@ -89,7 +88,7 @@ impl<'s, 'f> Traveller<'s, 'f> {
     // or it ends past the window.
     #[tactic(auto, unfolding(crate::specs::Departures::facts_in_time))]
     fn facts_in_time(&self, departure: &Departure, call: &Call) -> Option<RideFacts>
-        requires reached { IsReached self.now.feed self.now.query self.now.stand departure.now }
+        requires right { IsDeparture self.now.feed departure.now }
         requires time { call.now.arrival ≤ most_time }
         ensures { result ≡ facts_in_time self.now.query departure.now call.now }
     {
