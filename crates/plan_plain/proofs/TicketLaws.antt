@@ -43,9 +43,9 @@ picks_more feed rider Part More Whole old mid new a b part more split = record {
   all = λ pick amount is whole. ⊎_elim (λ p. b.still amount (a.all pick amount is p)) (λ m. b.all pick amount is m) (split pick whole);
   from = ⊎_elim
       (λ (same : new ≡ mid). ⊎_elim
-          (λ (was : mid ≡ old). inl (same ∙ was))
-          (λ (is : IsFrom feed rider Part mid). inr (subst (IsFrom feed rider Whole) (sym same) (from_more feed rider Part Whole mid part is)))
-          a.from)
+      (λ (was : mid ≡ old). inl (same ∙ was))
+      (λ (is : IsFrom feed rider Part mid). inr (subst (IsFrom feed rider Whole) (sym same) (from_more feed rider Part Whole mid part is)))
+      a.from)
       (λ (is : IsFrom feed rider More new). inr (from_more feed rider More Whole new more is))
       b.from;
 }
