@@ -8,7 +8,7 @@ use Rattle.std.proofs.lemmas.Bool.Decides.{nat_tests}
 use Rattle.std.proofs.lemmas.List.Elements.{All-contains}
 use Rattle.feed_rows.specs.declared.rows.LegRuleRow.{LegRuleRow}
 use Rattle.plain_laws.specs.Plain.{filled_and}
-use Rattle.plain_laws.proofs.Laws.{list_any_same, list_any_tells, Filled, filled_and-true}
+use Rattle.plain_laws.proofs.Laws.{list_any_same, list_any_tells, filled_and-true}
 use Rattle.fare_leg_rules.specs.Marks.{is_marked, is_number}
 
 -- the numbers that are marked are those that rules name in a column

@@ -1,22 +1,25 @@
 -- Which rules a leg selects, where what rules name is marked.
-use Rattle.std.proofs.Common.{◌≡◌, refl, sym, ◌∙◌, ap, ℕ, zero, suc, ◌+◌, ◌<◌, max, take, get_or, Bool, true, false, not, ◌&&◌, ◌||◌, ◌==◌, if◌then◌else◌, subst, List, [], ◌∷◌, length, Option, Some, None, arith}
+use Rattle.std.proofs.Common.{◌≡◌, refl, ◌∙◌, ap, ℕ, ◌+◌, ◌<◌, max, take, get_or, Bool, true, false, not, ◌&&◌, ◌||◌, if◌then◌else◌, subst, List, [], ◌∷◌, length, Option, Some, None, arith}
 use Rattle.std.specs.Prelude.{nat_le, nat_lt, slice_get}
 use Rattle.std.specs.List.{list_any, list_all}
 use Rattle.std.proofs.lemmas.Bool.Decides.{nat_tests}
 use Rattle.std.proofs.lemmas.List.Folds.{list_all_more}
 use Rattle.transit_base.specs.declared.numbers.AreaId.{AreaId}
 use Rattle.transit_base.specs.declared.numbers.NetworkId.{NetworkId}
+use Rattle.transit_base.specs.declared.numbers.RuleId.{RuleId}
 use Rattle.feed_rows.specs.declared.journeys.LegFacts.{LegFacts}
 use Rattle.feed_rows.specs.declared.rows.LegRuleRow.{LegRuleRow}
 use Rattle.feed_rows.specs.FeedRows.{FeedRows}
-use Rattle.feed_rows.specs.LegRules.{is_listed_area, network_matches, area_matches, rule_matches, is_top_priority, is_selected_rule, selected_rules}
+use Rattle.feed_rows.specs.LegRules.{is_listed_area, network_matches, area_matches, rule_matches, is_top_priority, is_selected_rule}
 use Rattle.feed_rows.specs.SoundFeed.{IsSoundFeed}
-use Rattle.plain_laws.specs.Plain.{at_and, filled_and, picks_below}
+use Rattle.plain_laws.specs.Plain.{at_and, filled_and, ids_where}
 use Rattle.fare_leg_rules.specs.declared.LegRules.{LegRules}
 use Rattle.fare_leg_rules.specs.Marks.{is_marked, names as column_names}
 use Rattle.fare_leg_rules.specs.declared.marks.Column.TheVariants.{Network, FromArea, ToArea}
 use Rattle.fare_leg_rules.proofs.MarkLaws.{marked_names}
-use Rattle.fare_leg_rules.specs.Fits.{network_fits, area_fits, fits, weight, is_chosen, rule_of}
+use Rattle.fare_leg_rules.specs.Fits.{network_fits, area_fits, fits, weight, is_chosen}
+use Rattle.fare_leg_rules.specs.Networks.{rule_of, is_common, AreByNetwork}
+use Rattle.fare_leg_rules.proofs.NetworkLaws.{rules_of}
 use Rattle.fare_leg_rules.specs.BuiltLegRules.{AreLegRulesOf}
 
 module _ {X : Type 0} where
@@ -31,19 +34,19 @@ module _ {X : Type 0} where
       step None = refl
       step (Some x) = same x
 
-  picks_below-same : (n : ℕ) (p q : ℕ → Bool) (f : ℕ → X) → ((i : ℕ) → p i ≡ q i) → picks_below n p f ≡ picks_below n q f
-  picks_below-same zero p q f same = refl
-  picks_below-same (suc n) p q f same = rw (picks_below-same n p q f same, same n) refl
-
--- the highest of what rows weigh, with one row more
-pub top_more : (weigh : LegRuleRow → ℕ) (rows all : List LegRuleRow) (i : ℕ) (d : LegRuleRow) (top here new priority : ℕ) → rows ≡ all → i < length rows
-    → nat_le top priority ≡ list_all (λ row. nat_le (weigh row) priority) (take i all) → here ≡ weigh (get_or rows i d) → new ≡ max here top
-    → nat_le new priority ≡ list_all (λ row. nat_le (weigh row) priority) (take (i + 1) all)
-top_more weigh rows all i d top here new priority same lt before is made =
-    rw made (both ∙ rw (before, is, same) (sym (list_all_more (λ row. nat_le (weigh row) priority) all i d (rw same at lt))))
+-- the highest of what rules weigh, with one rule more
+pub top_more : (weigh : RuleId → ℕ) (ids : List RuleId) (i : ℕ) (d : RuleId) (least top here new priority : ℕ) → i < length ids
+    → nat_le top priority ≡ (nat_le least priority && list_all (λ rule. nat_le (weigh rule) priority) (take i ids)) → here ≡ weigh (get_or ids i d) → new ≡ max here top
+    → nat_le new priority ≡ (nat_le least priority && list_all (λ rule. nat_le (weigh rule) priority) (take (i + 1) ids))
+top_more weigh ids i d least top here new priority lt before is made =
+    rw (made, list_all_more (λ rule. nat_le (weigh rule) priority) ids i d lt) (both ∙ rw (before, is) (turned (nat_le least priority) _ _))
   where
     both : nat_le (max here top) priority ≡ (nat_le top priority && nat_le here priority)
     both = grind (arith, nat_tests)
+
+    turned : (a b c : Bool) → ((a && b) && c) ≡ (a && (b && c))
+    turned true b c = refl
+    turned false b c = refl
 
 module _ (feed : FeedRows) (rules : LegRules) (are : AreLegRulesOf feed rules) (leg : LegFacts) where
   network_is : (rule own : Option NetworkId) → network_fits rules.has_priority rules.networks.items rule own ≡ network_matches feed rule own
@@ -84,25 +87,19 @@ module _ (feed : FeedRows) (rules : LegRules) (are : AreLegRulesOf feed rules) (
       ap (λ rows. at_and rows i (is_chosen rules leg top)) are.rows
       ∙ at_and_same (is_chosen rules leg top) (λ row. rule_matches feed leg row && is_top_priority feed leg row.priority) feed.leg_rules i (λ row. rw (fits_is row, top_is top row.priority tops) refl)
 
-  -- and all of these are those that the leg selects
-  pub selected_is : (top : ℕ) → ((p : ℕ) → nat_le top p ≡ list_all (λ row. nat_le (weight rules leg row) p) rules.rules.items)
-      → picks_below rules.count (λ i. at_and rules.rules.items i (is_chosen rules leg top)) rule_of ≡ selected_rules feed leg
-  selected_is top tops =
-      ap (λ n. picks_below n (λ i. at_and rules.rules.items i (is_chosen rules leg top)) rule_of) are.count
-      ∙ picks_below-same (length feed.leg_rules) _ _ rule_of (chosen_is top tops)
-
 -- the leg rules of a feed, from what each step of the building made
 pub built : (feed inside : FeedRows) (rows : List LegRuleRow) (names areas : ℕ) (rules : LegRules) → inside ≡ feed → IsSoundFeed inside → rows ≡ inside.leg_rules → names ≡ length inside.network_names → areas ≡ length inside.areas
-    → rules.rules.items ≡ rows → rules.count ≡ length rows → rules.has_priority ≡ inside.has_priority
+    → rules.rules.items ≡ rows → rules.common.items ≡ ids_where rule_of is_common rows → AreByNetwork rows names rules.by_network → rules.has_priority ≡ inside.has_priority
     → ((i : ℕ) → is_marked rules.networks.items i ≡ (nat_lt i names && list_any (column_names Network i) rows))
     → ((i : ℕ) → is_marked rules.from_areas.items i ≡ (nat_lt i areas && list_any (column_names FromArea i) rows))
     → ((i : ℕ) → is_marked rules.to_areas.items i ≡ (nat_lt i areas && list_any (column_names ToArea i) rows)) → AreLegRulesOf feed rules
-built feed inside rows names areas rules view sound same many_names many_areas kept count priority networks froms tos =
+built feed inside rows names areas rules view sound same many_names many_areas kept common grouped priority networks froms tos =
     let sound_rules = sound.leg_rules in
     subst (λ f. AreLegRulesOf f rules) view
     (record {
       rows = kept ∙ same;
-      count = count ∙ ap length same;
+      common = common ∙ ap (ids_where rule_of is_common) same;
+      of_network = rules_of inside rows rules.by_network names sound_rules same many_names grouped;
       has_priority = priority;
       networks = λ n. marked_names (λ (x : NetworkId). x.0) (λ r. r.network) rows inside.leg_rules rules.networks.items names same (rw many_names sound_rules.networks) networks n.0;
       from_areas = λ a. marked_names (λ (x : AreaId). x.0) (λ r. r.from_area) rows inside.leg_rules rules.from_areas.items areas same (rw many_areas sound_rules.from_areas) froms a.0;

@@ -1,18 +1,17 @@
 -- Whether a rule matches a leg, where what rules name is marked.
-use Rattle.std.specs.Prelude.{ℕ, Bool, not, ◌&&◌, ◌||◌, ◌==◌, nat_le, if◌then◌else◌, List, Option, Some, None}
+use Rattle.std.specs.Prelude.{◌≡◌, ℕ, Bool, not, ◌&&◌, ◌||◌, ◌==◌, nat_le, if◌then◌else◌, List, [], Option, Some, None, slice_get}
 use Rattle.std.specs.List.{list_any, list_all}
+use Rattle.std.specs.Option.{option_map_or}
 use Rattle.transit_base.specs.declared.numbers.AreaId.{AreaId}
 use Rattle.transit_base.specs.declared.numbers.NetworkId.{NetworkId}
 use Rattle.transit_base.specs.declared.numbers.RuleId.{RuleId}
 use Rattle.feed_rows.specs.declared.journeys.LegFacts.{LegFacts}
 use Rattle.feed_rows.specs.declared.rows.LegRuleRow.{LegRuleRow}
 use Rattle.feed_rows.specs.LegRules.{frame_matches}
-use Rattle.plain_laws.specs.Plain.{empty_or, filled_and}
+use Rattle.plain_laws.specs.Plain.{at_and, empty_or, filled_and}
 use Rattle.fare_leg_rules.specs.declared.LegRules.{LegRules}
 use Rattle.fare_leg_rules.specs.Marks.{is_marked}
-
-abbrev pub rule_of : ℕ → RuleId
-rule_of i = record { 0 = i }
+use Rattle.fare_leg_rules.specs.Networks.{rules_at}
 
 -- the network of a rule is that of a leg
 abbrev pub network_fits : Bool → List Bool → Option NetworkId → Option NetworkId → Bool
@@ -40,3 +39,22 @@ weight rules leg row = if fits rules leg row then row.priority else 0
 -- the rule matches, with at least this priority
 abbrev pub is_chosen : LegRules → LegFacts → ℕ → LegRuleRow → Bool
 is_chosen rules leg least row = fits rules leg row && nat_le least row.priority
+
+-- the same of the rule with this number
+abbrev pub weight_of : LegRules → LegFacts → RuleId → ℕ
+weight_of rules leg rule = option_map_or (weight rules leg) (slice_get rules.rules.items rule.0) 0
+
+-- the rule with this number weighs no more than so much
+abbrev pub is_within : LegRules → LegFacts → ℕ → RuleId → Bool
+is_within rules leg priority rule = nat_le (weight_of rules leg rule) priority
+
+abbrev pub is_chosen_at : LegRules → LegFacts → ℕ → RuleId → Bool
+is_chosen_at rules leg least rule = at_and rules.rules.items rule.0 (is_chosen rules leg least)
+
+-- the rules of the leg's network
+abbrev pub own_rules : LegRules → LegFacts → List RuleId
+own_rules rules leg = option_map_or (λ n. rules_at rules.by_network n.0) leg.network []
+
+-- no rule weighs more, and no less is enough for that
+abbrev pub IsTop : LegRules → LegFacts → ℕ → Type 0
+IsTop rules leg top = (priority : ℕ) → nat_le top priority ≡ list_all (λ row. nat_le (weight rules leg row) priority) rules.rules.items

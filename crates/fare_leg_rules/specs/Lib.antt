@@ -1,3 +1,4 @@
 pub mod Marks
+pub mod Networks
 pub mod Fits
 pub mod BuiltLegRules

@@ -1,19 +1,23 @@
 //! The leg rules of a feed, and which of them a leg selects.
 #![tactic(auto)]
 
-ghost use Rattle.std.specs.Prelude.{◌≡◌, ℕ, not, nat_le, ◌==◌, IfOk};
+ghost use Rattle.std.specs.Prelude.{◌≡◌, ℕ, not, nat_le, ◌==◌, ◌&&◌, ◌++◌, filter, IfOk, OnOk};
 ghost use Rattle.std.specs.List.{list_any, list_all};
+ghost use Rattle.std.specs.List.Sorted.{IsPermutation, IsNonDecreasingBy};
 ghost use Rattle.feed_rows.specs.FeedRows.{FeedRows};
 ghost use Rattle.feed_rows.specs.LegRules.{frame_matches, selected_rules, is_selected_rule};
-ghost use Rattle.plain_laws.specs.Plain.{at_and, picks_below};
+ghost use Rattle.plain_laws.specs.Plain.{at_and};
 ghost use Rattle.fare_leg_rules.specs.Marks.{is_marked};
-ghost use Rattle.fare_leg_rules.specs.Fits.{network_fits, area_fits, fits, weight, is_chosen, rule_of};
+ghost use Rattle.fare_leg_rules.specs.Fits.{network_fits, area_fits, fits, weight, weight_of, is_within, is_chosen, is_chosen_at, own_rules, IsTop};
 ghost use Rattle.fare_leg_rules.specs.BuiltLegRules.{AreLegRulesOf};
 
 mod marks;
+mod networks;
 
 use crate::marks::{Column, is_marked, marked};
+use crate::networks::{common_rules, rules_by_network};
 use feed_rows::{Feed, LegFacts, LegRuleRow, RuleList};
+use plain_laws::Groups;
 use std::alloc::{AllocError, Global};
 use transit_base::{AreaId, FrameId, NetworkId, RuleId};
 
@@ -23,8 +27,10 @@ use transit_base::{AreaId, FrameId, NetworkId, RuleId};
 pub struct LegRules {
     /// The rules, in file order.
     rules: Vec<LegRuleRow>,
-    /// How many there are.
-    count: u32,
+    /// Those without a network, in file order.
+    common: Vec<RuleId>,
+    /// Those of each network, in file order.
+    by_network: Groups<RuleId>,
     /// Whether the file has the column `rule_priority`.
     has_priority: bool,
     /// Whether a rule names each network.
@@ -40,7 +46,8 @@ impl Drop for LegRules {
     fn drop(self) {
         let LegRules {
             rules: _,
-            count: _,
+            common: _,
+            by_network: _,
             has_priority: _,
             networks: _,
             from_areas: _,
@@ -62,7 +69,8 @@ impl LegRules {
         let areas = feed.areas.items().len();
         Ok(LegRules {
             rules: Vec::from_slice(alloc, rows)?,
-            count: rows.len() as u32,
+            common: common_rules(alloc, rows)?,
+            by_network: rules_by_network(alloc, rows, networks as u32)?,
             has_priority: feed.has_priority,
             networks: marked(alloc, rows, Column::Network, networks)?,
             from_areas: marked(alloc, rows, Column::FromArea, areas)?,
@@ -79,14 +87,11 @@ impl LegRules {
         ensures { IfOk result (λ rules. (feed : FeedRows) → AreLegRulesOf feed self.now → rules ≡ selected_rules feed leg.now) }
     {
         let least = self.top_priority(leg);
-        let mut rules = RuleList::empty(alloc);
-        for number in 0..self.count {
-            let rule = RuleId(number);
-            if self.is_chosen(leg, rule, least) {
-                rules.push(rule)?;
-            }
-        }
-        Ok(rules)
+        let mut chosen = Vec::new(alloc);
+        self.push_chosen(&mut chosen, leg, self.own(leg), least)?;
+        self.push_chosen(&mut chosen, leg, &self.common, least)?;
+        put_in_order(&mut chosen);
+        rule_list(alloc, chosen.as_slice())
     }
 
     /// Whether the leg selects the rule: it matches the leg, and none that does has a higher priority. A number that is no
@@ -97,15 +102,62 @@ impl LegRules {
         self.is_chosen(leg, rule, self.top_priority(leg))
     }
 
-    /// The highest priority of a rule that matches the leg; 0 where none does.
-    fn top_priority(&self, leg: &LegFacts) -> u32
-        ensures { (priority : ℕ) → nat_le result priority ≡ list_all (λ row. nat_le (weight self.now leg.now row) priority) self.now.rules.items }
+    /// The rules of the leg's network.
+    fn own(&self, leg: &LegFacts) -> &[RuleId]
+        ensures { result.now ≡ own_rules self.now leg.now }
     {
-        let mut top = 0;
-        for rule in &self.rules {
-            top = self.weight(leg, rule).max(top);
+        match leg.network {
+            Some(network) => self.by_network.get(network.0 as usize),
+            None => &[],
+        }
+    }
+
+    /// Adds those of the rules that match the leg with at least this priority.
+    fn push_chosen(
+        &self,
+        chosen: &mut Vec<RuleId>,
+        leg: &LegFacts,
+        among: &[RuleId],
+        least: u32,
+    ) -> Result<(), AllocError>
+        ensures { OnOk result (chosen.new.items ≡ chosen.old.items ++ filter (is_chosen_at self.now leg.now least) among.now) }
+    {
+        for rule in among {
+            if self.is_chosen(leg, *rule, least) {
+                chosen.push(*rule)?;
+            }
+        }
+        Ok(())
+    }
+
+    /// The highest priority of a rule that matches the leg; 0 where none does. A rule that matches has the leg's network
+    /// or none, so no other is looked at.
+    fn top_priority(&self, leg: &LegFacts) -> u32
+        ensures { (feed : FeedRows) → AreLegRulesOf feed self.now → IsTop self.now leg.now result }
+    {
+        let top = self.top_among(leg, &self.common, 0);
+        self.top_among(leg, self.own(leg), top)
+    }
+
+    /// The highest priority of one of these rules that matches the leg, or the least, where none has a higher one.
+    fn top_among(&self, leg: &LegFacts, among: &[RuleId], least: u32) -> u32
+        ensures { (priority : ℕ) → nat_le result priority ≡ (nat_le least priority && list_all (is_within self.now leg.now priority) among.now) }
+    {
+        let mut top = least;
+        for rule in among {
+            top = self.weight_of(leg, *rule).max(top);
         }
         top
+    }
+
+    /// The priority of the rule with this number, where it matches the leg; else 0.
+    fn weight_of(&self, leg: &LegFacts, rule: RuleId) -> u32
+        ensures { result ≡ weight_of self.now leg.now rule }
+    {
+        match self.rules.get(rule.0 as usize) {
+            Some(row) => self.weight(leg, row),
+            None => 0,
+        }
     }
 
     /// The priority of a rule that matches the leg; 0 of one that doesn't.
@@ -163,6 +215,25 @@ impl LegRules {
             None => self.has_priority || names_none(named, areas),
         }
     }
+}
+
+/// Puts rules in file order.
+fn put_in_order(rules: &mut Vec<RuleId>)
+    ensures moved { IsPermutation rules.old.items rules.new.items }
+    ensures rises { IsNonDecreasingBy (λ (rule : RuleId). rule.0) rules.new.items }
+{
+    rules.sort_unstable_by_key(|rule| rule.0);
+}
+
+/// The rules as a list.
+fn rule_list(alloc: Global, rules: &[RuleId]) -> Result<RuleList, AllocError>
+    ensures { IfOk result (λ list. list ≡ rules.now) }
+{
+    let mut list = RuleList::empty(alloc);
+    for rule in rules {
+        list.push(*rule)?;
+    }
+    Ok(list)
 }
 
 /// Whether the area is among these.

@@ -1,9 +1,15 @@
-use Rattle.std.proofs.Common.{ap}
-use Rattle.fare_leg_rules.specs.Fits.{weight}
-use Rattle.fare_leg_rules.proofs.RuleLaws.{top_more}
+use Rattle.std.proofs.Common.{◌∙◌, ◌&&◌, ap}
+use Rattle.std.specs.Prelude.{nat_le}
+use Rattle.std.specs.List.{list_all}
+use Rattle.fare_leg_rules.specs.Fits.{is_within}
+use Rattle.fare_leg_rules.proofs.OrderLaws.{top_among}
 use Rattle.fare_leg_rules.proofs.LegRules.top_priority.Goals as goal
 
-pub loop-rule-preserved : goal.loop-rule-preserved
-loop-rule-preserved c = λ priority.
-    top_more (weight c.args.self.now c.args.leg.now) _ c.args.self.now.rules.items c.loop-rule.rule-index _ c.loop-rule.top c.weight.result _ priority
-    c.deref-rule-items.ensures.value c.loop-rule-test.true (c.loop-rule.invariant priority) c.weight.ensures c.max-top.ensures
+pub returns : goal.returns
+returns c = λ feed are.
+    let rules = c.args.self.now in
+    let leg = c.args.leg.now in
+    let first = c.top_among-top.result in
+    top_among feed rules are leg first c.top_among.result
+    (λ p. c.top_among-top.ensures p ∙ ap (λ ids. nat_le 0 p && list_all (is_within rules leg p) ids) c.deref.ensures.value)
+    (λ p. c.top_among.ensures p ∙ ap (λ ids. nat_le first p && list_all (is_within rules leg p) ids) c.own.ensures)
