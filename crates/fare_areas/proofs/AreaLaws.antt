@@ -1,5 +1,5 @@
 -- The areas of stops, from the rows that name them.
-use Rattle.std.proofs.Common.{◌≡◌, refl, sym, ◌∙◌, ap, subst, ℕ, ◌<◌, ◌≤◌, ◌⊎◌, inl, inr, ⊎_elim, Bool, true, false, not, ◌&&◌, ◌||◌, ◌==◌, if◌then◌else◌, List, [], ◌∷◌, length, map, filter, All, Contains, Option, Some, None, IsPermutation, arith}
+use Rattle.std.proofs.Common.{◌≡◌, refl, sym, ◌∙◌, ap, subst, ℕ, ◌<◌, ◌≤◌, ◌⊎◌, inl, inr, Bool, true, false, ◌&&◌, ◌||◌, ◌==◌, if◌then◌else◌, List, [], length, map, filter, All, Contains, Option, Some, None, IsPermutation, arith}
 use Rattle.std.specs.Prelude.{slice_get, unwrap_or, option_and_then}
 use Rattle.std.specs.Option.{option_map_or}
 use Rattle.std.specs.List.{list_any, dedup}
@@ -16,7 +16,6 @@ use Rattle.std.proofs.lemmas.List.Sorted.{Contains-permutation, IsPermutation-sy
 use Rattle.std.proofs.lemmas.Map.Keys.{Less-from_sorted}
 use Rattle.std.proofs.lemmas.Option.{slice_get_past}
 use Rattle.transit_base.specs.declared.numbers.AreaId.{AreaId}
-use Rattle.transit_base.specs.declared.numbers.NetworkId.{NetworkId}
 use Rattle.transit_base.specs.declared.numbers.StopId.{StopId}
 use Rattle.feed_rows.specs.declared.rows.StopAreaRow.{StopAreaRow}
 use Rattle.feed_rows.specs.declared.rows.StopRow.{StopRow}
@@ -27,9 +26,9 @@ use Rattle.feed_rows.specs.SoundFares.{AreSoundStopAreas}
 use Rattle.feed_rows.specs.SoundFeed.{IsSoundFeed}
 use Rattle.feed_rows.specs.StopLinks.{is_platform, is_station, parent_of}
 use Rattle.plain_laws.specs.declared.groups.Grouped.{Grouped}
-use Rattle.plain_laws.specs.Plain.{group_of, groups_below, list_below, picks_below}
-use Rattle.plain_laws.proofs.Laws.{HaveSameMembers, any_passes, list_any_tells, list_any-map, list_any-filter, none_of_both, number_equal, map-tells, group_of-tells, groups_below-at, groups_below-past, All-from, All-slice_get, All-list_below, length-list_below, slice_get-list_below, list_below-same, picks_below-same, picks_below-none, Contains-picks_below, AllPairs-picks_below, picks_from_ascending}
-use Rattle.fare_areas.specs.AreaRows.{by_stop, areas_at, DoRise, area_of, ordered, own_table, source_of, source_in, source_at}
+use Rattle.plain_laws.specs.Plain.{group_of, groups_below, list_below}
+use Rattle.plain_laws.proofs.Laws.{any_passes, list_any_tells, list_any-map, list_any-filter, none_of_both, number_equal, map-tells, group_of-tells, groups_below-at, groups_below-past, All-from, All-slice_get, All-list_below, length-list_below, slice_get-list_below, list_below-same, picks_below-same, picks_below-none, Contains-picks_below, AllPairs-picks_below, picks_from_ascending}
+use Rattle.fare_areas.specs.AreaRows.{by_stop, areas_at, DoRise, area_of, ordered, own_table, source_of, source_at}
 use Rattle.fare_areas.specs.AreaTables.{AreaTable}
 use Rattle.fare_areas.specs.BuiltAreas.{AreAreasOf}
 

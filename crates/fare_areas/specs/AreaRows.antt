@@ -1,5 +1,5 @@
 -- The areas of each stop's own rows, and whose rows tell the areas of a stop.
-use Rattle.std.specs.Prelude.{ℕ, ◌<◌, Bool, ◌&&◌, ◌||◌, ◌==◌, if◌then◌else◌, List, [], AllPairs, length, Option, Some, None, slice_get, unwrap_or, option_and_then}
+use Rattle.std.specs.Prelude.{ℕ, ◌<◌, ◌&&◌, ◌||◌, ◌==◌, if◌then◌else◌, List, [], AllPairs, length, Option, Some, None, slice_get, unwrap_or, option_and_then}
 use Rattle.std.specs.List.{list_any}
 use Rattle.transit_base.specs.declared.numbers.AreaId.{AreaId}
 use Rattle.transit_base.specs.declared.numbers.NetworkId.{NetworkId}

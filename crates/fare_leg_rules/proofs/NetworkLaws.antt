@@ -11,9 +11,8 @@ use Rattle.feed_rows.specs.FeedRows.{FeedRows}
 use Rattle.feed_rows.specs.SoundFares.{AreSoundLegRules}
 use Rattle.plain_laws.specs.declared.groups.Grouped.{Grouped}
 use Rattle.plain_laws.specs.Plain.{at_and, filled_and, picks_below, ids_where, group_of, groups_below}
-use Rattle.plain_laws.proofs.Laws.{All-slice_get, filled_and-true, groups_below-at, groups_below-past}
+use Rattle.plain_laws.proofs.Laws.{All-slice_get, filled_and-true, groups_below-at, groups_below-past, picks_below-none}
 use Rattle.fare_leg_rules.specs.Networks.{rule_of, is_of, rules_at, AreByNetwork}
-use Rattle.fare_leg_rules.proofs.PickLaws.{picks_below-none}
 
 -- the rules that pass a test, with one row more
 pub picks_more : (test : LegRuleRow → Bool) (rows : List LegRuleRow) (k : ℕ) (d : LegRuleRow) (before now : List RuleId) → k < length rows

@@ -18,12 +18,11 @@ use Rattle.feed_rows.specs.declared.rows.LegRuleRow.{LegRuleRow}
 use Rattle.feed_rows.specs.FeedRows.{FeedRows}
 use Rattle.feed_rows.specs.LegRules.{is_selected_rule, selected_rules}
 use Rattle.plain_laws.specs.Plain.{at_and, filled_and, ids_where}
-use Rattle.plain_laws.proofs.Laws.{same_test, eqb_turn, list_all-at, list_all-from, slice_get-Contains, Contains-slice_get, Contains-filter, Contains-filter_passes, filter-tells, AllPairs-append}
+use Rattle.plain_laws.proofs.Laws.{same_test, eqb_turn, list_all-at, list_all-from, slice_get-Contains, Contains-slice_get, Contains-filter, Contains-filter_passes, filter-tells, AllPairs-append, IsPicked, picks_below-none, Contains-picks_below, picks_below-tells, AllPairs-picks_below, picks_from_ascending}
 use Rattle.fare_leg_rules.specs.declared.LegRules.{LegRules}
 use Rattle.fare_leg_rules.specs.Networks.{rule_of, is_common, is_of}
 use Rattle.fare_leg_rules.specs.Fits.{network_fits, fits, weight, weight_of, is_within, is_chosen, is_chosen_at, own_rules, IsTop}
 use Rattle.fare_leg_rules.specs.BuiltLegRules.{AreLegRulesOf}
-use Rattle.fare_leg_rules.proofs.PickLaws.{IsPicked, picks_below-none, Contains-picks_below, picks_below-tells, AllPairs-picks_below, picks_from_ascending}
 use Rattle.fare_leg_rules.proofs.RuleLaws.{chosen_is}
 
 abbrev same_rule : RuleId → RuleId → Bool

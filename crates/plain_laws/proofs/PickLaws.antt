@@ -1,11 +1,11 @@
 -- What is picked of the numbers below a bound: where just the first so many pass, and by its members.
-use Rattle.std.proofs.Common.{◌≡◌, refl, sym, ◌∙◌, subst, ℕ, zero, suc, ◌<◌, ◌≤◌, ◌⊎◌, inl, inr, ⊎_elim, Bool, true, false, List, [], ◌∷◌, Contains, All, AllPairs, append-nil, arith}
+use Rattle.std.proofs.Common.{◌≡◌, refl, sym, ◌∙◌, subst, ℕ, zero, suc, ◌<◌, ◌≤◌, ◌⊎◌, inl, inr, ⊎_elim, Bool, true, false, List, [], Contains, AllPairs, append-nil, arith}
 use Rattle.std.proofs.lemmas.Bool.{cases_lt}
 use Rattle.std.proofs.lemmas.List.Quantifiers.{all_pairs_push}
 use Rattle.plain_laws.specs.Below.{picks_below, list_below}
 use Rattle.plain_laws.proofs.BelowLaws.{All-picks_below}
 use Rattle.plain_laws.proofs.JoinedLaws.{one_where, joined_below-picks, Contains-joined_below, joined_below-tells}
-use Rattle.plain_laws.proofs.OrderLaws.{IsStrictOrder, HaveSameMembers, same_from_members, Contains-cons_first, Contains-cons_cases}
+use Rattle.plain_laws.proofs.OrderLaws.{IsStrictOrder, same_from_members, Contains-cons_first, Contains-cons_cases}
 
 module _ {X : Type 0} where
   -- where all pass, all are picked
