@@ -1,5 +1,5 @@
 -- The first fault of a feed: of the files each by itself, and then of the files among each other.
-use Rattle.std.specs.Prelude.{◌≡◌, ℕ, [], ◌∷◌, Option, None}
+use Rattle.std.specs.Prelude.{[], ◌∷◌, Option}
 use Rattle.std.specs.Option.{option_or}
 use Rattle.feed_rows.specs.declared.names.FileName.{FileName}
 use Rattle.feed_rows.specs.declared.faults.FeedFault.{FeedFault}
@@ -23,7 +23,3 @@ first_relation_fault t = first_in all_files (relation_fault t)
 -- the first fault of a feed's files
 unfoldable pub first_fault : (FileName → HeldFile) → Option FeedFault
 first_fault files = first_of (first_form_fault files ∷ first_relation_fault (tables_of files) ∷ [])
-
--- the files are a feed without fault
-abbrev pub IsAccepted : (FileName → HeldFile) → Type 0
-IsAccepted files = first_fault files ≡ None
