@@ -1,0 +1,3 @@
+pub mod OfferLaws
+pub mod CheapestLaws
+pub mod RiderLaws
