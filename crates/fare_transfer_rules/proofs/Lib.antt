@@ -1,0 +1,4 @@
+pub mod MarkLaws
+pub mod ClassLaws
+pub mod CountLaws
+pub mod RowLaws

@@ -1,0 +1,58 @@
+-- Whether a row is selected for a change, where the groups that rows name are marked.
+use Rattle.std.specs.Prelude.{◌≡◌, ℕ, Bool, not, ◌&&◌, ◌||◌, ◌==◌, nat_le, is_some, List, Option, Some, None, slice_get}
+use Rattle.std.specs.List.{list_any, list_all}
+use Rattle.transit_base.specs.declared.numbers.LegGroupId.{LegGroupId}
+use Rattle.transit_base.specs.declared.numbers.XferId.{XferId}
+use Rattle.feed_rows.specs.declared.fares.TransferFacts.{TransferFacts}
+use Rattle.feed_rows.specs.declared.rows.TransferRuleRow.{TransferRuleRow}
+use Rattle.feed_rows.specs.TransferRules.{limit_holds, count_le}
+use Rattle.plain_laws.specs.Plain.{at_and, empty_or}
+use Rattle.fare_transfer_rules.specs.declared.XferRules.{XferRules}
+use Rattle.fare_transfer_rules.specs.Marks.{is_marked}
+use Rattle.fare_transfer_rules.specs.Classes.{class_of, rows_at}
+use Rattle.fare_transfer_rules.specs.Counts.{is_within}
+
+-- the leg group of a row is that of a leg
+abbrev pub group_fits : List Bool → Option LegGroupId → LegGroupId → Bool
+group_fits named (Some own) group = own.0 == group.0
+group_fits named None group = not (is_marked named group.0)
+
+-- the count of a row is at least that of a change
+abbrev pub count_fits : ℕ → Option ℕ → Bool
+count_fits change count = empty_or count (nat_le change)
+
+-- the row is a candidate for the change, and its count is at least the change's
+unfoldable pub fits : XferRules → TransferFacts → TransferRuleRow → Bool
+fits rules change row =
+    group_fits rules.froms.items row.from change.from
+    && group_fits rules.tos.items row.to change.to
+    && empty_or row.limit (limit_holds change)
+    && count_fits change.count row.count
+
+-- the same of the row with this number
+abbrev pub fits_at : XferRules → TransferFacts → XferId → Bool
+fits_at rules change row = at_and rules.rules.items row.0 (fits rules change)
+
+-- where the row fits, this count is at most its own
+abbrev pub not_above : XferRules → TransferFacts → Option ℕ → TransferRuleRow → Bool
+not_above rules change count row = not (fits rules change row) || count_le count row.count
+
+abbrev pub not_above_at : XferRules → TransferFacts → Option ℕ → XferId → Bool
+not_above_at rules change count row = empty_or (slice_get rules.rules.items row.0) (not_above rules change count)
+
+-- the row fits, with the least count
+abbrev pub is_chosen : XferRules → TransferFacts → Option (Option ℕ) → TransferRuleRow → Bool
+is_chosen rules change least row = fits rules change row && is_within least row.count
+
+abbrev pub is_chosen_at : XferRules → TransferFacts → Option (Option ℕ) → XferId → Bool
+is_chosen_at rules change least row = at_and rules.rules.items row.0 (is_chosen rules change least)
+
+-- the rows of the class of the leg before the change
+abbrev pub rows_for : XferRules → TransferFacts → List XferId
+rows_for rules change = rows_at rules.by_from (class_of rules.froms.items change.from.0)
+
+-- the least count among these rows: no count is above it that none of these rows that fit is below, and there is one exactly
+-- where one of them fits
+pub record AreLeast (rules : XferRules) (change : TransferFacts) (among : List XferId) (least : Option (Option ℕ)) : Type 0 where
+  pub within : (count : Option ℕ) → is_within least count ≡ list_all (not_above_at rules change count) among
+  pub some : is_some least ≡ list_any (fits_at rules change) among

@@ -1,0 +1,5 @@
+pub mod Marks
+pub mod Classes
+pub mod Counts
+pub mod Fits
+pub mod BuiltTransferRules
