@@ -1,0 +1,29 @@
+use Rattle.std.proofs.Common.{◌≡◌, sym, ◌∙◌, ap, subst, ◌+◌, [], length, arith}
+use Rattle.std.specs.List.{flat_map}
+use Rattle.std.specs.Option.{option_map_or}
+use Rattle.label_bag.specs.Bags.{Gathers}
+use Rattle.plain_laws.specs.Plain.{joined_below}
+use Rattle.fare_price.specs.Ways.{is_as_good, ways_by, ways_from, ways_at, next_ways}
+use Rattle.fare_price.proofs.GatherLaws.{gathers_joined}
+use Rattle.fare_price.proofs.fares.RiderFares.next_ways.Goals as goal
+
+pub loop-number-preserved : goal.loop-number-preserved
+unfolding ways_from
+loop-number-preserved c =
+    let feed = c.args.self.now.feed in
+    let rider = c.args.self.now.rider in
+    let leg = c.args.leg.now in
+    gathers_joined is_as_good c.loop-number.number (ways_at feed rider leg c.args.base c.args.ways.now) [] c.loop-number.next
+    c.offer_from.new.next _ c.loop-number.invariant
+    (ap (λ o. option_map_or (λ way. ways_from feed rider leg way.stand (c.args.base + c.loop-number.number)) o []) c.get.ensures
+    ∙ ap (flat_map (ways_by feed rider leg c.get.result.now.stand (c.args.base + c.loop-number.number)))
+    (sym (c.deref.ensures.value ∙ c.in_ok-offers.ensures.value)))
+    c.in_ok-offer_from.ensures
+
+pub returns : goal.returns
+unfolding next_ways
+returns c =
+    let all : c.loop-number.number ≡ length c.args.ways.now = omega arith in
+    subst (λ n. Gathers is_as_good []
+    (joined_below n (ways_at c.args.self.now.feed c.args.self.now.rider c.args.leg.now c.args.base c.args.ways.now))
+    c.loop-number.next) all c.loop-number.invariant

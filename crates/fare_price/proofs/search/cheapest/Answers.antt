@@ -1,0 +1,15 @@
+use Rattle.std.proofs.Common.{subst, sym, arith}
+use Rattle.fare_price.specs.declared.ways.Way.{Way}
+use Rattle.fare_price.proofs.CheapestLaws.{IsCheapest, cheaper_more, cheapest_of_all}
+use Rattle.std.proofs.Common.{take, ◌+◌}
+use Rattle.fare_price.proofs.search.cheapest.Goals as goal
+
+pub loop-number-preserved : goal.loop-number-preserved
+loop-number-preserved c =
+    subst (λ (w : Way). IsCheapest c.args.ways.now (take (c.loop-number.number + 1) c.args.ways.now) w)
+    (sym c.cheaper.ensures)
+    (cheaper_more c.args.ways.now c.loop-number.number c.loop-number.least c.get.result.now c.get.ensures
+    c.loop-number.invariant)
+
+pub returns : goal.returns
+returns c = cheapest_of_all c.args.ways.now c.loop-number.number c.loop-number.least (omega arith) c.loop-number.invariant

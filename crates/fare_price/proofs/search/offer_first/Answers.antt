@@ -1,0 +1,15 @@
+use Rattle.std.proofs.Common.{subst, ◌∷◌, []}
+use Rattle.label_bag.specs.Bags.{Gathers}
+use Rattle.fare_price.specs.declared.ways.Way.{Way}
+use Rattle.fare_price.specs.Ways.{is_as_good, first_way}
+use Rattle.fare_price.proofs.GatherLaws.{gathers_none, gathers_map}
+use Rattle.fare_price.proofs.search.offer_first.Goals as goal
+
+pub loop-offer-init : goal.loop-offer-init
+loop-offer-init c = gathers_none is_as_good _
+
+pub loop-offer-preserved : goal.loop-offer-preserved
+loop-offer-preserved c =
+    gathers_map is_as_good (first_way c.args.leg.now) c.args.offers.now c.loop-offer.offer-index _ _ _ _
+    c.loop-offer-test.true c.loop-offer.invariant
+    (subst (λ (w : Way). Gathers is_as_good c.loop-offer.ways (w ∷ []) c.offer.new.self) c.first_way.ensures c.in_ok-offer.ensures)

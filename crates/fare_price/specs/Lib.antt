@@ -1,0 +1,5 @@
+pub mod Prices
+pub mod Stands
+pub mod Offers
+pub mod WayLaws
+pub mod Ways

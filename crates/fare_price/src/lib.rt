@@ -1,0 +1,26 @@
+//! The least price of legs, and the sum of a choice that is given.
+//!
+//! The search goes by legs from left to right. Of two ways to pay the legs so far that leave changes the same run it keeps
+//! the one that has paid no more and costs no more.
+#![tactic(auto)]
+
+mod checks;
+mod fares;
+mod offers;
+mod search;
+mod stands;
+mod ways;
+
+pub use checks::verify;
+pub use fares::{Fares, RiderFares};
+use feed_rows::Choice;
+pub use search::price;
+use transit_base::Money;
+
+/// A choice that pays legs, and its sum.
+#[derive(Drop)]
+pub struct Priced {
+    /// The sum in minor units of the feed's currency.
+    pub sum: Money,
+    pub choice: Choice,
+}
