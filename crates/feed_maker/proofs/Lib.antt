@@ -1,0 +1,4 @@
+pub mod DrawLaws
+pub mod FileLaws
+pub mod SizeLaws
+pub mod HeldLaws
