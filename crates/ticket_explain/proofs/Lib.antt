@@ -1,3 +1,4 @@
+pub mod CommandLaws
 pub mod LineLaws
 pub mod RideBounds
 pub mod PartLaws

@@ -1,5 +1,5 @@
 -- Dates and times that have no text.
-use Rattle.std.proofs.Common.{◌≡◌, refl, sym, ◌++◌, ℕ, ◌<◌, ◌≤◌, false, List, [], ℤ, pos, negsuc, ◌+ℤ◌, ◌-ℤ◌, ◌<ℤ◌, ◌≤ℤ◌, arith}
+use Rattle.std.proofs.Common.{◌≡◌, refl, sym, ◌++◌, ℕ, ◌<◌, ◌≤◌, false, List, [], ℤ, pos, negsuc, ◌+ℤ◌, ◌-ℤ◌, ◌<ℤ◌, arith}
 use Rattle.std.specs.Prelude.{nat_le}
 use Rattle.std.proofs.lemmas.List.{append-nil}
 use Rattle.std.proofs.lemmas.Int.{ints}

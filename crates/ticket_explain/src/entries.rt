@@ -1,24 +1,15 @@
 //! The lines of an answer.
 ghost use Rattle.std.specs.Prelude.{◌≡◌, ◌++◌, IfOk, OnOk};
-ghost use Rattle.feed_rows.specs.EntryText.{currency_text, journey_line, entry_lines, lines_of_entries};
+ghost use Rattle.feed_rows.specs.EntryText.{journey_line, entry_lines, lines_of_entries};
 
 use crate::line::Line;
+use crate::lookups::currency;
 use crate::text::Text;
 use crate::tickets::push_fare_lines;
 use crate::travel::push_travel_lines;
 use feed_rows::{Entry, Feed, Triple};
 use feed_timetable::Timetable;
 use std::alloc::{AllocError, Global};
-
-// The code of the feed's currency; empty where no product has a row.
-fn currency(feed: &Feed) -> &[u8]
-    ensures { result.now ≡ currency_text feed.now }
-{
-    match &feed.currency {
-        Some(code) => code,
-        None => &[],
-    }
-}
 
 // Writes the head line of an entry.
 #[tactic(auto, unfolding(feed_rows::specs::EntryText::journey_line))]

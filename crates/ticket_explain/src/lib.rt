@@ -2,13 +2,17 @@
 #![tactic(auto)]
 
 mod entries;
+mod generated;
 mod line;
 mod lookups;
+mod prices;
 mod rides;
 mod text;
 mod tickets;
 mod travel;
 
 pub use entries::lines_of;
+pub use generated::gen_lines_of;
 pub use line::Line;
+pub use prices::{price_lines_of, uncovered_lines_of};
 pub use text::Text;

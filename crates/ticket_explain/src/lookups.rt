@@ -3,7 +3,7 @@ ghost use Rattle.std.specs.Prelude.{◌≡◌, ◌<◌, length, slice_get, optio
 ghost use Rattle.feed_rows.specs.Calls.{calls_of};
 ghost use Rattle.feed_rows.specs.Rides.{ride_facts};
 ghost use Rattle.feed_rows.specs.Journeys.{facts_at};
-ghost use Rattle.feed_rows.specs.EntryText.{stop_text, stop_before, product_text, medium_text};
+ghost use Rattle.feed_rows.specs.EntryText.{currency_text, stop_text, stop_before, product_text, medium_text};
 ghost use Rattle.feed_rows.specs.FareSums.{amount_of};
 ghost use Rattle.ticket_explain.specs.LineParts.{is_near};
 
@@ -13,6 +13,16 @@ use feed_rows::{
 };
 use feed_timetable::Timetable;
 use transit_base::{Money, ProductRowId, StopId, TripId, XferId};
+
+/// The code of the feed's currency; empty where no product has a row.
+pub fn currency(feed: &Feed) -> &[u8]
+    ensures { result.now ≡ currency_text feed.now }
+{
+    match &feed.currency {
+        Some(code) => code,
+        None => &[],
+    }
+}
 
 /// The id of a stop; none where the feed lacks it.
 pub fn stop_id(feed: &Feed, stop: StopId) -> Option<&[u8]>

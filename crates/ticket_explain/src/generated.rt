@@ -1,0 +1,79 @@
+//! The lines of a plan over a generated feed.
+ghost use Rattle.std.specs.Prelude.{◌≡◌, ◌++◌, ◌∷◌, [], IfOk, OnOk, map};
+ghost use Rattle.std.specs.List.{concat};
+ghost use Rattle.feed_rows.specs.GeneratedTexts.{gen_line, triple_line, gen_text};
+ghost use Rattle.ticket_explain.specs.CommandLines.{gen_lines};
+
+use crate::line::Line;
+use crate::text::Text;
+use feed_rows::{Entry, Feed, Triple};
+use std::alloc::{AllocError, Global};
+
+// Writes the line of a generated feed.
+fn write_gen(feed: &Feed, line: &mut Line) -> Result<(), AllocError>
+    ensures { OnOk result (line.new ≡ gen_line feed.now) }
+{
+    line.start(b"gen")?;
+    line.number(feed.stops.items().len() as u64)?;
+    line.number(feed.routes.items().len() as u64)?;
+    line.number(feed.trips.items().len() as u64)?;
+    line.number(feed.stop_times.items().len() as u64)?;
+    line.end()
+}
+
+// Writes the line of a triple.
+#[tactic(auto, unfolding(feed_rows::specs::GeneratedTexts::triple_line))]
+fn write_triple(feed: &Feed, line: &mut Line, triple: &Triple) -> Result<(), AllocError>
+    ensures { OnOk result (line.new ≡ triple_line feed.now triple.now) }
+{
+    line.start(b"triple")?;
+    line.moment(triple.arrival)?;
+    line.number(u64::from(triple.rides))?;
+    line.money(triple.price, feed.decimals)?;
+    line.end()
+}
+
+// Adds the line of a triple.
+fn push_triple(
+    feed: &Feed,
+    text: &mut Text,
+    line: &mut Line,
+    triple: &Triple,
+) -> Result<(), AllocError>
+    ensures { OnOk result (text.new ≡ text.old ++ triple_line feed.now triple.now ∷ []) }
+{
+    write_triple(feed, line, triple)?;
+    text.push(line.bytes())
+}
+
+// Adds the lines of the entries' triples.
+fn push_triples(
+    feed: &Feed,
+    text: &mut Text,
+    line: &mut Line,
+    entries: &[Entry],
+) -> Result<(), AllocError>
+    ensures { OnOk result (text.new ≡ text.old ++ map (triple_line feed.now) (map (λ entry. entry.triple) entries.now)) }
+{
+    for entry in entries {
+        push_triple(feed, text, line, &entry.triple)?;
+    }
+    Ok(())
+}
+
+/// The lines of a plan over a generated feed: how many rows its main files have, and the triples of the entries.
+///
+/// # Errors
+/// Want of memory.
+#[tactic(auto, using(crate::proofs::CommandLaws::gen_joined))]
+pub fn gen_lines_of(alloc: Global, feed: &Feed, entries: &[Entry]) -> Result<Text, AllocError>
+    ensures lines { IfOk result (λ text. text ≡ gen_lines feed.now (map (λ entry. entry.triple) entries.now)) }
+    ensures text { IfOk result (λ text. concat text ≡ gen_text feed.now (map (λ entry. entry.triple) entries.now)) }
+{
+    let mut text = Text::empty(alloc);
+    let mut line = Line::empty(alloc);
+    write_gen(feed, &mut line)?;
+    text.push(line.bytes())?;
+    push_triples(feed, &mut text, &mut line, entries)?;
+    Ok(text)
+}

@@ -1,0 +1,60 @@
+//! The lines of a price.
+ghost use Rattle.std.specs.Prelude.{◌≡◌, IfOk, OnOk};
+ghost use Rattle.std.specs.List.{concat};
+ghost use Rattle.feed_rows.specs.PriceTexts.{price_text, uncovered_text};
+ghost use Rattle.ticket_explain.specs.CommandLines.{price_line, price_lines, uncovered_lines};
+
+use crate::line::Line;
+use crate::lookups::currency;
+use crate::text::Text;
+use crate::tickets::push_fare_lines;
+use feed_rows::{Choice, Feed};
+use std::alloc::{AllocError, Global};
+use transit_base::Money;
+
+// Writes the line of the price of so many rides.
+fn write_price(feed: &Feed, line: &mut Line, rides: usize, price: Money) -> Result<(), AllocError>
+    ensures { OnOk result (line.new ≡ price_line feed.now rides price.0) }
+{
+    line.start(b"price")?;
+    line.number(rides as u64)?;
+    line.money(price, feed.decimals)?;
+    line.field(currency(feed))?;
+    line.end()
+}
+
+/// The lines of the price of so many rides, and of the tickets of the choice that pays them.
+///
+/// # Errors
+/// Want of memory.
+#[tactic(auto, using(crate::proofs::CommandLaws::price_joined))]
+pub fn price_lines_of(
+    alloc: Global,
+    feed: &Feed,
+    rides: usize,
+    choice: &Choice,
+    price: Money,
+) -> Result<Text, AllocError>
+    ensures lines { IfOk result (λ text. text ≡ price_lines feed.now rides choice.now price.0) }
+    ensures text { IfOk result (λ text. concat text ≡ price_text feed.now rides choice.now price.0) }
+{
+    let mut text = Text::empty(alloc);
+    let mut line = Line::empty(alloc);
+    write_price(feed, &mut line, rides, price)?;
+    text.push(line.bytes())?;
+    push_fare_lines(feed, &mut text, &mut line, choice)?;
+    Ok(text)
+}
+
+/// The line of rides that no choice pays.
+///
+/// # Errors
+/// Want of memory.
+pub fn uncovered_lines_of(alloc: Global) -> Result<Text, AllocError>
+    ensures lines { IfOk result (λ text. text ≡ uncovered_lines) }
+    ensures text { IfOk result (λ text. concat text ≡ uncovered_text) }
+{
+    let mut text = Text::empty(alloc);
+    text.push(b"uncovered\n")?;
+    Ok(text)
+}
