@@ -11,7 +11,7 @@ ghost use Rattle.feed_rows.specs.Shifts.{has_frequencies, shifts_of};
 ghost use Rattle.feed_rows.specs.Rides.{runs_on, ride_facts, trip_network};
 ghost use Rattle.feed_rows.specs.ServiceDays.{is_active};
 ghost use Rattle.plain_laws.specs.Plain.{list_below};
-ghost use Rattle.feed_rows.specs.Queries.{find_stop};
+ghost use Rattle.feed_rows.specs.Queries.{find_stop, find_trip};
 ghost use Rattle.feed_rows.specs.StopLinks.{link, stop_set};
 ghost use Rattle.feed_rows.specs.Journeys.{stands_for, access, egress, direct, is_caught};
 ghost use Rattle.feed_rows.specs.JourneyStands.{way_to, way_out, end_arrival};
@@ -109,6 +109,13 @@ impl<'f> Timetable<'f> {
         ensures { result ≡ find_stop self.now id.now }
     {
         self.stops.find(id)
+    }
+
+    /// The trip with this id. None exactly where no trip has it.
+    pub fn find_trip(&self, id: &[u8]) -> Option<TripId>
+        ensures { result ≡ find_trip self.now id.now }
+    {
+        self.trips.find(id)
     }
 
     /// The platforms that the stop stands for.
