@@ -1,4 +1,3 @@
 pub mod CauseLaws
 pub mod MadeLaws
-pub mod PlainLaws
 pub mod WrittenLaws

@@ -1,25 +1,32 @@
 -- What a command's words and the files of its folder make due: a task, or what refuses it; and the answer and the lines that
 -- come of that.
-use Rattle.std.specs.Prelude.{◌≡◌, List, [], ◌∷◌, ℕ, Option, None, Some, Result, Ok, Err}
+use Rattle.std.specs.Prelude.{◌≡◌, ◌⊎◌, List, [], ◌∷◌, length, ℕ, ℤ, Option, None, Some, Result, Ok, Err}
 use Rattle.feed_rows.specs.FeedRows.{FeedRows}
 use Rattle.feed_rows.specs.HeldFiles.{HeldFile}
 use Rattle.feed_rows.specs.CommandTexts.{usage_line, refused_line, check_text}
 use Rattle.feed_rows.specs.EntryText.{lines_of_entries}
 use Rattle.feed_rows.specs.JourneyEntries.{IsExactAnswer, CoversOffers}
 use Rattle.feed_rows.specs.Queries.{query_of}
+use Rattle.feed_rows.specs.PriceQueries.{PriceQuery, price_query_of}
+use Rattle.feed_rows.specs.PriceTexts.{AreJoinedRides, IsLeastPrice, IsUncovered}
+use Rattle.feed_rows.specs.GeneratedFeed.{generated, generated_plan}
+use Rattle.feed_rows.specs.GeneratedTexts.{AreMinimalTriples}
+use Rattle.transit_base.specs.declared.numbers.RiderId.{RiderId}
+use Rattle.feed_rows.specs.declared.journeys.Ride.{Ride}
+use Rattle.feed_rows.specs.declared.fares.Choice.{Choice}
+use Rattle.feed_rows.specs.declared.fares.Triple.{Triple}
+use Rattle.ticket_explain.specs.CommandLines.{price_lines, uncovered_lines, gen_lines}
 use Rattle.feed_rows.specs.Requests.{Request}
 use Rattle.feed_rows.specs.declared.names.FileName.{FileName}
 use Rattle.feed_rows.specs.declared.journeys.Query.{Query}
 use Rattle.feed_rows.specs.declared.fares.Entry.{Entry}
 use Rattle.feed_rows.specs.declared.faults.FeedFault.{FeedFault}
 use Rattle.feed_rows.specs.declared.usage.UsageFault.{UsageFault}
-use Rattle.feed_rows.specs.declared.usage.UsageFault.TheVariants as usage
 use Rattle.feed_faults.specs.AcceptedFeed.{feed_of}
 use Rattle.folder_io.specs.FolderCalls.{FolderState}
 use Rattle.folder_io.specs.FileReading.{Gives}
 use Rattle.feed_faults.specs.FirstFault.{first_fault}
 use Rattle.plan_words.specs.Words.{asked_of}
-use Rattle.plan_app.specs.Unplanned.{unplanned_fault}
 use Rattle.plan_app.specs.declared.refusal.Refusal.{Refusal}
 use Rattle.plan_app.specs.declared.refusal.Refusal.TheVariants as refusal
 use Rattle.plan_app.specs.declared.status.Status.{Status}
@@ -29,19 +36,27 @@ use Rattle.plan_app.specs.declared.status.Status.TheVariants as status
 pub data Task : Type 0 where
   Checks : FeedRows → Task
   Plans : FeedRows → Query → Task
+  Prices : FeedRows → PriceQuery → Task
+  Generates : FeedRows → Query → Task
 
--- a plan over a feed: what isn't planned with comes before the names
-abbrev pub plan_task : FeedRows → Option FeedFault → Result Query UsageFault → Result Task Refusal
-plan_task feed (Some fault) query = Err (refusal.Feed fault)
-plan_task feed None (Ok query) = Ok (Task.Plans feed query)
-plan_task feed None (Err fault) = Err (refusal.Usage fault)
+-- the task over what names stand for, or the fault of one of them
+abbrev pub task_by : {X : Type 0} → (X → Task) → Result X UsageFault → Result Task Refusal
+task_by make (Ok query) = Ok (make query)
+task_by make (Err fault) = Err (refusal.Usage fault)
 
--- what is asked for over a feed that has no fault; the program takes the words of no other command
+-- what is asked for over a feed that has no fault
 abbrev pub task_of : FeedRows → Request → Result Task Refusal
-task_of feed (Request.Plan request) = plan_task feed (unplanned_fault feed) (query_of feed request)
-task_of feed (Request.Price request) = Err (refusal.Usage usage.WrongWords)
+task_of feed (Request.Plan request) = task_by (Task.Plans feed) (query_of feed request)
+task_of feed (Request.Price request) = task_by (Task.Prices feed) (price_query_of feed request)
 task_of feed Request.Check = Ok (Task.Checks feed)
-task_of feed (Request.Gen request) = Err (refusal.Usage usage.WrongWords)
+task_of feed (Request.Gen request) = task_by (Task.Generates feed) (query_of feed (generated_plan request.lines))
+
+-- the files that are asked about: those of the folder, but for the command that makes its own
+abbrev pub files_for : (FileName → HeldFile) → Request → FileName → HeldFile
+files_for files (Request.Plan request) = files
+files_for files (Request.Price request) = files
+files_for files Request.Check = files
+files_for files (Request.Gen request) = generated request.seed request.lines
 
 -- what is asked for over files with this first fault
 abbrev pub task_over : (FileName → HeldFile) → Option FeedFault → Request → Result Task Refusal
@@ -51,7 +66,7 @@ task_over files None request = task_of (feed_of files) request
 -- what these words ask for: their own fault comes first
 abbrev pub task_for : (FileName → HeldFile) → Result Request UsageFault → Result Task Refusal
 task_for files (Err fault) = Err (refusal.Usage fault)
-task_for files (Ok request) = task_over files (first_fault files) request
+task_for files (Ok request) = task_over (files_for files request) (first_fault (files_for files request)) request
 
 -- the task, or what refuses it: first a fault of the words, then one of the files, then one of the names
 abbrev pub due : (FileName → HeldFile) → List (List ℕ) → Result Task Refusal
@@ -66,10 +81,26 @@ pub record ArePlanLines (feed : FeedRows) (query : Query) (lines : List (List �
   pub covers : CoversOffers feed query entries
   pub are_lines : lines ≡ lines_of_entries feed entries
 
--- the lines do the task: those of a check tell how many rows the main files of the feed have
+-- the lines are those of a choice of the least price that the rides have for the rider, or tell that no choice pays them
+abbrev pub ArePriceLines : FeedRows → List Ride → Option RiderId → List (List ℕ) → Type 0
+ArePriceLines feed rides rider lines =
+    ((choice : Choice) × (price : ℤ) × IsLeastPrice feed rides rider choice price
+    × (lines ≡ price_lines feed (length rides) choice price))
+    ⊎ (IsUncovered feed rides rider × (lines ≡ uncovered_lines))
+
+-- the lines are that of the feed's size and those of exactly the minimal triples of the query, in order
+pub record AreGenLines (feed : FeedRows) (query : Query) (lines : List (List ℕ)) : Type 0 where
+  pub triples : List Triple
+  pub are_minimal : AreMinimalTriples feed query triples
+  pub are_lines : lines ≡ gen_lines feed triples
+
+-- the lines do the task: those of a check tell how many rows the main files of the feed have; the rides that are priced are
+-- rides of the feed, each caught from the one before
 abbrev pub DoTask : Task → List (List ℕ) → Type 0
 DoTask (Task.Checks feed) lines = lines ≡ check_text feed ∷ []
 DoTask (Task.Plans feed query) lines = ArePlanLines feed query lines
+DoTask (Task.Prices feed query) lines = AreJoinedRides feed query.rides × ArePriceLines feed query.rides query.rider lines
+DoTask (Task.Generates feed query) lines = AreGenLines feed query lines
 
 -- the answer and the line of a refusal
 abbrev pub refusal_answer : Refusal → Status

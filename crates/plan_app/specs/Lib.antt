@@ -2,5 +2,4 @@ pub mod Answers
 pub mod Due
 pub mod Made
 pub mod Run
-pub mod Unplanned
 pub mod Written

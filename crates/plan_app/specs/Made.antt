@@ -1,9 +1,20 @@
 -- What comes of a command before anything is written.
-use Rattle.std.specs.Prelude.{ℕ, List, Result, IsOk}
+use Rattle.std.specs.Prelude.{◌≡◌, ℕ, List, None, Some, Result, Ok, IsTrue}
 use Rattle.folder_io.specs.FolderCalls.{FolderState}
 use Rattle.feed_check.specs.LoadErrors.{FailsReading, StopsReading}
 use Rattle.plan_words.specs.Words.{asked_of}
-use Rattle.plan_app.specs.Due.{Task, IsDue, IsDueOver}
+use Rattle.feed_rows.specs.FeedRows.{FeedRows}
+use Rattle.feed_rows.specs.HeldFiles.{HeldFile}
+use Rattle.feed_rows.specs.Requests.{Request}
+use Rattle.feed_rows.specs.declared.faults.FeedFault.{FeedFault}
+use Rattle.feed_rows.specs.declared.names.FileName.{FileName}
+use Rattle.feed_faults.specs.AcceptedFeed.{feed_of}
+use Rattle.feed_faults.specs.FirstFault.{first_fault}
+use Rattle.feed_check.specs.declared.folder.LoadError.{LoadError}
+use Rattle.feed_check.specs.declared.folder.LoadError.TheVariants as error
+use Rattle.folder_io.specs.FileReading.{Gives}
+use Rattle.plan_app.specs.Due.{Task, IsDue, IsDueOver, files_for}
+use Rattle.plan_app.specs.Run.{asks_folder, Reads}
 use Rattle.plan_app.specs.declared.refusal.Refusal.{Refusal}
 use Rattle.plan_app.specs.declared.outcome.Outcome.{Outcome}
 use Rattle.plan_app.specs.declared.outcome.Stop.{Stop}
@@ -19,5 +30,30 @@ IsMade folder words out = IsDueOver folder words out.told out.text
 
 -- why nothing was made
 abbrev pub Stops : Stop → List (List ℕ) → FolderState → FolderState → Type 0
-Stops stop.ReadFault words folder later = IsOk (asked_of words) × FailsReading folder later
+Stops stop.ReadFault words folder later = IsTrue (asks_folder (asked_of words)) × FailsReading folder later
 Stops stop.NoMemory words folder later = StopsReading folder later
+
+-- the feed is that of the files that a request asks about, which have no fault; the folder's are among them as it gave them
+pub record IsFeedFor (folder : FolderState) (request : Request) (feed : FeedRows) : Type 0 where
+  pub files : FileName → HeldFile
+  pub gives : Gives folder files
+  pub accepted : first_fault (files_for files request) ≡ None
+  pub is_feed : feed ≡ feed_of (files_for files request)
+
+-- the fault is the first of those files
+pub record IsFaultFor (folder : FolderState) (request : Request) (fault : FeedFault) : Type 0 where
+  pub files : FileName → HeldFile
+  pub gives : Gives folder files
+  pub is_first : first_fault (files_for files request) ≡ Some fault
+
+-- why files that are made give no feed: the fault is their first, or want of memory
+abbrev pub IsMadeError : (FileName → HeldFile) → LoadError → Type 0
+IsMadeError files error.ReadFault = ⊥
+IsMadeError files (error.Fault fault) = first_fault files ≡ Some fault
+IsMadeError files error.NoMemory = Unit {0}
+
+-- why there is no feed: a call of the folder failed, or the files have a fault, or want of memory
+abbrev pub GivesNone : LoadError → Request → FolderState → FolderState → Type 0
+GivesNone error.ReadFault request folder later = IsTrue (asks_folder (Ok request)) × FailsReading folder later
+GivesNone (error.Fault fault) request folder later = Reads (Ok request) folder later × IsFaultFor folder request fault
+GivesNone error.NoMemory request folder later = StopsReading folder later

@@ -1,8 +1,9 @@
 -- Each answer of the program with its cause: what holds of the words, and of the folder and the sink before and after.
-use Rattle.std.specs.Prelude.{◌≡◌, ◌⊎◌, ℕ, List, Result, Ok, Err, IsOk}
+use Rattle.std.specs.Prelude.{◌≡◌, ◌⊎◌, ℕ, Bool, true, false, IsTrue, List, Result, Ok, Err}
 use Rattle.feed_rows.specs.FaultCounts.{Rose}
-use Rattle.feed_rows.specs.HeldFiles.{held}
+use Rattle.feed_rows.specs.HeldFiles.{HeldFile, held}
 use Rattle.feed_rows.specs.Requests.{Request}
+use Rattle.feed_rows.specs.declared.names.FileName.{FileName}
 use Rattle.feed_rows.specs.declared.usage.UsageFault.{UsageFault}
 use Rattle.folder_io.specs.FolderCalls.{FolderState, WhereTold}
 use Rattle.folder_io.specs.FileReading.{OpensAll}
@@ -14,10 +15,22 @@ use Rattle.plan_app.specs.Written.{WritesAll, WritesSome}
 use Rattle.plan_app.specs.declared.status.Status.{Status}
 use Rattle.plan_app.specs.declared.status.Status.TheVariants as status
 
--- where the words ask for something, each file was opened, once and in order, and no call of the folder failed
+-- the words ask for something of the folder
+abbrev pub asks_folder : Result Request UsageFault → Bool
+asks_folder (Ok (Request.Plan request)) = true
+asks_folder (Ok (Request.Price request)) = true
+asks_folder (Ok Request.Check) = true
+asks_folder (Ok (Request.Gen request)) = false
+asks_folder (Err fault) = false
+
+-- where something is asked of the folder, each file was opened, once and in order, and no call of it failed; else it wasn't
+-- touched
+abbrev pub ReadsIf : Bool → FolderState → FolderState → Type 0
+ReadsIf true folder later = OpensAll folder later
+ReadsIf false folder later = later ≡ folder
+
 abbrev pub Reads : Result Request UsageFault → FolderState → FolderState → Type 0
-Reads (Ok request) folder later = OpensAll folder later
-Reads (Err fault) folder later = later ≡ folder
+Reads asked folder later = ReadsIf (asks_folder asked) folder later
 
 -- each answer and its cause, by the folder and the sink before and after
 pub data Explains (words : List (List ℕ)) (folder later : FolderState) (sink after : SinkState) (answer : Status) : Type 0 where
@@ -26,13 +39,18 @@ pub data Explains (words : List (List ℕ)) (folder later : FolderState) (sink a
   -- a write failed: of the lines that are due for some answer a first part was written
   Part : (told : Status) → (lines : List (List ℕ)) → IsDueOver folder words told lines → Reads (asked_of words) folder later → WritesSome sink lines after → answer ≡ status.WriteFault → Explains words folder later sink after answer
   -- a call of the folder failed, and nothing was written
-  Unread : IsOk (asked_of words) → FailsReading folder later → after ≡ sink → answer ≡ status.ReadFault → Explains words folder later sink after answer
+  Unread : IsTrue (asks_folder (asked_of words)) → FailsReading folder later → after ≡ sink → answer ≡ status.ReadFault → Explains words folder later sink after answer
   -- memory was wanting, and nothing was written
   Unmade : StopsReading folder later → after ≡ sink → answer ≡ status.NoMemory → Explains words folder later sink after answer
 
--- where a task is due over what the folder tells that it holds, and nothing fails outside, it is answered, or memory was
--- wanting
+-- this is so of the files that are asked about, where they are known and no call for them fails: those that a folder tells
+-- that it holds; what isn't asked of the folder goes by no file of it
+abbrev pub WhereRead : Bool → FolderState → FolderState → ((FileName → HeldFile) → Type 0) → Type 0
+WhereRead true folder later fact = WhereTold folder (λ contents. ¬ (Rose folder.faults later.faults) → fact (held contents))
+WhereRead false folder later fact = (files : FileName → HeldFile) → fact files
+
+-- where a task is due over the files that are asked about, and nothing fails outside, it is answered, or memory was wanting
 abbrev pub AnswersAll : List (List ℕ) → FolderState → FolderState → SinkState → SinkState → Status → Type 0
 AnswersAll words folder later sink after answer =
-    WhereTold folder (λ contents. (task : Task) → due (held contents) words ≡ Ok task →
-    ¬ (Rose folder.faults later.faults) → ¬ (Rose sink.faults after.faults) → (answer ≡ status.Answered) ⊎ (answer ≡ status.NoMemory))
+    WhereRead (asks_folder (asked_of words)) folder later (λ files. (task : Task) → due files words ≡ Ok task →
+    ¬ (Rose sink.faults after.faults) → (answer ≡ status.Answered) ⊎ (answer ≡ status.NoMemory))

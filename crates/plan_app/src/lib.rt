@@ -9,7 +9,6 @@ mod query;
 mod refusal;
 mod status;
 mod top;
-mod unplanned;
 
 pub use plan_words::WordList;
 pub use status::Status;

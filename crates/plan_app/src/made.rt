@@ -1,23 +1,61 @@
 //! What a command answers over a folder.
-ghost use Rattle.std.specs.Prelude.{◌≡◌, IfOk, IfErr, OnOk, IsErr};
-ghost use Rattle.plan_app.specs.Made.{IsMade, Stops};
+ghost use Rattle.std.specs.Prelude.{◌≡◌, false, None, IfOk, IfErr, OnOk, Ok};
+ghost use Rattle.feed_faults.specs.AcceptedFeed.{feed_of};
+ghost use Rattle.feed_faults.specs.FirstFault.{first_fault};
+ghost use Rattle.feed_rows.specs.GeneratedFeed.{generated};
+ghost use Rattle.plan_app.specs.Made.{IsFeedFor, IsMadeError, GivesNone, IsMade, Stops};
+ghost use Rattle.plan_app.specs.Run.{Reads, asks_folder};
+ghost use Rattle.plan_words.specs.Request.{asked_request, IsUsualGen, IsUsualRequest};
 ghost use Rattle.plan_words.specs.Words.{asked_of};
-ghost use Rattle.plan_app.specs.Run.{Reads};
 
 use crate::outcome::{Outcome, Stop, refused};
 use crate::planning::outcome_of;
 use crate::refusal::Refusal;
-use feed_check::{LoadError, load};
+use feed_check::{LoadError, check, load};
+use feed_maker::gen_files;
+use feed_rows::Feed;
+use feed_text::TextError;
 use folder_io::Folder;
-use plan_words::{WordList, asked_of};
+use plan_words::{Asked, GenWords, WordList, asked_of};
 use std::alloc::Global;
+
+// The feed that is made by rule, or its first fault.
+fn made_feed(alloc: Global, words: &GenWords) -> Result<Feed, LoadError>
+    requires { IsUsualGen words.now }
+    ensures fault { IfErr result (IsMadeError (generated words.now.seed words.now.lines)) }
+    ensures sound { OnOk result (first_fault (generated words.now.seed words.now.lines) ≡ None) }
+    ensures feed { IfOk result (λ feed. feed ≡ feed_of (generated words.now.seed words.now.lines)) }
+{
+    let files = match gen_files(alloc, words.seed, words.lines) {
+        Ok(files) => files,
+        Err(_) => return Err(LoadError::NoMemory),
+    };
+    match check(alloc, files) {
+        Ok(feed) => Ok(feed),
+        Err(TextError::Fault(fault)) => Err(LoadError::Fault(fault)),
+        Err(TextError::NoMemory) => Err(LoadError::NoMemory),
+    }
+}
+
+// The feed that a command is about: that of the folder, but for the command that makes its own.
+fn feed_for<F: Folder>(alloc: Global, asked: &Asked, folder: &mut F) -> Result<Feed, LoadError>
+    requires { IsUsualRequest asked.now }
+    ensures ok { OnOk result (Reads (Ok (asked_request asked.now)) (F.state folder.old) (F.state folder.new)) }
+    ensures feed { IfOk result (IsFeedFor (F.state folder.old) (asked_request asked.now)) }
+    ensures err { IfErr result (λ error. GivesNone error (asked_request asked.now) (F.state folder.old) (F.state folder.new)) }
+    ensures untouched { asks_folder (Ok (asked_request asked.now)) ≡ false → folder.new ≡ folder.old }
+{
+    match asked {
+        Asked::Gen(words) => made_feed(alloc, words),
+        Asked::Plan(_) | Asked::Price(_) | Asked::Check => load(alloc, folder),
+    }
+}
 
 /// What the words answer over a folder: they are judged first, then the files are read, each once and in order, then they
 /// are judged, and then the journeys are planned.
 ///
 /// # Errors
 /// A failed call of the folder, after which none is made; want of memory.
-#[tactic(auto, using(crate::proofs::MadeLaws::stops_late))]
 pub(crate) fn made<F: Folder>(
     alloc: Global,
     words: &WordList,
@@ -26,13 +64,13 @@ pub(crate) fn made<F: Folder>(
     ensures made { IfOk result (IsMade (F.state folder.old) words.now) }
     ensures ok { OnOk result (Reads (asked_of words.now) (F.state folder.old) (F.state folder.new)) }
     ensures err { IfErr result (λ stop. Stops stop words.now (F.state folder.old) (F.state folder.new)) }
-    ensures untouched { IsErr (asked_of words.now) → folder.new ≡ folder.old }
+    ensures untouched { asks_folder (asked_of words.now) ≡ false → folder.new ≡ folder.old }
 {
     let asked = match asked_of(words) {
         Ok(asked) => asked,
         Err(fault) => return Ok(refused(alloc, Refusal::Usage(fault))?),
     };
-    let feed = match load(alloc, folder) {
+    let feed = match feed_for(alloc, &asked, folder) {
         Ok(feed) => feed,
         Err(LoadError::ReadFault) => return Err(Stop::ReadFault),
         Err(LoadError::Fault(fault)) => return Ok(refused(alloc, Refusal::Feed(fault))?),

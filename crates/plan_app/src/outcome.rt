@@ -1,6 +1,7 @@
 //! What comes of a command, before it is written.
 ghost use Rattle.std.specs.Prelude.{◌≡◌, ◌∷◌, [], IfOk, Err};
 ghost use Rattle.plan_app.specs.Made.{IsOutcome};
+ghost use Rattle.plan_app.specs.declared.status.Status.TheVariants as status;
 
 use crate::refusal::{Refusal, answer_of, line_of};
 use crate::status::Status;
@@ -31,6 +32,17 @@ impl From<AllocError> for Stop {
 
     fn from(_error: AllocError) -> Stop {
         Stop::NoMemory
+    }
+}
+
+/// The answer behind the whole text of a command.
+pub(crate) fn answered(text: Text) -> Outcome
+    ensures told { result.told ≡ status.Answered }
+    ensures text { result.text ≡ text }
+{
+    Outcome {
+        told: Status::Answered,
+        text,
     }
 }
 

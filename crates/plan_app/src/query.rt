@@ -1,10 +1,11 @@
 //! The query of a plan over a feed.
-ghost use Rattle.std.specs.Prelude.{◌≡◌, ◌||◌, [], IfOk};
+ghost use Rattle.std.specs.Prelude.{◌≡◌, ◌||◌, IfOk};
 ghost use Rattle.feed_rows.specs.StopLinks.{is_platform, is_station};
 ghost use Rattle.feed_rows.specs.Queries.{named_stop, query_of};
 ghost use Rattle.plan_plain.specs.InTime.{IsUsualQuery};
 ghost use Rattle.plan_words.specs.Request.{request_of, IsUsualPlan};
 
+use fare_products::chosen_rider;
 use feed_rows::{Feed, PLATFORM, Query, STATION, StopWord, UsageFault};
 use feed_timetable::Timetable;
 use plan_words::PlanWords;
@@ -36,22 +37,19 @@ fn named_stop(timetable: &Timetable, word: StopWord, id: &str) -> Result<StopId,
 
 /// The query of a plan, or the first fault of the names that its words give.
 pub(crate) fn query_of(timetable: &Timetable, plan: &PlanWords) -> Result<Query, UsageFault>
-    requires riders { timetable.now.riders ≡ [] }
     requires usual { IsUsualPlan plan.now }
     ensures value { result ≡ query_of timetable.now (request_of plan.now) }
     ensures usual { IfOk result IsUsualQuery }
 {
     let from = named_stop(timetable, StopWord::From, plan.from)?;
     let to = named_stop(timetable, StopWord::To, plan.to)?;
-    if plan.rider.is_some() {
-        return Err(UsageFault::UnknownRider);
-    }
+    let rider = chosen_rider(timetable.feed(), plan.rider)?;
     Ok(Query {
         from,
         to,
         departure: plan.departure,
         rides: plan.rides,
         window: plan.window,
-        rider: None,
+        rider,
     })
 }

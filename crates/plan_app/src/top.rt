@@ -1,7 +1,7 @@
 //! The top call.
-ghost use Rattle.std.specs.Prelude.{◌≡◌, IsErr};
+ghost use Rattle.std.specs.Prelude.{◌≡◌, false};
 ghost use Rattle.plan_words.specs.Words.{asked_of};
-ghost use Rattle.plan_app.specs.Run.{AnswersAll, Explains};
+ghost use Rattle.plan_app.specs.Run.{AnswersAll, Explains, asks_folder};
 
 use crate::lines::write_text;
 use crate::made::made;
@@ -28,7 +28,7 @@ pub fn run<F: Folder, S: Sink>(
 ) -> Status
     ensures causes { Explains words.now (F.state folder.old) (F.state folder.new) (S.state sink.old) (S.state sink.new) result }
     ensures answers_all { AnswersAll words.now (F.state folder.old) (F.state folder.new) (S.state sink.old) (S.state sink.new) result }
-    ensures untouched { IsErr (asked_of words.now) → folder.new ≡ folder.old }
+    ensures untouched { asks_folder (asked_of words.now) ≡ false → folder.new ≡ folder.old }
 {
     let outcome = match made(alloc, words, folder) {
         Ok(outcome) => outcome,

@@ -32,10 +32,11 @@ use Rattle.feed_laws.proofs.ShiftLaws.{found_from_Contains}
 use Rattle.feed_laws.proofs.SoundTrips.{sound_trip}
 use Rattle.plan_plain.specs.declared.caught.CaughtRide.{CaughtRide}
 use Rattle.plan_plain.specs.declared.departures.Departure.{Departure}
+use Rattle.plan_plain.specs.Boarding.{Seeking, MayBoard}
 use Rattle.plan_plain.specs.Departures.{IsSpanned, departure_with, IsDeparture, IsFromStop, AreDepartures, departures_at, DoRise, IsBy, IsByBefore, IsByTo, IsByAmong, ride_to, facts_to, facts_in_time, BoardsAt, IsFirstSince, IsReached}
 use Rattle.plan_plain.specs.InTime.{next_in_time, if_in_time, deadline, IsWithinWindow, AddsCaught, HasCaught, IsRight}
 use Rattle.plan_plain.specs.Travelling.{IsBarred, BoardsNear}
-use Rattle.plan_plain.proofs.DepartureLaws.{spanned_stop}
+use Rattle.plan_plain.proofs.DepartureLaws.{ride_stop}
 
 -- the stop of a number
 abbrev stop_id : ℕ → StopId
@@ -185,11 +186,15 @@ caught_within feed query stand ride next sound within e =
     onward from at departs arrives way a b c = omega (arith, ints)
 
 -- a ride that is caught may be caught
-pub caught_spanned : (feed : FeedRows) (query : Query) (stand : Stand) (ride : Ride) (next : Stand) → IsWithinWindow query stand.at → (c : IsCaughtRide feed query stand ride next) → IsSpanned feed query ride c.facts
-caught_spanned feed query stand ride next within c = record {
+pub caught_spanned : (feed : FeedRows) (sought : Seeking) (stand : Stand) (ride : Ride) (next : Stand) →
+    IsWithinWindow sought.query stand.at → MayBoard feed sought stand →
+    (c : IsCaughtRide feed sought.query stand ride next) → IsSpanned feed sought ride c.facts
+caught_spanned feed sought stand ride next within board c = record {
+  some = board.some;
   is = c.is;
-  since = onward query.departure.0 stand.at c.facts.departure.0 c.way within.since c.catches;
-  until = subst (λ (s : Stand). s.at ≤ℤ deadline query) (sym c.ends) c.in_time;
+  boards = board.marked c.facts.from c.way c.way_is;
+  since = onward sought.query.departure.0 stand.at c.facts.departure.0 c.way within.since c.catches;
+  until = subst (λ (s : Stand). s.at ≤ℤ deadline sought.query) (sym c.ends) c.in_time;
 }
   where
     onward : (from at departs : ℤ) (way : ℕ) → from ≤ℤ at → (at +ℤ pos way) ≤ℤ departs → from ≤ℤ departs
@@ -287,15 +292,21 @@ adds_among feed query stand departures k x old mid new lt before adds =
     (cases_lt among.0 k))
 
 -- all departures from a stop
-pub adds_stop : (feed : FeedRows) (query : Query) (stand : Stand) (stop n : ℕ) (departures : List (List Departure)) (old new : List CaughtRide) → IsWithinWindow query stand.at → AreDepartures feed query departures →
+pub adds_stop : (feed : FeedRows) (query : Query) (sought : Seeking) (stand : Stand) (stop n : ℕ)
+    (departures : List (List Departure)) (old new : List CaughtRide) →
+    sought.query ≡ query → IsWithinWindow query stand.at → MayBoard feed sought stand →
+    AreDepartures feed sought departures →
     length (departures_at departures stop) ≤ n → AddsCaught feed query stand (IsByAmong feed (departures_at departures stop) n) old new → AddsCaught feed query stand (BoardsAt feed stop) old new
-adds_stop feed query stand stop n departures old new within are all adds =
+adds_stop feed query sought stand stop n departures old new same within board are all adds =
     adds_same feed query stand (IsByAmong feed (departures_at departures stop) n) (BoardsAt feed stop) old new adds
     (λ ride next e boards.
-    let c = caught_ride feed query stand ride next e in
+    let c = caught_ride feed sought.query stand ride next (subst (λ q. next_in_time feed q stand ride ≡ Some next)
+    (sym same) e) in
     let d = departure_with ride c.facts in
     let from : c.facts.from.0 ≡ stop = ap (λ (f : RideFacts). f.from.0) (same_Some _ _ (sym c.is ∙ boards.is)) ∙ boards.at in
-    let has = subst (λ s. Contains (departures_at departures s) d) from (are.all ride c.facts (caught_spanned feed query stand ride next within c)) in
+    let spanned = caught_spanned feed sought stand ride next (subst (λ q. IsWithinWindow q stand.at)
+    (sym same) within) board c in
+    let has = subst (λ s. Contains (departures_at departures s) d) from (are.all ride c.facts spanned) in
     let lt = has.1 in
     (has.0, omega arith, d, slice_get-get_or (departures_at departures stop) has.0 d lt ∙ ap Some has.2, record { facts = c.facts; is = c.is; made = refl }))
 
@@ -337,7 +348,8 @@ adds_walk feed query stand walks k x old mid new lt before adds =
         (cases_lt i k)
 
 -- a way leads along a walk, or nowhere where none leads to itself
-walk_or_own : (feed : FeedRows) (query : Query) (stand : Stand) (stop : StopId) (way : ℕ) → way_to feed query stand stop ≡ Some way →
+pub walk_or_own : (feed : FeedRows) (query : Query) (stand : Stand) (stop : StopId) (way : ℕ) →
+    way_to feed query stand stop ≡ Some way →
     ((seconds : ℕ) × (link feed stand.stop stop ≡ Some seconds)) ⊎ ((stop ≡ stand.stop) × (link feed stand.stop stand.stop ≡ None))
 walk_or_own feed query stand stop way e = fresh stand.fresh e
   where
@@ -357,18 +369,21 @@ walk_or_own feed query stand stop way e = fresh stand.fresh e
     fresh false got = inl (way, got)
 
 -- the walks out of a stop have each
-in_walks : (feed : FeedRows) (from to : StopId) (seconds : ℕ) → to.0 < length feed.stops → link feed from to ≡ Some seconds → Contains (out_of feed from) (record { to = to; seconds = record { 0 = seconds } })
+pub in_walks : (feed : FeedRows) (from to : StopId) (seconds : ℕ) → to.0 < length feed.stops →
+    link feed from to ≡ Some seconds →
+    Contains (out_of feed from) (record { to = to; seconds = record { 0 = seconds } })
 unfolding out_of
 in_walks feed from to seconds lt is =
     let step : Step = record { to = to; seconds = record { 0 = seconds } } in
     Contains-joined_below (length feed.stops) (λ i. step_list (record { 0 = i }) (link feed from (record { 0 = i }))) to.0 step lt (rw is (Contains-cons_first step []))
 
 -- all walks
-pub has_caught : (feed : FeedRows) (query : Query) (stand : Stand) (walks : List Step) (n : ℕ) (rides : List CaughtRide) → IsSoundFeed feed → IsWithinWindow query stand.at → walks ≡ out_of feed stand.stop → length walks ≤ n →
+pub has_caught : (feed : FeedRows) (query : Query) (stand : Stand) (walks : List Step) (n : ℕ)
+    (rides : List CaughtRide) → IsSoundFeed feed → walks ≡ out_of feed stand.stop → length walks ≤ n →
     AddsCaught feed query stand (BoardsNear feed stand walks n) [] rides → HasCaught feed query stand rides
-has_caught feed query stand walks n rides sound within are all adds ride next e =
+has_caught feed query stand walks n rides sound are all adds ride next e =
     let c = caught_ride feed query stand ride next e in
-    let stop : c.facts.from.0 < length feed.stops = spanned_stop feed query ride c.facts sound (caught_spanned feed query stand ride next within c) in
+    let stop : c.facts.from.0 < length feed.stops = ride_stop feed ride c.facts sound c.is in
     adds.all ride next e (⊎_elim
     (λ linked.
     let at = subst (λ ws. Contains ws (record { to = c.facts.from; seconds = record { 0 = linked.0 } })) (sym are) (in_walks feed stand.stop c.facts.from linked.0 stop linked.1) in

@@ -20,7 +20,7 @@ use Rattle.transit_base.specs.declared.calendar.Day.{Day}
 use Rattle.feed_rows.specs.Calls.{calls_of}
 use Rattle.feed_rows.specs.FeedRows.{FeedRows}
 use Rattle.feed_rows.specs.Limits.{most_window}
-use Rattle.feed_rows.specs.Rides.{runs_on}
+use Rattle.feed_rows.specs.Rides.{ride_facts, runs_on}
 use Rattle.feed_rows.specs.Shifts.{shifts_of}
 use Rattle.feed_rows.specs.SoundFeed.{IsSoundFeed}
 use Rattle.feed_rows.specs.declared.journeys.Call.{Call}
@@ -39,33 +39,45 @@ use Rattle.plain_laws.specs.Plain.{list_below, group_of, groups_below}
 use Rattle.plain_laws.proofs.Laws.{slice_get-list_below, filled_and-true, int_le-true, le-int_le, Contains-group_of, group_of-tells, groups_below-at, groups_below-past, All-from}
 use Rattle.plan_plain.specs.declared.departures.Departure.{Departure}
 use Rattle.plan_plain.specs.Departures.{IsSpanned, departure_with, departure_from, grouped, IsDeparture, IsGrouped, IsFromStop, is_listed, Lists, HasDepartures, AreInOrder, DoRise, AreDepartures}
+use Rattle.plan_plain.specs.Boarding.{Seeking, is_marked}
 use Rattle.plan_plain.specs.InTime.{deadline, IsUsualQuery, IsOfRun, IsAt, IsBefore, HasShift, IsOnTrip, IsOnDay, IsOnDays, departure_of, first_day, day_after}
 use Rattle.plan_plain.specs.Runs.{RunOf, run_of, IsServed, IsRun}
 
 -- one part after another
-pub lists_more : (feed : FeedRows) (query : Query) (Part More Whole : Ride → Type 0) (old mid new : List (Grouped Departure)) →
-    Lists feed query Part old mid → Lists feed query More mid new →
-    ((ride : Ride) (facts : RideFacts) → IsSpanned feed query ride facts → Whole ride → Part ride ⊎ More ride) → Lists feed query Whole old new
-lists_more feed query Part More Whole old mid new a b split = record {
+pub lists_more : (feed : FeedRows) (sought : Seeking) (Part More Whole : Ride → Type 0)
+    (old mid new : List (Grouped Departure)) →
+    Lists feed sought Part old mid → Lists feed sought More mid new →
+    ((ride : Ride) (facts : RideFacts) → IsSpanned feed sought ride facts → Whole ride → Part ride ⊎ More ride) →
+    Lists feed sought Whole old new
+lists_more feed sought Part More Whole old mid new a b split = record {
   still = λ d h. b.still d (a.still d h);
   all = λ ride facts e whole. ⊎_elim (λ p. b.still (grouped (departure_with ride facts)) (a.all ride facts e p)) (λ m. b.all ride facts e m) (split ride facts e whole);
   right = λ h. b.right (a.right h);
 }
 
 -- the same part, said otherwise
-pub lists_same : (feed : FeedRows) (query : Query) (Part Whole : Ride → Type 0) (old new : List (Grouped Departure)) → Lists feed query Part old new →
-    ((ride : Ride) (facts : RideFacts) → IsSpanned feed query ride facts → Whole ride → Part ride) → Lists feed query Whole old new
-lists_same feed query Part Whole old new a part = record { still = a.still; all = λ ride facts e whole. a.all ride facts e (part ride facts e whole); right = a.right }
+pub lists_same : (feed : FeedRows) (sought : Seeking) (Part Whole : Ride → Type 0)
+    (old new : List (Grouped Departure)) → Lists feed sought Part old new →
+    ((ride : Ride) (facts : RideFacts) → IsSpanned feed sought ride facts → Whole ride → Part ride) →
+    Lists feed sought Whole old new
+lists_same feed sought Part Whole old new a part = record { still = a.still; all = λ ride facts e whole. a.all ride facts e (part ride facts e whole); right = a.right }
 
 -- a part of which no ride is caught
-pub lists_none : (feed : FeedRows) (query : Query) (Whole : Ride → Type 0) (rides : List (Grouped Departure)) →
-    ((ride : Ride) (facts : RideFacts) → IsSpanned feed query ride facts → Whole ride → ⊥) → Lists feed query Whole rides rides
-lists_none feed query Whole rides never = record { still = λ d h. h; all = λ ride facts e whole. absurd (never ride facts e whole); right = λ h. h }
+pub lists_none : (feed : FeedRows) (sought : Seeking) (Whole : Ride → Type 0) (rides : List (Grouped Departure)) →
+    ((ride : Ride) (facts : RideFacts) → IsSpanned feed sought ride facts → Whole ride → ⊥) →
+    Lists feed sought Whole rides rides
+lists_none feed sought Whole rides never = record {
+  still = λ d h. h;
+  all = λ ride facts e whole. absurd (never ride facts e whole);
+  right = λ h. h;
+}
 
 -- no ride is on a day from the first to before the first
-pub lists_first : (feed : FeedRows) (query : Query) (first day : ℤ) (rides : List (Grouped Departure)) → day ≡ first → rides ≡ [] → Lists feed query (IsOnDays first day) [] rides
-lists_first feed query first day rides same empty =
-    subst (Lists feed query (IsOnDays first day) []) (sym empty) (lists_none feed query (IsOnDays first day) [] (λ ride facts e on. none ride.day.0 on.0 on.1))
+pub lists_first : (feed : FeedRows) (sought : Seeking) (first day : ℤ) (rides : List (Grouped Departure)) →
+    day ≡ first → rides ≡ [] → Lists feed sought (IsOnDays first day) [] rides
+lists_first feed sought first day rides same empty =
+    subst (Lists feed sought (IsOnDays first day) []) (sym empty) (lists_none feed sought (IsOnDays first day) []
+    (λ ride facts e on. none ride.day.0 on.0 on.1))
   where
     none : (d : ℤ) → first ≤ℤ d → d <ℤ day → ⊥
     none d since before = omega (arith, ints)
@@ -110,8 +122,10 @@ record IsBoarded (run : RunOf) (ride : Ride) (facts : RideFacts) (call : Call) :
   pub made : departure_with ride facts ≡ departure_from run call ride.from
   pub pickup : call.pickup ≡ true
 
-spanned_boards : (query : Query) (run : RunOf) (ride : Ride) (facts : RideFacts) (call : Call) → IsSpanned run.feed query ride facts → IsOfRun run ride → slice_get (calls_of run.feed run.trip) ride.from ≡ Some call → IsBoarded run ride facts call
-spanned_boards query run ride facts call e of at =
+spanned_boards : (sought : Seeking) (run : RunOf) (ride : Ride) (facts : RideFacts) (call : Call) →
+    IsSpanned run.feed sought ride facts → IsOfRun run ride →
+    slice_get (calls_of run.feed run.trip) ride.from ≡ Some call → IsBoarded run ride facts call
+spanned_boards sought run ride facts call e of at =
     let r = ride_facts_tells run.feed ride facts e.is in
     let same : r.boarding ≡ call = same_Some _ _ (sym r.boards ∙ ap (λ t. slice_get (calls_of run.feed t) ride.from) (ap trip_id of.trip) ∙ at) in
     record {
@@ -122,91 +136,109 @@ spanned_boards query run ride facts call e of at =
     }
 
 -- so its moment is listed
-spanned_listed : (query : Query) (run : RunOf) (ride : Ride) (facts : RideFacts) (call : Call) → IsSoundFeed run.feed → IsSpanned run.feed query ride facts → IsBoarded run ride facts call → is_listed query call (departure_of run call) ≡ true
+spanned_listed : (sought : Seeking) (run : RunOf) (ride : Ride) (facts : RideFacts) (call : Call) →
+    IsSoundFeed run.feed → IsSpanned run.feed sought ride facts → IsBoarded run ride facts call →
+    is_listed sought call (departure_of run call) ≡ true
 unfolding is_listed
-spanned_listed query run ride facts call sound e boards =
+spanned_listed sought run ride facts call sound e boards =
     let t = ride_facts_timed run.feed ride facts most_time (sound_trip run.feed ride.trip sound) e.is in
     let at : facts.departure.0 ≡ departure_of run call = ap (λ (d : Departure). d.at.0) boards.made in
     and_from _ _
-    (and_from _ _ boards.pickup (subst (λ z. int_le query.departure.0 z ≡ true) at (le-int_le query.departure.0 facts.departure.0 e.since)))
-    (subst (λ z. int_le z (deadline query) ≡ true) at (le-int_le facts.departure.0 (deadline query) (onward _ _ _ t.forward e.until)))
+    (and_from _ _
+    (and_from _ _ boards.pickup (subst (λ z. int_le sought.query.departure.0 z ≡ true) at
+    (le-int_le sought.query.departure.0 facts.departure.0 e.since)))
+    (subst (λ z. int_le z (deadline sought.query) ≡ true) at (le-int_le facts.departure.0 (deadline sought.query)
+    (onward _ _ _ t.forward e.until))))
+    (subst (λ (n : ℕ). is_marked sought.marks n ≡ true) (ap (λ (d : Departure). d.stop.0) boards.made) e.boards)
   where
     onward : (a b c : ℤ) → a ≤ℤ b → b ≤ℤ c → a ≤ℤ c
     onward a b c p q = omega (arith, ints)
 
 -- where a call is not listed, nothing is to be listed
-pub lists_no_call : (query : Query) (run : RunOf) (from : ℕ) (call : Call) (listed : List (Grouped Departure)) → IsSoundFeed run.feed → slice_get (calls_of run.feed run.trip) from ≡ Some call →
-    false ≡ is_listed query call (departure_of run call) → Lists run.feed query (IsAt run from) listed listed
-lists_no_call query run from call listed sound is never =
-    lists_none run.feed query (IsAt run from) listed
+pub lists_no_call : (sought : Seeking) (run : RunOf) (from : ℕ) (call : Call) (listed : List (Grouped Departure)) →
+    IsSoundFeed run.feed → slice_get (calls_of run.feed run.trip) from ≡ Some call →
+    false ≡ is_listed sought call (departure_of run call) → Lists run.feed sought (IsAt run from) listed listed
+lists_no_call sought run from call listed sound is never =
+    lists_none run.feed sought (IsAt run from) listed
     (λ ride facts e at.
     let here = ap (slice_get (calls_of run.feed run.trip)) at.1 ∙ is in
-    true≢false (sym (spanned_listed query run ride facts call sound e (spanned_boards query run ride facts call e at.0 here)) ∙ sym never))
+    true≢false (sym (spanned_listed sought run ride facts call sound e
+    (spanned_boards sought run ride facts call e at.0 here)) ∙ sym never))
 
 -- riders may board where a departure is listed
-listed_pickup : (query : Query) (call : Call) (at : ℤ) → is_listed query call at ≡ true → call.pickup ≡ true
+listed_pickup : (sought : Seeking) (call : Call) (at : ℤ) → is_listed sought call at ≡ true → call.pickup ≡ true
 unfolding is_listed
-listed_pickup query call at e = let whole = and_parts _ _ e in let parts = and_parts _ _ whole.0 in parts.0
+listed_pickup sought call at e = let whole = and_parts _ _ e in let timed = and_parts _ _ whole.0 in let parts = and_parts _ _ timed.0 in parts.0
 
 -- a departure is listed
-pub lists_call : (query : Query) (run : RunOf) (from : ℕ) (call : Call) (old new : List (Grouped Departure)) → IsRun run → slice_get (calls_of run.feed run.trip) from ≡ Some call →
-    true ≡ is_listed query call (departure_of run call) → new ≡ old ++ grouped (departure_from run call from) ∷ [] → Lists run.feed query (IsAt run from) old new
-lists_call query run from call old new runs is listed pushed =
+pub lists_call : (sought : Seeking) (run : RunOf) (from : ℕ) (call : Call) (old new : List (Grouped Departure)) →
+    IsRun run → slice_get (calls_of run.feed run.trip) from ≡ Some call →
+    true ≡ is_listed sought call (departure_of run call) → new ≡ old ++ grouped (departure_from run call from) ∷ [] →
+    Lists run.feed sought (IsAt run from) old new
+lists_call sought run from call old new runs is listed pushed =
     let made = departure_from run call from in
-    let here : IsDeparture run.feed made = record { run = runs; call = call; is = is; pickup = listed_pickup query call (departure_of run call) (sym listed); made = refl } in
-    subst (Lists run.feed query (IsAt run from) old) (sym pushed) (record {
+    let here : IsDeparture run.feed made = record { run = runs; call = call; is = is; pickup = listed_pickup sought call (departure_of run call) (sym listed); made = refl } in
+    subst (Lists run.feed sought (IsAt run from) old) (sym pushed) (record {
       still = λ other h. Contains-append_left old (grouped made ∷ []) other h;
       all = λ ride facts e at.
-          let boards = spanned_boards query run ride facts call e at.0 (ap (slice_get (calls_of run.feed run.trip)) at.1 ∙ is) in
+          let boards = spanned_boards sought run ride facts call e at.0
+          (ap (slice_get (calls_of run.feed run.trip)) at.1 ∙ is) in
           let same : departure_with ride facts ≡ made = boards.made ∙ ap (departure_from run call) at.1 in
           subst (λ d. Contains (old ++ grouped made ∷ []) (grouped d)) (sym same) (Contains-push old (grouped made));
       right = λ h. All-append (IsGrouped run.feed) old (grouped made ∷ []) h (All-cons (IsGrouped run.feed) (grouped made) [] (here, refl) (All-nil (IsGrouped run.feed)));
     })
 
 -- the ride leaves its trip at a later call of it
-spanned_calls : (feed : FeedRows) (query : Query) (ride : Ride) (facts : RideFacts) → IsSpanned feed query ride facts → (ride.from < ride.to) × (ride.to < length (calls_of feed ride.trip))
-spanned_calls feed query ride facts e =
+spanned_calls : (feed : FeedRows) (sought : Seeking) (ride : Ride) (facts : RideFacts) →
+    IsSpanned feed sought ride facts → (ride.from < ride.to) × (ride.to < length (calls_of feed ride.trip))
+spanned_calls feed sought ride facts e =
     let r = ride_facts_tells feed ride facts e.is in
     (r.forward, slice_get_within (calls_of feed ride.trip) ride.to r.alighting r.alights)
 
 -- it runs on its day, with one of its trip's shifts
-spanned_runs : (feed : FeedRows) (query : Query) (ride : Ride) (facts : RideFacts) → IsSpanned feed query ride facts → (runs_on feed ride.trip ride.day.0 ≡ true) × Contains (shifts_of feed ride.trip) ride.shift
-spanned_runs feed query ride facts e =
+spanned_runs : (feed : FeedRows) (sought : Seeking) (ride : Ride) (facts : RideFacts) →
+    IsSpanned feed sought ride facts →
+    (runs_on feed ride.trip ride.day.0 ≡ true) × Contains (shifts_of feed ride.trip) ride.shift
+spanned_runs feed sought ride facts e =
     let r = ride_facts_tells feed ride facts e.is in
     (r.runs, Contains_from_found (shifts_of feed ride.trip) ride.shift (list_any-shifts_of feed ride.trip ride.shift ∙ r.shift))
 
 -- and it is of a trip of the feed
-spanned_trip : (feed : FeedRows) (query : Query) (ride : Ride) (facts : RideFacts) → IsSpanned feed query ride facts → ride.trip.0 < length feed.trips
-spanned_trip feed query ride facts e =
-    let runs = spanned_runs feed query ride facts e in
+spanned_trip : (feed : FeedRows) (sought : Seeking) (ride : Ride) (facts : RideFacts) →
+    IsSpanned feed sought ride facts → ride.trip.0 < length feed.trips
+spanned_trip feed sought ride facts e =
+    let runs = spanned_runs feed sought ride facts e in
     let row = filled_and-true (slice_get feed.trips ride.trip.0) _ runs.0 in
     slice_get_within feed.trips ride.trip.0 row.value row.is
 
--- it runs on one of the days from 13 before the civil day of the query's departure to the last of the window
-spanned_day : (feed : FeedRows) (query : Query) (ride : Ride) (facts : RideFacts) → IsSoundFeed feed → IsSpanned feed query ride facts → (first_day query ≤ℤ ride.day.0) × (ride.day.0 <ℤ day_after query)
-spanned_day feed query ride facts sound e =
+-- it runs on one of the days from 13 before the civil day of the sought's departure to the last of the window
+spanned_day : (feed : FeedRows) (sought : Seeking) (ride : Ride) (facts : RideFacts) → IsSoundFeed feed →
+    IsSpanned feed sought ride facts → (first_day sought.query ≤ℤ ride.day.0) × (ride.day.0 <ℤ day_after sought.query)
+spanned_day feed sought ride facts sound e =
     let t = ride_facts_timed feed ride facts most_time (sound_trip feed ride.trip sound) e.is in (
-      day_bounds query.departure.0 facts.departure.0 facts.arrival.0 ride.day.0 e.since t.forward t.arrives,
-      day_until (deadline query) facts.departure.0 facts.arrival.0 ride.day.0 t.departs t.forward e.until,
+      day_bounds sought.query.departure.0 facts.departure.0 facts.arrival.0 ride.day.0 e.since t.forward t.arrives,
+      day_until (deadline sought.query) facts.departure.0 facts.arrival.0 ride.day.0 t.departs t.forward e.until,
     )
 
 -- all rides of a run board at one of its calls
-pub lists_whole_run : (query : Query) (run : RunOf) (n : ℕ) (old new : List (Grouped Departure)) → length (calls_of run.feed run.trip) ≤ n →
-    Lists run.feed query (IsBefore run n) old new → Lists run.feed query (IsOfRun run) old new
-lists_whole_run query run n old new all adds =
-    lists_same run.feed query (IsBefore run n) (IsOfRun run) old new adds
+pub lists_whole_run : (sought : Seeking) (run : RunOf) (n : ℕ) (old new : List (Grouped Departure)) →
+    length (calls_of run.feed run.trip) ≤ n →
+    Lists run.feed sought (IsBefore run n) old new → Lists run.feed sought (IsOfRun run) old new
+lists_whole_run sought run n old new all adds =
+    lists_same run.feed sought (IsBefore run n) (IsOfRun run) old new adds
     (λ ride facts e of.
-    let calls = spanned_calls run.feed query ride facts e in
+    let calls = spanned_calls run.feed sought ride facts e in
     let forward = calls.0 in
     let last : ride.to < length (calls_of run.feed run.trip) = subst (λ t. ride.to < length (calls_of run.feed t)) (ap trip_id of.trip) calls.1 in
     (of, omega arith))
 
 -- where a trip doesn't run on a day, nothing is to be added
-pub lists_no_trip : (feed : FeedRows) (query : Query) (trip : TripId) (day : ℤ) (rides : List (Grouped Departure)) → false ≡ runs_on feed trip day → Lists feed query (IsOnTrip trip.0 day) rides rides
-lists_no_trip feed query trip day rides never =
-    lists_none feed query (IsOnTrip trip.0 day) rides
+pub lists_no_trip : (feed : FeedRows) (sought : Seeking) (trip : TripId) (day : ℤ) (rides : List (Grouped Departure)) →
+    false ≡ runs_on feed trip day → Lists feed sought (IsOnTrip trip.0 day) rides rides
+lists_no_trip feed sought trip day rides never =
+    lists_none feed sought (IsOnTrip trip.0 day) rides
     (λ ride facts e is.
-    let runs = spanned_runs feed query ride facts e in
+    let runs = spanned_runs feed sought ride facts e in
     let here : runs_on feed trip day ≡ true = subst (λ t. runs_on feed t day ≡ true) (ap trip_id is.0) (subst (λ d. runs_on feed ride.trip d ≡ true) is.1 runs.0) in
     true≢false (sym here ∙ sym never))
 
@@ -218,10 +250,11 @@ runs_at feed day all trip runs is lt read =
     read ∙ ap (λ (bs : List Bool). get_or bs trip runs) is ∙ get_or_from_slice_get (list_below (length feed.trips) on) trip (on trip) runs got
 
 -- one trip more
-pub lists_trip : (feed : FeedRows) (query : Query) (day : ℤ) (trip : ℕ) (old mid new : List (Grouped Departure)) →
-    Lists feed query (IsOnDay day trip) old mid → Lists feed query (IsOnTrip trip day) mid new → Lists feed query (IsOnDay day (trip + 1)) old new
-lists_trip feed query day trip old mid new before adds =
-    lists_more feed query (IsOnDay day trip) (IsOnTrip trip day) (IsOnDay day (trip + 1)) old mid new before adds
+pub lists_trip : (feed : FeedRows) (sought : Seeking) (day : ℤ) (trip : ℕ) (old mid new : List (Grouped Departure)) →
+    Lists feed sought (IsOnDay day trip) old mid → Lists feed sought (IsOnTrip trip day) mid new →
+    Lists feed sought (IsOnDay day (trip + 1)) old new
+lists_trip feed sought day trip old mid new before adds =
+    lists_more feed sought (IsOnDay day trip) (IsOnTrip trip day) (IsOnDay day (trip + 1)) old mid new before adds
     (λ ride facts e on.
     let below = on.1 in
     ⊎_elim (λ lower. inl (on.0, lower)) (λ upper. let same : ride.trip.0 ≡ trip = omega arith in inr (same, on.0)) (cases_lt ride.trip.0 trip))
@@ -238,13 +271,16 @@ run_at_place feed trip day shifts k served is bounds lt =
     }
 
 -- one shift more
-pub lists_shift : (feed : FeedRows) (query : Query) (trip : TripId) (day : Day) (shifts : List ℤ) (k : ℕ) (run : RunOf) (old mid new : List (Grouped Departure)) → k < length shifts → run ≡ run_of feed trip day (get_or shifts k (pos 0)) →
-    Lists feed query (HasShift trip.0 day.0 shifts k) old mid → Lists run.feed query (IsOfRun run) mid new →
-    Lists feed query (HasShift trip.0 day.0 shifts (k + 1)) old new
-lists_shift feed query trip day shifts k run old mid new lt is before adds =
+pub lists_shift : (feed : FeedRows) (sought : Seeking) (trip : TripId) (day : Day) (shifts : List ℤ) (k : ℕ)
+    (run : RunOf) (old mid new : List (Grouped Departure)) → k < length shifts →
+    run ≡ run_of feed trip day (get_or shifts k (pos 0)) →
+    Lists feed sought (HasShift trip.0 day.0 shifts k) old mid → Lists run.feed sought (IsOfRun run) mid new →
+    Lists feed sought (HasShift trip.0 day.0 shifts (k + 1)) old new
+lists_shift feed sought trip day shifts k run old mid new lt is before adds =
     let made = run_of feed trip day (get_or shifts k (pos 0)) in
-    lists_more feed query (HasShift trip.0 day.0 shifts k) (IsOfRun made) (HasShift trip.0 day.0 shifts (k + 1)) old mid new before
-    (subst (λ (r : RunOf). Lists r.feed query (IsOfRun r) mid new) is adds)
+    lists_more feed sought (HasShift trip.0 day.0 shifts k) (IsOfRun made)
+    (HasShift trip.0 day.0 shifts (k + 1)) old mid new before
+    (subst (λ (r : RunOf). Lists r.feed sought (IsOfRun r) mid new) is adds)
     (λ ride facts e has.
     let at = has.2 in
     let below = at.1 in
@@ -255,28 +291,33 @@ lists_shift feed query trip day shifts k run old mid new lt is before adds =
     (cases_lt at.0 k))
 
 -- all shifts of a trip
-pub lists_whole_trip : (feed : FeedRows) (query : Query) (trip : TripId) (day : ℤ) (shifts : List ℤ) (n : ℕ) (old new : List (Grouped Departure)) → shifts ≡ shifts_of feed trip → length shifts ≤ n →
-    Lists feed query (HasShift trip.0 day shifts n) old new → Lists feed query (IsOnTrip trip.0 day) old new
-lists_whole_trip feed query trip day shifts n old new all whole adds =
-    lists_same feed query (HasShift trip.0 day shifts n) (IsOnTrip trip.0 day) old new adds
+pub lists_whole_trip : (feed : FeedRows) (sought : Seeking) (trip : TripId) (day : ℤ) (shifts : List ℤ) (n : ℕ)
+    (old new : List (Grouped Departure)) → shifts ≡ shifts_of feed trip → length shifts ≤ n →
+    Lists feed sought (HasShift trip.0 day shifts n) old new → Lists feed sought (IsOnTrip trip.0 day) old new
+lists_whole_trip feed sought trip day shifts n old new all whole adds =
+    lists_same feed sought (HasShift trip.0 day shifts n) (IsOnTrip trip.0 day) old new adds
     (λ ride facts e on.
-    let runs = spanned_runs feed query ride facts e in
+    let runs = spanned_runs feed sought ride facts e in
     let has : Contains shifts ride.shift = subst (λ zs. Contains zs ride.shift) (ap (shifts_of feed) (ap trip_id on.0) ∙ sym all) runs.1 in
     let lt = has.1 in
     (on.0, on.1, (has.0, omega arith, has.2)))
 
 -- all trips
-pub lists_whole_day : (feed : FeedRows) (query : Query) (day : ℤ) (n : ℕ) (old new : List (Grouped Departure)) → length feed.trips ≤ n →
-    Lists feed query (IsOnDay day n) old new → Lists feed query (λ ride. ride.day.0 ≡ day) old new
-lists_whole_day feed query day n old new all adds =
-    lists_same feed query (IsOnDay day n) (λ ride. ride.day.0 ≡ day) old new adds
-    (λ ride facts e on. let trip = spanned_trip feed query ride facts e in (on, omega arith))
+pub lists_whole_day : (feed : FeedRows) (sought : Seeking) (day : ℤ) (n : ℕ) (old new : List (Grouped Departure)) →
+    length feed.trips ≤ n →
+    Lists feed sought (IsOnDay day n) old new → Lists feed sought (λ ride. ride.day.0 ≡ day) old new
+lists_whole_day feed sought day n old new all adds =
+    lists_same feed sought (IsOnDay day n) (λ ride. ride.day.0 ≡ day) old new adds
+    (λ ride facts e on. let trip = spanned_trip feed sought ride facts e in (on, omega arith))
 
 -- one day more
-pub lists_day : (feed : FeedRows) (query : Query) (first day : ℤ) (old mid new : List (Grouped Departure)) → first ≤ℤ day →
-    Lists feed query (IsOnDays first day) old mid → Lists feed query (λ ride. ride.day.0 ≡ day) mid new → Lists feed query (IsOnDays first (day +ℤ pos 1)) old new
-lists_day feed query first day old mid new since before adds =
-    lists_more feed query (IsOnDays first day) (λ ride. ride.day.0 ≡ day) (IsOnDays first (day +ℤ pos 1)) old mid new before adds
+pub lists_day : (feed : FeedRows) (sought : Seeking) (first day : ℤ) (old mid new : List (Grouped Departure)) →
+    first ≤ℤ day →
+    Lists feed sought (IsOnDays first day) old mid → Lists feed sought (λ ride. ride.day.0 ≡ day) mid new →
+    Lists feed sought (IsOnDays first (day +ℤ pos 1)) old new
+lists_day feed sought first day old mid new since before adds =
+    lists_more feed sought (IsOnDays first day) (λ ride. ride.day.0 ≡ day)
+    (IsOnDays first (day +ℤ pos 1)) old mid new before adds
     (λ ride facts e on. split ride.day.0 on.0 on.1)
   where
     between : (d day : ℤ) → d <ℤ (day +ℤ pos 1) → day ≤ℤ d → d ≡ day
@@ -290,12 +331,13 @@ lists_day feed query first day old mid new since before adds =
     split d low high = ⊎_elim (λ lt. inl (low, lt)) (λ ge. inr (between d day high ge)) (by d day (int_le day d) refl)
 
 -- all days
-pub has_departures : (feed : FeedRows) (query : Query) (day : ℤ) (listed : List (Grouped Departure)) → IsSoundFeed feed → day_after query ≤ℤ day →
-    Lists feed query (IsOnDays (first_day query) day) [] listed → HasDepartures feed query listed
-has_departures feed query day listed sound past lists = record {
+pub has_departures : (feed : FeedRows) (sought : Seeking) (day : ℤ) (listed : List (Grouped Departure)) →
+    IsSoundFeed feed → day_after sought.query ≤ℤ day →
+    Lists feed sought (IsOnDays (first_day sought.query) day) [] listed → HasDepartures feed sought listed
+has_departures feed sought day listed sound past lists = record {
   all = λ ride facts e.
-      let days = spanned_day feed query ride facts sound e in
-      lists.all ride facts e (days.0, before ride.day.0 (day_after query) day days.1 past);
+      let days = spanned_day feed sought ride facts sound e in
+      lists.all ride facts e (days.0, before ride.day.0 (day_after sought.query) day days.1 past);
   right = lists.right (All-nil (IsGrouped feed));
 }
   where
@@ -303,9 +345,10 @@ has_departures feed query day listed sound past lists = record {
     before d after day lt le = omega (arith, ints)
 
 -- it departs from a stop of the feed
-pub spanned_stop : (feed : FeedRows) (query : Query) (ride : Ride) (facts : RideFacts) → IsSoundFeed feed → IsSpanned feed query ride facts → facts.from.0 < length feed.stops
-spanned_stop feed query ride facts sound e =
-    let r = ride_facts_tells feed ride facts e.is in
+pub ride_stop : (feed : FeedRows) (ride : Ride) (facts : RideFacts) → IsSoundFeed feed →
+    ride_facts feed ride ≡ Some facts → facts.from.0 < length feed.stops
+ride_stop feed ride facts sound is =
+    let r = ride_facts_tells feed ride facts is in
     let row = calls_of_row feed ride.trip ride.from r.boarding (sound_trip feed ride.trip sound).ends r.boards in
     let within = All-contains (λ (s : StopTimeRow). s.stop.0 < length feed.stops) feed.stop_times row.0 sound.stop_times.stops (row_at feed ride.trip ride.from row.0 row.1).member in
     subst (λ (s : StopId). s.0 < length feed.stops) (sym (ap (λ (f : RideFacts). f.from) (sym r.facts_are) ∙ row.2.stop)) within
@@ -320,8 +363,9 @@ in_order listed sorted i j d lt within =
     not_less x y e = grind (arith, ints)
 
 -- departures in another order
-pub departures_moved : (feed : FeedRows) (query : Query) (old new : List (Grouped Departure)) → HasDepartures feed query old → IsPermutation old new → HasDepartures feed query new
-departures_moved feed query old new has moved = record {
+pub departures_moved : (feed : FeedRows) (sought : Seeking) (old new : List (Grouped Departure)) →
+    HasDepartures feed sought old → IsPermutation old new → HasDepartures feed sought new
+departures_moved feed sought old new has moved = record {
   all = λ ride facts e. Contains-permutation old new (grouped (departure_with ride facts)) moved (has.all ride facts e);
   right = All-permutation (IsGrouped feed) old new moved has.right;
 }
@@ -343,13 +387,16 @@ none_rise : DoRise []
 none_rise i j d lt within = absurd (omega arith)
 
 -- the departures by stop
-pub are_departures : (feed : FeedRows) (query : Query) (listed : List (Grouped Departure)) (n : ℕ) (departures : List (List Departure)) → IsSoundFeed feed → n ≡ length feed.stops → HasDepartures feed query listed → AreInOrder listed →
-    departures ≡ groups_below n listed → AreDepartures feed query departures
+pub are_departures : (feed : FeedRows) (sought : Seeking) (listed : List (Grouped Departure)) (n : ℕ)
+    (departures : List (List Departure)) → IsSoundFeed feed → n ≡ length feed.stops →
+    HasDepartures feed sought listed → AreInOrder listed →
+    departures ≡ groups_below n listed → AreDepartures feed sought departures
 unfolding groups_below
-are_departures feed query listed n departures sound all_stops has rises is =
-    subst (AreDepartures feed query) (sym is) (record {
+are_departures feed sought listed n departures sound all_stops has rises is =
+    subst (AreDepartures feed sought) (sym is) (record {
       all = λ ride facts e.
-          let lt : facts.from.0 < n = subst (λ k. facts.from.0 < k) (sym all_stops) (spanned_stop feed query ride facts sound e) in
+          let lt : facts.from.0 < n = subst (λ k. facts.from.0 < k) (sym all_stops)
+          (ride_stop feed ride facts sound e.is) in
           subst (λ xs. Contains xs (departure_with ride facts)) (sym (groups_below-at n listed facts.from.0 lt)) (Contains-group_of listed facts.from.0 (departure_with ride facts) (has.all ride facts e));
       right = λ stop. ⊎_elim
           (λ (below : stop < n). subst (All (IsFromStop feed stop)) (sym (groups_below-at n listed stop below))
@@ -361,3 +408,13 @@ are_departures feed query listed n departures sound all_stops has rises is =
           (λ (past : n ≤ stop). subst DoRise (sym (groups_below-past n listed stop past)) none_rise)
           (cases_lt stop n);
     })
+
+-- where a query has no rides, none departs
+pub no_departures : (feed : FeedRows) (sought : Seeking) (departures : List (List Departure)) → departures ≡ [] →
+    sought.query.rides ≡ 0 →
+    AreDepartures feed sought departures
+no_departures feed sought departures empty none = subst (AreDepartures feed sought) (sym empty) (record {
+  all = λ ride facts e. let some = e.some in absurd (omega (arith, some, none));
+  right = λ stop. All-nil (IsFromStop feed stop);
+  rises = λ stop. none_rise;
+})

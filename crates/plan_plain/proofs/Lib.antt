@@ -1,6 +1,4 @@
 pub mod CaughtLaws
 pub mod DepartureLaws
-pub mod PathPriceLaws
-pub mod PriceLaws
+pub mod MarkLaws
 pub mod SearchLaws
-pub mod TicketLaws

@@ -1,20 +1,22 @@
 -- How a search goes on, and what it has when it is through.
-use Rattle.std.proofs.Common.{◌≡◌, refl, sym, ◌∙◌, ap, subst, ℕ, ◌+◌, ◌-◌, ◌<◌, ◌≤◌, ◌⊎◌, inl, inr, ⊎_elim, true, List, [], ◌∷◌, ◌++◌, length, get_or, take, append_assoc, arith, ℤ, pos, ◌+ℤ◌, ◌≤ℤ◌}
+use Rattle.std.proofs.Common.{◌≡◌, refl, sym, ◌∙◌, ap, subst, ℕ, ◌+◌, ◌-◌, ◌<◌, ◌≤◌, ◌⊎◌, inl, inr, ⊎_elim, true, List, [], ◌∷◌, ◌++◌, length, get_or, append_assoc, arith, ℤ, pos, ◌+ℤ◌, ◌≤ℤ◌}
 use Rattle.std.specs.Prelude.{Option, Some, None, slice_get, option_map, All, Contains, IsTrue, int_le, ◌==◌}
 use Rattle.std.proofs.lemmas.Int.{ints}
 use Rattle.std.proofs.lemmas.Bool.{cases_lt}
 use Rattle.std.proofs.lemmas.Bool.Decides.{nat_tests}
 use Rattle.std.proofs.lemmas.Option.{same_Some, none-some, slice_get_within, slice_get-get_or, cond_some}
 use Rattle.std.proofs.lemmas.List.Folds.{Any-from_list_any, list_any-from_Any}
-use Rattle.std.proofs.lemmas.List.{get_or_default, map-append, length-map, length_push, append-nil}
-use Rattle.std.proofs.lemmas.List.Elements.{All-weaker, All-nil, All-cons, All-append, All-contains}
-use Rattle.std.proofs.Math.Seq.{take-append_seam}
+use Rattle.std.proofs.lemmas.List.{get_or_default, append-nil}
+use Rattle.std.proofs.lemmas.List.Elements.{All-weaker, All-nil, All-contains}
 use Rattle.transit_base.specs.Limits.{most_time}
 use Rattle.feed_rows.specs.declared.fares.Triple.{Triple}
-use Rattle.feed_rows.specs.Rides.{ride_facts}
+use Rattle.feed_rows.specs.Legs.{leg_facts, legs_of}
 use Rattle.feed_rows.specs.PriceTexts.{IsLeastPrice, IsUncovered}
+use Rattle.transit_base.specs.declared.moments.Moment.{Moment}
+use Rattle.transit_base.specs.declared.numbers.RiderId.{RiderId}
 use Rattle.transit_base.specs.declared.numbers.StopId.{StopId}
 use Rattle.feed_rows.specs.declared.journeys.Query.{Query}
+use Rattle.feed_rows.specs.declared.journeys.LegFacts.{LegFacts}
 use Rattle.feed_rows.specs.declared.journeys.Ride.{Ride}
 use Rattle.feed_rows.specs.declared.fares.Entry.{Entry}
 use Rattle.feed_rows.specs.FeedRows.{FeedRows}
@@ -26,15 +28,21 @@ use Rattle.feed_rows.specs.ParetoTriples.{at_most, is_before}
 use Rattle.feed_rows.specs.StopLinks.{stop_set}
 use Rattle.plain_laws.specs.Plain.{after, when}
 use Rattle.feed_laws.proofs.ExactLaws.{exact_of_front, covers_offers}
+use Rattle.fare_price.specs.declared.Priced.{Priced}
+use Rattle.fare_price.specs.Prices.{IsLeastOrNone}
+use Rattle.feed_laws.proofs.ChoiceLaws.{legs_of-push}
 use Rattle.feed_laws.proofs.JourneyLaws.{taken_of_next, journey_of_after, after_of_journey}
+use Rattle.feed_laws.proofs.LeastPriceLaws.{least_price_of_rides, uncovered_rides}
 use Rattle.feed_laws.proofs.ParetoLaws.{at_most-trans}
 use Rattle.feed_laws.proofs.RideLaws.{ride_facts_timed}
 use Rattle.feed_laws.proofs.SoundTrips.{sound_trip}
-use Rattle.plain_laws.proofs.Laws.{chain_gives, after-push, filled_and-true}
+use Rattle.plain_laws.proofs.Laws.{chain_gives, after-push, collect_below_tells, filled_and-true}
 use Rattle.pareto_front.specs.Fronts.{CoversAll, IsFront}
 use Rattle.plan_plain.specs.declared.caught.CaughtRide.{CaughtRide}
 use Rattle.plan_plain.specs.InTime.{next_in_time, if_in_time, deadline, IsRight, IsWithinWindow, HasCaught}
-use Rattle.plan_plain.specs.Searches.{rides_of, covers_entry, HasRides, EndsAt, IsBestAt, GoesOn, Gains, StartsAt, IsSearched, IsAmong, EndsAmong, StartsAmong, CoversWays, arrival_in_time}
+use Rattle.plan_plain.specs.Paths.{Taken, no_ride, with_ride}
+use Rattle.plan_plain.specs.declared.search.End.{End}
+use Rattle.plan_plain.specs.Searches.{covers_entry, AddsEnd, EndsBy, HasRides, IsBest, IsCheapest, IsEarliest, IsEarliestEnd, IsEndIn, GoesOn, Gains, StartsAt, IsSearched, IsAmong, StartsAmong, CoversWays, arrival_in_time}
 
 -- one step in time is a step
 pub step_of_timed : (feed : FeedRows) (query : Query) (s : Stand) (r : Ride) (m : Stand) → next_in_time feed query s r ≡ Some m → next_stand feed query s r ≡ Some m
@@ -174,23 +182,84 @@ among_more stops k d stop lt among =
     (λ upper. let same : among.0 ≡ k = omega arith in inr (same_Some _ _ (sym among.2 ∙ ap (slice_get stops) same ∙ slice_get-get_or stops k d lt)))
     (cases_lt among.0 k)
 
+-- where one arrives at none in time, the end stays
+pub keeps_end : (feed : FeedRows) (query : Query) (stand : Stand) (last : StopId) (old : Option End) →
+    arrival_in_time feed query stand last ≡ None → AddsEnd feed query stand last old old
+keeps_end feed query stand last old none = record {
+  still = λ at h. h;
+  takes = λ at is. absurd (none-some at (sym none ∙ is));
+  from = inl refl;
+}
+
+-- so it does where it is no later
+pub keeps_earlier : (feed : FeedRows) (query : Query) (stand : Stand) (last : StopId) (held : End) (arrival : ℤ) →
+    arrival_in_time feed query stand last ≡ Some arrival → held.arrival.0 ≤ℤ arrival →
+    AddsEnd feed query stand last (Some held) (Some held)
+keeps_earlier feed query stand last held arrival is sooner = record {
+  still = λ at h. h;
+  takes = λ at e. subst (λ z. held.arrival.0 ≤ℤ z) (same_Some _ _ (sym is ∙ e)) sooner;
+  from = inl refl;
+}
+
+-- where there was no end, or a later one, the end at this stop is taken
+pub takes_end : (feed : FeedRows) (query : Query) (stand : Stand) (end : End) (old : Option End) →
+    arrival_in_time feed query stand end.last ≡ Some end.arrival.0 →
+    ((at : ℤ) → EndsBy at old → end.arrival.0 ≤ℤ at) → AddsEnd feed query stand end.last old (Some end)
+takes_end feed query stand end old is sooner = record {
+  still = sooner;
+  takes = λ at e. same_moment end.arrival.0 at (same_Some _ _ (sym is ∙ e));
+  from = inr (refl, is);
+}
+  where
+    same_moment : (a b : ℤ) → a ≡ b → a ≤ℤ b
+    same_moment a b e = omega (arith, ints)
+
+-- an end at a stop of a part is one of a greater part
+end_in_more : (feed : FeedRows) (query : Query) (stand : Stand) (Part Whole : StopId → Type 0) (end : Option End) →
+    ((last : StopId) → Part last → Whole last) → IsEndIn feed query stand Part end → IsEndIn feed query stand Whole end
+end_in_more feed query stand Part Whole None more is = absurd is
+end_in_more feed query stand Part Whole (Some end) more is = (more end.last is.0, is.1)
+
 -- one more last stop
-pub gains_last : (feed : FeedRows) (query : Query) (first : StopId) (rides : List Ride) (lasts : List StopId) (k : ℕ) (d : StopId) (old mid new : List Entry) → k < length lasts →
-    Gains feed query (EndsAmong feed query first rides lasts k) old mid → Gains feed query (EndsAt feed query first (get_or lasts k d) rides) mid new → Gains feed query (EndsAmong feed query first rides lasts (k + 1)) old new
-gains_last feed query first rides lasts k d old mid new lt before here =
-    gains_more feed query (EndsAmong feed query first rides lasts k) (EndsAt feed query first (get_or lasts k d) rides) (EndsAmong feed query first rides lasts (k + 1)) old mid new before here
-    (λ e ends. ⊎_elim (λ lower. inl (record { has = ends.has; among = lower })) (λ at. inr (record { has = ends.has; ends = at })) (among_more lasts k d e.journey.last lt ends.among))
+pub earliest_more : (feed : FeedRows) (query : Query) (stand : Stand) (lasts : List StopId) (k : ℕ) (d : StopId)
+    (old new : Option End) → k < length lasts → IsEarliest feed query stand (IsAmong lasts k) old →
+    AddsEnd feed query stand (get_or lasts k d) old new → IsEarliest feed query stand (IsAmong lasts (k + 1)) new
+earliest_more feed query stand lasts k d old new lt before adds = record {
+  least = λ last at among is. ⊎_elim
+      (λ lower. adds.still at (before.least last at lower is))
+      (λ same. adds.takes at (subst (λ (s : StopId). arrival_in_time feed query stand s ≡ Some at) same is))
+      (among_more lasts k d last lt among);
+  from = ⊎_elim
+      (λ (same : new ≡ old). ⊎_elim
+      (λ (none : old ≡ None). inl (same ∙ none))
+      (λ (is : IsEndIn feed query stand (IsAmong lasts k) old). inr (subst
+      (IsEndIn feed query stand (IsAmong lasts (k + 1))) (sym same)
+      (end_in_more feed query stand (IsAmong lasts k) (IsAmong lasts (k + 1)) old
+      (λ last among. let below = among.1 in (among.0, omega (arith, below), among.2)) is)))
+      before.from)
+      (λ (is : IsEndIn feed query stand (λ (stop : StopId). stop ≡ get_or lasts k d) new).
+      inr (end_in_more feed query stand (λ (stop : StopId). stop ≡ get_or lasts k d) (IsAmong lasts (k + 1)) new
+      (λ last at. (k, omega arith, slice_get-get_or lasts k d lt ∙ ap Some (sym at))) is))
+      adds.from;
+}
 
 -- all last stops
-pub gains_lasts : (feed : FeedRows) (query : Query) (first : StopId) (rides : List Ride) (lasts : List StopId) (k : ℕ) (old new : List Entry) → lasts ≡ stop_set feed query.to → length lasts ≤ k →
-    Gains feed query (EndsAmong feed query first rides lasts k) old new → Gains feed query (HasRides feed query first rides) old new
-gains_lasts feed query first rides lasts k old new same all before =
-    gains_same feed query (EndsAmong feed query first rides lasts k) (HasRides feed query first rides) old new before
-    (λ e has.
-    let member = member_of_stands_for feed query.to e.journey.last has.right.journey.ends in
-    let long = ap length same in
-    let lt = member.1 in
-    record { has = has; among = (member.0, omega arith, ap (λ stops. slice_get stops member.0) same ∙ member.2) })
+pub earliest_end : (feed : FeedRows) (query : Query) (stand : Stand) (lasts : List StopId) (k : ℕ) (end : Option End) →
+    lasts ≡ stop_set feed query.to → length lasts ≤ k →
+    IsEarliest feed query stand (IsAmong lasts k) end → IsEarliestEnd feed query stand end
+earliest_end feed query stand lasts k end same all before = record {
+  least = λ last at stands is.
+      let member = member_of_stands_for feed query.to last stands in
+      let long = ap length same in
+      let lt = member.1 in
+      before.least last at (member.0, omega arith, ap (λ stops. slice_get stops member.0) same ∙ member.2) is;
+  from = ⊎_elim inl
+      (λ is. inr (end_in_more feed query stand (IsAmong lasts k) (λ (last : StopId). IsTrue
+      (stands_for feed query.to last)) end
+      (λ last among. stands_for_member feed query.to last among.0 (ap (λ stops. slice_get stops among.0) (sym same)
+      ∙ among.2)) is))
+      before.from;
+}
 
 -- one more first stop
 pub gains_first : (feed : FeedRows) (query : Query) (firsts : List StopId) (k : ℕ) (d : StopId) (old mid new : List Entry) → k < length firsts →
@@ -243,57 +312,102 @@ arrives_in_time feed query stand last arrival e =
     from_test : (x y : ℤ) → int_le x y ≡ true → x ≤ℤ y
     from_test x y h = grind (arith, ints)
 
--- an entry that ends at a stop after the rides of a path arrives there when one gets there from where the path leads
-pub entry_arrival : (feed : FeedRows) (query : Query) (first last : StopId) (stand : Stand) (path : List CaughtRide) (e : Entry) → IsSearched feed query first stand path → EndsAt feed query first last (rides_of path) e →
-    arrival_in_time feed query stand last ≡ Some e.triple.arrival.0
+-- an entry with the rides of a path arrives when one gets to its last stop from where the path leads
+pub entry_arrival : (feed : FeedRows) (query : Query) (first : StopId) (stand : Stand) (taken : Taken) (e : Entry) →
+    IsSearched feed query first stand taken → HasRides feed query first taken.rides e →
+    arrival_in_time feed query stand e.journey.last ≡ Some e.triple.arrival.0
 unfolding arrival_in_time
-entry_arrival feed query first last stand path e searched ends =
-    let course = after_of_journey feed query e.journey e.triple.arrival.0 ends.has.right.journey in
-    let from : after (next_stand feed query) (first_stand query first) e.journey.rides ≡ Some course.stand = subst (λ f. after (next_stand feed query) (first_stand query f) e.journey.rides ≡ Some course.stand) ends.has.starts course.stands in
-    let along : after (next_stand feed query) (first_stand query first) (rides_of path) ≡ Some course.stand = subst (λ rs. after (next_stand feed query) (first_stand query first) rs ≡ Some course.stand) ends.has.goes from in
-    let same : course.stand ≡ stand = same_Some _ _ (sym along ∙ after_of_timed feed query (first_stand query first) (rides_of path) stand searched.goes) in
-    let arrives : end_arrival feed query stand last ≡ Some e.triple.arrival.0 = subst (λ s. end_arrival feed query s last ≡ Some e.triple.arrival.0) same (subst (λ l. end_arrival feed query course.stand l ≡ Some e.triple.arrival.0) ends.ends course.arrives) in
-    let in_time : int_le e.triple.arrival.0 (deadline query) ≡ true = to_test _ _ ends.has.right.journey.in_time in
+entry_arrival feed query first stand taken e searched has =
+    let course = after_of_journey feed query e.journey e.triple.arrival.0 has.right.journey in
+    let from : after (next_stand feed query) (first_stand query first) e.journey.rides ≡ Some course.stand =
+    subst (λ f. after (next_stand feed query)
+    (first_stand query f) e.journey.rides ≡ Some course.stand) has.starts course.stands in
+    let along : after (next_stand feed query) (first_stand query first) taken.rides ≡ Some course.stand =
+    subst (λ rs. after (next_stand feed query) (first_stand query first) rs ≡ Some course.stand) has.goes from in
+    let same : course.stand ≡ stand =
+    same_Some _ _ (sym along ∙ after_of_timed feed query (first_stand query first) taken.rides stand searched.goes) in
+    let arrives : end_arrival feed query stand e.journey.last ≡ Some e.triple.arrival.0 =
+    subst (λ s. end_arrival feed query s e.journey.last ≡ Some e.triple.arrival.0) same course.arrives in
+    let in_time : int_le e.triple.arrival.0 (deadline query) ≡ true = to_test _ _ has.right.journey.in_time in
     rw (arrives, in_time) refl
   where
     to_test : (x y : ℤ) → x ≤ℤ y → int_le x y ≡ true
     to_test x y h = grind (arith, ints)
 
--- so where one doesn't get there in time, no entry ends there
-pub none_late : (feed : FeedRows) (query : Query) (first last : StopId) (stand : Stand) (path : List CaughtRide) → IsSearched feed query first stand path → arrival_in_time feed query stand last ≡ None →
-    IsBestAt feed query first last (rides_of path) None
-none_late feed query first last stand path searched late e ends = none-some e.triple.arrival.0 (sym late ∙ entry_arrival feed query first last stand path e searched ends)
+-- so where one gets to no last stop in time, no entry has the rides
+pub none_late : (feed : FeedRows) (query : Query) (first : StopId) (stand : Stand) (taken : Taken) →
+    IsSearched feed query first stand taken → IsEarliestEnd feed query stand None →
+    IsBest feed query first taken.rides None
+none_late feed query first stand taken searched none e has =
+    none.least e.journey.last e.triple.arrival.0 has.right.journey.ends
+    (entry_arrival feed query first stand taken e searched has)
 
 -- the price of an entry's rides
-entry_price : (feed : FeedRows) (query : Query) (first last : StopId) (rides : List Ride) (e : Entry) → EndsAt feed query first last rides e → rides_price feed rides e.choice query.rider ≡ Some e.triple.price.0
-entry_price feed query first last rides e ends = subst (λ rs. rides_price feed rs e.choice query.rider ≡ Some e.triple.price.0) ends.has.goes ends.has.right.price
+entry_price : (feed : FeedRows) (query : Query) (first : StopId) (rides : List Ride) (e : Entry) →
+    HasRides feed query first rides e → rides_price feed rides e.choice query.rider ≡ Some e.triple.price.0
+entry_price feed query first rides e has =
+    subst (λ rs. rides_price feed rs e.choice query.rider ≡ Some e.triple.price.0) has.goes has.right.price
 
 -- where no choice pays the rides, no entry has them
-pub none_uncovered : (feed : FeedRows) (query : Query) (first last : StopId) (rides : List Ride) → IsUncovered feed rides query.rider → IsBestAt feed query first last rides None
-none_uncovered feed query first last rides uncovered e ends = none-some e.triple.price.0 (sym (uncovered e.choice) ∙ entry_price feed query first last rides e ends)
+pub none_uncovered : (feed : FeedRows) (query : Query) (first : StopId) (rides : List Ride) →
+    IsUncovered feed rides query.rider → IsBest feed query first rides None
+none_uncovered feed query first rides uncovered e has =
+    none-some e.triple.price.0 (sym (uncovered e.choice) ∙ entry_price feed query first rides e has)
 
--- the entry of the arrival and of a choice of least price is the best
-pub best_is : (feed : FeedRows) (query : Query) (stand : Stand) (path : List CaughtRide) (entry : Entry) → IsSearched feed query entry.journey.first stand path → IsTrue (stands_for feed query.to entry.journey.last) →
-    length path ≤ query.rides → Some entry.triple.arrival.0 ≡ arrival_in_time feed query stand entry.journey.last → entry.triple.rides ≡ length path → entry.journey.rides ≡ rides_of path →
-    IsLeastPrice feed (rides_of path) query.rider entry.choice entry.triple.price.0 → IsBestAt feed query entry.journey.first entry.journey.last (rides_of path) (Some entry)
-best_is feed query stand path entry searched ends few arrives count rides price =
-    let timed = arrives_in_time feed query stand entry.journey.last entry.triple.arrival.0 (sym arrives) in
-    let long : length entry.journey.rides ≡ length path = ap length rides ∙ length-map path (λ (c : CaughtRide). c.ride) in
-    let goes : after (next_stand feed query) (first_stand query entry.journey.first) entry.journey.rides ≡ Some stand =
-    subst (λ rs. after (next_stand feed query) (first_stand query entry.journey.first) rs ≡ Some stand) (sym rides) (after_of_timed feed query (first_stand query entry.journey.first) (rides_of path) stand searched.goes) in (
+-- what is of least price for the legs of rides is so for the rides
+pub cheapest_of_legs : (feed : FeedRows) (rides : List Ride) (legs : List LegFacts) (rider : Option RiderId)
+    (priced : Option Priced) → legs_of feed rides ≡ Some legs → IsLeastOrNone feed legs rider priced →
+    IsCheapest feed rides rider priced
+cheapest_of_legs feed rides legs rider None are uncovered = uncovered_rides feed rides legs rider are uncovered
+cheapest_of_legs feed rides legs rider (Some priced) are least =
+    least_price_of_rides feed rides legs rider are priced.choice priced.sum.0 least
+
+-- there are as many legs as rides
+pub count_of_legs : (feed : FeedRows) (rides : List Ride) (legs : List LegFacts) → legs_of feed rides ≡ Some legs →
+    length legs ≡ length rides
+unfolding legs_of
+count_of_legs feed rides legs are = (collect_below_tells (length rides) _ legs are).length_is
+
+-- the entry of the earliest end and of a choice of least price is the best
+pub best_is : (feed : FeedRows) (query : Query) (stand : Stand) (taken : Taken) (entry : Entry) (end : End) →
+    IsSearched feed query entry.journey.first stand taken → IsEarliestEnd feed query stand (Some end) →
+    length taken.rides ≤ query.rides → entry.journey.last ≡ end.last → entry.triple.arrival ≡ end.arrival →
+    entry.triple.rides ≡ length taken.rides → entry.journey.rides ≡ taken.rides →
+    IsLeastPrice feed taken.rides query.rider entry.choice entry.triple.price.0 →
+    IsBest feed query entry.journey.first taken.rides (Some entry)
+best_is feed query stand taken entry end searched earliest few last_is arrival_is count rides price =
+    let first = entry.journey.first in
+    let here = end_is end earliest.from in
+    let arrives : arrival_in_time feed query stand entry.journey.last ≡ Some entry.triple.arrival.0 =
+    ap (arrival_in_time feed query stand) last_is ∙ here.1 ∙ ap (λ (m : Moment). Some m.0) (sym arrival_is) in
+    let timed = arrives_in_time feed query stand entry.journey.last entry.triple.arrival.0 arrives in
+    let ends = subst (λ (s : StopId). IsTrue (stands_for feed query.to s)) (sym last_is) here.0 in
+    let long : length entry.journey.rides ≡ length taken.rides = ap length rides in
+    let goes : after (next_stand feed query) (first_stand query first) entry.journey.rides ≡ Some stand =
+    subst (λ rs. after (next_stand feed query) (first_stand query first) rs ≡ Some stand) (sym rides)
+    (after_of_timed feed query (first_stand query first) taken.rides stand searched.goes) in (
       record {
         journey = journey_of_after feed query entry.journey entry.triple.arrival.0 stand searched.starts ends (omega arith) goes timed.0 timed.1;
         rides = count ∙ sym long;
         price = subst (λ rs. rides_price feed rs entry.choice query.rider ≡ Some entry.triple.price.0) (sym rides) price.paid;
       },
-      λ e at.
-          let same = same_Some _ _ (arrives ∙ entry_arrival feed query entry.journey.first entry.journey.last stand path e searched at) in
-          let cheap = price.least e.choice e.triple.price.0 (entry_price feed query entry.journey.first entry.journey.last (rides_of path) e at) in
-          let counts : entry.triple.rides ≡ e.triple.rides = count ∙ sym (at.has.right.rides ∙ ap length at.has.goes ∙ length-map path (λ (c : CaughtRide). c.ride)) in
-          at_most_parts entry.triple e.triple same counts cheap,
+      λ e has.
+          let reached = entry_arrival feed query first stand taken e searched has in
+          let sooner = earliest.least e.journey.last e.triple.arrival.0 has.right.journey.ends reached in
+          let cheap = price.least e.choice e.triple.price.0 (entry_price feed query first taken.rides e has) in
+          let counts : entry.triple.rides ≡ e.triple.rides = count ∙ sym (has.right.rides ∙ ap length has.goes) in
+          at_most_parts entry.triple e.triple (subst (λ (m : Moment). m.0 ≤ℤ e.triple.arrival.0)
+          (sym arrival_is) sooner) counts cheap,
     )
   where
-    at_most_parts : (a b : Triple) → a.arrival.0 ≡ b.arrival.0 → a.rides ≡ b.rides → a.price.0 ≤ℤ b.price.0 → at_most a b ≡ true
+    end_is : (end : End) → (Some end ≡ None) ⊎ IsEndIn feed query stand
+        (λ (last : StopId). IsTrue (stands_for feed query.to last)) (Some end) →
+        IsEndIn feed query stand (λ (last : StopId). IsTrue (stands_for feed query.to last)) (Some end)
+    end_is end (inl none) = absurd (cc)
+    end_is end (inr is) = is
+
+    at_most_parts : (a b : Triple) → a.arrival.0 ≤ℤ b.arrival.0 → a.rides ≡ b.rides → a.price.0 ≤ℤ b.price.0 →
+        at_most a b ≡ true
     at_most_parts a b p q r = grind (arith, ints, nat_tests)
 
 -- the way with the ride at a place
@@ -309,13 +423,18 @@ gains_way feed query first path ways n left d old new lt gains covered k d' e be
     (cases_lt k n)
 
 -- the same, as it was explored
-pub gains_explored : (feed : FeedRows) (query : Query) (first : StopId) (path longer : List CaughtRide) (ways : List CaughtRide) (n left : ℕ) (caught : CaughtRide) (old new : List Entry) → n < length ways →
-    caught ≡ get_or ways n caught → longer ≡ path ++ caught ∷ [] → Gains feed query (GoesOn feed query first (rides_of longer) (stand_at_end caught.facts) left) old new →
-    CoversWays feed query first (rides_of path) ways n left old → CoversWays feed query first (rides_of path) ways (n + 1) left new
-gains_explored feed query first path longer ways n left caught old new lt is pushed gains covered =
-    gains_way feed query first (rides_of path) ways n left caught old new lt
-    (subst (λ (c : CaughtRide). Gains feed query (GoesOn feed query first (rides_of path ++ c.ride ∷ []) (stand_at_end c.facts) left) old new) is
-    (subst (λ rs. Gains feed query (GoesOn feed query first rs (stand_at_end caught.facts) left) old new) (ap rides_of pushed ∙ map-append (λ (c : CaughtRide). c.ride) path (caught ∷ [])) gains))
+pub gains_explored : (feed : FeedRows) (query : Query) (first : StopId) (path : List Ride)
+    (longer : Taken) (leg : LegFacts) (before : Taken) (ways : List CaughtRide) (n left : ℕ) (caught : CaughtRide)
+    (old new : List Entry) → n < length ways →
+    caught ≡ get_or ways n caught → longer ≡ with_ride before caught.ride leg → before.rides ≡ path →
+    Gains feed query (GoesOn feed query first longer.rides (stand_at_end caught.facts) left) old new →
+    CoversWays feed query first path ways n left old → CoversWays feed query first path ways (n + 1) left new
+gains_explored feed query first path longer leg before ways n left caught old new lt is pushed was gains covered =
+    gains_way feed query first path ways n left caught old new lt
+    (subst (λ (c : CaughtRide). Gains feed query (GoesOn feed query first (path ++ c.ride ∷ [])
+    (stand_at_end c.facts) left) old new) is
+    (subst (λ rs. Gains feed query (GoesOn feed query first rs (stand_at_end caught.facts) left) old new)
+    (ap (λ (t : Taken). t.rides) pushed ∙ ap (λ rs. rs ++ caught.ride ∷ []) was) gains))
     covered
 
 -- what was gained before and is kept
@@ -363,21 +482,35 @@ gains_end feed query first path stand left old new none here =
     no_rest [] few = append-nil path
     no_rest (r ∷ rs) few = absurd (omega arith)
 
+-- where no ride is taken
+pub searched_first : (feed : FeedRows) (query : Query) (first : StopId) (stand : Stand) →
+    stand ≡ first_stand query first →
+    IsWithinWindow query stand.at → IsTrue (stands_for feed query.from first) →
+    IsSearched feed query first stand no_ride
+unfolding legs_of
+searched_first feed query first stand is within starts =
+    record { within = within; starts = starts; goes = ap Some (sym is); legs = refl }
+
 -- where the path leads with the ride at a place
-pub searched_on : (feed : FeedRows) (query : Query) (first : StopId) (stand : Stand) (path longer : List CaughtRide) (caught : CaughtRide) → IsSearched feed query first stand path → IsRight feed query stand caught → IsWithinWindow query caught.facts.arrival.0 →
-    longer ≡ path ++ caught ∷ [] → IsSearched feed query first (stand_at_end caught.facts) longer
-searched_on feed query first stand path longer caught searched right within pushed = record {
+pub searched_on : (feed : FeedRows) (query : Query) (first : StopId) (stand : Stand) (taken : Taken)
+    (caught : CaughtRide) →
+    IsSearched feed query first stand taken → IsRight feed query stand caught →
+    IsWithinWindow query caught.facts.arrival.0 →
+    IsSearched feed query first (stand_at_end caught.facts) (with_ride taken caught.ride (leg_facts feed caught.facts))
+searched_on feed query first stand taken caught searched right within = record {
   within = within;
   starts = searched.starts;
-  facts = subst (All (λ (c : CaughtRide). ride_facts feed c.ride ≡ Some c.facts)) (sym pushed)
-      (All-append (λ (c : CaughtRide). ride_facts feed c.ride ≡ Some c.facts) path (caught ∷ []) searched.facts (All-cons (λ (c : CaughtRide). ride_facts feed c.ride ≡ Some c.facts) caught [] right.facts (All-nil (λ (c : CaughtRide). ride_facts feed c.ride ≡ Some c.facts))));
-  goes = subst (λ rs. after (next_in_time feed query) (first_stand query first) rs ≡ Some (stand_at_end caught.facts)) (sym (ap rides_of pushed ∙ map-append (λ (c : CaughtRide). c.ride) path (caught ∷ [])))
-      (after-push (next_in_time feed query) (first_stand query first) (rides_of path) caught.ride ∙ rw (searched.goes) right.next);
+  goes = after-push (next_in_time feed query) (first_stand query first) taken.rides caught.ride
+      ∙ rw (searched.goes) right.next;
+  legs = legs_of-push feed taken.rides caught.ride ∙ rw (searched.legs, right.facts) refl;
 }
 
--- a pop takes back the push
-pub popped_back : (path longer popped : List CaughtRide) (caught : CaughtRide) (n : ℕ) → longer ≡ path ++ caught ∷ [] → n ≡ length longer → popped ≡ take (n - 1) longer → popped ≡ path
-popped_back path longer popped caught n pushed long took =
-    let one = ap length pushed in let more = length_push path caught in
-    let at : n - 1 ≡ length path = omega arith in
-    took ∙ ap (λ m. take m longer) at ∙ ap (take (length path)) pushed ∙ take-append_seam path (caught ∷ [])
+-- nothing goes on where no ride is left and no journey ends in time
+pub gains_dead : (feed : FeedRows) (query : Query) (first : StopId) (stand : Stand) (taken : Taken) (left : ℕ)
+    (entries : List Entry) →
+    IsSearched feed query first stand taken → left ≡ 0 → IsEarliestEnd feed query stand None →
+    Gains feed query (GoesOn feed query first taken.rides stand left) entries entries
+gains_dead feed query first stand taken left entries searched none late =
+    gains_end feed query first taken.rides stand left entries entries none
+    (gains_none feed query (HasRides feed query first taken.rides) entries
+    (none_late feed query first stand taken searched late))

@@ -13,14 +13,18 @@ use Rattle.feed_rows.specs.Rides.{ride_facts, trip_network}
 use Rattle.plain_laws.specs.declared.groups.Grouped.{Grouped}
 use Rattle.plain_laws.specs.Plain.{when}
 use Rattle.plan_plain.specs.declared.departures.Departure.{Departure}
+use Rattle.plan_plain.specs.Boarding.{Seeking, is_marked}
 use Rattle.plan_plain.specs.InTime.{deadline, departure_of}
 use Rattle.plan_plain.specs.Runs.{RunOf, run_of, IsRun}
 
--- the ride goes so, departs no earlier than the query, and arrives no later than its window ends
-pub record IsSpanned (feed : FeedRows) (query : Query) (ride : Ride) (facts : RideFacts) : Type 0 where
+-- the query has rides, and the ride goes so, boards at a stop that is marked, departs no earlier than the query, and
+-- arrives no later than its window ends
+pub record IsSpanned (feed : FeedRows) (sought : Seeking) (ride : Ride) (facts : RideFacts) : Type 0 where
+  pub some : 0 < sought.query.rides
   pub is : ride_facts feed ride ≡ Some facts
-  pub since : query.departure.0 ≤ℤ facts.departure.0
-  pub until : facts.arrival.0 ≤ℤ deadline query
+  pub boards : is_marked sought.marks facts.from.0 ≡ true
+  pub since : sought.query.departure.0 ≤ℤ facts.departure.0
+  pub until : facts.arrival.0 ≤ℤ deadline sought.query
 
 -- where the ride departs
 abbrev pub departure_with : Ride → RideFacts → Departure
@@ -48,19 +52,24 @@ grouped d = record { group = d.stop.0; item = d }
 abbrev pub IsGrouped : FeedRows → Grouped Departure → Type 0
 IsGrouped feed g = IsDeparture feed g.item × (g.item.stop.0 ≡ g.group)
 
--- riders may board at the call, and the moment lies within the window
-unfoldable pub is_listed : Query → Call → ℤ → Bool
-is_listed query call at = call.pickup && int_le query.departure.0 at && int_le at (deadline query)
+-- riders may board at the call, the moment lies within the window, and the stop is marked
+unfoldable pub is_listed : Seeking → Call → ℤ → Bool
+is_listed sought call at =
+    call.pickup && int_le sought.query.departure.0 at && int_le at
+    (deadline sought.query) && is_marked sought.marks call.stop.0
 
 -- the list has what it had, and where each ride of this part departs; what it lists stays right
-pub record Lists (feed : FeedRows) (query : Query) (Part : Ride → Type 0) (old new : List (Grouped Departure)) : Type 0 where
+pub record Lists (feed : FeedRows) (sought : Seeking) (Part : Ride → Type 0)
+    (old new : List (Grouped Departure)) : Type 0 where
   pub still : (d : Grouped Departure) → Contains old d → Contains new d
-  pub all : (ride : Ride) (facts : RideFacts) → IsSpanned feed query ride facts → Part ride → Contains new (grouped (departure_with ride facts))
+  pub all : (ride : Ride) (facts : RideFacts) → IsSpanned feed sought ride facts → Part ride →
+      Contains new (grouped (departure_with ride facts))
   pub right : All (IsGrouped feed) old → All (IsGrouped feed) new
 
 -- the list has where each ride departs that may be caught, and is right
-pub record HasDepartures (feed : FeedRows) (query : Query) (listed : List (Grouped Departure)) : Type 0 where
-  pub all : (ride : Ride) (facts : RideFacts) → IsSpanned feed query ride facts → Contains listed (grouped (departure_with ride facts))
+pub record HasDepartures (feed : FeedRows) (sought : Seeking) (listed : List (Grouped Departure)) : Type 0 where
+  pub all : (ride : Ride) (facts : RideFacts) → IsSpanned feed sought ride facts →
+      Contains listed (grouped (departure_with ride facts))
   pub right : All (IsGrouped feed) listed
 
 -- they stand in the order of their moments
@@ -81,8 +90,9 @@ IsFromStop feed stop d = IsDeparture feed d × (d.stop.0 ≡ stop)
 
 -- each ride that may be caught departs from its stop; out of each stop stand departures of the feed, in the order of
 -- their moments
-pub record AreDepartures (feed : FeedRows) (query : Query) (departures : List (List Departure)) : Type 0 where
-  pub all : (ride : Ride) (facts : RideFacts) → IsSpanned feed query ride facts → Contains (departures_at departures facts.from.0) (departure_with ride facts)
+pub record AreDepartures (feed : FeedRows) (sought : Seeking) (departures : List (List Departure)) : Type 0 where
+  pub all : (ride : Ride) (facts : RideFacts) → IsSpanned feed sought ride facts →
+      Contains (departures_at departures facts.from.0) (departure_with ride facts)
   pub right : (stop : ℕ) → All (IsFromStop feed stop) (departures_at departures stop)
   pub rises : (stop : ℕ) → DoRise (departures_at departures stop)
 

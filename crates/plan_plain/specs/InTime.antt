@@ -27,10 +27,12 @@ if_in_time query stand = when (int_le stand.at (deadline query)) stand
 unfoldable pub next_in_time : FeedRows → Query → Stand → Ride → Option Stand
 next_in_time feed query stand ride = option_and_then (if_in_time query) (next_stand feed query stand ride)
 
--- the moment of departure lies in the years 1900 to 3000, and the window is at most the greatest that a query may say
+-- the moment of departure lies in the years 1900 to 3000, and the rides and the window are at most the greatest that a
+-- plan may say
 pub record IsUsualQuery (query : Query) : Type 0 where
   pub early : negsuc 2_208_988_799 ≤ℤ query.departure.0
   pub late : query.departure.0 ≤ℤ pos 32_504_284_800
+  pub rides : query.rides ≤ 8
   pub window : query.window ≤ most_window
 
 -- one stands there no earlier than the query's departure and no later than its window ends

@@ -1,7 +1,7 @@
+pub mod Boarding
 pub mod Departures
 pub mod InTime
-pub mod Prices
+pub mod Paths
 pub mod Runs
 pub mod Searches
-pub mod Tickets
 pub mod Travelling

@@ -1,5 +1,6 @@
 -- The entries of a query that go on from where a search stands, and lists that cover them.
-use Rattle.std.specs.Prelude.{ℤ, int_le, option_and_then, IsTrue, ◌≡◌, ℕ, ◌<◌, ◌≤◌, ◌++◌, [], ◌∷◌, slice_get, slice_index_or, true, List, length, map, All, Option, Some, None}
+use Rattle.std.specs.Prelude.{ℤ, ◌≤ℤ◌, int_le, option_and_then, IsTrue, ◌≡◌, ◌⊎◌, ℕ, ◌<◌, ◌≤◌, ◌++◌, [], ◌∷◌, slice_get, slice_index_or, true, List, length, All, Option, Some, None}
+use Rattle.transit_base.specs.declared.numbers.RiderId.{RiderId}
 use Rattle.transit_base.specs.declared.numbers.StopId.{StopId}
 use Rattle.feed_rows.specs.declared.journeys.Query.{Query}
 use Rattle.feed_rows.specs.declared.journeys.Ride.{Ride}
@@ -8,12 +9,16 @@ use Rattle.feed_rows.specs.FeedRows.{FeedRows}
 use Rattle.feed_rows.specs.JourneyEntries.{IsEntry}
 use Rattle.feed_rows.specs.JourneyStands.{Stand, first_stand, stand_at_end, end_arrival}
 use Rattle.feed_rows.specs.Journeys.{stands_for}
-use Rattle.feed_rows.specs.Rides.{ride_facts}
+use Rattle.feed_rows.specs.Legs.{legs_of}
+use Rattle.feed_rows.specs.PriceTexts.{IsLeastPrice, IsUncovered}
 use Rattle.plain_laws.specs.Plain.{when, after}
 use Rattle.feed_rows.specs.ParetoTriples.{at_most}
+use Rattle.fare_price.specs.declared.Priced.{Priced}
 use Rattle.pareto_front.specs.Fronts.{has_as_good, CoversAll}
 use Rattle.plan_plain.specs.InTime.{next_in_time, deadline, IsWithinWindow}
+use Rattle.plan_plain.specs.Paths.{Taken}
 use Rattle.plan_plain.specs.declared.caught.CaughtRide.{CaughtRide}
+use Rattle.plan_plain.specs.declared.search.End.{End}
 
 -- what is searched: a feed, and a query over it
 pub record Asked : Type 0 where
@@ -22,10 +27,6 @@ pub record Asked : Type 0 where
 
 abbrev pub asked : FeedRows → Query → Asked
 asked feed query = record { feed = feed; query = query }
-
--- the rides of a path
-abbrev pub rides_of : List CaughtRide → List Ride
-rides_of path = map (λ (c : CaughtRide). c.ride) path
 
 -- some entry of the list has a triple that is at most that of this entry
 abbrev pub covers_entry : List Entry → Entry → Type 0
@@ -37,16 +38,17 @@ pub record HasRides (feed : FeedRows) (query : Query) (first : StopId) (rides : 
   pub starts : entry.journey.first ≡ first
   pub goes : entry.journey.rides ≡ rides
 
--- the same, to this last stop
-pub record EndsAt (feed : FeedRows) (query : Query) (first last : StopId) (rides : List Ride) (entry : Entry) : Type 0 where
-  pub has : HasRides feed query first rides entry
-  pub ends : entry.journey.last ≡ last
+-- no entry has these rides from this first stop, or this one does, and its triple is at most that of each other
+abbrev pub IsBest : FeedRows → Query → StopId → List Ride → Option Entry → Type 0
+IsBest feed query first rides None = (entry : Entry) → HasRides feed query first rides entry → ⊥
+IsBest feed query first rides (Some best) =
+    IsEntry feed query best × ((entry : Entry) → HasRides feed query first rides entry →
+    at_most best.triple entry.triple ≡ true)
 
--- no entry ends there, or this one does, and its triple is at most that of each other
-abbrev pub IsBestAt : FeedRows → Query → StopId → StopId → List Ride → Option Entry → Type 0
-IsBestAt feed query first last rides None = (entry : Entry) → EndsAt feed query first last rides entry → ⊥
-IsBestAt feed query first last rides (Some best) =
-    IsEntry feed query best × ((entry : Entry) → EndsAt feed query first last rides entry → at_most best.triple entry.triple ≡ true)
+-- the choice and its sum are of least price, or no choice pays the rides for the rider
+abbrev pub IsCheapest : FeedRows → List Ride → Option RiderId → Option Priced → Type 0
+IsCheapest feed rides rider None = IsUncovered feed rides rider
+IsCheapest feed rides rider (Some priced) = IsLeastPrice feed rides rider priced.choice priced.sum.0
 
 -- the entry goes on from here, where one stands after the rides of the path, with at most so many more
 pub record GoesOn (feed : FeedRows) (query : Query) (first : StopId) (path : List Ride) (stand : Stand) (left : ℕ) (entry : Entry) : Type 0 where
@@ -67,25 +69,50 @@ pub record StartsAt (feed : FeedRows) (query : Query) (first : StopId) (entry : 
   pub right : IsEntry feed query entry
   pub starts : entry.journey.first ≡ first
 
--- the rides of the path are caught in time one after another from the first stop, and lead here within the window
-pub record IsSearched (feed : FeedRows) (query : Query) (first : StopId) (stand : Stand) (path : List CaughtRide) : Type 0 where
+-- the rides are caught in time one after another from the first stop, lead here within the window, and these are their
+-- legs
+pub record IsSearched (feed : FeedRows) (query : Query) (first : StopId) (stand : Stand) (taken : Taken) : Type 0 where
   pub within : IsWithinWindow query stand.at
   pub starts : IsTrue (stands_for feed query.from first)
-  pub facts : All (λ (c : CaughtRide). ride_facts feed c.ride ≡ Some c.facts) path
-  pub goes : after (next_in_time feed query) (first_stand query first) (rides_of path) ≡ Some stand
+  pub goes : after (next_in_time feed query) (first_stand query first) taken.rides ≡ Some stand
+  pub legs : legs_of feed taken.rides ≡ Some taken.legs
 
 -- the arrival at the last stop from where one stands after all rides, within the window
 unfoldable pub arrival_in_time : FeedRows → Query → Stand → StopId → Option ℤ
 arrival_in_time feed query stand last = option_and_then (λ arrival. when (int_le arrival (deadline query)) arrival) (end_arrival feed query stand last)
 
+-- there is an end, at this moment or before
+abbrev pub EndsBy : ℤ → Option End → Type 0
+EndsBy at None = ⊥
+EndsBy at (Some end) = end.arrival.0 ≤ℤ at
+
+-- there is an end, at a stop of this part, and one arrives there so
+abbrev pub IsEndIn : FeedRows → Query → Stand → (StopId → Type 0) → Option End → Type 0
+IsEndIn feed query stand Part None = ⊥
+IsEndIn feed query stand Part (Some end) = Part end.last ×
+    (arrival_in_time feed query stand end.last ≡ Some end.arrival.0)
+
+-- the new end is the old one or that at this stop, and no later than either
+pub record AddsEnd (feed : FeedRows) (query : Query) (stand : Stand) (last : StopId)
+    (old new : Option End) : Type 0 where
+  pub still : (at : ℤ) → EndsBy at old → EndsBy at new
+  pub takes : (at : ℤ) → arrival_in_time feed query stand last ≡ Some at → EndsBy at new
+  pub from : (new ≡ old) ⊎ IsEndIn feed query stand (λ (stop : StopId). stop ≡ last) new
+
+-- the end is at a stop of this part, and no later than the arrival at any of them; none where one arrives at none
+pub record IsEarliest (feed : FeedRows) (query : Query) (stand : Stand) (Part : StopId → Type 0)
+    (end : Option End) : Type 0 where
+  pub least : (last : StopId) (at : ℤ) → Part last → arrival_in_time feed query stand last ≡ Some at → EndsBy at end
+  pub from : (end ≡ None) ⊎ IsEndIn feed query stand Part end
+
+-- the same, of all stops at which the query's journeys end
+abbrev pub IsEarliestEnd : FeedRows → Query → Stand → Option End → Type 0
+IsEarliestEnd feed query stand end = IsEarliest feed query stand (λ (last : StopId). IsTrue
+    (stands_for feed query.to last)) end
+
 -- the stop stands among the first k of a list
 abbrev pub IsAmong : List StopId → ℕ → StopId → Type 0
 IsAmong stops k stop = (i : ℕ) × (i < k) × (slice_get stops i ≡ Some stop)
-
--- the entry has these rides from this first stop, and ends at one of the first k of these stops
-pub record EndsAmong (feed : FeedRows) (query : Query) (first : StopId) (rides : List Ride) (lasts : List StopId) (k : ℕ) (entry : Entry) : Type 0 where
-  pub has : HasRides feed query first rides entry
-  pub among : IsAmong lasts k entry.journey.last
 
 -- the entry is one of the query, from one of the first k of these stops
 pub record StartsAmong (feed : FeedRows) (query : Query) (firsts : List StopId) (k : ℕ) (entry : Entry) : Type 0 where

@@ -3,12 +3,14 @@ ghost use Rattle.std.specs.Prelude.{◌≡◌, ◌<◌, ◌≤◌, ◌^◌, All,
 ghost use Rattle.feed_rows.specs.Calls.{calls_of};
 ghost use Rattle.feed_rows.specs.declared.journeys.Call.{Call};
 ghost use Rattle.feed_timetable.specs.Standings.{stand_of};
+ghost use Rattle.plan_plain.specs.Boarding.{MayBoard};
 ghost use Rattle.plan_plain.specs.Departures.{AreDepartures, BoardsAt, DoRise, IsBy, IsDeparture, IsByTo, IsFirstSince, IsReached, facts_in_time};
 ghost use Rattle.plan_plain.specs.InTime.{IsUsualQuery, IsWithinWindow, AddsCaught, HasCaught, IsRight};
 ghost use Rattle.plan_plain.specs.Travelling.{IsBarred, travelling};
 ghost use Rattle.transit_base.specs.Limits.{most_time};
 
 use crate::departures::{Departure, deadline};
+use crate::sought::Sought;
 use feed_rows::{Call, Query, Ride, RideFacts};
 use feed_timetable::{Standing, Timetable};
 use plain_laws::Groups;
@@ -35,13 +37,16 @@ fn first_since(departures: &[Departure], moment: Moment) -> usize
 #[derive(Drop)]
 pub struct Traveller<'s, 'f> {
     timetable: &'s Timetable<'f>,
+    sought: &'s Sought<'s>,
     query: &'s Query,
     departures: &'s Groups<Departure>,
     standing: Standing,
 }
 
 impl<'s, 'f> Model for Traveller<'s, 'f> {
+    ghost use Rattle.std.specs.Prelude.{◌≡◌};
     ghost use Rattle.feed_timetable.specs.Standings.{stand_of};
+    ghost use Rattle.plan_plain.specs.Boarding.{MayBoard};
     ghost use Rattle.plan_plain.specs.Departures.{AreDepartures};
     ghost use Rattle.plan_plain.specs.InTime.{IsUsualQuery, IsWithinWindow};
     ghost use Rattle.plan_plain.specs.Travelling.{Travelling, travelling};
@@ -50,25 +55,27 @@ impl<'s, 'f> Model for Traveller<'s, 'f> {
 
     ghost view = { λ s. travelling s.timetable.now s.query.now (stand_of s.standing) };
 
-    ghost invariant = { λ s. IsUsualQuery s.query.now × IsWithinWindow s.query.now s.standing.at.0 × AreDepartures s.timetable.now s.query.now s.departures.now };
+    ghost invariant = { λ s. IsUsualQuery s.query.now × IsWithinWindow s.query.now s.standing.at.0 × AreDepartures s.timetable.now s.sought.now s.departures.now × (s.sought.now.query ≡ s.query.now) × MayBoard s.timetable.now s.sought.now (stand_of s.standing) };
 }
 
 impl<'s, 'f> Traveller<'s, 'f> {
-    /// The traveller of the query, with the departures within its window, who stands there.
+    /// The traveller of the query, with the departures that are sought for it, who stands there.
     pub fn new(
         timetable: &'s Timetable<'f>,
-        query: &'s Query,
+        sought: &'s Sought<'s>,
         departures: &'s Groups<Departure>,
         standing: Standing,
     ) -> Traveller<'s, 'f>
-        requires usual { IsUsualQuery query.now }
-        requires within { IsWithinWindow query.now standing.at.0 }
-        requires listed { AreDepartures timetable.now query.now departures.now }
-        ensures { result ≡ travelling timetable.now query.now (stand_of standing) }
+        requires usual { IsUsualQuery sought.now.query }
+        requires within { IsWithinWindow sought.now.query standing.at.0 }
+        requires listed { AreDepartures timetable.now sought.now departures.now }
+        requires boards { MayBoard timetable.now sought.now (stand_of standing) }
+        ensures { result ≡ travelling timetable.now sought.now.query (stand_of standing) }
     {
         Traveller {
             timetable,
-            query,
+            sought,
+            query: sought.query(),
             departures,
             standing,
         }

@@ -10,6 +10,7 @@ ghost use Rattle.plan_plain.specs.InTime.{deadline, IsUsualQuery, HasShift, IsOn
 ghost use Rattle.plan_plain.specs.Runs.{IsServed, run_of};
 
 use crate::runs::Run;
+use crate::sought::Sought;
 use feed_rows::{Call, Query, Ride};
 use feed_timetable::Timetable;
 use plain_laws::{Grouped, Groups};
@@ -65,14 +66,18 @@ pub fn deadline(query: &Query) -> Moment
     query.departure.plus(Secs(query.window))
 }
 
-/// Whether a ride may be caught that boards at the call at this moment: riders may board there, and it lies in the
-/// window.
+/// Whether a ride may be caught that boards at the call at this moment: riders may board there, the moment lies in the
+/// window, and the stop is marked.
 #[tactic(auto, unfolding(crate::specs::Departures::is_listed))]
-pub fn is_listed(query: &Query, call: &Call, at: Moment) -> bool
-    requires usual { IsUsualQuery query.now }
-    ensures { result ≡ is_listed query.now call.now at.0 }
+pub fn is_listed(sought: &Sought, call: &Call, at: Moment) -> bool
+    requires usual { IsUsualQuery sought.now.query }
+    ensures { result ≡ is_listed sought.now call.now at.0 }
 {
-    call.pickup && query.departure.0 <= at.0 && at.0 <= deadline(query).0
+    let query = sought.query();
+    call.pickup
+        && query.departure.0 <= at.0
+        && at.0 <= deadline(query).0
+        && sought.boards_at(call.stop)
 }
 
 // The run of a trip on a day with the shift at a place.
@@ -96,19 +101,19 @@ fn run_at<'t, 'f>(
 fn list_trip(
     alloc: Global,
     timetable: &Timetable,
-    query: &Query,
+    sought: &Sought,
     trip: TripId,
     day: Day,
     listed: &mut Vec<Grouped<Departure>>,
 ) -> Result<(), AllocError>
-    requires usual { IsUsualQuery query.now }
+    requires usual { IsUsualQuery sought.now.query }
     requires served { IsServed timetable.now trip day }
-    ensures { OnOk result (Lists timetable.now query.now (IsOnTrip trip.0 day.0) listed.old.items listed.new.items) }
+    ensures { OnOk result (Lists timetable.now sought.now (IsOnTrip trip.0 day.0) listed.old.items listed.new.items) }
 {
     let shifts = timetable.shifts_of(alloc, trip)?;
     for k in 0..shifts.items().len() {
         let run = run_at(timetable, trip, day, shifts.items(), k);
-        run.list(query, listed)?;
+        run.list(sought, listed)?;
     }
     Ok(())
 }
@@ -117,54 +122,54 @@ fn list_trip(
 fn list_day(
     alloc: Global,
     timetable: &Timetable,
-    query: &Query,
+    sought: &Sought,
     day: Day,
     listed: &mut Vec<Grouped<Departure>>,
 ) -> Result<(), AllocError>
-    requires usual { IsUsualQuery query.now }
+    requires usual { IsUsualQuery sought.now.query }
     requires day_low { negsuc 799_999 ≤ℤ day.0 }
     requires day_high { day.0 ≤ℤ pos 3_000_000 }
-    ensures { OnOk result (Lists timetable.now query.now (λ (ride : Ride). ride.day.0 ≡ day.0) listed.old.items listed.new.items) }
+    ensures { OnOk result (Lists timetable.now sought.now (λ (ride : Ride). ride.day.0 ≡ day.0) listed.old.items listed.new.items) }
 {
     let runs = timetable.trips_on(alloc, day)?;
     for trip in 0..timetable.trips() {
         if runs[trip as usize] {
-            list_trip(alloc, timetable, query, TripId(trip), day, listed)?;
+            list_trip(alloc, timetable, sought, TripId(trip), day, listed)?;
         }
     }
     Ok(())
 }
 
 // The first day on which a ride can run that is caught.
-fn first_day(query: &Query) -> i64
-    requires usual { IsUsualQuery query.now }
-    ensures value { result ≡ first_day query.now }
+fn first_day(sought: &Sought) -> i64
+    requires usual { IsUsualQuery sought.now.query }
+    ensures value { result ≡ first_day sought.now.query }
     ensures low { negsuc 799_999 ≤ℤ result }
 {
-    query.departure.day().0 - DAYS_BEFORE
+    sought.query().departure.day().0 - DAYS_BEFORE
 }
 
 // The day after the last on which a ride can run that is caught.
-fn day_after(query: &Query) -> i64
-    requires usual { IsUsualQuery query.now }
-    ensures { result ≡ day_after query.now }
+fn day_after(sought: &Sought) -> i64
+    requires usual { IsUsualQuery sought.now.query }
+    ensures { result ≡ day_after sought.now.query }
 {
-    deadline(query).day().0 + 1
+    deadline(sought.query()).day().0 + 1
 }
 
 // Lists the departures of all days on which a ride can run that is caught.
 fn list_days(
     alloc: Global,
     timetable: &Timetable,
-    query: &Query,
+    sought: &Sought,
 ) -> Result<Vec<Grouped<Departure>>, AllocError>
-    requires usual { IsUsualQuery query.now }
-    ensures { IfOk result (λ listed. HasDepartures timetable.now query.now listed.items) }
+    requires usual { IsUsualQuery sought.now.query }
+    ensures { IfOk result (λ listed. HasDepartures timetable.now sought.now listed.items) }
 {
     let _feed = timetable.feed();
     let mut listed = Vec::new(alloc);
-    for day in first_day(query)..day_after(query) {
-        list_day(alloc, timetable, query, Day(day), &mut listed)?;
+    for day in first_day(sought)..day_after(sought) {
+        list_day(alloc, timetable, sought, Day(day), &mut listed)?;
     }
     Ok(listed)
 }
@@ -178,21 +183,25 @@ fn put_in_order(listed: &mut Vec<Grouped<Departure>>) -> Result<(), AllocError>
     Ok(())
 }
 
-/// The departures within the query's window out of each stop, in the order of their moments.
+/// The departures within the query's window out of each stop that is marked, in the order of their moments; none where
+/// the query has no rides.
 ///
 /// # Errors
 /// Want of memory.
 pub fn departures_of(
     alloc: Global,
     timetable: &Timetable,
-    query: &Query,
+    sought: &Sought,
 ) -> Result<Groups<Departure>, AllocError>
-    requires usual { IsUsualQuery query.now }
-    ensures { IfOk result (λ departures. AreDepartures timetable.now query.now departures) }
+    requires usual { IsUsualQuery sought.now.query }
+    ensures { IfOk result (λ departures. AreDepartures timetable.now sought.now departures) }
 {
+    if sought.query().rides == 0 {
+        return Ok(Groups::empty(alloc));
+    }
     let feed = timetable.feed();
     let _rows = &feed.trips;
-    let mut listed = list_days(alloc, timetable, query)?;
+    let mut listed = list_days(alloc, timetable, sought)?;
     put_in_order(&mut listed)?;
     let departures = Groups::of(alloc, listed, feed.stops.items().len() as u32)?;
     Ok(departures)

@@ -3,9 +3,9 @@
 
 mod caught;
 mod departures;
-mod prices;
+mod path;
 mod runs;
 mod search;
-mod tickets;
+mod sought;
 
 pub use search::plain_entries;

@@ -10,7 +10,8 @@ ghost use Rattle.transit_base.specs.Limits.{most_time};
 ghost use Rattle.transit_base.specs.Moments.{moment_at};
 
 use crate::departures::{Departure, is_listed};
-use feed_rows::{Call, Query};
+use crate::sought::Sought;
+use feed_rows::Call;
 use feed_timetable::Timetable;
 use plain_laws::Grouped;
 use std::alloc::AllocError;
@@ -89,18 +90,18 @@ impl<'t, 'f> Run<'t, 'f> {
     // Lists the departure from this one of its calls.
     fn list_call(
         &self,
-        query: &Query,
+        sought: &Sought,
         from: u32,
         call: &Call,
         listed: &mut Vec<Grouped<Departure>>,
     ) -> Result<(), AllocError>
-        requires usual { IsUsualQuery query.now }
+        requires usual { IsUsualQuery sought.now.query }
         requires is { slice_get (calls_of self.now.feed self.now.trip) from ≡ Some call.now }
         requires time { call.now.departure ≤ most_time }
-        ensures { OnOk result (Lists self.now.feed query.now (IsAt self.now from) listed.old.items listed.new.items) }
+        ensures { OnOk result (Lists self.now.feed sought.now (IsAt self.now from) listed.old.items listed.new.items) }
     {
         let item = self.departure(from, call);
-        if !is_listed(query, call, item.at) {
+        if !is_listed(sought, call, item.at) {
             return Ok(());
         }
         listed.push(Grouped {
@@ -116,15 +117,15 @@ impl<'t, 'f> Run<'t, 'f> {
     /// Want of memory.
     pub fn list(
         &self,
-        query: &Query,
+        sought: &Sought,
         listed: &mut Vec<Grouped<Departure>>,
     ) -> Result<(), AllocError>
-        requires usual { IsUsualQuery query.now }
-        ensures { OnOk result (Lists self.now.feed query.now (IsOfRun self.now) listed.old.items listed.new.items) }
+        requires usual { IsUsualQuery sought.now.query }
+        ensures { OnOk result (Lists self.now.feed sought.now (IsOfRun self.now) listed.old.items listed.new.items) }
     {
         let calls = self.calls();
         for from in 0..calls.len() as u32 {
-            self.list_call(query, from, &calls[from as usize], listed)?;
+            self.list_call(sought, from, &calls[from as usize], listed)?;
         }
         Ok(())
     }

@@ -1,22 +1,25 @@
 //! All journeys of a query, with the best of them kept.
-ghost use Rattle.std.specs.Prelude.{◌≡◌, ◌<◌, ◌≤◌, ◌+◌, ◌^◌, ◌++◌, ◌∷◌, [], All, IfOk, OnOk, IsTrue, Some, length, option_map};
+ghost use Rattle.std.specs.Prelude.{◌≡◌, ◌<◌, ◌≤◌, ◌+◌, ◌++◌, ◌∷◌, [], false, All, IfOk, OnOk, IsTrue, Some, None, length, option_map};
 ghost use Rattle.feed_rows.specs.Journeys.{stands_for};
 ghost use Rattle.feed_rows.specs.JourneyEntries.{IsExactAnswer, CoversOffers};
 ghost use Rattle.feed_rows.specs.JourneyStands.{first_stand, stand_at_end};
-ghost use Rattle.feed_rows.specs.Rides.{ride_facts};
+ghost use Rattle.feed_rows.specs.Legs.{leg_facts, legs_of};
 ghost use Rattle.feed_rows.specs.SoundFeed.{IsSoundFeed};
 ghost use Rattle.feed_timetable.specs.Standings.{stand_of};
-ghost use Rattle.plan_plain.specs.declared.caught.CaughtRide.{CaughtRide};
+ghost use Rattle.plan_plain.specs.Boarding.{MayRide};
 ghost use Rattle.plan_plain.specs.InTime.{IsUsualQuery, IsWithinWindow, HasCaught, IsRight};
-ghost use Rattle.plan_plain.specs.Prices.{HasPlainFares, IsCheapest};
-ghost use Rattle.plan_plain.specs.Searches.{rides_of, asked, IsBestAt, EndsAt, HasRides, GoesOn, Gains, StartsAt, IsSearched, arrival_in_time};
+ghost use Rattle.plan_plain.specs.Paths.{with_ride};
+ghost use Rattle.plan_plain.specs.Searches.{asked, AddsEnd, IsBest, IsCheapest, IsEarliestEnd, HasRides, GoesOn, Gains, StartsAt, IsSearched, arrival_in_time};
 ghost use Rattle.transit_base.specs.declared.moments.Moment.{Moment};
+ghost use Rattle.transit_base.specs.declared.numbers.StopId.{StopId};
 
 use crate::caught::{CaughtRide, Traveller};
 use crate::departures::{Departure, deadline, departures_of};
-use crate::prices::{Priced, cheapest};
-use crate::tickets::Tickets;
-use feed_rows::{Entry, Journey, Query, RideList, Triple};
+use crate::path::Path;
+use crate::sought::Sought;
+use fare_price::{Fares, Priced, RiderFares};
+use fare_timeframes::Timeframes;
+use feed_rows::{Entry, Journey, Query, Triple};
 use feed_timetable::{Standing, Timetable};
 use pareto_front::Front;
 use plain_laws::Groups;
@@ -24,22 +27,21 @@ use std::alloc::{AllocError, Global};
 use std::marker::Model;
 use transit_base::{Moment, StopId};
 
-// The rides of a path.
-fn rides_of(alloc: Global, path: &[CaughtRide]) -> Result<RideList, AllocError>
-    ensures { IfOk result (λ rides. rides ≡ rides_of path.now) }
-{
-    let mut rides = RideList::empty(alloc);
-    for caught in path {
-        rides.push(caught.ride)?;
-    }
-    Ok(rides)
+/// Where and when a journey ends.
+#[derive(Clone, Copy)]
+struct End {
+    last: StopId,
+    arrival: Moment,
 }
 
 /// A query over a timetable, with what is computed once for it. Contracts see it as the feed and the query.
 struct Search<'s, 'f> {
     timetable: &'s Timetable<'f>,
     query: &'s Query,
-    tickets: Tickets<'f>,
+    sought: Sought<'s>,
+    timeframes: Timeframes,
+    /// The fares for the query's rider.
+    fares: RiderFares<'s, 'f>,
     departures: Groups<Departure>,
     deadline: Moment,
 }
@@ -50,7 +52,9 @@ impl<'s, 'f> Drop for Search<'s, 'f> {
         let Search {
             timetable: _,
             query: _,
-            tickets: _,
+            sought: _,
+            timeframes: _,
+            fares: _,
             departures: _,
             deadline: _,
         } = self;
@@ -59,35 +63,42 @@ impl<'s, 'f> Drop for Search<'s, 'f> {
 
 impl<'s, 'f> Model for Search<'s, 'f> {
     ghost use Rattle.std.specs.Prelude.{◌≡◌};
+    ghost use Rattle.fare_price.specs.Prices.{terms};
+    ghost use Rattle.fare_timeframes.specs.BuiltTimeframes.{AreTimeframesOf};
+    ghost use Rattle.plan_plain.specs.Boarding.{AreMarks};
     ghost use Rattle.plan_plain.specs.InTime.{IsUsualQuery, IsDeadline};
     ghost use Rattle.plan_plain.specs.Searches.{Asked, asked};
-    ghost use Rattle.plan_plain.specs.Tickets.{terms};
     ghost use Rattle.plan_plain.specs.Departures.{AreDepartures};
 
     ghost Value = { Asked };
 
     ghost view = { λ s. asked s.timetable.now s.query.now };
 
-    ghost invariant = { λ s. IsUsualQuery s.query.now × IsDeadline s.query.now s.deadline.0 × (s.tickets ≡ terms s.timetable.now s.query.now.rider) × AreDepartures s.timetable.now s.query.now s.departures };
+    ghost invariant = { λ s. IsUsualQuery s.query.now × IsDeadline s.query.now s.deadline.0 × AreTimeframesOf s.timetable.now s.timeframes × (s.fares ≡ terms s.timetable.now s.query.now.rider) × AreDepartures s.timetable.now s.sought s.departures × (s.sought.query ≡ s.query.now) × AreMarks s.timetable.now s.sought };
 }
 
 impl<'s, 'f> Search<'s, 'f> {
-    // The search for the query over the timetable.
+    // The search for the query over the timetable, with the fares of its feed.
     fn new(
         alloc: Global,
         timetable: &'s Timetable<'f>,
+        fares: &'s Fares<'f>,
         query: &'s Query,
     ) -> Result<Search<'s, 'f>, AllocError>
         requires usual { IsUsualQuery query.now }
-        requires plain { HasPlainFares timetable.now }
+        requires same { fares.now ≡ timetable.now }
         ensures { IfOk result (λ search. search ≡ asked timetable.now query.now) }
     {
-        let tickets = Tickets::build(alloc, timetable.feed(), query.rider)?;
-        let departures = departures_of(alloc, timetable, query)?;
+        let timeframes = Timeframes::build(alloc, timetable.feed())?;
+        let fares = RiderFares::of(alloc, fares, query.rider)?;
+        let sought = Sought::new(alloc, timetable, query)?;
+        let departures = departures_of(alloc, timetable, &sought)?;
         Ok(Search {
             timetable,
             query,
-            tickets,
+            sought,
+            timeframes,
+            fares,
             departures,
             deadline: deadline(query),
         })
@@ -95,7 +106,8 @@ impl<'s, 'f> Search<'s, 'f> {
 
     // The greatest number of rides.
     fn limit(&self) -> u8
-        ensures { result ≡ self.now.query.rides }
+        ensures is { result ≡ self.now.query.rides }
+        ensures usual { IsUsualQuery self.now.query }
     {
         self.query.rides
     }
@@ -115,12 +127,13 @@ impl<'s, 'f> Search<'s, 'f> {
     }
 
     // A choice of least price for the rides of the path; none where no choice pays them.
-    fn price_of(&self, alloc: Global, path: &[CaughtRide]) -> Result<Option<Priced>, AllocError>
-        requires rides { All (λ (c : CaughtRide). ride_facts self.now.feed c.ride ≡ Some c.facts) path.now }
-        requires few { length path.now < 2 ^ 8 }
-        ensures { IfOk result (IsCheapest self.now.feed (rides_of path.now) self.now.query.rider) }
+    fn price_of(&self, alloc: Global, path: &Path) -> Result<Option<Priced>, AllocError>
+        requires legs { legs_of self.now.feed path.now.rides ≡ Some path.now.legs }
+        requires few { length path.now.rides ≤ self.now.query.rides }
+        ensures { IfOk result (IsCheapest self.now.feed path.now.rides self.now.query.rider) }
     {
-        cheapest(alloc, &self.tickets, path)
+        let _limit = self.limit();
+        self.fares.price(alloc, path.legs())
     }
 
     // The arrival at the last stop within the window.
@@ -136,34 +149,64 @@ impl<'s, 'f> Search<'s, 'f> {
         Some(arrival)
     }
 
-    // The best entry that ends at a stop after the rides of the path; none where there is none.
-    fn best_at(
+    // The earlier of an end and that at this stop, the former of equals.
+    fn earlier(&self, standing: Standing, last: StopId, best: Option<End>) -> Option<End>
+        requires { IsWithinWindow self.now.query standing.at.0 }
+        ensures { AddsEnd self.now.feed self.now.query (stand_of standing) last best result }
+    {
+        let Some(arrival) = self.arrival_in_time(standing, last) else {
+            return best;
+        };
+        match best {
+            Some(end) if end.arrival.0 <= arrival.0 => Some(end),
+            _ => Some(End { last, arrival }),
+        }
+    }
+
+    // Where a journey ends earliest that takes no ride more from where one stands; none where none ends within the
+    // window.
+    fn earliest_end(&self, standing: Standing) -> Option<End>
+        requires { IsWithinWindow self.now.query standing.at.0 }
+        ensures { IsEarliestEnd self.now.feed self.now.query (stand_of standing) result }
+    {
+        let lasts = self.timetable.members(self.query.to);
+        let mut earliest = None;
+        for k in 0..lasts.len() {
+            earliest = self.earlier(standing, lasts[k], earliest);
+        }
+        earliest
+    }
+
+    // The best entry with the rides of the path; none where there is none.
+    fn best(
         &self,
         alloc: Global,
         first: StopId,
-        last: StopId,
         standing: Standing,
-        path: &[CaughtRide],
+        path: &Path,
     ) -> Result<Option<Entry>, AllocError>
         requires searched { IsSearched self.now.feed self.now.query first (stand_of standing) path.now }
-        requires ends { IsTrue (stands_for self.now.feed self.now.query.to last) }
-        requires few { length path.now ≤ self.now.query.rides }
-        ensures { IfOk result (IsBestAt self.now.feed self.now.query first last (rides_of path.now)) }
+        requires few { length path.now.rides ≤ self.now.query.rides }
+        ensures { IfOk result (IsBest self.now.feed self.now.query first path.now.rides) }
     {
         let _limit = self.limit();
-        let Some(arrival) = self.arrival_in_time(standing, last) else {
+        let Some(end) = self.earliest_end(standing) else {
             return Ok(None);
         };
         let Some(priced) = self.price_of(alloc, path)? else {
             return Ok(None);
         };
-        let rides = rides_of(alloc, path)?;
+        let rides = path.rides(alloc)?;
         let triple = Triple {
-            arrival,
+            arrival: end.arrival,
             rides: path.len() as u8,
             price: priced.sum,
         };
-        let journey = Journey { first, last, rides };
+        let journey = Journey {
+            first,
+            last: end.last,
+            rides,
+        };
         Ok(Some(Entry {
             triple,
             journey,
@@ -171,22 +214,20 @@ impl<'s, 'f> Search<'s, 'f> {
         }))
     }
 
-    // Offers the best entry that ends at a stop after the rides of the path.
-    fn offer_at(
+    // Offers the best entry with the rides of the path.
+    fn offer(
         &self,
         alloc: Global,
         first: StopId,
-        last: StopId,
         standing: Standing,
-        path: &[CaughtRide],
+        path: &Path,
         front: &mut Front<Entry>,
     ) -> Result<(), AllocError>
         requires searched { IsSearched self.now.feed self.now.query first (stand_of standing) path.now }
-        requires ends { IsTrue (stands_for self.now.feed self.now.query.to last) }
-        requires few { length path.now ≤ self.now.query.rides }
-        ensures { OnOk result (Gains self.now.feed self.now.query (EndsAt self.now.feed self.now.query first last (rides_of path.now)) front.old front.new) }
+        requires few { length path.now.rides ≤ self.now.query.rides }
+        ensures { OnOk result (Gains self.now.feed self.now.query (HasRides self.now.feed self.now.query first path.now.rides) front.old front.new) }
     {
-        match self.best_at(alloc, first, last, standing, path)? {
+        match self.best(alloc, first, standing, path)? {
             Some(entry) => {
                 front.offer(entry)?;
                 Ok(())
@@ -195,35 +236,33 @@ impl<'s, 'f> Search<'s, 'f> {
         }
     }
 
-    // Offers the best entries that end after the rides of the path, one for each last stop.
-    fn offer_ends(
-        &self,
-        alloc: Global,
-        first: StopId,
-        standing: Standing,
-        path: &[CaughtRide],
-        front: &mut Front<Entry>,
-    ) -> Result<(), AllocError>
-        requires searched { IsSearched self.now.feed self.now.query first (stand_of standing) path.now }
-        requires few { length path.now ≤ self.now.query.rides }
-        ensures { OnOk result (Gains self.now.feed self.now.query (HasRides self.now.feed self.now.query first (rides_of path.now)) front.old front.new) }
-    {
-        let lasts = self.timetable.members(self.query.to);
-        for k in 0..lasts.len() {
-            self.offer_at(alloc, first, lasts[k], standing, path, front)?;
-        }
-        Ok(())
-    }
-
     // The rides that are caught from where one stands and end within the window.
     fn rides_from(&self, alloc: Global, standing: Standing) -> Result<Vec<CaughtRide>, AllocError>
-        requires { IsWithinWindow self.now.query standing.at.0 }
+        requires within { IsWithinWindow self.now.query standing.at.0 }
+        requires may { MayRide self.now.feed self.now.query (stand_of standing) }
         ensures all { IfOk result (λ rides. HasCaught self.now.feed self.now.query (stand_of standing) rides.items) }
         ensures right { IfOk result (λ rides. All (IsRight self.now.feed self.now.query (stand_of standing)) rides.items) }
         ensures sound { IsSoundFeed self.now.feed }
     {
         let _feed = self.timetable.feed();
-        Traveller::new(self.timetable, self.query, &self.departures, standing).rides(alloc)
+        Traveller::new(self.timetable, &self.sought, &self.departures, standing).rides(alloc)
+    }
+
+    // Whether entries may go on from here with at most so many rides more.
+    fn goes_on(&self, standing: Standing, left: u8) -> bool
+        requires { IsWithinWindow self.now.query standing.at.0 }
+        ensures { result ≡ false → (left ≡ 0) × IsEarliestEnd self.now.feed self.now.query (stand_of standing) None }
+    {
+        left > 0 || self.earliest_end(standing).is_some()
+    }
+
+    // Takes the ride onto the path, with what fare rules look at in it.
+    fn take(&self, alloc: Global, caught: &CaughtRide, path: &mut Path) -> Result<(), AllocError>
+        ensures { OnOk result (path.new ≡ with_ride path.old caught.now.ride (leg_facts self.now.feed caught.now.facts)) }
+    {
+        let leg = self.timeframes.leg_facts(alloc, &caught.facts)?;
+        path.push(caught.ride, leg)?;
+        Ok(())
     }
 
     // Offers the best entries that go on from here with at most so many rides more.
@@ -232,30 +271,33 @@ impl<'s, 'f> Search<'s, 'f> {
         alloc: Global,
         first: StopId,
         standing: Standing,
-        path: &mut Vec<CaughtRide>,
+        path: &mut Path,
         left: u8,
         front: &mut Front<Entry>,
     ) -> Result<(), AllocError>
-        requires searched { IsSearched self.now.feed self.now.query first (stand_of standing) path.old.items }
-        requires few { length path.old.items + left ≡ self.now.query.rides }
-        ensures path { OnOk result (path.new.items ≡ path.old.items) }
-        ensures gains { OnOk result (Gains self.now.feed self.now.query (GoesOn self.now.feed self.now.query first (rides_of path.old.items) (stand_of standing) left) front.old front.new) }
+        requires searched { IsSearched self.now.feed self.now.query first (stand_of standing) path.old }
+        requires few { length path.old.rides + left ≡ self.now.query.rides }
+        ensures path { OnOk result (path.new ≡ path.old) }
+        ensures gains { OnOk result (Gains self.now.feed self.now.query (GoesOn self.now.feed self.now.query first path.old.rides (stand_of standing) left) front.old front.new) }
     {
-        self.offer_ends(alloc, first, standing, path, front)?;
+        self.offer(alloc, first, standing, path, front)?;
         if left == 0 {
             return Ok(());
         }
         let rides = self.rides_from(alloc, standing)?;
         for n in 0..rides.len() {
-            let caught = rides[n];
-            path.push(caught)?;
+            let caught = &rides[n];
             let next = Standing {
                 stop: caught.facts.to,
                 at: caught.facts.arrival,
                 fresh: false,
             };
-            self.explore(alloc, first, next, path, left - 1, front)?;
-            path.pop();
+            let goes_on = self.goes_on(next, left - 1);
+            if goes_on {
+                self.take(alloc, caught, path)?;
+                self.explore(alloc, first, next, path, left - 1, front)?;
+                path.pop();
+            }
         }
         Ok(())
     }
@@ -270,14 +312,14 @@ impl<'s, 'f> Search<'s, 'f> {
         requires starts { IsTrue (stands_for self.now.feed self.now.query.from first) }
         ensures { OnOk result (Gains self.now.feed self.now.query (StartsAt self.now.feed self.now.query first) front.old front.new) }
     {
-        let mut path = Vec::new(alloc);
+        let mut path = Path::empty(alloc);
         let standing = self.start(first);
         self.explore(alloc, first, standing, &mut path, self.limit(), front)?;
         Ok(())
     }
 }
 
-/// The exact answer to a query over a feed with plain fares.
+/// The exact answer to a query.
 ///
 /// # Errors
 /// Want of memory.
@@ -287,11 +329,11 @@ pub fn plain_entries(
     query: &Query,
 ) -> Result<Vec<Entry>, AllocError>
     requires usual { IsUsualQuery query.now }
-    requires plain { HasPlainFares timetable.now }
     ensures exact { IfOk result (λ entries. IsExactAnswer timetable.now query.now entries.items) }
     ensures covers { IfOk result (λ entries. CoversOffers timetable.now query.now entries.items) }
 {
-    let search = Search::new(alloc, timetable, query)?;
+    let fares = Fares::build(alloc, timetable.feed())?;
+    let search = Search::new(alloc, timetable, &fares, query)?;
     let mut front = Front::empty(alloc);
     let firsts = timetable.members(query.from);
     for k in 0..firsts.len() {

@@ -83,7 +83,7 @@ module _ (named words : List (List ℕ)) where
 abbrev pub IsNumber : ℕ → ℕ → List ℕ → Type 0
 IsNumber least most text =
     ((int_value (pos least) (pos most) text ≡ None) × (within least most (number_value text) ≡ None))
-    ⊎ ((n : ℕ) × (int_value (pos least) (pos most) text ≡ Some (pos n)) × (within least most (number_value text) ≡ Some n) × (n ≤ most))
+    ⊎ ((n : ℕ) × (int_value (pos least) (pos most) text ≡ Some (pos n)) × (within least most (number_value text) ≡ Some n) × (n ≤ most) × (least ≤ n))
 
 limits : (least most n : ℕ) → (int_le (pos least) (pos n) && int_le (pos n) (pos most)) ≡ (nat_le least n && nat_le n most)
 limits least most n = refl
@@ -94,17 +94,20 @@ is_number least most text unsigned = rw unsigned (step (number_value text))
   where
     step : (value : Option ℕ)
         → ((if_between (pos least) (pos most) (option_map pos value) ≡ None) × (within least most value ≡ None))
-        ⊎ ((n : ℕ) × (if_between (pos least) (pos most) (option_map pos value) ≡ Some (pos n)) × (within least most value ≡ Some n) × (n ≤ most))
+        ⊎ ((n : ℕ) × (if_between (pos least) (pos most) (option_map pos value) ≡ Some (pos n)) × (within least most value ≡ Some n) × (n ≤ most) × (least ≤ n))
     step None = inl (refl, refl)
     step (Some n) = test (nat_le least n && nat_le n most) refl
       where
         test : (is : Bool) → (nat_le least n && nat_le n most) ≡ is
             → ((when (int_le (pos least) (pos n) && int_le (pos n) (pos most)) (pos n) ≡ None) × (when (nat_le least n && nat_le n most) n ≡ None))
-            ⊎ ((k : ℕ) × (when (int_le (pos least) (pos n) && int_le (pos n) (pos most)) (pos n) ≡ Some (pos k)) × (when (nat_le least n && nat_le n most) n ≡ Some k) × (k ≤ most))
-        test true e = inr (n, rw (limits least most n, e) refl, rw e refl, at_most)
+            ⊎ ((k : ℕ) × (when (int_le (pos least) (pos n) && int_le (pos n) (pos most)) (pos n) ≡ Some (pos k)) × (when (nat_le least n && nat_le n most) n ≡ Some k) × (k ≤ most) × (least ≤ k))
+        test true e = inr (n, rw (limits least most n, e) refl, rw e refl, at_most, at_least)
           where
             at_most : n ≤ most
             at_most = grind (arith, nat_tests)
+
+            at_least : least ≤ n
+            at_least = grind (arith, nat_tests)
         test false e = inl (rw (limits least most n, e) refl, rw e refl)
 
 -- a word of few digits
@@ -123,6 +126,7 @@ pub record IsNumberOf (least most : ℕ) (text : List ℕ) (value : ℤ) : Type 
   pub is : value ≡ pos number
   pub read : Some number ≡ within least most (word_number text)
   pub high : number ≤ most
+  pub low : least ≤ number
 
 pub number_found : (least most : ℕ) (text : List ℕ) (value : ℤ) → is_negative text ≡ false → length text ≤ 10 → int_value (pos least) (pos most) text ≡ Some value → IsNumberOf least most text value
 number_found least most text value unsigned few found = step (is_number least most text unsigned)
@@ -132,7 +136,7 @@ number_found least most text value unsigned few found = step (is_number least mo
     step (inr is) =
         let e = sym found ∙ is.1 in
         let same : value ≡ pos is.0 = cc in
-        record { number = is.0; is = same; read = rw (short text few) (sym is.2); high = is.3 }
+        record { number = is.0; is = same; read = rw (short text few) (sym is.2); high = is.3; low = is.4 }
 
 -- words that are no numbers
 pub no_number : (least most : ℕ) (text : List ℕ) → (length text ≡ 0) ⊎ ((10 < length text) ⊎ (get_or text 0 0 ≡ 45)) → None ≡ within least most (word_number text)

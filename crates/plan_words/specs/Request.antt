@@ -2,10 +2,13 @@
 use Rattle.std.specs.Prelude.{◌≤ℤ◌, ◌≤◌, false, pos, negsuc}
 use Rattle.std.specs.Option.{option_copied}
 use Rattle.feed_rows.specs.Limits.{most_window}
-use Rattle.feed_rows.specs.Requests.{PlanRequest, Request}
+use Rattle.feed_rows.specs.Requests.{PlanRequest, PriceRequest, GenRequest, Request}
+use Rattle.plan_words.specs.Rides.{rides_of, AreUsualRides}
 use Rattle.plan_words.specs.declared.request.Asked.{Asked}
 use Rattle.plan_words.specs.declared.request.Asked.TheVariants as asked
 use Rattle.plan_words.specs.declared.request.PlanWords.{PlanWords}
+use Rattle.plan_words.specs.declared.request.PriceWords.{PriceWords}
+use Rattle.plan_words.specs.declared.request.GenWords.{GenWords}
 
 -- the request of a plan
 abbrev pub request_of : PlanWords → PlanRequest
@@ -20,18 +23,37 @@ request_of plan =
       stats = false;
     }
 
+-- the request of a price
+abbrev pub price_request : PriceWords → PriceRequest
+price_request price = record { rider = option_copied price.rider; rides = rides_of price.rides }
+
+-- the request of a generated feed
+abbrev pub gen_request : GenWords → GenRequest
+gen_request gen = record { seed = gen.seed; lines = gen.lines }
+
 -- the request
 abbrev pub asked_request : Asked → Request
-asked_request asked.Check = Request.Check
 asked_request (asked.Plan plan) = Request.Plan (request_of plan)
+asked_request (asked.Price price) = Request.Price (price_request price)
+asked_request asked.Check = Request.Check
+asked_request (asked.Gen gen) = Request.Gen (gen_request gen)
 
 -- a plan that departs in the years 1900 to 2999, and arrives within three days
 pub record IsUsualPlan (plan : PlanWords) : Type 0 where
   pub early : negsuc 2_208_988_799 ≤ℤ plan.departure.0
   pub late : plan.departure.0 ≤ℤ pos 32_503_680_000
+  pub rides : plan.rides ≤ 8
   pub window : plan.window ≤ most_window
 
--- a plan is such a one
+-- a feed of 2 to 32 lines, by a number of 16 bits
+pub record IsUsualGen (gen : GenWords) : Type 0 where
+  pub seed : gen.seed ≤ 65_535
+  pub least : 2 ≤ gen.lines
+  pub most : gen.lines ≤ 32
+
+-- what is asked for is such
 abbrev pub IsUsualRequest : Asked → Type 0
-IsUsualRequest asked.Check = Unit {0}
 IsUsualRequest (asked.Plan plan) = IsUsualPlan plan
+IsUsualRequest (asked.Price price) = AreUsualRides price.rides
+IsUsualRequest asked.Check = Unit {0}
+IsUsualRequest (asked.Gen gen) = IsUsualGen gen

@@ -1,11 +1,9 @@
 -- The words that the program takes.
-use Rattle.std.specs.Prelude.{ℕ, Bool, true, false, if◌then◌else◌, List, [], ◌∷◌, Option, find, Result, Ok, Err, codes, bytes_eq}
+use Rattle.std.specs.Prelude.{ℕ, List, [], ◌∷◌, Option, find, Result, codes, bytes_eq}
 use Rattle.feed_rows.specs.CommandWords.{CommandForm}
-use Rattle.feed_rows.specs.Commands.{Command, plan, check, without, read_words}
+use Rattle.feed_rows.specs.Commands.{Command, plan, price, check, gen, without, read_words}
 use Rattle.feed_rows.specs.Requests.{Request}
-use Rattle.feed_rows.specs.UsageFaults.{unless_fault}
 use Rattle.feed_rows.specs.declared.usage.UsageFault.{UsageFault}
-use Rattle.feed_rows.specs.declared.usage.UsageFault.TheVariants as usage
 use Rattle.plan_words.specs.declared.grammar.Form.{Form}
 use Rattle.plan_words.specs.declared.grammar.Form.TheVariants as form
 
@@ -15,12 +13,14 @@ taken_plan = without (codes "--stats" ∷ []) plan
 
 -- the commands that the program takes
 abbrev pub taken_commands : List Command
-taken_commands = taken_plan ∷ check ∷ []
+taken_commands = taken_plan ∷ price ∷ check ∷ gen ∷ []
 
 -- the command of that form
 abbrev pub command_of : Form → Command
 command_of form.Plan = taken_plan
+command_of form.Price = price
 command_of form.Check = check
+command_of form.Gen = gen
 
 -- the words that it takes behind its name
 abbrev pub form_of : Form → CommandForm
@@ -30,16 +30,9 @@ form_of taken = (command_of taken).form
 abbrev pub command_named : List ℕ → Option Command
 command_named name = find (λ command. bytes_eq name command.name) taken_commands
 
--- what of this the program can do
-abbrev pub is_built : Request → Bool
-is_built (Request.Plan request) = true
-is_built (Request.Price request) = false
-is_built Request.Check = true
-is_built (Request.Gen request) = false
-
--- what the words ask for, or their first fault; what can't be done yet is refused as words of no command are
+-- what the words ask for, or their first fault
 unfoldable pub asked_of : List (List ℕ) → Result Request UsageFault
-asked_of words = unless_fault (read_words taken_commands words) (λ request. if is_built request then Ok request else Err usage.WrongWords)
+asked_of words = read_words taken_commands words
 
 -- the words behind the first
 abbrev pub behind : List (List ℕ) → List (List ℕ)

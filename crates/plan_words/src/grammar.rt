@@ -14,8 +14,12 @@ use feed_rows::WordRole;
 pub(crate) enum Form {
     /// `FROM TO DATE TIME [--rides N] [--rider ID] [--within SECONDS]`
     Plan,
+    /// `[--rider ID] RIDE ..`, one to eight rides
+    Price,
     /// None.
     Check,
+    /// `SEED LINES`
+    Gen,
 }
 
 impl Form {
@@ -27,7 +31,8 @@ impl Form {
     {
         match self {
             Form::Plan => word == "--rides" || word == "--rider" || word == "--within",
-            Form::Check => false,
+            Form::Price => word == "--rider",
+            Form::Check | Form::Gen => false,
         }
     }
 
@@ -41,7 +46,8 @@ impl Form {
                     || joined_value("--rider", word).is_some()
                     || joined_value("--within", word).is_some()
             }
-            Form::Check => false,
+            Form::Price => joined_value("--rider", word).is_some(),
+            Form::Check | Form::Gen => false,
         }
     }
 
@@ -51,7 +57,7 @@ impl Form {
     {
         let _ = word;
         match self {
-            Form::Plan | Form::Check => false,
+            Form::Plan | Form::Price | Form::Check | Form::Gen => false,
         }
     }
 
@@ -65,18 +71,32 @@ impl Form {
                     && is_single(words, "--rider")
                     && is_single(words, "--within")
             }
-            Form::Check => true,
+            Form::Price => is_single(words, "--rider"),
+            Form::Check | Form::Gen => true,
         }
     }
 
-    // The number of positional words.
-    fn positional_count(self) -> usize
-        ensures fewest { result ≡ (form_of self).fewest }
-        ensures most { result ≡ (form_of self).most }
+    // The least number of positional words.
+    fn fewest(self) -> usize
+        ensures { result ≡ (form_of self).fewest }
     {
         match self {
             Form::Plan => 4,
+            Form::Price => 1,
             Form::Check => 0,
+            Form::Gen => 2,
+        }
+    }
+
+    // The greatest number of positional words.
+    fn most(self) -> usize
+        ensures { result ≡ (form_of self).most }
+    {
+        match self {
+            Form::Plan => 4,
+            Form::Price => 8,
+            Form::Check => 0,
+            Form::Gen => 2,
         }
     }
 
@@ -164,9 +184,9 @@ impl Form {
         true
     }
 
-    // How many words are positional.
+    /// How many words are positional.
     #[tactic(auto, using(crate::proofs::WordLaws::picks_next))]
-    fn count_positional(self, words: &WordList) -> usize
+    pub(crate) fn count_positional(self, words: &WordList) -> usize
         ensures { result ≡ length (positional_words (form_of self) (behind words.now)) }
     {
         let mut count = 0;
@@ -204,7 +224,8 @@ impl Form {
         if !self.are_taken(words) || !self.has_single_options(words) {
             return false;
         }
-        self.count_positional(words) == self.positional_count()
+        let count = self.count_positional(words);
+        self.fewest() <= count && count <= self.most()
     }
 }
 

@@ -3,7 +3,10 @@
 
 mod grammar;
 mod request;
+mod rides;
+mod values;
 mod words;
 
-pub use request::{Asked, PlanWords, asked_of};
+pub use request::{Asked, GenWords, PlanWords, PriceWords, asked_of};
+pub use rides::{RideWord, RideWords};
 pub use words::WordList;

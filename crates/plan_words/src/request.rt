@@ -1,19 +1,20 @@
 //! What a command's words ask for.
-ghost use Rattle.std.specs.Prelude.{◌≡◌, ◌<◌, ◌≤◌, ◌≤ℤ◌, pos, negsuc, true, Ok, IfSome, IfOk, option_map};
+ghost use Rattle.std.specs.Prelude.{◌≡◌, true, Ok, IfOk, option_map};
 ghost use Rattle.feed_rows.specs.CommandWords.{option_value, positional_words, fits_form};
-ghost use Rattle.feed_rows.specs.Commands.{read_plan};
-ghost use Rattle.feed_rows.specs.Numerals.{within};
+ghost use Rattle.feed_rows.specs.Commands.{read_plan, read_price, read_gen};
 ghost use Rattle.feed_rows.specs.Requests.{Request};
-ghost use Rattle.feed_rows.specs.WordValues.{word_date, word_number, word_time, option_number};
 ghost use Rattle.feed_rows.specs.UsageFaults.{unless_fault};
 ghost use Rattle.plan_words.specs.Words.{asked_of, behind, form_of, command_of, command_named};
-ghost use Rattle.plan_words.specs.Request.{request_of, asked_request, IsUsualPlan, IsUsualRequest};
+ghost use Rattle.plan_words.specs.Request.{request_of, price_request, gen_request, asked_request, IsUsualPlan, IsUsualGen, IsUsualRequest};
+ghost use Rattle.plan_words.specs.Rides.{AreUsualRides};
 
 use crate::grammar::{Form, option_value};
+use crate::rides::{RideWords, rides_in};
+use crate::values::{date_in, number_in, option_number};
 use crate::words::WordList;
 use feed_rows::{USUAL_WINDOW, UsageFault};
-use feed_text::{day_of_parts, int_of, time_of};
-use transit_base::{Day, Moment};
+use feed_text::time_of;
+use transit_base::Moment;
 
 // The seconds within which a plan may ask to arrive, at most.
 const MOST_WINDOW: u32 = 259_200;
@@ -21,10 +22,14 @@ const MOST_WINDOW: u32 = 259_200;
 /// What a command's words ask for.
 #[derive(Clone, Copy)]
 pub enum Asked<'a> {
-    /// Whether the feed is accepted.
-    Check,
     /// The journeys of a plan.
     Plan(PlanWords<'a>),
+    /// The price of rides.
+    Price(PriceWords<'a>),
+    /// Whether the feed is accepted.
+    Check,
+    /// A plan over a generated feed.
+    Gen(GenWords),
 }
 
 /// A plan, as its words say it.
@@ -43,45 +48,22 @@ pub struct PlanWords<'a> {
     pub window: u32,
 }
 
-// The day of the form YYYY-MM-DD, from 1900-01-01 to 2999-12-31.
-fn date_in(word: &str) -> Option<Day>
-    ensures value { option_map (λ d. d.0) result ≡ word_date word.now }
-    ensures low { IfSome result (λ d. negsuc 25_566 ≤ℤ d.0) }
-    ensures high { IfSome result (λ d. d.0 ≤ℤ pos 376_199) }
-{
-    let text = word.as_bytes();
-    if text.len() != 10 || text[4] != b'-' || text[7] != b'-' {
-        return None;
-    }
-    let day = day_of_parts(&text[..4], &text[5..7], &text[8..10])?;
-    if day.0 < -25_567 || day.0 > 376_199 {
-        return None;
-    }
-    Some(day)
+/// The rides of which the price is asked, as words say it.
+#[derive(Clone, Copy)]
+pub struct PriceWords<'a> {
+    /// The id of the rider category.
+    pub rider: Option<&'a [u8]>,
+    /// The rides, in order.
+    pub rides: RideWords<'a>,
 }
 
-// The number of one to ten digits, from `least` to `most`.
-fn number_in(word: &[u8], least: u32, most: u32) -> Option<u32>
-    ensures value { result ≡ within least most (word_number word.now) }
-    ensures high { IfSome result (λ n. n ≤ most) }
-{
-    if word.is_empty() || word.len() > 10 || word[0] == b'-' {
-        return None;
-    }
-    let value = int_of(word, i64::from(least), i64::from(most))?;
-    Some(value as u32)
-}
-
-// The number of an option, or the default where the words give none.
-fn option_number(words: &WordList, option: &str, default: u32, least: u32, most: u32) -> Option<u32>
-    requires { default ≤ most }
-    ensures value { result ≡ option_number default least most (option_value (behind words.now) option.now) }
-    ensures high { IfSome result (λ n. n ≤ most) }
-{
-    match option_value(words, option) {
-        None => Some(default),
-        Some(word) => number_in(word, least, most),
-    }
+/// A generated feed, as words say it.
+#[derive(Clone, Copy)]
+pub struct GenWords {
+    /// What its numbers are drawn from, from 0 to 65,535.
+    pub seed: u32,
+    /// The stops along each side of its square, from 2 to 32.
+    pub lines: u32,
 }
 
 // The plan that the words ask for, or their first fault.
@@ -90,7 +72,7 @@ fn plan_of(words: &WordList) -> Result<PlanWords<'_>, UsageFault>
     ensures value { unless_fault result (λ plan. Ok (Request.Plan (request_of plan))) ≡ read_plan (positional_words (form_of Form.Plan) (behind words.now)) (behind words.now) }
     ensures usual { IfOk result IsUsualPlan }
 {
-    let Some(day) = date_in(Form::Plan.positional(words, 2)) else {
+    let Some(day) = date_in(Form::Plan.positional(words, 2).as_bytes()) else {
         return Err(UsageFault::BadDate);
     };
     let Some(seconds) = time_of(Form::Plan.positional(words, 3).as_bytes(), 86_399) else {
@@ -112,13 +94,40 @@ fn plan_of(words: &WordList) -> Result<PlanWords<'_>, UsageFault>
     })
 }
 
+// The rides whose price the words ask for, or their first fault.
+fn price_of(words: &WordList) -> Result<PriceWords<'_>, UsageFault>
+    requires { fits_form (form_of Form.Price) (behind words.now) ≡ true }
+    ensures value { unless_fault result (λ price. Ok (Request.Price (price_request price))) ≡ read_price (positional_words (form_of Form.Price) (behind words.now)) (behind words.now) }
+    ensures usual { IfOk result (λ price. AreUsualRides price.rides) }
+{
+    let rides = rides_in(words)?;
+    let rider = option_value(words, "--rider");
+    Ok(PriceWords { rider, rides })
+}
+
+// The generated feed that the words ask for, or their first fault.
+fn gen_of(words: &WordList) -> Result<GenWords, UsageFault>
+    ensures value { unless_fault result (λ asked. Ok (Request.Gen (gen_request asked))) ≡ read_gen (positional_words (form_of Form.Gen) (behind words.now)) (behind words.now) }
+    ensures usual { IfOk result IsUsualGen }
+{
+    let Some(seed) = number_in(Form::Gen.positional(words, 0).as_bytes(), 0, 65_535) else {
+        return Err(UsageFault::BadSeed);
+    };
+    let Some(lines) = number_in(Form::Gen.positional(words, 1).as_bytes(), 2, 32) else {
+        return Err(UsageFault::BadLines);
+    };
+    Ok(GenWords { seed, lines })
+}
+
 // The command of that name.
 fn form_named(name: &str) -> Option<Form>
     ensures { option_map command_of result ≡ command_named name.now }
 {
     match name {
         "plan" => Some(Form::Plan),
+        "price" => Some(Form::Price),
         "check" => Some(Form::Check),
+        "gen" => Some(Form::Gen),
         _ => None,
     }
 }
@@ -139,7 +148,9 @@ pub fn asked_of(words: &WordList) -> Result<Asked<'_>, UsageFault>
         return Err(UsageFault::WrongWords);
     }
     match form {
-        Form::Check => Ok(Asked::Check),
         Form::Plan => Ok(Asked::Plan(plan_of(words)?)),
+        Form::Price => Ok(Asked::Price(price_of(words)?)),
+        Form::Check => Ok(Asked::Check),
+        Form::Gen => Ok(Asked::Gen(gen_of(words)?)),
     }
 }

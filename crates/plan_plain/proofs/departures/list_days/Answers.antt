@@ -39,20 +39,24 @@ list_day-requires-clause-day_low c = low_day _ _ _ c.first_day-day.ensures.low c
 pub list_day-requires-clause-day_high : goal.list_day-requires-clause-day_high
 list_day-requires-clause-day_high c =
     let fits : FitsSigned w64 c.day_after-day-end.result = search rules in
-    high_day _ _ _ (before_after _ c.day_after-day-end.result _ c.loop-day-test.true fits c.day_after-day-end.ensures) (day_after_high c.args.query.now c.requires.usual)
+    high_day _ _ _ (before_after _ c.day_after-day-end.result _ c.loop-day-test.true fits c.day_after-day-end.ensures)
+    (day_after_high c.args.sought.now.query c.requires.usual)
 
 pub loop-day-preserved : goal.loop-day-preserved
 loop-day-preserved c =
     let day = to_z w64 c.loop-day.day-bits in
     let since = c.loop-day.invariant.since in
-    let low : negsuc 799_999 ≤ℤ day = low_day c.first_day-day.result (first_day c.args.query.now) day c.first_day-day.ensures.low c.first_day-day.ensures.value since in
-    let high = day_after_high c.args.query.now c.requires.usual in
+    let low : negsuc 799_999 ≤ℤ day = low_day c.first_day-day.result
+    (first_day c.args.sought.now.query) day c.first_day-day.ensures.low c.first_day-day.ensures.value since in
+    let high = day_after_high c.args.sought.now.query c.requires.usual in
     let fits : FitsSigned w64 c.day_after-day-end.result = search rules in
-    let below = before_after day c.day_after-day-end.result (day_after c.args.query.now) c.loop-day-test.true fits c.day_after-day-end.ensures in
-    let next = to_z-of_z w64 (day +ℤ pos 1) (next_fits day (day_after c.args.query.now) low below high) in
+    let below = before_after day c.day_after-day-end.result
+    (day_after c.args.sought.now.query) c.loop-day-test.true fits c.day_after-day-end.ensures in
+    let next = to_z-of_z w64 (day +ℤ pos 1) (next_fits day (day_after c.args.sought.now.query) low below high) in
     rw next record {
-      since = later (first_day c.args.query.now) day since;
-      adds = lists_day c.args.timetable.now c.args.query.now (first_day c.args.query.now) day [] c.loop-day.listed.items c.list_day.new.listed.items since c.loop-day.invariant.adds c.in_ok-list_day.ensures;
+      since = later (first_day c.args.sought.now.query) day since;
+      adds = lists_day c.args.timetable.now c.args.sought.now
+          (first_day c.args.sought.now.query) day [] c.loop-day.listed.items c.list_day.new.listed.items since c.loop-day.invariant.adds c.in_ok-list_day.ensures;
     }
 
 pub returns : goal.returns

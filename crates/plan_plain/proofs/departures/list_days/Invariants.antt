@@ -5,6 +5,6 @@ use Rattle.plan_plain.proofs.departures.list_days.Given as goal
 
 abbrev pub invariant-loop-day : goal.invariant-loop-day
 invariant-loop-day l = record {
-  since : first_day l.query ≤ℤ l.day;
-  adds : Lists l.timetable l.query (IsOnDays (first_day l.query) l.day) [] l.listed.items;
+  since : first_day l.sought.query ≤ℤ l.day;
+  adds : Lists l.timetable l.sought (IsOnDays (first_day l.sought.query) l.day) [] l.listed.items;
 }

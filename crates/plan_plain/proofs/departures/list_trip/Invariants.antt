@@ -4,4 +4,5 @@ use Rattle.feed_rows.specs.Shifts.{shifts_of}
 use Rattle.plan_plain.proofs.departures.list_trip.Given as goal
 
 abbrev pub invariant-loop-k : goal.invariant-loop-k
-invariant-loop-k l = Lists l.timetable l.query (HasShift l.trip.0 l.day.0 (shifts_of l.timetable l.trip) l.k) l.fn.listed.items l.listed.items
+invariant-loop-k l = Lists l.timetable l.sought (HasShift l.trip.0 l.day.0
+    (shifts_of l.timetable l.trip) l.k) l.fn.listed.items l.listed.items

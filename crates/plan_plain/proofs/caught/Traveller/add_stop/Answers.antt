@@ -1,6 +1,7 @@
 use Rattle.std.proofs.Common.{◌≡◌, ◌∙◌, ap, subst, sym, arith, length, pos, ◌+ℤ◌}
 use Rattle.std.specs.Prelude.{All, None, Some}
 use Rattle.feed_rows.specs.JourneyStands.{way_to}
+use Rattle.plan_plain.specs.Boarding.{MayBoard}
 use Rattle.plan_plain.specs.Departures.{AreDepartures, IsByAmong, IsFromStop}
 use Rattle.plan_plain.specs.InTime.{AddsCaught, IsWithinWindow}
 use Rattle.plan_plain.specs.Travelling.{Travelling}
@@ -16,7 +17,7 @@ loop-k-init c =
     let seconds = c.in-Some.seconds in
     let way = subst (λ (t : Travelling). way_to t.feed t.query t.stand c.args.stop ≡ Some seconds) c.self.view_is (sym c.in-Some.ensures) in
     let at = c.plus-earliest.ensures ∙ ap (λ (t : Travelling). t.stand.at +ℤ pos seconds) c.self.view_is in
-    let are = subst (λ (t : Travelling). AreDepartures t.feed t.query c.self.inside.departures.now) c.self.view_is c.self.invariant.2 in
+    let are = subst (λ (t : Travelling). AreDepartures t.feed c.self.inside.sought.now c.self.inside.departures.now) c.self.view_is c.self.invariant.2 in
     let right = subst (All (IsFromStop me.feed c.args.stop.0)) (sym c.get-departures.ensures) (are.right c.args.stop.0) in
     record { since = omega arith; adds = adds_missed me.feed me.query me.stand c.args.stop seconds _ _ _ _ way at right c.first_since-first.ensures }
 
@@ -26,7 +27,7 @@ add_departure-requires c =
     let seconds = c.in-Some.seconds in
     let way = subst (λ (t : Travelling). way_to t.feed t.query t.stand c.args.stop ≡ Some seconds) c.self.view_is (sym c.in-Some.ensures) in
     let at = c.plus-earliest.ensures ∙ ap (λ (t : Travelling). t.stand.at +ℤ pos seconds) c.self.view_is in
-    let are = subst (λ (t : Travelling). AreDepartures t.feed t.query c.self.inside.departures.now) c.self.view_is c.self.invariant.2 in
+    let are = subst (λ (t : Travelling). AreDepartures t.feed c.self.inside.sought.now c.self.inside.departures.now) c.self.view_is c.self.invariant.2 in
     let right = subst (All (IsFromStop me.feed c.args.stop.0)) (sym c.get-departures.ensures) (are.right c.args.stop.0) in
     record { reached = reaches me.feed me.query me.stand c.args.stop seconds _ _ _ _ _ way at right c.first_since-first.ensures c.loop-k.invariant.since c.loop-k-test.true }
 
@@ -39,7 +40,9 @@ pub returns : goal.returns
 returns c =
     let me = c.args.self.now in
     let within = subst (λ (t : Travelling). IsWithinWindow t.query t.stand.at) c.self.view_is c.self.invariant.1 in
-    let are = subst (λ (t : Travelling). AreDepartures t.feed t.query c.self.inside.departures.now) c.self.view_is c.self.invariant.2 in
+    let are = subst (λ (t : Travelling). AreDepartures t.feed c.self.inside.sought.now c.self.inside.departures.now) c.self.view_is c.self.invariant.2 in
+    let board = subst (λ (t : Travelling). MayBoard t.feed c.self.inside.sought.now t.stand) c.self.view_is c.self.invariant.4 in
     let same = ap length c.get-departures.ensures in
-    adds_stop me.feed me.query me.stand c.args.stop.0 c.loop-k.k c.self.inside.departures.now _ _ within are (omega (arith, same, c.loop-k-test.false))
+    let query = c.self.invariant.3 ∙ ap (λ (t : Travelling). t.query) c.self.view_is in
+    adds_stop me.feed me.query c.self.inside.sought.now me.stand c.args.stop.0 c.loop-k.k c.self.inside.departures.now _ _ query within board are (omega (arith, same, c.loop-k-test.false))
     (subst (λ ds. AddsCaught me.feed me.query me.stand (IsByAmong me.feed ds c.loop-k.k) c.args.rides.now.items c.loop-k.rides.items) c.get-departures.ensures c.loop-k.invariant.adds)

@@ -1,7 +1,6 @@
 use Rattle.std.proofs.Common.{◌∙◌, ap, subst}
 use Rattle.feed_rows.specs.SoundFeed.{IsSoundFeed}
 use Rattle.feed_walks.specs.OutOf.{out_of}
-use Rattle.plan_plain.specs.InTime.{IsWithinWindow}
 use Rattle.plan_plain.specs.Travelling.{Travelling}
 use Rattle.plan_plain.proofs.CaughtLaws.{adds_walk, has_caught}
 use Rattle.plan_plain.proofs.caught.Traveller.rides.Goals as goal
@@ -13,5 +12,5 @@ pub returns-clause-all : goal.returns-clause-all
 returns-clause-all c =
     let me = c.args.self.now in
     let sound = subst IsSoundFeed (ap (λ (t : Travelling). t.feed) c.self.view_is) c.feed-feed.ensures.sound in
-    let within = subst (λ (t : Travelling). IsWithinWindow t.query t.stand.at) c.self.view_is c.self.invariant.1 in
-    has_caught me.feed me.query me.stand _ c.loop-k.k _ sound within (c.walks_from-walks.ensures ∙ ap (λ (t : Travelling). out_of t.feed t.stand.stop) c.self.view_is) c.loop-k-test.false c.loop-k.invariant
+    has_caught me.feed me.query me.stand _ c.loop-k.k _ sound (c.walks_from-walks.ensures ∙ ap
+    (λ (t : Travelling). out_of t.feed t.stand.stop) c.self.view_is) c.loop-k-test.false c.loop-k.invariant

@@ -1,16 +1,25 @@
-use Rattle.std.proofs.Common.{◌≡◌, ◌∙◌, ap, sym, subst}
-use Rattle.std.specs.Prelude.{All, Some, IfOk}
-use Rattle.feed_rows.specs.Rides.{ride_facts}
-use Rattle.plan_plain.specs.declared.caught.CaughtRide.{CaughtRide}
-use Rattle.plan_plain.specs.Prices.{IsCheapest}
-use Rattle.plan_plain.specs.Tickets.{FareTerms, terms}
-use Rattle.plan_plain.specs.Searches.{Asked, rides_of}
+use Rattle.std.proofs.Common.{◌∙◌, ap, subst, arith, length}
+use Rattle.std.specs.Prelude.{IfOk}
+use Rattle.std.proofs.lemmas.Result.{IfOk-weaker}
+use Rattle.fare_price.specs.Prices.{FareTerms, terms, IsLeastOrNone}
+use Rattle.plan_plain.specs.Searches.{Asked}
+use Rattle.plan_plain.proofs.SearchLaws.{cheapest_of_legs, count_of_legs}
 use Rattle.plan_plain.proofs.search.Search.price_of.Goals as goal
 
 pub returns : goal.returns
 returns c =
-    subst (λ (t : FareTerms). IfOk c.cheapest.result (IsCheapest t.feed (rides_of c.args.path.now) t.rider)) (c.self.invariant.2 ∙ ap (λ (a : Asked). terms a.feed a.query.rider) c.self.view_is) c.cheapest.ensures
+    let feed = c.args.self.now.feed in
+    let rider = c.args.self.now.query.rider in
+    let same = c.self.invariant.3 ∙ ap (λ (a : Asked). terms a.feed a.query.rider) c.self.view_is in
+    IfOk-weaker c.price.result _ _
+    (λ priced least. cheapest_of_legs feed c.args.path.now.rides c.args.path.now.legs rider priced c.requires.legs least)
+    (subst (λ legs. IfOk c.price.result (IsLeastOrNone feed legs rider)) c.legs.ensures
+    (subst (λ (t : FareTerms). IfOk c.price.result
+    (IsLeastOrNone t.feed c.legs.result.now t.rider)) same c.price.ensures))
 
-pub cheapest-requires-clause-rides : goal.cheapest-requires-clause-rides
-cheapest-requires-clause-rides c =
-    subst (λ (t : FareTerms). All (λ (d : CaughtRide). ride_facts t.feed d.ride ≡ Some d.facts) c.args.path.now) (sym (c.self.invariant.2 ∙ ap (λ (a : Asked). terms a.feed a.query.rider) c.self.view_is)) c.requires.rides
+pub price-requires : goal.price-requires
+price-requires c =
+    let long = count_of_legs _ _ _ c.requires.legs in
+    let same = ap length c.legs.ensures in
+    let few = c.limit-limit.ensures.usual.rides in
+    omega (arith, long, same, few, c.requires.few)

@@ -1,0 +1,58 @@
+//! What words say of numbers and dates.
+ghost use Rattle.std.specs.Prelude.{◌≡◌, ◌≤◌, ◌≤ℤ◌, pos, negsuc, IfSome, option_map};
+ghost use Rattle.feed_rows.specs.CommandWords.{option_value};
+ghost use Rattle.feed_rows.specs.Numerals.{within};
+ghost use Rattle.feed_rows.specs.WordValues.{word_date, word_number, option_number};
+ghost use Rattle.plan_words.specs.Words.{behind};
+
+use crate::grammar::option_value;
+use crate::words::WordList;
+use feed_text::{day_of_parts, int_of};
+use transit_base::Day;
+
+/// The day of the form YYYY-MM-DD, from 1900-01-01 to 2999-12-31.
+pub(crate) fn date_in(text: &[u8]) -> Option<Day>
+    ensures value { option_map (λ d. d.0) result ≡ word_date text.now }
+    ensures low { IfSome result (λ d. negsuc 25_566 ≤ℤ d.0) }
+    ensures high { IfSome result (λ d. d.0 ≤ℤ pos 376_199) }
+{
+    if text.len() != 10 || text[4] != b'-' || text[7] != b'-' {
+        return None;
+    }
+    let day = day_of_parts(&text[..4], &text[5..7], &text[8..10])?;
+    if day.0 < -25_567 || day.0 > 376_199 {
+        return None;
+    }
+    Some(day)
+}
+
+/// The number of one to ten digits, from `least` to `most`.
+pub(crate) fn number_in(word: &[u8], least: u32, most: u32) -> Option<u32>
+    ensures value { result ≡ within least most (word_number word.now) }
+    ensures low { IfSome result (λ n. least ≤ n) }
+    ensures high { IfSome result (λ n. n ≤ most) }
+{
+    if word.is_empty() || word.len() > 10 || word[0] == b'-' {
+        return None;
+    }
+    let value = int_of(word, i64::from(least), i64::from(most))?;
+    Some(value as u32)
+}
+
+/// The number of an option, or the default where the words give none.
+pub(crate) fn option_number(
+    words: &WordList,
+    option: &str,
+    default: u32,
+    least: u32,
+    most: u32,
+) -> Option<u32>
+    requires { default ≤ most }
+    ensures value { result ≡ option_number default least most (option_value (behind words.now) option.now) }
+    ensures high { IfSome result (λ n. n ≤ most) }
+{
+    match option_value(words, option) {
+        None => Some(default),
+        Some(word) => number_in(word, least, most),
+    }
+}

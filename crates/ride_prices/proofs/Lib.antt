@@ -1,0 +1,4 @@
+pub mod CallLaws
+pub mod LegLaws
+pub mod NameLaws
+pub mod RideLaws

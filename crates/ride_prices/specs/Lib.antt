@@ -1,0 +1,2 @@
+pub mod NamedRides
+pub mod RidePrices
