@@ -60,7 +60,7 @@ kinds :
     ∷ kind.LongRow ∷ kind.EmptyRequired ∷ kind.BadNumber ∷ kind.BadTime ∷ kind.BadDate ∷ kind.BadAmount
     ∷ kind.BadCurrency ∷ kind.MixedCurrency ∷ kind.DoubledKey ∷ kind.UnknownReference ∷ kind.BadParent
     ∷ kind.WrongStopKind ∷ kind.TimesDecrease ∷ kind.EndTimeMissing ∷ kind.TimeframeFault ∷ kind.TransferFields
-    ∷ kind.ForbiddenTogether ∷ kind.BadText ∷ kind.FlexRow ∷ kind.DatesReversed ∷ kind.NotBuilt ∷ [])
+    ∷ kind.ForbiddenTogether ∷ kind.BadText ∷ kind.FlexRow ∷ kind.DatesReversed ∷ [])
     ≡ (1, codes "MissingFile") ∷ (2, codes "FileTooLarge") ∷ (3, codes "NotUtf8") ∷ (4, codes "TooManyRows")
     ∷ (5, codes "MissingColumn") ∷ (6, codes "DoubledColumn") ∷ (7, codes "LongRow") ∷ (8, codes "EmptyRequired")
     ∷ (9, codes "BadNumber") ∷ (10, codes "BadTime") ∷ (11, codes "BadDate") ∷ (12, codes "BadAmount")
@@ -68,5 +68,5 @@ kinds :
     ∷ (16, codes "UnknownReference") ∷ (17, codes "BadParent") ∷ (18, codes "WrongStopKind")
     ∷ (19, codes "TimesDecrease") ∷ (20, codes "EndTimeMissing") ∷ (21, codes "TimeframeFault")
     ∷ (22, codes "TransferFields") ∷ (23, codes "ForbiddenTogether") ∷ (24, codes "BadText") ∷ (25, codes "FlexRow")
-    ∷ (26, codes "DatesReversed") ∷ (90, codes "NotBuilt") ∷ []
+    ∷ (26, codes "DatesReversed") ∷ []
 kinds = refl

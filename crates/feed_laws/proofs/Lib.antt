@@ -23,5 +23,4 @@ pub mod SumBounds
 pub mod SumLaws
 pub mod TimedLaws
 pub mod TransferLaws
-pub mod UnarrangedLaws
 pub mod DateLaws

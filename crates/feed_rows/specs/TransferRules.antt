@@ -5,7 +5,6 @@
 -- that a leg without group is never in an arranged change.)
 use Rattle.std.specs.Prelude.{◌≡◌, ◌<◌, ◌≤◌, ℕ, zero, suc, ◌+◌, ◌-◌, Bool, true, false, not, ◌&&◌, ◌||◌, ◌==◌, nat_le, if◌then◌else◌, List, [], Option, Some, None, ℤ, pos, ◌-ℤ◌, int_le, option_and_then}
 use Rattle.std.specs.List.{list_any, list_all}
-use Rattle.std.specs.Option.{option_map_or}
 use Rattle.transit_base.specs.declared.numbers.LegGroupId.{LegGroupId}
 use Rattle.transit_base.specs.declared.numbers.XferId.{XferId}
 use Rattle.transit_base.specs.declared.moments.Moment.{Moment}
@@ -142,10 +141,6 @@ change_at feed leg i = change_from leg (run_start feed leg i) i
 -- change i is arranged
 abbrev pub is_arranged_at : FeedRows → (ℕ → Option FareLeg) → ℕ → Bool
 is_arranged_at feed leg i = filled_and (change_at feed leg i) (is_arranged feed)
-
--- the rows that are selected for change i; none where one of its legs has no group
-abbrev pub transfers_at : FeedRows → (ℕ → Option FareLeg) → ℕ → List XferId
-transfers_at feed leg i = option_map_or (selected_transfers feed) (change_at feed leg i) []
 
 -- legs i and i + 1 have one group
 abbrev pub is_same_group_at : (ℕ → Option FareLeg) → ℕ → Bool

@@ -59,12 +59,10 @@ pub enum FaultKind {
     FlexRow,
     /// The start date lies after the end date.
     DatesReversed,
-    /// The feed uses a part of GTFS that is not read or planned yet.
-    NotBuilt,
 }
 
 impl FaultKind {
-    /// The fault's number: 1 to 26, and 90 for [`FaultKind::NotBuilt`].
+    /// The fault's number, from 1 to 26.
     pub fn number(self) -> u8
         ensures { result ≡ fault_number self }
     {
@@ -95,7 +93,6 @@ impl FaultKind {
             FaultKind::BadText => 24,
             FaultKind::FlexRow => 25,
             FaultKind::DatesReversed => 26,
-            FaultKind::NotBuilt => 90,
         }
     }
 
@@ -130,7 +127,6 @@ impl FaultKind {
             FaultKind::BadText => "BadText",
             FaultKind::FlexRow => "FlexRow",
             FaultKind::DatesReversed => "DatesReversed",
-            FaultKind::NotBuilt => "NotBuilt",
         }
     }
 }

@@ -2,10 +2,10 @@
 use feed_rows::FeedFault;
 use std::alloc::AllocError;
 
-/// Why a file's bytes make no table.
+/// Why the bytes of files make no tables, or no feed.
 #[derive(Clone, Copy, Debug, PartialEq, Eq)]
 pub enum TextError {
-    /// The first fault of the file before its rows.
+    /// The first fault of what was judged: of a file before its rows, of a file by itself, or of a feed.
     Fault(FeedFault),
     /// Want of memory.
     NoMemory,
