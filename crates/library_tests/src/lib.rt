@@ -1,5 +1,4 @@
-//! Tests of what no case of the whole program reaches: objects that only libraries take, calls of the system, and what is
-//! built from feeds that aren't planned over yet.
+//! Tests of what no case of the whole program reaches: objects that only libraries take, and calls of the system.
 #![tactic(auto)]
 
 #[cfg(test)]
@@ -10,8 +9,6 @@ mod folders;
 mod fronts;
 #[cfg(test)]
 mod labels;
-#[cfg(test)]
-mod samples;
 #[cfg(test)]
 mod tables;
 #[cfg(test)]

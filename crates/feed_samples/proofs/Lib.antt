@@ -1,4 +1,0 @@
-pub mod FeedParts
-pub mod VariedSound
-pub mod BaseSound
-pub mod WalkChecks

@@ -1,3 +1,0 @@
-pub mod SampleRows
-pub mod BaseRows
-pub mod VariedRows
