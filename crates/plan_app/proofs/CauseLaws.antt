@@ -1,5 +1,5 @@
 -- From the causes to what can be answered.
-use Rattle.std.proofs.Common.{◌≡◌, ℕ, List, Bool, true, false, Option, None, refl, sym, ◌∙◌, subst, inl, inr}
+use Rattle.std.proofs.Common.{◌≡◌, ℕ, List, Bool, true, false, Option, None, refl, sym, ap, ◌∙◌, subst, inl, inr}
 use Rattle.std.specs.Prelude.{Some, Result, Ok, Err, IfSome, IsTrue}
 use Rattle.feed_rows.specs.FaultCounts.{Rose}
 use Rattle.feed_rows.specs.HeldFiles.{HeldFile, held}
@@ -9,8 +9,10 @@ use Rattle.feed_rows.specs.declared.usage.UsageFault.{UsageFault}
 use Rattle.folder_io.specs.FolderCalls.{Contents, FolderState}
 use Rattle.folder_io.specs.SinkCalls.{SinkState}
 use Rattle.plan_words.specs.Words.{asked_of}
-use Rattle.plan_app.specs.Due.{Task, task_for, due, IsDue, IsDueOver}
-use Rattle.plan_app.specs.Run.{asks_folder, WhereRead, Explains, AnswersAll}
+use Rattle.plan_app.specs.Due.{Task, task_for, due, refusal_answer, IsDue, IsDueOver}
+use Rattle.plan_app.specs.Run.{asks_folder, writes_nothing, WhereRead, Explains, AnswersAll}
+use Rattle.plan_app.specs.declared.refusal.Refusal.{Refusal}
+use Rattle.plan_app.specs.declared.refusal.Refusal.TheVariants as refusal
 use Rattle.plan_app.specs.declared.status.Status.{Status}
 use Rattle.plan_app.specs.declared.status.Status.TheVariants as status
 
@@ -69,3 +71,17 @@ all_answered words folder later sink after came (Explains.Unmade reads silent is
     where_read (asks_folder (asked_of words)) folder later _
     (λ contents asks told no_read task can no_write. inr is)
     (λ files unasked task can no_write. inr is)
+
+-- a refusal has a line, and what is due is no answer that writes nothing
+refusal_writes : (refused : Refusal) → writes_nothing (refusal_answer refused) ≡ false
+refusal_writes (refusal.Usage fault) = refl
+refusal_writes (refusal.Feed fault) = refl
+
+due_writes : (task : Result Task Refusal) (answer : Status) (lines : List (List ℕ)) → IsDue task answer lines → writes_nothing answer ≡ false
+due_writes (Ok task) answer lines is = ap writes_nothing is.0
+due_writes (Err refused) answer lines is = ap writes_nothing is.0 ∙ refusal_writes refused
+
+pub due_is_written : {X : Type 0} (folder : FolderState) (words : List (List ℕ)) (answer : Status) (lines : List (List ℕ))
+    → IsDueOver folder words answer lines → writes_nothing answer ≡ true → X
+due_is_written folder words answer lines over silent =
+    absurd (let no : false ≡ true = sym (due_writes (due over.files words) answer lines over.is_due) ∙ silent in cc)

@@ -1,6 +1,7 @@
 -- What is due over a folder.
-use Rattle.std.proofs.Common.{◌≡◌, ◌∙◌, ap, ℕ, ℤ, pos, ◌-◌, Bool, true, false, List, length, map, Option, refl, sym, subst, inl}
-use Rattle.std.specs.Prelude.{codes, Some, None, Result, Ok, Err, IfSome, IfOk, IfErr, OnOk}
+use Rattle.std.proofs.Common.{◌≡◌, ◌∙◌, ap, arith, ℕ, ℤ, pos, ◌-◌, Bool, true, false, List, length, map, Option, refl, sym, subst, inl}
+use Rattle.std.proofs.lemmas.List.{get_or-map, length-map}
+use Rattle.std.specs.Prelude.{codes, Any, IsTrue, Some, None, Result, Ok, Err, IfSome, IfOk, IfErr, OnOk}
 use Rattle.std.specs.Result.{IsErrAnd}
 use Rattle.std.specs.Fmt.{digits}
 use Rattle.transit_base.specs.declared.numbers.RiderId.{RiderId}
@@ -13,7 +14,8 @@ use Rattle.feed_rows.specs.declared.fares.Choice.{Choice}
 use Rattle.feed_rows.specs.declared.fares.Entry.{Entry}
 use Rattle.feed_rows.specs.Limits.{usual_window}
 use Rattle.feed_rows.specs.GeneratedFeed.{generated, generated_plan, stop_name}
-use Rattle.feed_rows.specs.JourneyEntries.{IsExactAnswer}
+use Rattle.feed_rows.specs.JourneyEntries.{IsExactAnswer, CoversOffers}
+use Rattle.feed_rows.specs.ParetoTriples.{at_most}
 use Rattle.feed_rows.specs.PriceQueries.{PriceQuery, price_query_of}
 use Rattle.feed_rows.specs.PriceTexts.{IsLeastPrice}
 use Rattle.feed_rows.specs.Queries.{query_of}
@@ -153,12 +155,24 @@ plan_named lines to departure last at =
     ∙ ap (plan_request (stop_name 0 0) (stop_name (lines - 1) (lines - 1)))
     (at ∙ ap (λ day. moment_at day (pos 25_200)) (sym generated_day))
 
+-- some item of a list of values is such where the value of some item is
+any_map : {X Y : Type 0} (such : Y → Type 0) (value : X → Y) (items : List X) → Any (λ item. such (value item)) items
+    → Any such (map value items)
+any_map such value items some = (
+  some.0,
+  value some.1,
+  omega (arith, some.2, length-map items value),
+  get_or-map value items some.0 some.1 _ some.2 ∙ ap value some.3,
+  some.4,
+)
+
 -- the triples of an exact answer to that plan are due
 pub gen_due : (timetable feed : FeedRows) (lines : ℕ) (plan : PlanRequest) (query : Query) (entries : List Entry) (told : Status)
     (text : List (List ℕ)) → timetable ≡ feed → plan ≡ generated_plan lines → Ok query ≡ query_of timetable plan
-    → IsExactAnswer timetable query entries → told ≡ status.Answered → text ≡ gen_lines feed (map (λ entry. entry.triple) entries)
+    → IsExactAnswer timetable query entries → CoversOffers timetable query entries → told ≡ status.Answered
+    → text ≡ gen_lines feed (map (λ entry. entry.triple) entries)
     → IsDue (task_by (Task.Generates feed) (query_of feed (generated_plan lines))) told text
-gen_due timetable feed lines plan query entries told text same is named exact answered are =
+gen_due timetable feed lines plan query entries told text same is named exact covers answered are =
     let over_feed : Ok query ≡ query_of feed (generated_plan lines) =
     named ∙ ap (λ (f : FeedRows). query_of f plan) same ∙ ap (query_of feed) is in
     subst (λ q. IsDue (task_by (Task.Generates feed) q) told text) over_feed (
@@ -166,6 +180,9 @@ gen_due timetable feed lines plan query entries told text same is named exact an
       record {
         triples = map (λ entry. entry.triple) entries;
         are_minimal = exact_triples feed query entries (subst (λ f. IsExactAnswer f query entries) same exact);
+        covers = λ offered is_offered.
+            any_map (λ triple. IsTrue (at_most triple offered)) (λ (entry : Entry). entry.triple) entries
+            (subst (λ f. CoversOffers f query entries) same covers offered is_offered);
         are_lines = are;
       },
     )

@@ -1,11 +1,12 @@
 -- What a command's words and the files of its folder make due: a task, or what refuses it; and the answer and the lines that
 -- come of that.
-use Rattle.std.specs.Prelude.{◌≡◌, ◌⊎◌, List, [], ◌∷◌, length, ℕ, ℤ, Option, None, Some, Result, Ok, Err}
+use Rattle.std.specs.Prelude.{◌≡◌, ◌⊎◌, List, [], ◌∷◌, length, Any, ℕ, ℤ, IsTrue, Option, None, Some, Result, Ok, Err}
 use Rattle.feed_rows.specs.FeedRows.{FeedRows}
 use Rattle.feed_rows.specs.HeldFiles.{HeldFile}
 use Rattle.feed_rows.specs.CommandTexts.{usage_line, refused_line, check_text}
 use Rattle.feed_rows.specs.EntryText.{lines_of_entries}
-use Rattle.feed_rows.specs.JourneyEntries.{IsExactAnswer, CoversOffers}
+use Rattle.feed_rows.specs.JourneyEntries.{IsExactAnswer, CoversOffers, IsOffered}
+use Rattle.feed_rows.specs.ParetoTriples.{at_most}
 use Rattle.feed_rows.specs.Queries.{query_of}
 use Rattle.feed_rows.specs.PriceQueries.{PriceQuery, price_query_of}
 use Rattle.feed_rows.specs.PriceTexts.{AreJoinedRides, IsLeastPrice, IsUncovered}
@@ -88,10 +89,12 @@ ArePriceLines feed rides rider lines =
     × (lines ≡ price_lines feed (length rides) choice price))
     ⊎ (IsUncovered feed rides rider × (lines ≡ uncovered_lines))
 
--- the lines are that of the feed's size and those of exactly the minimal triples of the query, in order
+-- the lines are that of the feed's size and those of exactly the minimal triples of the query, in order; without triple there
+-- is no fare-covered journey of the query
 pub record AreGenLines (feed : FeedRows) (query : Query) (lines : List (List ℕ)) : Type 0 where
   pub triples : List Triple
   pub are_minimal : AreMinimalTriples feed query triples
+  pub covers : (offered : Triple) → IsOffered feed query offered → Any (λ triple. IsTrue (at_most triple offered)) triples
   pub are_lines : lines ≡ gen_lines feed triples
 
 -- the lines do the task: those of a check tell how many rows the main files of the feed have; the rides that are priced are

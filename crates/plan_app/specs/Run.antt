@@ -54,3 +54,12 @@ abbrev pub AnswersAll : List (List ℕ) → FolderState → FolderState → Sink
 AnswersAll words folder later sink after answer =
     WhereRead (asks_folder (asked_of words)) folder later (λ files. (task : Task) → due files words ≡ Ok task →
     ¬ (Rose sink.faults after.faults) → (answer ≡ status.Answered) ⊎ (answer ≡ status.NoMemory))
+
+-- these answers stand where nothing was written
+abbrev pub writes_nothing : Status → Bool
+writes_nothing status.ReadFault = true
+writes_nothing status.NoMemory = true
+writes_nothing status.Answered = false
+writes_nothing (status.Usage fault) = false
+writes_nothing (status.Refused fault) = false
+writes_nothing status.WriteFault = false

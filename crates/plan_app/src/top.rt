@@ -1,7 +1,7 @@
 //! The top call.
-ghost use Rattle.std.specs.Prelude.{◌≡◌, false};
+ghost use Rattle.std.specs.Prelude.{◌≡◌, true, false};
 ghost use Rattle.plan_words.specs.Words.{asked_of};
-ghost use Rattle.plan_app.specs.Run.{AnswersAll, Explains, asks_folder};
+ghost use Rattle.plan_app.specs.Run.{AnswersAll, Explains, asks_folder, writes_nothing};
 
 use crate::lines::write_text;
 use crate::made::made;
@@ -13,13 +13,14 @@ use std::alloc::Global;
 
 /// Runs the command that the words name, over a folder, and writes its text to a sink.
 ///
-/// The words are judged first, then the files are read, each once and in order, then they are judged, and then the
-/// journeys are planned. The whole text is made before its first line is written, each line by one write. After a failed
-/// call of the folder or the sink none further is made.
+/// The words are judged first, then the files are read, each once and in order, then they are judged, and then comes what is
+/// asked for. Each line is one write; where a file can't be read, or memory is wanting, none is written and the sink isn't
+/// touched. After a failed call of the folder or the sink none further is made. A feed that is made by rule takes nothing of
+/// the folder.
 ///
 /// An answered plan lists in order exactly the minimal triples of arrival, rides and price among all fare-covered
 /// journeys of the query, one entry for each, with such a journey and with tickets of exactly that price; without an
-/// entry there is no such journey.
+/// entry there is no such journey. A price is the least of all choices of rules and products that pay the rides.
 pub fn run<F: Folder, S: Sink>(
     alloc: Global,
     words: &WordList,
@@ -28,6 +29,7 @@ pub fn run<F: Folder, S: Sink>(
 ) -> Status
     ensures causes { Explains words.now (F.state folder.old) (F.state folder.new) (S.state sink.old) (S.state sink.new) result }
     ensures answers_all { AnswersAll words.now (F.state folder.old) (F.state folder.new) (S.state sink.old) (S.state sink.new) result }
+    ensures unwritten { writes_nothing result ≡ true → sink.new ≡ sink.old }
     ensures untouched { asks_folder (asked_of words.now) ≡ false → folder.new ≡ folder.old }
 {
     let outcome = match made(alloc, words, folder) {

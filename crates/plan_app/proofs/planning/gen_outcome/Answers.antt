@@ -11,6 +11,7 @@ returns c =
     (c.generated_plan-plan.ensures.value c.args.words.now.lines (c.as_str.ensures.value ∙ c.in_ok-last.ensures))
     c.in-Ok.ensures.value
     c.in_ok-found.ensures.exact
+    c.in_ok-found.ensures.covers
     c.answered.ensures.told
     (c.answered.ensures.text ∙ c.in_ok-text.ensures.lines
     ∙ ap (λ (entries : List Entry). gen_lines c.args.feed.now (map (λ entry. entry.triple) entries)) c.deref.ensures.value)

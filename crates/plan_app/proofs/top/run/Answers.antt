@@ -1,5 +1,6 @@
 use Rattle.std.proofs.Common.{refl}
 use Rattle.plan_app.specs.Run.{Explains}
+use Rattle.plan_app.proofs.CauseLaws.{due_is_written}
 use Rattle.plan_app.proofs.top.run.Goals as goal
 
 pub returns-in-All-clause-causes : goal.returns-in-All-clause-causes
@@ -7,3 +8,6 @@ returns-in-All-clause-causes g c = Explains.Whole c.in-Ok.outcome.text c.in-Ok.e
 
 pub returns-clause-causes : goal.returns-clause-causes
 returns-clause-causes g c = Explains.Part c.in-Ok.outcome.told c.in-Ok.outcome.text c.in-Ok.ensures.made c.in-Ok.ensures.ok c.in-Failed.ensures refl
+
+pub returns-in-All-clause-unwritten : goal.returns-in-All-clause-unwritten
+returns-in-All-clause-unwritten g c = λ silent. due_is_written _ _ _ _ c.in-Ok.ensures.made silent
