@@ -8,7 +8,11 @@ mod folders;
 #[cfg(test)]
 mod fronts;
 #[cfg(test)]
+mod generated;
+#[cfg(test)]
 mod labels;
+#[cfg(test)]
+mod prices;
 #[cfg(test)]
 mod tables;
 #[cfg(test)]
