@@ -15,13 +15,12 @@ the other.
 """
 
 import os
-import shutil
 import subprocess
 import sys
 import tempfile
 
-# The crates that the program calls, and what they stand on.
-COPIED = ["label_bag", "label_order", "plain_laws"]
+import proved_program
+
 # How often a run offers the million labels.
 ROUNDS = 5
 
@@ -301,28 +300,6 @@ fn main() {
 """
 
 
-def build_proved(root, scratch):
-    """The program over the crates, without what earlier checks left there."""
-    with open(os.path.join(root, "crates.txt")) as file:
-        lines = [line for line in file if line.split(":")[0] in COPIED]
-    with open(os.path.join(scratch, "crates.txt"), "w") as file:
-        file.writelines(lines)
-        file.write("label_offers: label_bag label_order\n")
-    for crate in COPIED:
-        shutil.copytree(
-            os.path.join(root, "crates", crate),
-            os.path.join(scratch, "crates", crate),
-            ignore=shutil.ignore_patterns("out", "must-fail", "more-edits"),
-        )
-    folder = os.path.join(scratch, "crates", "label_offers")
-    os.makedirs(os.path.join(folder, "src"))
-    with open(os.path.join(folder, "src", "main.rt"), "w") as file:
-        file.write(PROGRAM)
-    print("proving and building takes a few minutes", file=sys.stderr)
-    subprocess.run(["rt", "run", "--", "list", "10", "1"], cwd=folder, check=True, stdout=subprocess.DEVNULL, stderr=subprocess.DEVNULL)
-    return os.path.join(folder, "out", "label_offers")
-
-
 def build_rust(scratch):
     source = os.path.join(scratch, "offers.rs")
     with open(source, "w") as file:
@@ -343,9 +320,9 @@ def run(program, kind, members):
 
 def main():
     runs = int(sys.argv[1]) if len(sys.argv) > 1 else 5
-    root = os.path.dirname(os.path.dirname(os.path.abspath(__file__)))
     with tempfile.TemporaryDirectory() as scratch:
-        programs = [build_proved(root, scratch), build_rust(scratch)]
+        proved = proved_program.build(scratch, "label_offers", ["label_bag", "label_order"], PROGRAM, ["list", "10", "1"])
+        programs = [proved, build_rust(scratch)]
         print("bag\tmembers\tkept\tproved\tRust\tratio")
         for kind in ["list", "stairs"]:
             for members in ["10", "100", "1000"]:

@@ -3,30 +3,25 @@
 
   several_rides.py FOLDER PROGRAM [LARGE [SMALL]]
 
-It makes two feeds in FOLDER as whole_feed.py does, but for what plans don't go by yet: one of LARGE stop times (1,000,000)
+It makes two feeds in FOLDER as whole_feed.py does, but with leg rules for all areas: one of LARGE stop times (1,000,000)
 and one of SMALL (10,000). Over the large one it times `check` and plans of no and one ride, over the small one plans of up
 to three rides with a window of two hours. Each command runs three times, and the least time counts.
 """
-import os
 import subprocess
 import sys
 import time
 
 import whole_feed
 
-# Files whose rows plans don't go by yet.
-UNPLANNED = ["areas.txt", "fare_transfer_rules.txt", "frequencies.txt", "rider_categories.txt", "stop_areas.txt", "timeframes.txt"]
 PLAN = ["plan", "S000000", "S000001", "2025-06-02", "08:00:00"]
 
 
 def make(folder, rows):
     whole_feed.make(folder, rows, "", 1)
-    for name in UNPLANNED:
-        os.remove(f"{folder}/{name}")
     products = [f"{network}{n},,,{2 + n}.{n}0,EUR" for network in ("bus", "tram", "rail") for n in range(5)]
     whole_feed.write(folder, "fare_products.txt", "fare_product_id,rider_category_id,fare_media_id,amount,currency", products)
-    rules = [f"{network},{network}{n}" for network in ("bus", "tram", "rail") for n in range(5)]
-    whole_feed.write(folder, "fare_leg_rules.txt", "network_id,fare_product_id", rules)
+    rules = [f"g{network},{network},{network}{n}" for network in ("bus", "tram", "rail") for n in range(5)]
+    whole_feed.write(folder, "fare_leg_rules.txt", "leg_group_id,network_id,fare_product_id", rules)
 
 
 def seconds_of(program, folder, words):
