@@ -8,7 +8,7 @@ takes twenty offers for each member, and then a new one takes its place. The lab
 becomes of each: how many were kept, and how many members there were in the end.
 
 The crates of labels are copied to a scratch folder, with a program that makes the labels and offers them, which is proved
-and built as any program is (`rt run`); the Rust program is built by `rustc -O`. Both are run in turn, RUNS times, 5 if it is
+and built as the gate does it; the Rust program is built by `rustc -O`. Both are run in turn, RUNS times, 5 if it is
 left out, and the least time counts. Each line is a kind of bag, about how many members a bag comes to hold, how many of
 the million were kept, the milliseconds of the processor that a million offers took in both programs, and the one divided by
 the other.
@@ -118,7 +118,9 @@ fn fill_stairs(alloc: Global, labels: &[Label], each: usize) -> (u64, u64)
 fn main(rt: HostRuntime) -> Result<(), Fail> {
     let alloc = rt.alloc();
     let mut words = env::args(&rt)?.skip(1);
-    let kind = words.next().ok_or("kind")?;
+    let Some(kind) = words.next() else {
+        return Ok(());
+    };
     let members = words.next().ok_or("members")?;
     let rounds = words.next().ok_or("rounds")?.parse::<u32>().map_err(|_| "rounds")?;
     let (arrivals, rides, each) = match members.as_str() {
@@ -321,7 +323,7 @@ def run(program, kind, members):
 def main():
     runs = int(sys.argv[1]) if len(sys.argv) > 1 else 5
     with tempfile.TemporaryDirectory() as scratch:
-        proved = proved_program.build(scratch, "label_offers", ["label_bag", "label_order"], PROGRAM, ["list", "10", "1"])
+        proved = proved_program.build(scratch, "label_offers", ["label_bag", "label_order"], PROGRAM)
         programs = [proved, build_rust(scratch)]
         print("bag\tmembers\tkept\tproved\tRust\tratio")
         for kind in ["list", "stairs"]:

@@ -1,4 +1,5 @@
-"""Builds a program over copies of the crates that it calls, which is proved and built as any program is (`rt run`)."""
+"""Builds a program over copies of the crates that it calls, which is proved and built as the gate does it (`rt ci`): there what
+the gate passed on this machine isn't proved again."""
 import os
 import shutil
 import subprocess
@@ -21,8 +22,8 @@ def crates_below(names):
     return [line for line in lines if line.split(":")[0] in wanted]
 
 
-def build(scratch, name, crates, program, words):
-    """The path of the program of this name and text, over these crates; it is run once with these words."""
+def build(scratch, name, crates, program):
+    """The path of the program of this name and text, which without words says nothing, over these crates."""
     lines = crates_below(crates)
     with open(os.path.join(scratch, "crates.txt"), "w") as file:
         file.writelines(lines)
@@ -38,8 +39,12 @@ def build(scratch, name, crates, program, words):
     os.makedirs(os.path.join(folder, "src"))
     with open(os.path.join(folder, "src", "main.rt"), "w") as file:
         file.write(program)
+    shutil.copy(os.path.join(ROOT, "HANDLES"), scratch)
+    subprocess.run(["rt", "fmt"], cwd=folder, stdout=subprocess.DEVNULL, check=False)
     print("proving and building takes some minutes", file=sys.stderr)
-    built = subprocess.run(["rt", "run", "--", *words], cwd=folder, stdout=subprocess.PIPE, stderr=subprocess.STDOUT, text=True)
-    if built.returncode != 0:
-        sys.exit(f"{name} can't be built:\n{built.stdout[-3000:]}")
-    return os.path.join(folder, "out", name)
+    built = subprocess.run(["rt", "ci"], cwd=scratch, stdout=subprocess.PIPE, stderr=subprocess.STDOUT, text=True)
+    made = os.path.join(folder, "out", name)
+    if not os.path.exists(made):
+        told = [line for line in built.stdout.splitlines() if "error" in line or line.startswith("note:")]
+        sys.exit("\n".join([f"{name} can't be built:", *told[:20]]))
+    return made
