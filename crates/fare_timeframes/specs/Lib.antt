@@ -1,2 +1,3 @@
 pub mod FrameRows
+pub mod FrameDays
 pub mod BuiltTimeframes

@@ -1,15 +1,20 @@
 //! The timeframe groups of a feed: which of them hold at a moment, and what fare rules look at in a leg.
 #![tactic(auto)]
 
-ghost use Rattle.std.specs.Prelude.{◌≡◌, filter, map, nat_le, IfOk};
+ghost use Rattle.std.specs.Prelude.{◌≡◌, filter, map, nat_le, IfOk, IfSome, OnOk};
 ghost use Rattle.std.specs.List.{list_any};
 ghost use Rattle.std.specs.List.Sorted.{IsNonDecreasingBy};
 ghost use Rattle.feed_rows.specs.FeedRows.{FeedRows};
 ghost use Rattle.feed_rows.specs.Legs.{holds_at, frames_at, leg_facts};
 ghost use Rattle.fare_areas.specs.AreaRows.{DoRise};
+ghost use Rattle.transit_base.specs.Moments.{civil_day};
 ghost use Rattle.fare_timeframes.specs.FrameRows.{by_frame, lasts_on, AreByStart};
+ghost use Rattle.fare_timeframes.specs.FrameDays.{IsDayOf};
 ghost use Rattle.fare_timeframes.specs.BuiltTimeframes.{AreTimeframesOf};
 
+mod days;
+
+use crate::days::{FrameDay, spans_on};
 use fare_areas::Areas;
 use feed_calendar::Calendar;
 use feed_rows::{AreaList, Feed, FrameList, LegFacts, RideFacts, TimeframeRow};
@@ -27,6 +32,8 @@ pub struct Timeframes {
     count: u32,
     /// The rows of each timeframe group, by start.
     rows: Groups<TimeframeRow>,
+    /// Days of which it was asked once which services are active.
+    days: Vec<FrameDay>,
 }
 
 // Written out, so that what holds one needn't look into it to let go of it.
@@ -37,6 +44,7 @@ impl Drop for Timeframes {
             areas: _,
             count: _,
             rows: _,
+            days: _,
         } = self;
     }
 }
@@ -55,7 +63,61 @@ impl Timeframes {
             areas: Areas::build(alloc, feed)?,
             count,
             rows: rows_by_frame(alloc, feed.timeframes.items(), count)?,
+            days: Vec::new(alloc),
         })
+    }
+
+    /// The timeframe groups of the feed, made for many moments from the first to the last: for each civil day of these it
+    /// is asked here which services are active, and not again. What is answered is the same.
+    ///
+    /// # Errors
+    /// Want of memory.
+    pub fn between(
+        alloc: Global,
+        feed: &Feed,
+        first: Moment,
+        last: Moment,
+    ) -> Result<Timeframes, AllocError>
+        ensures { IfOk result (λ timeframes. AreTimeframesOf feed.now timeframes) }
+    {
+        let mut timeframes = Timeframes::build(alloc, feed)?;
+        for day in first.day().0..=last.day().0 {
+            timeframes.keep(alloc, Day(day))?;
+        }
+        Ok(timeframes)
+    }
+
+    /// Asks once when the timeframe groups hold on the day, and keeps it.
+    fn keep(&mut self, alloc: Global, day: Day) -> Result<(), AllocError>
+        ensures { OnOk result ((feed : FeedRows) → AreTimeframesOf feed self.old → AreTimeframesOf feed self.new) }
+    {
+        let kept = self.frame_day(alloc, day)?;
+        self.days.push(kept)?;
+        Ok(())
+    }
+
+    /// When the timeframe groups hold on the day.
+    fn frame_day(&self, alloc: Global, day: Day) -> Result<FrameDay, AllocError>
+        ensures { IfOk result (λ kept. (feed : FeedRows) → AreTimeframesOf feed self.now → IsDayOf feed kept) }
+    {
+        let mut spans = Groups::empty(alloc);
+        for number in 0..self.rows.count() {
+            let group = spans_on(alloc, &self.calendar, self.rows.get(number), day)?;
+            spans.push(group.as_slice())?;
+        }
+        Ok(FrameDay { day, spans })
+    }
+
+    /// The day, where it is kept.
+    fn kept_day(&self, day: Day) -> Option<&FrameDay>
+        ensures { (feed : FeedRows) → AreTimeframesOf feed self.now → IfSome result (λ kept. IsDayOf feed kept.now × (kept.now.day.0 ≡ day.0)) }
+    {
+        for number in 0..self.days.len() {
+            if self.days[number].day.0 == day.0 {
+                return Some(&self.days[number]);
+            }
+        }
+        None
     }
 
     /// Whether the timeframe group holds at the moment: a row of it has a service that is active on the moment's own civil
@@ -63,9 +125,21 @@ impl Timeframes {
     pub fn holds(&self, frame: FrameId, at: Moment) -> bool
         ensures { (feed : FeedRows) → AreTimeframesOf feed self.now → result ≡ holds_at feed frame at.0 }
     {
+        self.is_held(self.kept_day(at.day()), frame, at)
+    }
+
+    /// Whether the timeframe group holds at the moment, whose day may be kept.
+    fn is_held(&self, kept: Option<&FrameDay>, frame: FrameId, at: Moment) -> bool
+        ensures { (feed : FeedRows) → AreTimeframesOf feed self.now → IfSome kept.entry (λ day. IsDayOf feed day.now × (day.now.day.0 ≡ civil_day at.0)) → result ≡ holds_at feed frame at.0 }
+    {
         let time = at.time_of_day().0;
-        let rows = started_by(self.rows.get(frame.0 as usize), time);
-        self.has_active(rows, at.day(), time)
+        match kept {
+            Some(day) => day.holds(frame, time),
+            None => {
+                let rows = started_by(self.rows.get(frame.0 as usize), time);
+                self.has_active(rows, at.day(), time)
+            }
+        }
     }
 
     /// What fare rules look at in the leg that is this ride.
@@ -94,10 +168,11 @@ impl Timeframes {
     fn frames_at(&self, alloc: Global, at: Moment) -> Result<FrameList, AllocError>
         ensures { IfOk result (λ frames. (feed : FeedRows) → AreTimeframesOf feed self.now → frames ≡ frames_at feed at) }
     {
+        let kept = self.kept_day(at.day());
         let mut frames = FrameList::empty(alloc);
         for number in 0..self.count {
             let frame = FrameId(number);
-            if self.holds(frame, at) {
+            if self.is_held(kept, frame, at) {
                 frames.push(frame)?;
             }
         }

@@ -1,3 +1,5 @@
+use Rattle.std.proofs.lemmas.List.Elements.{All-nil}
+use Rattle.fare_timeframes.specs.FrameDays.{IsDayOf}
 use Rattle.fare_timeframes.proofs.FrameLaws.{group_has}
 use Rattle.fare_timeframes.proofs.Timeframes.build.Goals as goal
 
@@ -5,6 +7,7 @@ pub returns : goal.returns
 returns c =
     let rows = c.in_ok-rows_by_frame.ensures in
     record {
+      days = rw c.new.ensures.items (All-nil (IsDayOf _));
       calendar = c.in_ok-build.ensures;
       areas = c.in_ok-build-2.ensures;
       count = rw (← c.feed.view_is) c.items.ensures.len;
