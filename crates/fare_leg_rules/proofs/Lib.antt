@@ -1,4 +1,4 @@
 pub mod MarkLaws
-pub mod NetworkLaws
+pub mod PlaceLaws
 pub mod RuleLaws
 pub mod OrderLaws

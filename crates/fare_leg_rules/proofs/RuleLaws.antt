@@ -1,25 +1,25 @@
 -- Which rules a leg selects, where what rules name is marked.
-use Rattle.std.proofs.Common.{◌≡◌, refl, ◌∙◌, ap, ℕ, ◌+◌, ◌<◌, max, take, get_or, Bool, true, false, not, ◌&&◌, ◌||◌, if◌then◌else◌, subst, List, [], ◌∷◌, length, Option, Some, None, arith}
+use Rattle.std.proofs.Common.{◌≡◌, refl, ◌∙◌, ap, ℕ, ◌+◌, ◌<◌, max, take, get_or, Bool, true, false, not, ◌&&◌, ◌||◌, if◌then◌else◌, subst, List, [], ◌∷◌, length, filter, Option, Some, None, arith}
 use Rattle.std.specs.Prelude.{nat_le, nat_lt, slice_get}
 use Rattle.std.specs.List.{list_any, list_all}
 use Rattle.std.proofs.lemmas.Bool.Decides.{nat_tests}
 use Rattle.std.proofs.lemmas.List.Folds.{list_all_more}
 use Rattle.transit_base.specs.declared.numbers.AreaId.{AreaId}
 use Rattle.transit_base.specs.declared.numbers.NetworkId.{NetworkId}
-use Rattle.transit_base.specs.declared.numbers.RuleId.{RuleId}
 use Rattle.feed_rows.specs.declared.journeys.LegFacts.{LegFacts}
 use Rattle.feed_rows.specs.declared.rows.LegRuleRow.{LegRuleRow}
 use Rattle.feed_rows.specs.FeedRows.{FeedRows}
 use Rattle.feed_rows.specs.LegRules.{is_listed_area, network_matches, area_matches, rule_matches, is_top_priority, is_selected_rule}
 use Rattle.feed_rows.specs.SoundFeed.{IsSoundFeed}
-use Rattle.plain_laws.specs.Plain.{at_and, filled_and, ids_where}
+use Rattle.plain_laws.specs.Plain.{at_and, filled_and}
 use Rattle.fare_leg_rules.specs.declared.LegRules.{LegRules}
 use Rattle.fare_leg_rules.specs.Marks.{is_marked, names as column_names}
 use Rattle.fare_leg_rules.specs.declared.marks.Column.TheVariants.{Network, FromArea, ToArea}
 use Rattle.fare_leg_rules.proofs.MarkLaws.{marked_names}
 use Rattle.fare_leg_rules.specs.Fits.{network_fits, area_fits, fits, weight, is_chosen}
-use Rattle.fare_leg_rules.specs.Networks.{rule_of, is_common, AreByNetwork}
-use Rattle.fare_leg_rules.proofs.NetworkLaws.{rules_of}
+use Rattle.fare_leg_rules.specs.declared.places.PlacedRule.{PlacedRule}
+use Rattle.fare_leg_rules.specs.Places.{is_common, passes_at, ArePlaced, AreByNetwork}
+use Rattle.fare_leg_rules.proofs.PlaceLaws.{passing, rules_of}
 use Rattle.fare_leg_rules.specs.BuiltLegRules.{AreLegRulesOf}
 
 module _ {X : Type 0} where
@@ -35,7 +35,7 @@ module _ {X : Type 0} where
       step (Some x) = same x
 
 -- the highest of what rules weigh, with one rule more
-pub top_more : (weigh : RuleId → ℕ) (ids : List RuleId) (i : ℕ) (d : RuleId) (least top here new priority : ℕ) → i < length ids
+pub top_more : {R : Type 0} (weigh : R → ℕ) (ids : List R) (i : ℕ) (d : R) (least top here new priority : ℕ) → i < length ids
     → nat_le top priority ≡ (nat_le least priority && list_all (λ rule. nat_le (weigh rule) priority) (take i ids)) → here ≡ weigh (get_or ids i d) → new ≡ max here top
     → nat_le new priority ≡ (nat_le least priority && list_all (λ rule. nat_le (weigh rule) priority) (take (i + 1) ids))
 top_more weigh ids i d least top here new priority lt before is made =
@@ -88,18 +88,18 @@ module _ (feed : FeedRows) (rules : LegRules) (are : AreLegRulesOf feed rules) (
       ∙ at_and_same (is_chosen rules leg top) (λ row. rule_matches feed leg row && is_top_priority feed leg row.priority) feed.leg_rules i (λ row. rw (fits_is row, top_is top row.priority tops) refl)
 
 -- the leg rules of a feed, from what each step of the building made
-pub built : (feed inside : FeedRows) (rows : List LegRuleRow) (names areas : ℕ) (rules : LegRules) → inside ≡ feed → IsSoundFeed inside → rows ≡ inside.leg_rules → names ≡ length inside.network_names → areas ≡ length inside.areas
-    → rules.rules.items ≡ rows → rules.common.items ≡ ids_where rule_of is_common rows → AreByNetwork rows names rules.by_network → rules.has_priority ≡ inside.has_priority
+pub built : (feed inside : FeedRows) (rows : List LegRuleRow) (placed : List PlacedRule) (names areas : ℕ) (rules : LegRules) → inside ≡ feed → IsSoundFeed inside → rows ≡ inside.leg_rules → names ≡ length inside.network_names → areas ≡ length inside.areas
+    → rules.rules.items ≡ rows → ArePlaced rows placed → rules.common.items ≡ filter (passes_at rows is_common) placed → AreByNetwork rows placed names rules.by_network → rules.has_priority ≡ inside.has_priority
     → ((i : ℕ) → is_marked rules.networks.items i ≡ (nat_lt i names && list_any (column_names Network i) rows))
     → ((i : ℕ) → is_marked rules.from_areas.items i ≡ (nat_lt i areas && list_any (column_names FromArea i) rows))
     → ((i : ℕ) → is_marked rules.to_areas.items i ≡ (nat_lt i areas && list_any (column_names ToArea i) rows)) → AreLegRulesOf feed rules
-built feed inside rows names areas rules view sound same many_names many_areas kept common grouped priority networks froms tos =
+built feed inside rows placed names areas rules view sound same many_names many_areas kept all common grouped priority networks froms tos =
     let sound_rules = sound.leg_rules in
     subst (λ f. AreLegRulesOf f rules) view
     (record {
       rows = kept ∙ same;
-      common = common ∙ ap (ids_where rule_of is_common) same;
-      of_network = rules_of inside rows rules.by_network names sound_rules same many_names grouped;
+      common = rw (common, same) (passing inside.leg_rules placed is_common (rw same at all));
+      of_network = rules_of inside placed rules.by_network names sound_rules many_names (rw same at all) (rw same at grouped);
       has_priority = priority;
       networks = λ n. marked_names (λ (x : NetworkId). x.0) (λ r. r.network) rows inside.leg_rules rules.networks.items names same (rw many_names sound_rules.networks) networks n.0;
       from_areas = λ a. marked_names (λ (x : AreaId). x.0) (λ r. r.from_area) rows inside.leg_rules rules.from_areas.items areas same (rw many_areas sound_rules.from_areas) froms a.0;

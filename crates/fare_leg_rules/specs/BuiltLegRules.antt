@@ -5,15 +5,14 @@ use Rattle.transit_base.specs.declared.numbers.NetworkId.{NetworkId}
 use Rattle.feed_rows.specs.FeedRows.{FeedRows}
 use Rattle.feed_rows.specs.LegRules.{is_listed_network, is_listed_area}
 use Rattle.fare_leg_rules.specs.declared.LegRules.{LegRules}
-use Rattle.plain_laws.specs.Plain.{ids_where}
 use Rattle.fare_leg_rules.specs.Marks.{is_marked}
-use Rattle.fare_leg_rules.specs.Networks.{rule_of, is_common, is_of, rules_at}
+use Rattle.fare_leg_rules.specs.Places.{is_common, is_of, rules_at, HasRules}
 
 -- the rules are those of this feed
 pub record AreLegRulesOf (feed : FeedRows) (rules : LegRules) : Type 0 where
   pub rows : rules.rules.items ≡ feed.leg_rules
-  pub common : rules.common.items ≡ ids_where rule_of is_common feed.leg_rules
-  pub of_network : (network : ℕ) → rules_at rules.by_network network ≡ ids_where rule_of (is_of network) feed.leg_rules
+  pub common : HasRules feed.leg_rules is_common rules.common.items
+  pub of_network : (network : ℕ) → HasRules feed.leg_rules (is_of network) (rules_at rules.by_network network)
   pub has_priority : rules.has_priority ≡ feed.has_priority
   pub networks : (network : NetworkId) → is_marked rules.networks.items network.0 ≡ is_listed_network feed network
   pub from_areas : (area : AreaId) → is_marked rules.from_areas.items area.0 ≡ is_listed_area feed (λ r. r.from_area) area

@@ -1,5 +1,5 @@
 -- Whether a rule matches a leg, where what rules name is marked.
-use Rattle.std.specs.Prelude.{◌≡◌, ℕ, Bool, not, ◌&&◌, ◌||◌, ◌==◌, nat_le, if◌then◌else◌, List, [], Option, Some, None, slice_get}
+use Rattle.std.specs.Prelude.{◌≡◌, ℕ, Bool, not, ◌&&◌, ◌||◌, ◌==◌, nat_le, if◌then◌else◌, List, [], map, filter, Option, Some, None, slice_get}
 use Rattle.std.specs.List.{list_any, list_all}
 use Rattle.std.specs.Option.{option_map_or}
 use Rattle.transit_base.specs.declared.numbers.AreaId.{AreaId}
@@ -11,7 +11,8 @@ use Rattle.feed_rows.specs.LegRules.{frame_matches}
 use Rattle.plain_laws.specs.Plain.{at_and, empty_or, filled_and}
 use Rattle.fare_leg_rules.specs.declared.LegRules.{LegRules}
 use Rattle.fare_leg_rules.specs.Marks.{is_marked}
-use Rattle.fare_leg_rules.specs.Networks.{rules_at}
+use Rattle.fare_leg_rules.specs.Places.{rules_at}
+use Rattle.fare_leg_rules.specs.declared.places.PlacedRule.{PlacedRule}
 
 -- the network of a rule is that of a leg
 abbrev pub network_fits : Bool → List Bool → Option NetworkId → Option NetworkId → Bool
@@ -44,15 +45,19 @@ is_chosen rules leg least row = fits rules leg row && nat_le least row.priority
 abbrev pub weight_of : LegRules → LegFacts → RuleId → ℕ
 weight_of rules leg rule = option_map_or (weight rules leg) (slice_get rules.rules.items rule.0) 0
 
--- the rule with this number weighs no more than so much
-abbrev pub is_within : LegRules → LegFacts → ℕ → RuleId → Bool
-is_within rules leg priority rule = nat_le (weight_of rules leg rule) priority
+-- the rule weighs no more than so much
+abbrev pub is_within : LegRules → LegFacts → ℕ → PlacedRule → Bool
+is_within rules leg priority placed = nat_le (weight_of rules leg placed.rule) priority
 
-abbrev pub is_chosen_at : LegRules → LegFacts → ℕ → RuleId → Bool
-is_chosen_at rules leg least rule = at_and rules.rules.items rule.0 (is_chosen rules leg least)
+abbrev pub is_chosen_at : LegRules → LegFacts → ℕ → PlacedRule → Bool
+is_chosen_at rules leg least placed = at_and rules.rules.items placed.rule.0 (is_chosen rules leg least)
+
+-- those that are chosen among these
+abbrev pub chosen_among : LegRules → LegFacts → ℕ → List PlacedRule → List RuleId
+chosen_among rules leg least placed = map (λ (p : PlacedRule). p.rule) (filter (is_chosen_at rules leg least) placed)
 
 -- the rules of the leg's network
-abbrev pub own_rules : LegRules → LegFacts → List RuleId
+abbrev pub own_rules : LegRules → LegFacts → List PlacedRule
 own_rules rules leg = option_map_or (λ n. rules_at rules.by_network n.0) leg.network []
 
 -- no rule weighs more, and no less is enough for that

@@ -1,4 +1,5 @@
 pub mod Marks
-pub mod Networks
+pub mod Places
 pub mod Fits
+pub mod Orders
 pub mod BuiltLegRules

@@ -1,21 +1,23 @@
 //! The leg rules of a feed, and which of them a leg selects.
 #![tactic(auto)]
 
-ghost use Rattle.std.specs.Prelude.{◌≡◌, ℕ, not, nat_le, ◌==◌, ◌&&◌, ◌++◌, filter, IfOk, OnOk};
+ghost use Rattle.std.specs.Prelude.{◌≡◌, ℕ, not, nat_le, ◌==◌, ◌&&◌, ◌++◌, IfOk, OnOk};
 ghost use Rattle.std.specs.List.{list_any, list_all};
-ghost use Rattle.std.specs.List.Sorted.{IsPermutation, IsNonDecreasingBy};
+ghost use Rattle.std.specs.List.Sorted.{IsNonDecreasingBy};
 ghost use Rattle.feed_rows.specs.FeedRows.{FeedRows};
 ghost use Rattle.feed_rows.specs.LegRules.{frame_matches, selected_rules, is_selected_rule};
 ghost use Rattle.plain_laws.specs.Plain.{at_and};
 ghost use Rattle.fare_leg_rules.specs.Marks.{is_marked};
-ghost use Rattle.fare_leg_rules.specs.Fits.{network_fits, area_fits, fits, weight, weight_of, is_within, is_chosen, is_chosen_at, own_rules, IsTop};
+ghost use Rattle.fare_leg_rules.specs.Fits.{network_fits, area_fits, fits, weight, weight_of, is_within, is_chosen, chosen_among, own_rules, IsTop};
+ghost use Rattle.fare_leg_rules.specs.Orders.{IsPutInOrder};
+ghost use Rattle.fare_leg_rules.specs.Places.{candidates};
 ghost use Rattle.fare_leg_rules.specs.BuiltLegRules.{AreLegRulesOf};
 
 mod marks;
-mod networks;
+mod places;
 
 use crate::marks::{Column, is_marked, marked};
-use crate::networks::{common_rules, rules_by_network};
+use crate::places::{PlacedRule, at_place, common_rules, place_of, placed_rules, rules_by_network};
 use feed_rows::{Feed, LegFacts, LegRuleRow, RuleList};
 use plain_laws::Groups;
 use std::alloc::{AllocError, Global};
@@ -27,10 +29,10 @@ use transit_base::{AreaId, FrameId, NetworkId, RuleId};
 pub struct LegRules {
     /// The rules, in file order.
     rules: Vec<LegRuleRow>,
-    /// Those without a network, in file order.
-    common: Vec<RuleId>,
-    /// Those of each network, in file order.
-    by_network: Groups<RuleId>,
+    /// Those without a network, by the area that they name in the column `from_area_id`.
+    common: Vec<PlacedRule>,
+    /// Those of each network, by that area.
+    by_network: Groups<PlacedRule>,
     /// Whether the file has the column `rule_priority`.
     has_priority: bool,
     /// Whether a rule names each network.
@@ -67,10 +69,11 @@ impl LegRules {
         let rows = feed.leg_rules.items();
         let networks = feed.network_names.items().len();
         let areas = feed.areas.items().len();
+        let placed = placed_rules(alloc, rows)?;
         Ok(LegRules {
             rules: Vec::from_slice(alloc, rows)?,
-            common: common_rules(alloc, rows)?,
-            by_network: rules_by_network(alloc, rows, networks as u32)?,
+            common: common_rules(alloc, rows, &placed)?,
+            by_network: rules_by_network(alloc, rows, &placed, networks as u32)?,
             has_priority: feed.has_priority,
             networks: marked(alloc, rows, Column::Network, networks)?,
             from_areas: marked(alloc, rows, Column::FromArea, areas)?,
@@ -88,8 +91,8 @@ impl LegRules {
     {
         let least = self.top_priority(leg);
         let mut chosen = Vec::new(alloc);
-        self.push_chosen(&mut chosen, leg, self.own(leg), least)?;
-        self.push_chosen(&mut chosen, leg, &self.common, least)?;
+        self.push_candidates(&mut chosen, leg, self.own(leg), least)?;
+        self.push_candidates(&mut chosen, leg, &self.common, least)?;
         put_in_order(&mut chosen);
         rule_list(alloc, chosen.as_slice())
     }
@@ -103,7 +106,7 @@ impl LegRules {
     }
 
     /// The rules of the leg's network.
-    fn own(&self, leg: &LegFacts) -> &[RuleId]
+    fn own(&self, leg: &LegFacts) -> &[PlacedRule]
         ensures { result.now ≡ own_rules self.now leg.now }
     {
         match leg.network {
@@ -112,19 +115,39 @@ impl LegRules {
         }
     }
 
+    /// Adds those of the rules that match the leg with at least this priority. None matches it that names an area that the
+    /// boarding stop doesn't have, so no such is looked at.
+    fn push_candidates(
+        &self,
+        chosen: &mut Vec<RuleId>,
+        leg: &LegFacts,
+        rules: &[PlacedRule],
+        least: u32,
+    ) -> Result<(), AllocError>
+        ensures { OnOk result (IsNonDecreasingBy (λ (rule : PlacedRule). rule.place) rules.now → chosen.new.items ≡ chosen.old.items ++ chosen_among self.now leg.now least (candidates rules.now leg.now.from_areas)) }
+    {
+        self.push_chosen(chosen, leg, at_place(rules, 0), least)?;
+        let areas = leg.from_areas.items();
+        for i in 0..areas.len() {
+            let named = at_place(rules, place_of(Some(areas[i])));
+            self.push_chosen(chosen, leg, named, least)?;
+        }
+        Ok(())
+    }
+
     /// Adds those of the rules that match the leg with at least this priority.
     fn push_chosen(
         &self,
         chosen: &mut Vec<RuleId>,
         leg: &LegFacts,
-        among: &[RuleId],
+        among: &[PlacedRule],
         least: u32,
     ) -> Result<(), AllocError>
-        ensures { OnOk result (chosen.new.items ≡ chosen.old.items ++ filter (is_chosen_at self.now leg.now least) among.now) }
+        ensures { OnOk result (chosen.new.items ≡ chosen.old.items ++ chosen_among self.now leg.now least among.now) }
     {
-        for rule in among {
-            if self.is_chosen(leg, *rule, least) {
-                chosen.push(*rule)?;
+        for placed in among {
+            if self.is_chosen(leg, placed.rule, least) {
+                chosen.push(placed.rule)?;
             }
         }
         Ok(())
@@ -135,17 +158,30 @@ impl LegRules {
     fn top_priority(&self, leg: &LegFacts) -> u32
         ensures { (feed : FeedRows) → AreLegRulesOf feed self.now → IsTop self.now leg.now result }
     {
-        let top = self.top_among(leg, &self.common, 0);
-        self.top_among(leg, self.own(leg), top)
+        let top = self.top_candidate(leg, &self.common, 0);
+        self.top_candidate(leg, self.own(leg), top)
+    }
+
+    /// The highest priority of one of these rules that matches the leg, or the least, where none has a higher one. None
+    /// matches it that names an area that the boarding stop doesn't have, so no such is looked at.
+    fn top_candidate(&self, leg: &LegFacts, rules: &[PlacedRule], least: u32) -> u32
+        ensures { IsNonDecreasingBy (λ (rule : PlacedRule). rule.place) rules.now → (priority : ℕ) → nat_le result priority ≡ (nat_le least priority && list_all (is_within self.now leg.now priority) (candidates rules.now leg.now.from_areas)) }
+    {
+        let mut top = self.top_among(leg, at_place(rules, 0), least);
+        let areas = leg.from_areas.items();
+        for i in 0..areas.len() {
+            top = self.top_among(leg, at_place(rules, place_of(Some(areas[i]))), top);
+        }
+        top
     }
 
     /// The highest priority of one of these rules that matches the leg, or the least, where none has a higher one.
-    fn top_among(&self, leg: &LegFacts, among: &[RuleId], least: u32) -> u32
+    fn top_among(&self, leg: &LegFacts, among: &[PlacedRule], least: u32) -> u32
         ensures { (priority : ℕ) → nat_le result priority ≡ (nat_le least priority && list_all (is_within self.now leg.now priority) among.now) }
     {
         let mut top = least;
-        for rule in among {
-            top = self.weight_of(leg, *rule).max(top);
+        for placed in among {
+            top = self.weight_of(leg, placed.rule).max(top);
         }
         top
     }
@@ -217,12 +253,12 @@ impl LegRules {
     }
 }
 
-/// Puts rules in file order.
+/// Puts rules in file order, each once.
 fn put_in_order(rules: &mut Vec<RuleId>)
-    ensures moved { IsPermutation rules.old.items rules.new.items }
-    ensures rises { IsNonDecreasingBy (λ (rule : RuleId). rule.0) rules.new.items }
+    ensures { IsPutInOrder rules.old.items rules.new.items }
 {
     rules.sort_unstable_by_key(|rule| rule.0);
+    rules.dedup();
 }
 
 /// The rules as a list.

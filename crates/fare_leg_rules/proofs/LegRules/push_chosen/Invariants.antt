@@ -1,6 +1,6 @@
-use Rattle.std.proofs.Common.{◌≡◌, ◌++◌, filter, take}
-use Rattle.fare_leg_rules.specs.Fits.{is_chosen_at}
+use Rattle.std.proofs.Common.{◌≡◌, ◌++◌, take}
+use Rattle.fare_leg_rules.specs.Fits.{chosen_among}
 use Rattle.fare_leg_rules.proofs.LegRules.push_chosen.Given as goal
 
-abbrev pub invariant-loop-rule : goal.invariant-loop-rule
-invariant-loop-rule l = l.chosen.items ≡ l.initial.chosen.items ++ filter (is_chosen_at l.self l.leg l.least) (take l.rule-index l.among)
+abbrev pub invariant-loop-placed : goal.invariant-loop-placed
+invariant-loop-placed l = l.chosen.items ≡ l.initial.chosen.items ++ chosen_among l.self l.leg l.least (take l.placed-index l.among)

@@ -1,7 +1,8 @@
-use Rattle.std.proofs.Common.{◌∙◌, ◌++◌, ap, filter}
+use Rattle.std.proofs.Common.{◌∙◌, ◌++◌, ap}
 use Rattle.std.proofs.lemmas.Result.{IfOk-weaker}
-use Rattle.fare_leg_rules.specs.Fits.{is_chosen_at, own_rules}
-use Rattle.fare_leg_rules.proofs.OrderLaws.{selected_in_order}
+use Rattle.fare_leg_rules.specs.Fits.{chosen_among, own_rules}
+use Rattle.fare_leg_rules.specs.Places.{candidates}
+use Rattle.fare_leg_rules.proofs.OrderLaws.{own_has, selected_in_order}
 use Rattle.fare_leg_rules.proofs.LegRules.selected.Goals as goal
 
 pub returns : goal.returns
@@ -9,11 +10,12 @@ returns c =
     let rules = c.args.self.now in
     let leg = c.args.leg.now in
     let top = c.top_priority-least.result in
-    let chosen = is_chosen_at rules leg top in
-    let own = c.in_ok-push_chosen.ensures ∙ ap (λ ids. ids ++ filter chosen c.own.result.now) c.new-chosen.ensures.items ∙ ap (filter chosen) c.own.ensures in
-    let both = c.in_ok-push_chosen-2.ensures ∙ ap (λ ids. ids ++ filter chosen c.deref.result.now) own ∙ ap (λ ids. filter chosen (own_rules rules leg) ++ filter chosen ids) c.deref.ensures.value in
+    let first = rw c.own.ensures at c.in_ok-push_candidates.ensures in
+    let second = rw c.deref.ensures.value at c.in_ok-push_candidates-2.ensures in
     IfOk-weaker c.rule_list.result _ _
     (λ list is feed are.
+    let own = first (own_has feed rules are leg).rises ∙ ap (λ ids. ids ++ chosen_among rules leg top (candidates (own_rules rules leg) leg.from_areas)) c.new-chosen.ensures.items in
+    let both = second are.common.rises ∙ ap (λ ids. ids ++ chosen_among rules leg top (candidates rules.common.items leg.from_areas)) own in
     is ∙ c.as_slice.ensures.value
-    ∙ selected_in_order feed rules are leg top _ _ (c.top_priority-least.ensures feed are) both c.put_in_order.ensures.moved c.put_in_order.ensures.rises)
+    ∙ selected_in_order feed rules are leg top _ _ (c.top_priority-least.ensures feed are) both c.put_in_order.ensures)
     c.rule_list.ensures

@@ -4,5 +4,5 @@ use Rattle.std.specs.List.{list_all}
 use Rattle.fare_leg_rules.specs.Fits.{is_within}
 use Rattle.fare_leg_rules.proofs.LegRules.top_among.Given as goal
 
-abbrev pub invariant-loop-rule : goal.invariant-loop-rule
-invariant-loop-rule l = (priority : ℕ) → nat_le l.top priority ≡ (nat_le l.least priority && list_all (is_within l.self l.leg priority) (take l.rule-index l.among))
+abbrev pub invariant-loop-placed : goal.invariant-loop-placed
+invariant-loop-placed l = (priority : ℕ) → nat_le l.top priority ≡ (nat_le l.least priority && list_all (is_within l.self l.leg priority) (take l.placed-index l.among))
