@@ -89,7 +89,8 @@ impl<'s, 'f> Search<'s, 'f> {
         requires same { fares.now ≡ timetable.now }
         ensures { IfOk result (λ search. search ≡ asked timetable.now query.now) }
     {
-        let timeframes = Timeframes::build(alloc, timetable.feed())?;
+        let last = deadline(query);
+        let timeframes = Timeframes::between(alloc, timetable.feed(), query.departure, last)?;
         let fares = RiderFares::of(alloc, fares, query.rider)?;
         let sought = Sought::new(alloc, timetable, query)?;
         let departures = departures_of(alloc, timetable, &sought)?;
@@ -100,7 +101,7 @@ impl<'s, 'f> Search<'s, 'f> {
             timeframes,
             fares,
             departures,
-            deadline: deadline(query),
+            deadline: last,
         })
     }
 
