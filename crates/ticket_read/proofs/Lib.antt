@@ -1,0 +1,11 @@
+pub mod CutLaws
+pub mod EntryLaws
+pub mod ItemLaws
+pub mod LoopLaws
+pub mod NameLaws
+pub mod NumberLaws
+pub mod PlainTexts
+pub mod ReadingLaws
+pub mod RideBounds
+pub mod TicketLaws
+pub mod WayLaws

@@ -1,0 +1,6 @@
+pub mod Cuts
+pub mod Drafts
+pub mod EntryTexts
+pub mod Items
+pub mod Judgement
+pub mod Readings

@@ -1,0 +1,249 @@
+//! The entries of a query that the lines of a text tell.
+ghost use Rattle.std.specs.Prelude.{◌≡◌, ◌≤◌, length, map, option_map, IfOk, IfSome};
+ghost use Rattle.feed_rows.specs.JourneyEntries.{rides_price};
+ghost use Rattle.feed_rows.specs.SoundFeed.{IsSoundFeed};
+ghost use Rattle.transit_base.specs.declared.moments.Money.{Money};
+ghost use Rattle.ticket_read.specs.Judgement.{asked, IsNearQuery, judged, entry_of};
+ghost use Rattle.ticket_read.specs.Readings.{start, closed, begun, told, read_line, read_entries};
+
+use crate::cuts::{field, fields_of, line_parts};
+use crate::drafts::{Draft, Item};
+use crate::items::item_of;
+use crate::journeys::{arrival_of, legs_of};
+use fare_price::{Fares, verify};
+use fare_timeframes::Timeframes;
+use feed_rows::{Choice, Entries, Entry, Journey, Query, Ride, Triple};
+use feed_timetable::Timetable;
+use std::alloc::{AllocError, Global};
+use std::marker::Model;
+use transit_base::Money;
+
+/// How far a text is read.
+#[derive(Drop)]
+pub struct Reading {
+    /// The entries whose lines all are read.
+    pub done: Entries,
+    /// What the lines of the entry after them tell.
+    pub draft: Option<Draft>,
+}
+
+/// A query over a timetable, with what judges its entries. Contracts see it as the feed and the query.
+pub struct Reader<'s, 'f> {
+    timetable: &'s Timetable<'f>,
+    query: &'s Query,
+    timeframes: Timeframes,
+    fares: Fares<'f>,
+}
+
+// Written out, so that what holds one needn't look into it to let go of it.
+impl<'s, 'f> Drop for Reader<'s, 'f> {
+    fn drop(self) {
+        let Reader {
+            timetable: _,
+            query: _,
+            timeframes: _,
+            fares: _,
+        } = self;
+    }
+}
+
+impl<'s, 'f> Model for Reader<'s, 'f> {
+    ghost use Rattle.std.specs.Prelude.{◌≡◌};
+    ghost use Rattle.fare_timeframes.specs.BuiltTimeframes.{AreTimeframesOf};
+    ghost use Rattle.ticket_read.specs.Judgement.{Asked, asked, IsNearQuery};
+
+    ghost Value = { Asked };
+
+    ghost view = { λ s. asked s.timetable.now s.query.now };
+
+    ghost invariant = { λ s. IsNearQuery s.query.now × AreTimeframesOf s.timetable.now s.timeframes × (s.fares ≡ s.timetable.now) };
+}
+
+impl<'s, 'f> Reader<'s, 'f> {
+    /// The reader for the query over the timetable.
+    ///
+    /// # Errors
+    /// Want of memory.
+    pub fn new(
+        alloc: Global,
+        timetable: &'s Timetable<'f>,
+        query: &'s Query,
+    ) -> Result<Reader<'s, 'f>, AllocError>
+        requires { IsNearQuery query.now }
+        ensures value { IfOk result (λ reader. reader ≡ asked timetable.now query.now) }
+        ensures sound { IsSoundFeed timetable.now }
+    {
+        let timeframes = Timeframes::build(alloc, timetable.feed())?;
+        let fares = Fares::build(alloc, timetable.feed())?;
+        Ok(Reader {
+            timetable,
+            query,
+            timeframes,
+            fares,
+        })
+    }
+
+    // The price of rides by a choice; none where one is no ride of the feed, or the choice doesn't pay them.
+    fn price(
+        &self,
+        alloc: Global,
+        rides: &[Ride],
+        choice: &Choice,
+    ) -> Result<Option<Money>, AllocError>
+        requires few { length rides.now ≤ self.now.query.rides }
+        ensures { IfOk result (λ price. option_map (λ (m : Money). m.0) price ≡ rides_price self.now.feed rides.now choice.now self.now.query.rider) }
+    {
+        let Some(legs) = legs_of(alloc, self.timetable, &self.timeframes, rides)? else {
+            return Ok(None);
+        };
+        Ok(verify(&self.fares, legs.as_slice(), choice, self.query.rider))
+    }
+
+    // The entry of a journey and a choice; none where they are none of the query.
+    #[tactic(auto, unfolding(crate::specs::Judgement::judged))]
+    fn judge(
+        &self,
+        alloc: Global,
+        journey: Journey,
+        choice: Choice,
+    ) -> Result<Option<Entry>, AllocError>
+        ensures { IfOk result (λ entry. entry ≡ judged self.now.feed self.now.query journey choice) }
+    {
+        let Some(arrival) = arrival_of(self.timetable, self.query, &journey) else {
+            return Ok(None);
+        };
+        let Some(price) = self.price(alloc, journey.rides.items(), &choice)? else {
+            return Ok(None);
+        };
+        let triple = Triple {
+            arrival,
+            rides: journey.rides.items().len() as u8,
+            price,
+        };
+        Ok(Some(Entry {
+            triple,
+            journey,
+            choice,
+        }))
+    }
+
+    // The entry that its lines tell; none where they tell none of the query.
+    #[tactic(auto, unfolding(crate::specs::Judgement::entry_of))]
+    fn entry_of(&self, alloc: Global, draft: Draft) -> Result<Option<Entry>, AllocError>
+        ensures { IfOk result (λ entry. entry ≡ entry_of self.now.feed self.now.query draft) }
+    {
+        let Some(first) = draft.first else {
+            return Ok(None);
+        };
+        let Some(last) = draft.last else {
+            return Ok(None);
+        };
+        let journey = Journey {
+            first,
+            last,
+            rides: draft.rides,
+        };
+        let choice = Choice {
+            legs: draft.legs,
+            changes: draft.changes,
+        };
+        self.judge(alloc, journey, choice)
+    }
+
+    // Closes the entry whose lines were read last, if there is one; none where it is none of the query.
+    #[tactic(auto, unfolding(crate::specs::Readings::closed))]
+    fn close(&self, alloc: Global, reading: Reading) -> Result<Option<Reading>, AllocError>
+        ensures { IfOk result (λ after. after ≡ closed self.now.feed self.now.query reading) }
+    {
+        let Reading { mut done, draft } = reading;
+        let Some(draft) = draft else {
+            return Ok(Some(Reading { done, draft: None }));
+        };
+        let Some(entry) = self.entry_of(alloc, draft)? else {
+            return Ok(None);
+        };
+        done.push(entry)?;
+        Ok(Some(Reading { done, draft: None }))
+    }
+
+    // Goes on with the next entry.
+    #[tactic(auto, unfolding(crate::specs::Readings::begun))]
+    fn begin(&self, alloc: Global, reading: Reading) -> Result<Option<Reading>, AllocError>
+        ensures { IfOk result (λ after. after ≡ begun self.now.feed self.now.query reading) }
+    {
+        let Some(before) = self.close(alloc, reading)? else {
+            return Ok(None);
+        };
+        Ok(Some(Reading {
+            done: before.done,
+            draft: Some(Draft::empty(alloc)),
+        }))
+    }
+
+    // Takes what a line tells.
+    fn take(
+        &self,
+        alloc: Global,
+        reading: Reading,
+        item: Item,
+    ) -> Result<Option<Reading>, AllocError>
+        ensures { IfOk result (λ after. after ≡ told self.now.feed self.now.query reading item) }
+    {
+        if let Item::Head = item {
+            return self.begin(alloc, reading);
+        }
+        let Reading { done, draft } = reading;
+        let Some(mut draft) = draft else {
+            return Ok(None);
+        };
+        draft.add(item)?;
+        Ok(Some(Reading {
+            done,
+            draft: Some(draft),
+        }))
+    }
+
+    // Reads a line; none where it is no line of an entry, or ends the lines of what is no entry.
+    #[tactic(auto, unfolding(crate::specs::Readings::read_line))]
+    fn read_line(
+        &self,
+        alloc: Global,
+        reading: Reading,
+        line: &[u8],
+    ) -> Result<Option<Reading>, AllocError>
+        ensures { IfOk result (λ after. after ≡ read_line self.now.feed self.now.query reading line.now) }
+    {
+        let fields = fields_of(alloc, line)?;
+        let Some(item) = item_of(self.timetable, fields.as_slice()) else {
+            return Ok(None);
+        };
+        self.take(alloc, reading, item)
+    }
+
+    /// The entries that the lines of a text tell; none where they tell none, or others than those of the query. Only what
+    /// the entries need is read, so a text that is not theirs may tell them too.
+    ///
+    /// # Errors
+    /// Want of memory.
+    #[tactic(auto, unfolding(crate::specs::Readings::read_entries))]
+    pub fn read(&self, alloc: Global, text: &[u8]) -> Result<Option<Entries>, AllocError>
+        ensures { IfOk result (λ entries. entries ≡ read_entries self.now.feed self.now.query text.now) }
+    {
+        let lines = line_parts(alloc, text)?;
+        let mut reading = Reading {
+            done: Entries::empty(alloc),
+            draft: None,
+        };
+        for k in 1..lines.len() {
+            let line = field(lines.as_slice(), k - 1);
+            match self.read_line(alloc, reading, line)? {
+                Some(after) => reading = after,
+                None => return Ok(None),
+            }
+        }
+        let Some(last) = self.close(alloc, reading)? else {
+            return Ok(None);
+        };
+        Ok(Some(last.done))
+    }
+}
