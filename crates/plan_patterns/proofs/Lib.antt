@@ -1,0 +1,5 @@
+mod ColumnLaws
+mod CutLaws
+mod GroupingLaws
+mod HeldLaws
+mod ServingLaws

@@ -1,0 +1,54 @@
+-- Runs by patterns.
+use Rattle.std.specs.Prelude.{◌≡◌, ◌≢◌, ℕ, List, [], map, slice_get, All, Contains}
+use Rattle.std.specs.List.{AllPairs, flat_map}
+use Rattle.std.specs.Option.{option_map_or}
+use Rattle.feed_rows.specs.FeedRows.{FeedRows}
+use Rattle.feed_rows.specs.declared.journeys.Query.{Query}
+use Rattle.plan_patterns.specs.declared.pattern.Pattern.{Pattern}
+use Rattle.plan_patterns.specs.declared.halts.Halt.{Halt}
+use Rattle.plan_patterns.specs.declared.runs.Run.{Run}
+use Rattle.plan_patterns.specs.Halts.{halts_of}
+use Rattle.plan_patterns.specs.Runs.{IsHeld, IsKnown}
+
+-- a pattern: the halts that all its trips have, and those of their runs that are held
+pub record PatternOf : Type 0 where
+  pub halts : List Halt
+  pub runs : List Run
+
+-- patterns of a feed
+pub record PatternsOf : Type 0 where
+  pub feed : FeedRows
+  pub patterns : List PatternOf
+
+-- a pattern without its columns
+abbrev pub pattern_of : Pattern → PatternOf
+pattern_of pattern = record { halts = pattern.halts.items; runs = pattern.runs.items }
+
+-- the halts and the runs of a pattern by its number; none where there is no such pattern
+abbrev pub halts_at : List PatternOf → ℕ → List Halt
+halts_at patterns pattern = option_map_or (λ (p : PatternOf). p.halts) (slice_get patterns pattern) []
+
+abbrev pub runs_at : List PatternOf → ℕ → List Run
+runs_at patterns pattern = option_map_or (λ (p : PatternOf). p.runs) (slice_get patterns pattern) []
+
+-- the halts of each
+abbrev pub halts_by_pattern : List PatternOf → List (List Halt)
+halts_by_pattern patterns = map (λ (p : PatternOf). p.halts) patterns
+
+-- the runs of all patterns
+abbrev pub all_runs : List PatternOf → List Run
+all_runs patterns = flat_map (λ (p : PatternOf). p.runs) patterns
+
+-- the run's trip has these halts
+abbrev pub HasHalts : FeedRows → List Halt → Run → Type 0
+HasHalts feed halts run = halts_of feed run.trip ≡ halts
+
+-- two trips are of one pattern exactly where they have the same halts; the runs with a ride that departs no earlier
+-- than the query and arrives no later than its window ends stand in them, each once, and no others
+pub record ArePatterns (feed : FeedRows) (query : Query) (patterns : List PatternOf) : Type 0 where
+  pub halts : All (λ (p : PatternOf). All (HasHalts feed p.halts) p.runs) patterns
+  pub apart : AllPairs (λ (p : PatternOf) (q : PatternOf). p.halts ≢ q.halts) patterns
+  pub held : (run : Run) → IsHeld feed query run → Contains (all_runs patterns) run
+  pub right : All (IsHeld feed query) (all_runs patterns)
+  pub known : All (IsKnown feed) (all_runs patterns)
+  pub once : AllPairs (λ (a : Run) (b : Run). a ≢ b) (all_runs patterns)

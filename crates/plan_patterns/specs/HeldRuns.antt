@@ -1,0 +1,70 @@
+-- The runs that have a ride within a query's window, by trip, day and shift.
+use Rattle.std.specs.Prelude.{ℕ, ◌+◌, ◌-◌, ◌/◌, nat_lt, Bool, ◌&&◌, int_lt, if◌then◌else◌, List, [], length, slice_index_or, ℤ, pos, negsuc, ◌+ℤ◌, ◌-ℤ◌, ◌≤ℤ◌}
+use Rattle.transit_base.specs.Limits.{day_seconds}
+use Rattle.transit_base.specs.Moments.{civil_day}
+use Rattle.transit_base.specs.declared.calendar.Day.{Day}
+use Rattle.transit_base.specs.declared.numbers.TripId.{TripId}
+use Rattle.feed_rows.specs.Calls.{calls_of}
+use Rattle.feed_rows.specs.declared.journeys.Call.{Call}
+use Rattle.feed_rows.specs.declared.journeys.Query.{Query}
+use Rattle.feed_rows.specs.FeedRows.{FeedRows}
+use Rattle.feed_rows.specs.Rides.{runs_on}
+use Rattle.feed_rows.specs.Shifts.{shifts_of}
+use Rattle.plain_laws.specs.Plain.{at_and, joined_below, picks_below}
+use Rattle.plan_patterns.specs.declared.runs.Run.{Run}
+use Rattle.plan_patterns.specs.Runs.{has_ride, moment_of}
+
+-- the day lies within the bounds of days
+pub record IsDayNear (day : Day) : Type 0 where
+  pub low : negsuc 799_999 ≤ℤ day.0
+  pub high : day.0 ≤ℤ pos 3_000_000
+
+-- the run of a trip on a day with the shift at a place
+abbrev pub run_with : TripId → Day → List ℤ → ℕ → Run
+run_with trip day shifts place = record { trip = trip; day = day; shift = slice_index_or shifts place (pos 0) }
+
+-- the run, of a trip with these calls, arrives at the last of them before the query departs
+abbrev pub ends_before : Query → Run → List Call → Bool
+ends_before query run calls =
+    at_and calls (length calls - 1) (λ call. int_lt (moment_of run call.arrival) query.departure.0)
+
+-- the last run of such a trip on a day does
+abbrev pub has_ended : Query → TripId → Day → List ℤ → List Call → Bool
+has_ended query trip day shifts calls =
+    nat_lt 0 (length shifts) && ends_before query (run_with trip day shifts (length shifts - 1)) calls
+
+-- of its runs on a day on which it runs those with the first n shifts that have a ride in the window
+abbrev pub held_before : FeedRows → Query → TripId → Day → List ℤ → ℕ → List Run
+held_before feed query trip day shifts n =
+    picks_below n (λ place. has_ride query (run_with trip day shifts place) (calls_of feed trip))
+    (run_with trip day shifts)
+
+-- all that have one, and none on a day on which it doesn't run
+unfoldable pub held_on_day : FeedRows → Query → TripId → Day → List Run
+held_on_day feed query trip day =
+    if runs_on feed trip day.0
+    then held_before feed query trip day (shifts_of feed trip) (length (shifts_of feed trip))
+    else []
+
+-- the first day on which a run may have one, and how many days from then on are looked at: more than enough
+abbrev pub first_day : Query → ℤ
+first_day query = civil_day query.departure.0 -ℤ pos 13
+
+abbrev pub days_of : Query → ℕ
+days_of query = query.window / day_seconds + 15
+
+abbrev pub day_after_first : ℤ → ℕ → Day
+day_after_first first days = record { 0 = first +ℤ pos days }
+
+-- the runs of a trip that have one, on the first n of these days
+abbrev pub held_on_days : FeedRows → Query → TripId → ℕ → List Run
+held_on_days feed query trip n =
+    joined_below n (λ days. held_on_day feed query trip (day_after_first (first_day query) days))
+
+-- on all of them
+unfoldable pub held_of_trip : FeedRows → Query → TripId → List Run
+held_of_trip feed query trip = held_on_days feed query trip (days_of query)
+
+-- those of the first n trips
+abbrev pub held_of_trips : FeedRows → Query → ℕ → List Run
+held_of_trips feed query n = joined_below n (λ trip. held_of_trip feed query (record { 0 = trip }))

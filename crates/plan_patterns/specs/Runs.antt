@@ -1,0 +1,89 @@
+-- Runs, and when a ride by one lies within a query's window.
+use Rattle.std.specs.Prelude.{◌≡◌, ℕ, ◌<◌, ◌≤◌, Bool, false, ◌&&◌, ◌==◌, Contains, List, length, Some, All, ℤ, pos, negsuc, ◌+ℤ◌, ◌≤ℤ◌, int_le}
+use Rattle.std.specs.List.{AllPairs}
+use Rattle.transit_base.specs.Limits.{most_time}
+use Rattle.transit_base.specs.Moments.{moment_at}
+use Rattle.feed_rows.specs.declared.journeys.Call.{Call}
+use Rattle.feed_rows.specs.declared.journeys.Query.{Query}
+use Rattle.feed_rows.specs.declared.journeys.Ride.{Ride}
+use Rattle.feed_rows.specs.declared.journeys.RideFacts.{RideFacts}
+use Rattle.feed_rows.specs.FeedRows.{FeedRows}
+use Rattle.feed_rows.specs.Limits.{least_shift, most_shift}
+use Rattle.feed_rows.specs.Rides.{ride_facts}
+use Rattle.plain_laws.specs.Plain.{any_below, at_and, int_same}
+use Rattle.plan_patterns.specs.declared.runs.Run.{Run}
+
+-- the moment that is so many seconds of the run's day, shifted as the run is
+abbrev pub moment_of : Run → ℕ → ℤ
+moment_of run seconds = moment_at run.day.0 (run.shift +ℤ pos seconds)
+
+-- the latest moment at which a journey of the query may end
+abbrev pub deadline : Query → ℤ
+deadline query = query.departure.0 +ℤ pos query.window
+
+-- the moment of departure lies in the years 1900 to 3000, and the window is at most four days
+pub record IsUsualSpan (query : Query) : Type 0 where
+  pub early : negsuc 2_208_988_799 ≤ℤ query.departure.0
+  pub late : query.departure.0 ≤ℤ pos 32_504_284_800
+  pub window : query.window ≤ 345_600
+
+-- the ride by the run from one call to another
+abbrev pub ride_by : Run → ℕ → ℕ → Ride
+ride_by run from to = record { trip = run.trip; day = run.day; shift = run.shift; from = from; to = to }
+
+-- a ride by the run departs no earlier than the query, and arrives no later than its window ends
+pub record IsHeld (feed : FeedRows) (query : Query) (run : Run) : Type 0 where
+  pub from : ℕ
+  pub to : ℕ
+  pub facts : RideFacts
+  pub is : ride_facts feed (ride_by run from to) ≡ Some facts
+  pub since : query.departure.0 ≤ℤ facts.departure.0
+  pub until : facts.arrival.0 ≤ℤ deadline query
+
+-- the run's day and shift lie within their bounds
+pub record IsNear (run : Run) : Type 0 where
+  pub day_low : negsuc 799_999 ≤ℤ run.day.0
+  pub day_high : run.day.0 ≤ℤ pos 3_000_000
+  pub shift_low : least_shift ≤ℤ run.shift
+  pub shift_high : run.shift ≤ℤ most_shift
+
+-- the run is of a trip of the feed, and its day and shift lie within their bounds
+pub record IsKnown (feed : FeedRows) (run : Run) : Type 0 where
+  pub inside : run.trip.0 < length feed.trips
+  pub near : IsNear run
+
+-- the two are one run
+abbrev pub same_run : Run → Run → Bool
+same_run a b = (a.trip.0 == b.trip.0) && int_same a.day.0 b.day.0 && int_same a.shift b.shift
+
+-- the runs that are held, each once
+pub record AreHeld (feed : FeedRows) (query : Query) (runs : List Run) : Type 0 where
+  pub all : (run : Run) → IsHeld feed query run → Contains runs run
+  pub right : All (IsHeld feed query) runs
+  pub known : All (IsKnown feed) runs
+  pub once : AllPairs (λ (a : Run) (b : Run). same_run a b ≡ false) runs
+
+-- the calls' times are at most the greatest time of a trip
+abbrev pub AreTimed : List Call → Type 0
+AreTimed calls = All (λ (c : Call). (c.arrival ≤ most_time) × (c.departure ≤ most_time)) calls
+
+-- riders may board the run at the call, no earlier than the query departs
+unfoldable pub boards_in_time : Query → Run → Call → Bool
+boards_in_time query run call = call.pickup && int_le query.departure.0 (moment_of run call.departure)
+
+-- riders may alight from the run at the call, no later than the query's window ends
+unfoldable pub alights_in_time : Query → Run → Call → Bool
+alights_in_time query run call = call.drop_off && int_le (moment_of run call.arrival) (deadline query)
+
+-- riders may board the run in time before the n-th of these calls
+abbrev pub is_boarded : Query → Run → List Call → ℕ → Bool
+is_boarded query run calls n = any_below n (λ from. at_and calls from (boards_in_time query run))
+
+-- at one of the first n of these calls riders may alight in time who boarded before
+abbrev pub has_ride_to : Query → Run → List Call → ℕ → Bool
+has_ride_to query run calls n =
+    any_below n (λ to. is_boarded query run calls to && at_and calls to (alights_in_time query run))
+
+-- the run, of a trip with these calls, has a ride within the query's window
+abbrev pub has_ride : Query → Run → List Call → Bool
+has_ride query run calls = has_ride_to query run calls (length calls)

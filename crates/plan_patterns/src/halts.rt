@@ -1,0 +1,90 @@
+//! What the trips of one pattern have in common: where they call, and what riders may do there.
+ghost use Rattle.std.specs.Prelude.{◌≡◌, IfOk, length, map};
+ghost use Rattle.std.proofs.Common.{rules};
+ghost use Rattle.std.specs.Cmp.{partial_order_from_own_ties};
+ghost use Rattle.std.specs.Cmp.Rules.{comparing};
+ghost use Rattle.std.specs.Ordering.{as_partial_cmp};
+ghost use Rattle.plan_patterns.specs.Halts.{all_halts, halt_cmp, halt_of};
+
+use feed_rows::Call;
+use feed_timetable::Timetable;
+use plain_laws::Groups;
+use std::alloc::{AllocError, Global};
+use std::cmp::Ordering;
+use transit_base::{StopId, TripId};
+
+/// What the trips of a pattern have in common at a position: the stop at which they call, and what riders may do there.
+#[derive(Clone, Copy, PartialEq, Eq)]
+pub struct Halt {
+    pub stop: StopId,
+    /// Whether riders may board here.
+    pub pickup: bool,
+    /// Whether riders may alight here.
+    pub drop_off: bool,
+}
+
+// Any order serves that puts equal halts next to one another.
+impl Ord for Halt {
+    ghost cmp = { halt_cmp };
+
+    ghost total = { Prim.search (comparing, rules) };
+
+    ghost matches_partial_cmp = { Prim.search (comparing, rules) };
+
+    ghost matches_eq = { Prim.search (comparing, rules) };
+
+    fn cmp(&self, other: &Halt) -> Ordering {
+        self.stop
+            .0
+            .cmp(&other.stop.0)
+            .then(self.pickup.cmp(&other.pickup))
+            .then(self.drop_off.cmp(&other.drop_off))
+    }
+}
+
+impl PartialOrd for Halt {
+    ghost partial_cmp = { as_partial_cmp halt_cmp };
+
+    ghost laws = { partial_order_from_own_ties (Prim.search (comparing, rules)) (Prim.search (comparing, rules)) };
+
+    fn partial_cmp(&self, other: &Halt) -> Option<Ordering> {
+        Some(self.cmp(other))
+    }
+}
+
+// The halt of a call.
+fn halt_of(call: &Call) -> Halt
+    ensures { result ≡ halt_of call.now }
+{
+    Halt {
+        stop: call.stop,
+        pickup: call.pickup,
+        drop_off: call.drop_off,
+    }
+}
+
+// The halts of calls.
+fn halts_of(alloc: Global, calls: &[Call]) -> Result<Vec<Halt>, AllocError>
+    ensures { IfOk result (λ halts. halts.items ≡ map halt_of calls.now) }
+{
+    let mut halts = Vec::with_capacity(alloc, calls.len())?;
+    for call in calls {
+        halts.push(halt_of(call))?;
+    }
+    Ok(halts)
+}
+
+/// The halts of each trip.
+///
+/// # Errors
+/// Want of memory.
+pub fn all_halts(alloc: Global, timetable: &Timetable) -> Result<Groups<Halt>, AllocError>
+    ensures { IfOk result (λ halts. halts ≡ all_halts timetable.now) }
+{
+    let mut halts = Groups::empty(alloc);
+    for trip in 0..timetable.trips() {
+        let own = halts_of(alloc, timetable.calls_of(TripId(trip)))?;
+        halts.push(&own)?;
+    }
+    Ok(halts)
+}

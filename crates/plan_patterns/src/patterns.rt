@@ -1,0 +1,146 @@
+//! The runs that a query can catch, by patterns.
+ghost use Rattle.std.specs.Prelude.{◌≡◌, ◌<◌, ◌^◌, length, map, option_map, slice_get, All, IfOk, OnOk, Some};
+ghost use Rattle.plan_patterns.specs.declared.pattern.Pattern.{Pattern};
+ghost use Rattle.plan_patterns.specs.declared.halts.Halt.{Halt};
+ghost use Rattle.plan_patterns.specs.Columns.{AreBoardable, IsPattern, arrivals_of};
+ghost use Rattle.plan_patterns.specs.Grouping.{ArePatterns, halts_at, runs_at, pattern_of, halts_by_pattern};
+ghost use Rattle.plan_patterns.specs.Runs.{IsUsualSpan};
+ghost use Rattle.plan_patterns.specs.Servings.{AreServings, halts_in, servings_at};
+
+use crate::cuts::{cut, put_together};
+use crate::halts::{Halt, all_halts};
+use crate::held::held_runs;
+use crate::pattern::{Boarding, Pattern, since};
+use crate::runs::Run;
+use crate::serving::{Serving, servings_of};
+use feed_rows::Query;
+use feed_timetable::Timetable;
+use plain_laws::Groups;
+use std::alloc::{AllocError, Global};
+use std::marker::Model;
+use transit_base::{Moment, StopId};
+
+/// The runs that a query can catch, by patterns: two trips are of one pattern exactly where they call at the same stops,
+/// in the same order, and let riders do the same there. Patterns are numbered from 0, and so are the positions and the
+/// runs of each. Contracts see it as the feed with the patterns.
+pub struct Patterns<'t, 'f> {
+    timetable: &'t Timetable<'f>,
+    patterns: Vec<Pattern>,
+    /// Where riders may board, by stop.
+    servings: Groups<Serving>,
+}
+
+// Written out, so that what holds one needn't look into it to let go of it.
+impl<'t, 'f> Drop for Patterns<'t, 'f> {
+    fn drop(self) {
+        let Patterns {
+            timetable: _,
+            patterns: _,
+            servings: _,
+        } = self;
+    }
+}
+
+impl<'t, 'f> Model for Patterns<'t, 'f> {
+    ghost use Rattle.std.specs.Prelude.{◌<◌, ◌^◌, length, map, All};
+    ghost use Rattle.plan_patterns.specs.Columns.{IsPattern};
+    ghost use Rattle.plan_patterns.specs.Grouping.{PatternsOf, pattern_of};
+    ghost use Rattle.plan_patterns.specs.Servings.{AreServings, halts_in};
+
+    ghost Value = { PatternsOf };
+
+    ghost view = { λ s. record { feed = s.timetable.now; patterns = map pattern_of s.patterns.items } };
+
+    ghost invariant = { λ s. All (IsPattern s.timetable.now) s.patterns.items × (length s.patterns.items < 2 ^ 32) × AreServings (halts_in s.patterns.items) (length s.timetable.now.stops) s.servings };
+}
+
+impl<'t, 'f> Patterns<'t, 'f> {
+    /// The runs that have a ride within the query's window, by patterns.
+    ///
+    /// # Errors
+    /// Want of memory; so counts that there would be 2^32 patterns, or runs of one, or more.
+    pub fn build(
+        alloc: Global,
+        timetable: &'t Timetable<'f>,
+        query: &Query,
+    ) -> Result<Patterns<'t, 'f>, AllocError>
+        requires { IsUsualSpan query.now }
+        ensures feed { IfOk result (λ built. built.feed ≡ timetable.now) }
+        ensures patterns { IfOk result (λ built. ArePatterns timetable.now query.now built.patterns) }
+    {
+        let held = held_runs(alloc, timetable, query)?;
+        let halts = all_halts(alloc, timetable)?;
+        let runs = put_together(alloc, &halts, &held)?;
+        let patterns = cut(alloc, timetable, &halts, &runs)?;
+        if patterns.len() >= 1 << 32 {
+            return Err(AllocError);
+        }
+        let feed = timetable.feed();
+        let servings = servings_of(alloc, &patterns, feed.stops.items().len() as u32)?;
+        Ok(Patterns {
+            timetable,
+            patterns,
+            servings,
+        })
+    }
+
+    /// How many patterns there are.
+    pub fn count(&self) -> u32
+        ensures { result ≡ length self.now.patterns }
+    {
+        self.patterns.len() as u32
+    }
+
+    /// The stops at which the trips of a pattern call, in order.
+    pub fn stops(&self, pattern: u32) -> &[StopId]
+        requires { pattern < length self.now.patterns }
+        ensures { result.now ≡ map (λ (p : Halt). p.stop) (halts_at self.now.patterns pattern) }
+    {
+        &self.patterns[pattern as usize].stops
+    }
+
+    /// The stops at which the trips of a pattern call, with what riders may do there, in order.
+    pub fn halts(&self, pattern: u32) -> &[Halt]
+        requires { pattern < length self.now.patterns }
+        ensures { result.now ≡ halts_at self.now.patterns pattern }
+    {
+        &self.patterns[pattern as usize].halts
+    }
+
+    /// The runs of a pattern.
+    pub fn runs(&self, pattern: u32) -> &[Run]
+        requires { pattern < length self.now.patterns }
+        ensures { result.now ≡ runs_at self.now.patterns pattern }
+    {
+        &self.patterns[pattern as usize].runs
+    }
+
+    /// The runs of a pattern that depart from a position of it at the moment or later, in order of departure: a run may
+    /// overtake another on the way.
+    pub fn boardable(&self, pattern: u32, position: u32, from: Moment) -> &[Boarding]
+        requires pattern { pattern < length self.now.patterns }
+        requires position { position < length (halts_at self.now.patterns pattern) }
+        ensures { AreBoardable self.now.feed (runs_at self.now.patterns pattern) position from.0 result.now }
+    {
+        let departures = &self.patterns[pattern as usize].departures;
+        since(departures.group(position as usize), from)
+    }
+
+    /// When a run of a pattern arrives at each position.
+    pub fn arrivals(&self, pattern: u32, run: u32) -> &[Moment]
+        requires pattern { pattern < length self.now.patterns }
+        requires run { run < length (runs_at self.now.patterns pattern) }
+        ensures { option_map (arrivals_of self.now.feed) (slice_get (runs_at self.now.patterns pattern) run) ≡ Some result.now }
+    {
+        let arrivals = &self.patterns[pattern as usize].arrivals;
+        arrivals.group(run as usize)
+    }
+
+    /// Where riders may board a run of a pattern at the stop, by pattern and position.
+    pub fn serving(&self, stop: StopId) -> &[Serving]
+        requires { stop.0 < length self.now.feed.stops }
+        ensures { result.now ≡ servings_at (halts_by_pattern self.now.patterns) stop.0 }
+    {
+        self.servings.get(stop.0 as usize)
+    }
+}
