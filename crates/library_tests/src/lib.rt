@@ -14,6 +14,8 @@ mod labels;
 #[cfg(test)]
 mod prices;
 #[cfg(test)]
+mod readings;
+#[cfg(test)]
 mod tables;
 #[cfg(test)]
 mod triples;

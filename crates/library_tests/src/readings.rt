@@ -1,0 +1,240 @@
+// Texts that are, or are nearly, those of entries of a query, read back.
+ghost use Rattle.std.specs.Prelude.{◌≡◌, OnOk, IfOk, IsTrue, true};
+ghost use Rattle.folder_io.specs.KeptFiles.{are_whole};
+
+use feed_check::{LoadError, load};
+use feed_rows::{Feed, FileName, Query};
+use feed_text::TextError;
+use feed_timetable::Timetable;
+use folder_io::{ByteText, FileBytes, Files, MemFolder};
+use std::alloc::{AllocError, Global};
+use ticket_read::entries_of;
+use transit_base::{Moment, StopId};
+
+const STOPS: &[u8] = b"stop_id\nA\nB\nC\n";
+
+const ROUTES: &[u8] = b"route_id,network_id\nR1,bus\nR2,rail\n";
+
+const TRIPS: &[u8] = b"route_id,service_id,trip_id\nR1,W,T1\nR2,W,T2\nR1,W,T3\n";
+
+const STOP_TIMES: &[u8] = b"trip_id,stop_id,stop_sequence,arrival_time,departure_time\n\
+    T1,A,1,08:00:00,08:00:00\nT1,B,2,08:10:00,08:10:00\n\
+    T2,B,1,08:15:00,08:15:00\nT2,C,2,08:30:00,08:30:00\n\
+    T3,A,1,08:05:00,08:05:00\nT3,C,2,09:00:00,09:00:00\n";
+
+const DATES: &[u8] = b"service_id,date,exception_type\nW,20250602,1\n";
+// One walks from A to C in an hour.
+const LINKS: &[u8] = b"from_stop_id,to_stop_id,transfer_type,min_transfer_time\nA,C,2,3600\n";
+
+const PRODUCTS: &[u8] =
+    b"fare_product_id,amount,currency\nsingle,2.50,EUR\nrail,4.00,EUR\nchange,0.50,EUR\n";
+
+const LEG_RULES: &[u8] = b"leg_group_id,network_id,fare_product_id\ngb,bus,single\ngr,rail,rail\n";
+
+const TRANSFER_RULES: &[u8] =
+    b"from_leg_group_id,to_leg_group_id,fare_transfer_type,fare_product_id\ngb,gr,0,change\n";
+
+// Puts the text of a file.
+fn put(alloc: Global, files: &mut Files, name: FileName, text: &[u8]) -> Result<(), AllocError>
+    ensures { are_whole files.old ≡ true → OnOk result (are_whole files.new ≡ true) }
+{
+    files.put(name, FileBytes::Bytes(ByteText::copy_of(alloc, text)?));
+    Ok(())
+}
+
+// The files of the feed.
+fn files(alloc: Global) -> Result<Files, AllocError>
+    ensures { IfOk result (λ files. IsTrue (are_whole files)) }
+{
+    let mut files = Files::empty();
+    put(alloc, &mut files, FileName::Stops, STOPS)?;
+    put(alloc, &mut files, FileName::Routes, ROUTES)?;
+    put(alloc, &mut files, FileName::Trips, TRIPS)?;
+    put(alloc, &mut files, FileName::StopTimes, STOP_TIMES)?;
+    put(alloc, &mut files, FileName::CalendarDates, DATES)?;
+    put(alloc, &mut files, FileName::Transfers, LINKS)?;
+    put(alloc, &mut files, FileName::FareProducts, PRODUCTS)?;
+    put(alloc, &mut files, FileName::FareLegRules, LEG_RULES)?;
+    put(
+        alloc,
+        &mut files,
+        FileName::FareTransferRules,
+        TRANSFER_RULES,
+    )?;
+    Ok(files)
+}
+
+// The feed.
+fn feed(alloc: Global) -> Result<Feed, TextError> {
+    let mut folder = MemFolder::new(alloc, files(alloc)?, &[], &[])?;
+    match load(alloc, &mut folder) {
+        Ok(feed) => Ok(feed),
+        Err(LoadError::Fault(fault)) => Err(TextError::Fault(fault)),
+        Err(_) => Err(TextError::NoMemory),
+    }
+}
+
+// From A to C on 2 June 2025 at 08:00:00, within a day.
+const QUERY: Query = Query {
+    from: StopId(0),
+    to: StopId(2),
+    departure: Moment(1_748_851_200),
+    rides: 4,
+    window: 86_400,
+    rider: None,
+};
+
+// From A to A at that time.
+const STAY: Query = Query {
+    from: StopId(0),
+    to: StopId(0),
+    departure: Moment(1_748_851_200),
+    rides: 4,
+    window: 86_400,
+    rider: None,
+};
+
+const TWO_RIDES: &[u8] = b"journey\t2025-06-02 08:30:00\t2\t3.00\tEUR\n\
+    ride\tT1\t2025-06-02\t-\t1\t2\tA\t2025-06-02 08:00:00\tB\t2025-06-02 08:10:00\n\
+    ride\tT2\t2025-06-02\t-\t1\t2\tB\t2025-06-02 08:15:00\tC\t2025-06-02 08:30:00\n\
+    leg\t1\tbuy\t1\t1\tsingle\t\t2.50\nchange\t1\t0\t1\t3\tchange\t\t0.50\nleg\t2\tincluded\t2\t2\trail\t\t0.00\n";
+
+const ONE_RIDE: &[u8] = b"journey\t2025-06-02 09:00:00\t1\t2.50\tEUR\n\
+    ride\tT3\t2025-06-02\t-\t1\t2\tA\t2025-06-02 08:05:00\tC\t2025-06-02 09:00:00\nleg\t1\tbuy\t1\t1\tsingle\t\t2.50\n";
+
+const WALK: &[u8] = b"journey\t2025-06-02 09:00:00\t0\t0.00\tEUR\nwalk\tA\tC\t3600\n";
+
+// How many entries of the query the texts tell, one behind the other; none where they are no text of entries.
+fn told(
+    alloc: Global,
+    timetable: &Timetable,
+    query: &Query,
+    texts: &[&[u8]],
+) -> Result<Option<usize>, AllocError>
+    requires { query.now.departure.0 ≡ pos 1_748_851_200 × (query.now.rides ≡ 4) }
+{
+    let mut text = Vec::new(alloc);
+    for part in texts {
+        text.extend_from_slice(part)?;
+    }
+    let entries = entries_of(alloc, timetable, query, text.as_slice())?;
+    Ok(entries.map(|entries| entries.items().len()))
+}
+
+// Texts of entries, in any order, and more than once.
+#[test]
+fn texts_of_entries(rt: HostRuntime) -> Result<(), TextError> {
+    let alloc = rt.alloc();
+    let feed = feed(alloc)?;
+    let timetable = Timetable::build(alloc, &feed)?;
+    for (texts, count) in [
+        (&[] as &[&[u8]], 0),
+        (&[TWO_RIDES, ONE_RIDE], 2),
+        (&[ONE_RIDE, TWO_RIDES], 2),
+        (&[ONE_RIDE, WALK, ONE_RIDE], 3),
+    ] {
+        assert_eq!(rt; told(alloc, &timetable, &QUERY, texts)?, Some(count));
+    }
+    let stay = b"journey\t2025-06-02 08:00:00\t0\t0.00\tEUR\nstay\tA\n";
+    assert_eq!(rt; told(alloc, &timetable, &STAY, &[stay])?, Some(1));
+    Ok(())
+}
+
+// Texts that are nearly those of entries.
+const NEARLY: [&[u8]; 20] = [
+    // An included leg with its amount.
+    b"journey\t2025-06-02 08:30:00\t2\t3.00\tEUR\n\
+        ride\tT1\t2025-06-02\t-\t1\t2\tA\t2025-06-02 08:00:00\tB\t2025-06-02 08:10:00\n\
+        ride\tT2\t2025-06-02\t-\t1\t2\tB\t2025-06-02 08:15:00\tC\t2025-06-02 08:30:00\n\
+        leg\t1\tbuy\t1\t1\tsingle\t\t2.50\n\
+        change\t1\t0\t1\t3\tchange\t\t0.50\n\
+        leg\t2\tincluded\t2\t2\trail\t\t4.00\n",
+    // The change left out.
+    b"journey\t2025-06-02 08:30:00\t2\t3.00\tEUR\n\
+        ride\tT1\t2025-06-02\t-\t1\t2\tA\t2025-06-02 08:00:00\tB\t2025-06-02 08:10:00\n\
+        ride\tT2\t2025-06-02\t-\t1\t2\tB\t2025-06-02 08:15:00\tC\t2025-06-02 08:30:00\n\
+        leg\t1\tbuy\t1\t1\tsingle\t\t2.50\n\
+        leg\t2\tincluded\t2\t2\trail\t\t0.00\n",
+    // A walk of a second more.
+    b"journey\t2025-06-02 09:00:00\t0\t0.00\tEUR\n\
+        walk\tA\tC\t3601\n",
+    // Its price with a sign.
+    b"journey\t2025-06-02 09:00:00\t0\t-0.00\tEUR\n\
+        walk\tA\tC\t3600\n",
+    // The last line feed is missing.
+    b"journey\t2025-06-02 09:00:00\t1\t2.50\tEUR\n\
+        ride\tT3\t2025-06-02\t-\t1\t2\tA\t2025-06-02 08:05:00\tC\t2025-06-02 09:00:00\n\
+        leg\t1\tbuy\t1\t1\tsingle\t\t2.50",
+    // An empty line behind the text.
+    b"journey\t2025-06-02 09:00:00\t1\t2.50\tEUR\n\
+        ride\tT3\t2025-06-02\t-\t1\t2\tA\t2025-06-02 08:05:00\tC\t2025-06-02 09:00:00\n\
+        leg\t1\tbuy\t1\t1\tsingle\t\t2.50\n\
+        \n",
+    // A rule row one off.
+    b"journey\t2025-06-02 09:00:00\t1\t2.50\tEUR\n\
+        ride\tT3\t2025-06-02\t-\t1\t2\tA\t2025-06-02 08:05:00\tC\t2025-06-02 09:00:00\n\
+        leg\t1\tbuy\t2\t1\tsingle\t\t2.50\n",
+    // A product row one off.
+    b"journey\t2025-06-02 09:00:00\t1\t2.50\tEUR\n\
+        ride\tT3\t2025-06-02\t-\t1\t2\tA\t2025-06-02 08:05:00\tC\t2025-06-02 09:00:00\n\
+        leg\t1\tbuy\t1\t2\tsingle\t\t2.50\n",
+    // A tab more.
+    b"journey\t2025-06-02 09:00:00\t1\t2.50\tEUR\n\
+        ride\tT3\t2025-06-02\t-\t1\t2\tA\t2025-06-02 08:05:00\tC\t2025-06-02 09:00:00\n\
+        leg\t1\tbuy\t1\t1\tsingle\t\t\t2.50\n",
+    // A medium that the row doesn't have.
+    b"journey\t2025-06-02 09:00:00\t1\t2.50\tEUR\n\
+        ride\tT3\t2025-06-02\t-\t1\t2\tA\t2025-06-02 08:05:00\tC\t2025-06-02 09:00:00\n\
+        leg\t1\tbuy\t1\t1\tsingle\tcard\t2.50\n",
+    // A stay beside a ride.
+    b"journey\t2025-06-02 09:00:00\t1\t2.50\tEUR\n\
+        stay\tA\n\
+        ride\tT3\t2025-06-02\t-\t1\t2\tA\t2025-06-02 08:05:00\tC\t2025-06-02 09:00:00\n\
+        leg\t1\tbuy\t1\t1\tsingle\t\t2.50\n",
+    // A start of a trip without frequencies.
+    b"journey\t2025-06-02 09:00:00\t1\t2.50\tEUR\n\
+        ride\tT3\t2025-06-02\t08:05:00\t1\t2\tA\t2025-06-02 08:05:00\tC\t2025-06-02 09:00:00\n\
+        leg\t1\tbuy\t1\t1\tsingle\t\t2.50\n",
+    // A day that doesn't exist.
+    b"journey\t2025-06-02 09:00:00\t1\t2.50\tEUR\n\
+        ride\tT3\t2025-02-29\t-\t1\t2\tA\t2025-06-02 08:05:00\tC\t2025-06-02 09:00:00\n\
+        leg\t1\tbuy\t1\t1\tsingle\t\t2.50\n",
+    // A number with a leading zero.
+    b"journey\t2025-06-02 09:00:00\t1\t2.50\tEUR\n\
+        ride\tT3\t2025-06-02\t-\t01\t2\tA\t2025-06-02 08:05:00\tC\t2025-06-02 09:00:00\n\
+        leg\t1\tbuy\t1\t1\tsingle\t\t2.50\n",
+    // Another price.
+    b"journey\t2025-06-02 09:00:00\t1\t2.51\tEUR\n\
+        ride\tT3\t2025-06-02\t-\t1\t2\tA\t2025-06-02 08:05:00\tC\t2025-06-02 09:00:00\n\
+        leg\t1\tbuy\t1\t1\tsingle\t\t2.50\n",
+    // Another number of rides.
+    b"journey\t2025-06-02 09:00:00\t2\t2.50\tEUR\n\
+        ride\tT3\t2025-06-02\t-\t1\t2\tA\t2025-06-02 08:05:00\tC\t2025-06-02 09:00:00\n\
+        leg\t1\tbuy\t1\t1\tsingle\t\t2.50\n",
+    // Another arrival.
+    b"journey\t2025-06-02 09:00:01\t1\t2.50\tEUR\n\
+        ride\tT3\t2025-06-02\t-\t1\t2\tA\t2025-06-02 08:05:00\tC\t2025-06-02 09:00:00\n\
+        leg\t1\tbuy\t1\t1\tsingle\t\t2.50\n",
+    // Another currency.
+    b"journey\t2025-06-02 09:00:00\t1\t2.50\tUSD\n\
+        ride\tT3\t2025-06-02\t-\t1\t2\tA\t2025-06-02 08:05:00\tC\t2025-06-02 09:00:00\n\
+        leg\t1\tbuy\t1\t1\tsingle\t\t2.50\n",
+    // The text ends early.
+    b"journey\t2025-06-02 09:00:00\t1\t2.50\tEUR\n",
+    // The text ends within a line.
+    b"journey\t2025-06-02 09:00:00\t1\t2.50\tEUR\n\
+        ride\tT3\t2025-06-02\t-\t1\t2\tA\t2025-06-02 08:05:00\tC\t2025-06-02 09:00:00\n\
+        leg\t1\tbu",
+];
+
+// None of them is read.
+#[test]
+fn texts_of_no_entries(rt: HostRuntime) -> Result<(), TextError> {
+    let alloc = rt.alloc();
+    let feed = feed(alloc)?;
+    let timetable = Timetable::build(alloc, &feed)?;
+    for text in NEARLY {
+        assert_eq!(rt; told(alloc, &timetable, &QUERY, &[text])?, None);
+    }
+    Ok(())
+}
