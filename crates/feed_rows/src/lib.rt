@@ -8,6 +8,7 @@ mod ids;
 mod journeys;
 mod names;
 mod rows;
+mod states;
 mod usage;
 
 pub use fares::{
@@ -31,4 +32,5 @@ pub use rows::{
     ProductRow, RiderRow, RouteRow, STATION, ServiceRow, StopAreaRow, StopRow, StopTimeRow,
     TimeframeRow, TransferRuleRow, TripRow,
 };
+pub use states::{FareState, Move, Moves};
 pub use usage::{StopWord, UsageFault, WordRole};
