@@ -16,6 +16,7 @@ pub mod LegEdges
 pub mod GeneratedAnswers
 pub mod GeneratedChecks
 pub mod GeneratedStopTimes
+pub mod MoveChecks
 pub mod NameChecks
 pub mod NameTexts
 pub mod PlainPlans
@@ -26,5 +27,9 @@ pub mod TravelChecks
 pub mod UnsoundFeeds
 pub mod WordChecks
 pub mod WorkedEntries
+pub mod WorkedLabels
+pub mod SmallTables
+pub mod TableChecks
 pub mod WorkedRides
+pub mod WorkedStates
 pub mod WorkedTexts
