@@ -1,0 +1,25 @@
+-- What is judged of a leg part by part.
+use Rattle.std.proofs.Common.{◌≡◌, refl, ◌∙◌, sym, Bool, ◌&&◌}
+use Rattle.std.specs.Prelude.{Option, Some, None, slice_get}
+use Rattle.transit_base.specs.declared.numbers.RiderId.{RiderId}
+use Rattle.feed_rows.specs.declared.fares.LegChoice.{LegChoice}
+use Rattle.feed_rows.specs.declared.journeys.LegFacts.{LegFacts}
+use Rattle.feed_rows.specs.declared.rows.LegRuleRow.{LegRuleRow}
+use Rattle.feed_rows.specs.FeedRows.{FeedRows}
+use Rattle.feed_rows.specs.LegRules.{is_selected_rule}
+use Rattle.feed_rows.specs.FareChoices.{is_open, is_leg_choice}
+use Rattle.plain_laws.specs.Plain.{at_and, filled_and}
+
+-- the rule is selected, and the row is one of its product
+pub leg_choice_parts : (feed : FeedRows) (rider : Option RiderId) (leg : LegFacts) (pick : LegChoice) (a b : Bool) →
+    a ≡ at_and feed.leg_rules pick.rule.0 (is_selected_rule feed leg) →
+    b ≡ at_and feed.leg_rules pick.rule.0 (λ rule. at_and feed.products pick.product.0 (is_open rule.product rider)) →
+    (a && b) ≡ is_leg_choice feed rider leg pick
+unfolding is_leg_choice
+leg_choice_parts feed rider leg pick a b is_a is_b = rw (is_a, is_b) (by (slice_get feed.leg_rules pick.rule.0))
+  where
+    by : (o : Option LegRuleRow) →
+        (filled_and o (is_selected_rule feed leg) && filled_and o (λ rule. at_and feed.products pick.product.0 (is_open rule.product rider)))
+        ≡ filled_and o (λ rule. is_selected_rule feed leg rule && at_and feed.products pick.product.0 (is_open rule.product rider))
+    by None = refl
+    by (Some rule) = refl

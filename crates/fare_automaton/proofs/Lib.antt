@@ -1,0 +1,5 @@
+pub mod JudgeLaws
+pub mod MoveLaws
+pub mod FloorLaws
+pub mod StateLaws
+pub mod ExtensionLaws

@@ -1,0 +1,9 @@
+-- The least of the rows so far.
+use Rattle.std.proofs.Common.{◌≡◌, take}
+use Rattle.std.specs.List.{list_any}
+use Rattle.feed_rows.specs.FareChoices.{is_open}
+use Rattle.feed_rows.specs.FareFloor.{least_amount}
+use Rattle.fare_automaton.proofs.floor.least_for_legs.Given as goal
+
+abbrev pub invariant-loop-row : goal.invariant-loop-row
+invariant-loop-row l = l.least.0 ≡ least_amount (λ row. list_any (λ rule. is_open rule.product l.rider row) l.rules) (take l.row-index l.rows)

@@ -1,0 +1,120 @@
+//! The automaton of a feed and a rider.
+ghost use Rattle.std.specs.Prelude.{◌≡◌, IfOk};
+ghost use Rattle.feed_rows.specs.FareFloor.{fare_floor};
+ghost use Rattle.feed_rows.specs.SoundFeed.{IsSoundFeed};
+ghost use Rattle.fare_automaton.specs.Terms.{terms};
+
+use crate::floor::floor_of;
+use fare_leg_rules::LegRules;
+use fare_products::Products;
+use feed_rows::{Feed, LegRuleRow, ProductRow, TransferRuleRow};
+use std::alloc::{AllocError, Global};
+use std::marker::Model;
+use transit_base::{Money, RiderId};
+
+/// The fare rules of a feed for one rider, as moves from fare state to fare state. Contracts see it as the feed and the rider.
+pub struct Automaton<'f> {
+    feed: &'f Feed,
+    pub(crate) rider: Option<RiderId>,
+    pub(crate) leg_rules: LegRules,
+    pub(crate) products: Products,
+    floor: Money,
+}
+
+// Written out, so that what holds one needn't look into it to let go of it.
+impl<'f> Drop for Automaton<'f> {
+    fn drop(self) {
+        let Automaton {
+            feed: _,
+            rider: _,
+            leg_rules: _,
+            products: _,
+            floor: _,
+        } = self;
+    }
+}
+
+impl<'f> Model for Automaton<'f> {
+    ghost use Rattle.fare_automaton.specs.Terms.{FareTerms, terms};
+    ghost use Rattle.fare_products.specs.BuiltProducts.{AreProductsOf};
+    ghost use Rattle.fare_leg_rules.specs.BuiltLegRules.{AreLegRulesOf};
+    ghost use Rattle.std.specs.Prelude.{◌≡◌};
+    ghost use Rattle.feed_rows.specs.FareFloor.{fare_floor};
+
+    ghost Value = { FareTerms };
+
+    ghost view = { λ s. terms s.feed.now s.rider };
+
+    ghost invariant = { λ s. AreLegRulesOf s.feed.now s.leg_rules × AreProductsOf s.feed.now s.products × (s.floor.0 ≡ fare_floor s.feed.now s.rider) };
+}
+
+impl<'f> Automaton<'f> {
+    /// The automaton of the feed for the rider.
+    ///
+    /// # Errors
+    /// Want of memory.
+    pub fn compile(
+        alloc: Global,
+        feed: &'f Feed,
+        rider: Option<RiderId>,
+    ) -> Result<Automaton<'f>, AllocError>
+        ensures { IfOk result (λ automaton. automaton ≡ terms feed.now rider) }
+    {
+        let leg_rules = LegRules::build(alloc, feed)?;
+        let products = Products::build(alloc, feed)?;
+        let floor = floor_of(feed, rider);
+        Ok(Automaton {
+            feed,
+            rider,
+            leg_rules,
+            products,
+            floor,
+        })
+    }
+
+    /// How little a leg with the change to it can cost: the lesser of 0 and the least amount open for a leg rule, plus the
+    /// same for a transfer rule.
+    pub fn floor(&self) -> Money
+        ensures { result.0 ≡ fare_floor self.now.feed self.now.rider }
+    {
+        self.floor
+    }
+
+    /// The feed.
+    pub fn feed(&self) -> &'f Feed
+        ensures value { result.now ≡ self.now.feed }
+        ensures sound { IsSoundFeed self.now.feed }
+    {
+        let feed = self.feed;
+        let _rows = &feed.products;
+        feed
+    }
+
+    /// The rider.
+    pub(crate) fn rider(&self) -> Option<RiderId>
+        ensures { result ≡ self.now.rider }
+    {
+        self.rider
+    }
+
+    /// The rows of `fare_leg_rules.txt`.
+    pub(crate) fn leg_rows(&self) -> &'f [LegRuleRow]
+        ensures { result.now ≡ self.now.feed.leg_rules }
+    {
+        self.feed().leg_rules.items()
+    }
+
+    /// The rows of `fare_transfer_rules.txt`.
+    pub(crate) fn transfer_rows(&self) -> &'f [TransferRuleRow]
+        ensures { result.now ≡ self.now.feed.transfer_rules }
+    {
+        self.feed().transfer_rules.items()
+    }
+
+    /// The rows of `fare_products.txt`.
+    pub(crate) fn product_rows(&self) -> &'f [ProductRow]
+        ensures { result.now ≡ self.now.feed.products }
+    {
+        self.feed().products.items()
+    }
+}

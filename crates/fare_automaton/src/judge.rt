@@ -1,0 +1,138 @@
+//! Whether row numbers are an option for a leg after a fare state.
+ghost use Rattle.std.specs.Prelude.{◌≡◌, ◌&&◌, ◌==◌, option_map, is_none};
+ghost use Rattle.plain_laws.specs.Plain.{at_and, empty_or, filled_and};
+ghost use Rattle.feed_rows.specs.LegRules.{is_selected_rule};
+ghost use Rattle.feed_rows.specs.FareChoices.{is_open, chosen_leg, is_leg_choice, is_change_product};
+ghost use Rattle.feed_rows.specs.FareSteps.{leg_taken, place_taken, is_whole, is_row_after, is_place_after};
+ghost use Rattle.fare_automaton.specs.Changes.{leg_of, asked_of};
+
+use crate::automaton::Automaton;
+use crate::changes::{Change, GroupedLeg};
+use feed_rows::{ChangeChoice, LegFacts, Move, ProductRow};
+use transit_base::{ProductId, ProductRowId, RiderId, RuleId};
+
+impl<'f> Automaton<'f> {
+    /// The leg as changes see it, with the leg group of the rule; none where there is no such rule.
+    pub(crate) fn chosen_leg(&self, leg: &LegFacts, taken: &Move) -> Option<GroupedLeg>
+        ensures { option_map leg_of result ≡ chosen_leg self.now.feed leg.now (leg_taken taken.now) }
+    {
+        let rows = self.leg_rows();
+        let rule = rows.get(taken.rule.0 as usize)?;
+        Some(GroupedLeg {
+            group: rule.group,
+            departure: leg.departure,
+            arrival: leg.arrival,
+        })
+    }
+
+    /// Whether the leg selects the rule, and the row is an open row of its product.
+    pub(crate) fn is_leg_choice(&self, leg: &LegFacts, taken: &Move) -> bool
+        ensures { result ≡ is_leg_choice self.now.feed self.now.rider leg.now (leg_taken taken.now) }
+    {
+        self.selects_rule(leg, taken.rule) && self.is_row_of_rule(taken.rule, taken.product)
+    }
+
+    /// Whether the leg selects the rule.
+    fn selects_rule(&self, leg: &LegFacts, rule: RuleId) -> bool
+        ensures { result ≡ at_and self.now.feed.leg_rules rule.0 (is_selected_rule self.now.feed leg.now) }
+    {
+        self.leg_rules.selects(leg, rule)
+    }
+
+    /// Whether the row is an open row of the rule's product.
+    fn is_row_of_rule(&self, rule: RuleId, row: ProductRowId) -> bool
+        ensures { result ≡ at_and self.now.feed.leg_rules rule.0 (λ r. at_and self.now.feed.products row.0 (is_open r.product self.now.rider)) }
+    {
+        match self.leg_rows().get(rule.0 as usize) {
+            Some(own) => self.is_open_row(own.product, row),
+            None => false,
+        }
+    }
+
+    /// Whether the row is an open row of the product.
+    fn is_open_row(&self, product: ProductId, row: ProductRowId) -> bool
+        ensures { result ≡ at_and self.now.feed.products row.0 (is_open product self.now.rider) }
+    {
+        match self.product_rows().get(row.0 as usize) {
+            Some(priced) => is_open(product, self.rider(), priced),
+            None => false,
+        }
+    }
+
+    /// Whether the row is an open row of the product, or both are missing.
+    #[tactic(auto)]
+    fn is_change_product(&self, product: Option<ProductId>, row: Option<ProductRowId>) -> bool
+        ensures { result ≡ is_change_product self.now.feed self.now.rider product row }
+    {
+        match (product, row) {
+            (Some(named), Some(chosen)) => self.is_open_row(named, chosen),
+            (None, None) => true,
+            _ => false,
+        }
+    }
+
+    /// Whether the row is selected for the change, with the right row of its product.
+    #[tactic(auto, unfolding(feed_rows::specs::FareSteps::is_row_after))]
+    fn is_row_after(&self, change: &Change, pick: &ChangeChoice) -> bool
+        ensures { result ≡ is_row_after self.now.feed self.now.rider (asked_of change.now) pick.now }
+    {
+        match self.transfer_rows().get(pick.rule.0 as usize) {
+            Some(row) => {
+                self.selects(change, row) && self.is_change_product(row.product, pick.product)
+            }
+            None => false,
+        }
+    }
+
+    /// Whether the place of the change is empty where the change isn't arranged, and else has a choice for it.
+    pub(crate) fn is_place_after(&self, change: Option<Change>, place: Option<ChangeChoice>) -> bool
+        ensures { result ≡ is_place_after self.now.feed self.now.rider (option_map asked_of change) place }
+    {
+        match (change, place) {
+            (Some(asked), Some(pick)) => self.is_row_after(&asked, &pick),
+            (Some(asked), None) => !self.is_arranged(&asked),
+            (None, Some(_)) => false,
+            (None, None) => true,
+        }
+    }
+}
+
+/// What fills the place of the change to the leg.
+pub fn place_taken(taken: &Move) -> Option<ChangeChoice>
+    ensures { result ≡ place_taken taken.now }
+{
+    let rule = taken.xfer?;
+    Some(ChangeChoice {
+        rule,
+        product: taken.xfer_product,
+    })
+}
+
+/// Whether there is a product row of the change only where there is a change.
+pub fn is_whole(taken: &Move) -> bool
+    ensures { result ≡ is_whole taken.now }
+{
+    match taken.xfer {
+        Some(_) => true,
+        None => taken.xfer_product.is_none(),
+    }
+}
+
+/// Whether the row is of the product, and open to the rider.
+#[tactic(auto, unfolding(feed_rows::specs::FareChoices::is_open))]
+pub fn is_open(product: ProductId, rider: Option<RiderId>, row: &ProductRow) -> bool
+    ensures { result ≡ is_open product rider row.now }
+{
+    row.product.0 == product.0 && opens(row.rider, rider)
+}
+
+/// Whether a row of this category is open to the rider.
+fn opens(category: Option<RiderId>, rider: Option<RiderId>) -> bool
+    ensures { result ≡ empty_or category (λ c. filled_and rider (λ r. r.0 == c.0)) }
+{
+    match (category, rider) {
+        (Some(own), Some(other)) => other.0 == own.0,
+        (Some(_), None) => false,
+        (None, _) => true,
+    }
+}
