@@ -211,9 +211,10 @@ next_told feed run next is_first place filled =
 
 -- lists with one front length that are equal with what follows are equal in both parts
 same_parts : {X : Type 0} (xs us ys vs : List X) → length xs ≡ length us → xs ++ ys ≡ us ++ vs → (xs ≡ us) × (ys ≡ vs)
-same_parts xs us ys vs long same =
-    (sym (take-append_seam xs ys) ∙ ap (take (length xs)) same ∙ ap (λ (n : ℕ). take n (us ++ vs)) long ∙ take-append_seam us vs,
-    sym (drop-append_seam xs ys) ∙ ap (drop (length xs)) same ∙ ap (λ (n : ℕ). drop n (us ++ vs)) long ∙ drop-append_seam us vs)
+same_parts xs us ys vs long same = (
+  sym (take-append_seam xs ys) ∙ ap (take (length xs)) same ∙ ap (λ (n : ℕ). take n (us ++ vs)) long ∙ take-append_seam us vs,
+  sym (drop-append_seam xs ys) ∙ ap (drop (length xs)) same ∙ ap (λ (n : ℕ). drop n (us ++ vs)) long ∙ drop-append_seam us vs,
+)
 
 head_or : {X : Type 0} → X → List X → X
 head_or d [] = d
@@ -331,7 +332,7 @@ module _ (feed : FeedRows) (rider : Option RiderId) (legs : List LegFacts) (leg 
       let more_long' : length (extended choice move).legs ≡ suc (suc n) = length_push choice.legs (leg_taken move) ∙ omega (arith, places.0) in
       let after = stand_of_next feed stand m.next (leg_taken move) (place_taken move) in
       let more_at : IsStandOf feed (legs ++ leg ∷ []) (extended choice move) (suc n) after =
-          next_fare_stand-of feed rider legs leg choice (place_taken move) (leg_taken move) (extended choice move) n stand long p at after (step_of move m) in
+      next_fare_stand-of feed rider legs leg choice (place_taken move) (leg_taken move) (extended choice move) n stand long p at after (step_of move m) in
       let right = right_place feed rider (change_to stand.run m.next) (place_taken move) m.paid_change in
       record {
         whole = m.whole;
@@ -402,11 +403,13 @@ module _ (feed : FeedRows) (rider : Option RiderId) (legs : List LegFacts) (leg 
       by (Some next) chosen e =
           let test = (cond_some _ _ _ e).0 in
           let both = and_parts (is_leg_choice feed rider leg pick) _ test in
-          let m = is_made next pick place in
-          (next, is_move (made next pick place) next
-          (ap (chosen_leg feed leg) m.takes_leg ∙ chosen)
-          (ap (is_leg_choice feed rider leg) m.takes_leg ∙ both.0)
-          (ap (is_change_choice feed rider (change_to stand.run next)) m.takes_place ∙ both.1) m.whole m.again)
+          let m = is_made next pick place in (
+            next,
+            is_move (made next pick place) next
+                (ap (chosen_leg feed leg) m.takes_leg ∙ chosen)
+                (ap (is_leg_choice feed rider leg) m.takes_leg ∙ both.0)
+                (ap (is_change_choice feed rider (change_to stand.run next)) m.takes_place ∙ both.1) m.whole m.again,
+          )
 
   -- each longer choice is made by a move that there is
   pub all_of : (longer : Choice) → is_fare_choice feed (legs ++ leg ∷ []) longer rider ≡ true → BeginsWith choice longer →
@@ -414,22 +417,24 @@ module _ (feed : FeedRows) (rider : Option RiderId) (legs : List LegFacts) (leg 
   all_of longer paid begins =
       let s = step_of_paid feed rider legs leg longer n long paid in
       let same_legs = same_parts s.last.choice.legs choice.legs (s.last.pick ∷ []) begins.legs.0
-          (s.last.pushed.legs ∙ sym places.0) (sym s.last.pushed.more_legs ∙ begins.legs.1) in
+      (s.last.pushed.legs ∙ sym places.0) (sym s.last.pushed.more_legs ∙ begins.legs.1) in
       let same_changes = same_parts s.last.choice.changes choice.changes (s.last.place ∷ []) begins.changes.0
-          (s.last.pushed.changes ∙ sym places.1) (sym s.last.pushed.more_changes ∙ begins.changes.1) in
+      (s.last.pushed.changes ∙ sym places.1) (sym s.last.pushed.more_changes ∙ begins.changes.1) in
       let same : s.last.choice ≡ choice = same_choice s.last.choice choice same_legs.0 same_changes.0 in
       let stands : s.before.stand ≡ stand =
-          IsStandOf-one feed legs choice n s.before.stand stand (subst (λ (c : Choice). IsStandOf feed legs c n s.before.stand) same s.before.of) at in
+      IsStandOf-one feed legs choice n s.before.stand stand (subst (λ (c : Choice). IsStandOf feed legs c n s.before.stand) same s.before.of) at in
       let step : next_fare_stand feed rider stand leg s.last.pick s.last.place ≡ Some s.after =
-          subst (λ (t : FareStand). next_fare_stand feed rider t leg s.last.pick s.last.place ≡ Some s.after) stands s.step in
+      subst (λ (t : FareStand). next_fare_stand feed rider t leg s.last.pick s.last.place ≡ Some s.after) stands s.step in
       let found = made_is_move s.last.pick s.last.place s.after step in
       let m = is_made found.0 s.last.pick s.last.place in
-      let p = pushed (made found.0 s.last.pick s.last.place) in
-      (made found.0 s.last.pick s.last.place, found.1,
-      same_choice longer (extended choice (made found.0 s.last.pick s.last.place))
-      (s.last.pushed.more_legs ∙ ap (λ (l : List LegChoice). l ++ s.last.pick ∷ []) same_legs.0 ∙ ap (λ (x : LegChoice). choice.legs ++ x ∷ []) (sym m.takes_leg))
-      (s.last.pushed.more_changes ∙ ap (λ (l : List (Option ChangeChoice)). l ++ s.last.place ∷ []) same_changes.0
-      ∙ ap (λ (x : Option ChangeChoice). choice.changes ++ x ∷ []) (sym m.takes_place) ∙ sym p.more_changes))
+      let p = pushed (made found.0 s.last.pick s.last.place) in (
+        made found.0 s.last.pick s.last.place,
+        found.1,
+        same_choice longer (extended choice (made found.0 s.last.pick s.last.place))
+            (s.last.pushed.more_legs ∙ ap (λ (l : List LegChoice). l ++ s.last.pick ∷ []) same_legs.0 ∙ ap (λ (x : LegChoice). choice.legs ++ x ∷ []) (sym m.takes_leg))
+            (s.last.pushed.more_changes ∙ ap (λ (l : List (Option ChangeChoice)). l ++ s.last.place ∷ []) same_changes.0
+            ∙ ap (λ (x : Option ChangeChoice). choice.changes ++ x ∷ []) (sym m.takes_place) ∙ sym p.more_changes),
+      )
 
   -- a whole move is made of what it takes
   rebuilt : (next : FareLeg) (move : Move) → is_whole move ≡ true →
@@ -455,12 +460,13 @@ module _ (feed : FeedRows) (rider : Option RiderId) (legs : List LegFacts) (leg 
       let p = pushed a in
       let p' = pushed b in
       let changes_same = same_parts choice.changes choice.changes (place_taken a ∷ []) (place_taken b ∷ []) refl
-          (sym p.more_changes ∙ ap (λ (c : Choice). c.changes) same ∙ p'.more_changes) in
+      (sym p.more_changes ∙ ap (λ (c : Choice). c.changes) same ∙ p'.more_changes) in
       let place = same_head (place_taken a) (place_taken b) changes_same.1 in
       let next : m.next ≡ m'.next = same_Some m.next m'.next (sym m.chosen ∙ ap (chosen_leg feed leg) pick ∙ m'.chosen) in
       sym m.follows ∙ rebuilt m.next a m.whole ∙ ap (λ (x : FareLeg). made x (leg_taken a) (place_taken a)) next
       ∙ ap (λ (x : LegChoice). made m'.next x (place_taken a)) pick ∙ ap (λ (x : Option ChangeChoice). made m'.next (leg_taken b) x) place
       ∙ sym (rebuilt m'.next b m'.whole) ∙ m'.follows
+
   -- the moves that there are after the state are exactly those that extend the choice
   pub moves_extend : (moves : List Move) → AreMovesAfter feed rider (Some state) stand.held leg moves → AreExtensions feed rider legs choice leg moves
   moves_extend moves are = record {

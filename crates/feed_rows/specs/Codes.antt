@@ -31,25 +31,21 @@ change_forbidden = 3
 abbrev pub default_category : ℕ
 default_category = 1
 
--- duration_limit_type: from which moment of the run's first leg, and to which of the leg after the change
+-- duration_limit_type: from which moment of the run's first leg, and to which of the leg after the change; the fourth type, 2,
+-- counts from the arrival to the departure
 abbrev pub departure_to_arrival : ℕ
 departure_to_arrival = 0
 
 abbrev pub departure_to_departure : ℕ
 departure_to_departure = 1
 
-abbrev pub arrival_to_departure : ℕ
-arrival_to_departure = 2
-
 abbrev pub arrival_to_arrival : ℕ
 arrival_to_arrival = 3
 
--- fare_transfer_type: what is paid of the leg before, the change and the leg after: the first two, all three, or the change
+-- fare_transfer_type: what is paid of the leg before, the change and the leg after: the first two or the change alone; all three
+-- under type 1
 abbrev pub leg_before_and_change : ℕ
 leg_before_and_change = 0
-
-abbrev pub both_legs_and_change : ℕ
-both_legs_and_change = 1
 
 abbrev pub change_alone : ℕ
 change_alone = 2

@@ -5,7 +5,7 @@ use Rattle.std.specs.Prelude.{ℕ, ◌-◌, ◌^◌, ◌==◌, min, Bool, true, 
 abbrev pub CallLog : Type 0
 CallLog = List (List ℕ) → Bool
 
--- whatever calls were made before, these were made behind them, in order, and no others
+-- whatever calls were made before, these were made behind them, in order, and no others, where the log tells calls
 pub record Makes (before : CallLog) (calls : List (List ℕ)) (now : CallLog) : Type 0 where
   pub behind : (made : List (List ℕ)) → IsTrue (before made) → IsTrue (now (made ++ calls))
 

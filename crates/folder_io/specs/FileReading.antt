@@ -28,7 +28,7 @@ StopsPast contents name limit left kept.TooLarge = left ≡ option_map (drop (li
 StopsPast contents name limit left kept.Absent = Unit {0}
 StopsPast contents name limit left (kept.Bytes bytes) = Unit {0}
 
--- the files are those that a folder holds; of one that doesn't tell, they are what it gave
+-- the files are those that a folder holds, where it tells what it holds
 abbrev pub Gives : FolderState → (FileName → HeldFile) → Type 0
 Gives folder files = WhereTold folder (λ contents. files ≡ held contents)
 

@@ -119,7 +119,7 @@ abbrev pub IsDue : Result Task Refusal → Status → List (List ℕ) → Type 0
 IsDue (Ok task) answer lines = (answer ≡ status.Answered) × DoTask task lines
 IsDue (Err refused) answer lines = (answer ≡ refusal_answer refused) × (lines ≡ refusal_line refused ∷ [])
 
--- the same over files that the folder holds
+-- the same over files that the folder gives: those that it holds, where it tells what it holds
 pub record IsDueOver (folder : FolderState) (words : List (List ℕ)) (answer : Status) (lines : List (List ℕ)) : Type 0 where
   pub files : FileName → HeldFile
   pub gives : Gives folder files
