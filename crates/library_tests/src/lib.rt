@@ -12,6 +12,8 @@ mod generated;
 #[cfg(test)]
 mod labels;
 #[cfg(test)]
+mod patterns;
+#[cfg(test)]
 mod prices;
 #[cfg(test)]
 mod readings;

@@ -1,0 +1,127 @@
+// Which runs can be boarded where, of runs that overtake each other.
+ghost use Rattle.std.specs.Prelude.{◌≡◌, OnOk, IfOk, IsTrue, true};
+ghost use Rattle.folder_io.specs.KeptFiles.{are_whole};
+
+use feed_check::{LoadError, load};
+use feed_rows::{Feed, FileName, Query};
+use feed_text::TextError;
+use feed_timetable::Timetable;
+use folder_io::{ByteText, FileBytes, Files, MemFolder};
+use plan_patterns::Patterns;
+use std::alloc::{AllocError, Global};
+use transit_base::{Moment, StopId};
+
+// At A, B and C: the slow trip begins first and is overtaken by the quick one, one lets nobody board at B, one is of the day
+// before, and one goes by headway from A to C.
+const STOPS: &[u8] = b"stop_id\nA\nB\nC\n";
+
+const ROUTES: &[u8] = b"route_id\nR\n";
+
+const TRIPS: &[u8] =
+    b"route_id,service_id,trip_id\nR,W,slow\nR,W,quick\nR,W,closed\nR,W,often\nR,W,late\n";
+
+const STOP_TIMES: &[u8] = b"trip_id,stop_id,stop_sequence,arrival_time,departure_time,pickup_type\n\
+    slow,A,1,08:00:00,08:00:00,0\nslow,B,2,08:30:00,08:31:00,0\nslow,C,3,09:00:00,09:00:00,0\n\
+    quick,A,1,08:10:00,08:10:00,0\nquick,B,4,08:20:00,08:21:00,0\nquick,C,9,08:40:00,08:40:00,0\n\
+    closed,A,1,08:10:00,08:10:00,0\nclosed,B,2,08:20:00,08:21:00,1\nclosed,C,3,08:40:00,08:40:00,0\n\
+    often,A,1,00:00:00,00:00:00,0\noften,C,2,00:05:00,00:05:00,0\n\
+    late,A,1,32:00:00,32:01:00,0\nlate,B,2,32:30:00,32:31:00,0\nlate,C,3,33:00:00,33:00:00,0\n";
+
+const DATES: &[u8] = b"service_id,date,exception_type\nW,20250602,1\nW,20250601,1\n";
+
+const HEADWAYS: &[u8] = b"trip_id,start_time,end_time,headway_secs\noften,08:00:00,10:00:00,600\n";
+
+const PRODUCTS: &[u8] = b"fare_product_id,amount,currency\nsingle,2.50,EUR\n";
+
+const LEG_RULES: &[u8] = b"leg_group_id,fare_product_id\ng,single\n";
+
+// Puts the text of a file.
+fn put(alloc: Global, files: &mut Files, name: FileName, text: &[u8]) -> Result<(), AllocError>
+    ensures { are_whole files.old ≡ true → OnOk result (are_whole files.new ≡ true) }
+{
+    files.put(name, FileBytes::Bytes(ByteText::copy_of(alloc, text)?));
+    Ok(())
+}
+
+// The files of the feed.
+fn files(alloc: Global) -> Result<Files, AllocError>
+    ensures { IfOk result (λ files. IsTrue (are_whole files)) }
+{
+    let mut files = Files::empty();
+    put(alloc, &mut files, FileName::Stops, STOPS)?;
+    put(alloc, &mut files, FileName::Routes, ROUTES)?;
+    put(alloc, &mut files, FileName::Trips, TRIPS)?;
+    put(alloc, &mut files, FileName::StopTimes, STOP_TIMES)?;
+    put(alloc, &mut files, FileName::CalendarDates, DATES)?;
+    put(alloc, &mut files, FileName::Frequencies, HEADWAYS)?;
+    put(alloc, &mut files, FileName::FareProducts, PRODUCTS)?;
+    put(alloc, &mut files, FileName::FareLegRules, LEG_RULES)?;
+    Ok(files)
+}
+
+// The feed.
+fn feed(alloc: Global) -> Result<Feed, TextError> {
+    let mut folder = MemFolder::new(alloc, files(alloc)?, &[], &[])?;
+    match load(alloc, &mut folder) {
+        Ok(feed) => Ok(feed),
+        Err(LoadError::Fault(fault)) => Err(TextError::Fault(fault)),
+        Err(_) => Err(TextError::NoMemory),
+    }
+}
+
+// 2 June 2025, 00:00:00.
+const MIDNIGHT: i64 = 1_748_822_400;
+
+// From 07:30:00 to 09:00:00.
+const QUERY: Query = Query {
+    from: StopId(0),
+    to: StopId(2),
+    departure: Moment(MIDNIGHT + 27_000),
+    rides: 3,
+    window: 5_400,
+    rider: None,
+};
+
+// The trips of the runs that can be boarded at a position of a pattern from a moment on, and when they depart; none where there
+// is no such place.
+fn trips_at(
+    alloc: Global,
+    patterns: &Patterns,
+    pattern: u32,
+    position: u32,
+    from: i64,
+) -> Result<Vec<(u32, i64)>, AllocError> {
+    let mut found = Vec::new(alloc);
+    if pattern >= patterns.count() || position as usize >= patterns.halts(pattern).len() {
+        return Ok(found);
+    }
+    for boarding in patterns.boardable(pattern, position, Moment(from)) {
+        if let Some(run) = patterns.runs(pattern).get(boarding.run as usize) {
+            found.push((run.trip.0, boarding.at.0))?;
+        }
+    }
+    Ok(found)
+}
+
+// At B the quick run has overtaken the others, and a departure is caught that is met exactly.
+#[test]
+fn runs_that_overtake(rt: HostRuntime) -> Result<(), TextError> {
+    let alloc = rt.alloc();
+    let feed = feed(alloc)?;
+    let timetable = Timetable::build(alloc, &feed)?;
+    let patterns = Patterns::build(alloc, &timetable, &QUERY)?;
+    assert_eq!(rt; patterns.count(), 3);
+    let at_a = trips_at(alloc, &patterns, 1, 0, MIDNIGHT + 28_801)?;
+    let late_and_quick = [(4, MIDNIGHT + 28_860), (1, MIDNIGHT + 29_400)];
+    assert_eq!(rt; at_a.as_slice(), late_and_quick.as_slice());
+    let at_b = trips_at(alloc, &patterns, 1, 1, MIDNIGHT + 30_060)?;
+    let quick_and_others = [
+        (1, MIDNIGHT + 30_060),
+        (0, MIDNIGHT + 30_660),
+        (4, MIDNIGHT + 30_660),
+    ];
+    assert_eq!(rt; at_b.as_slice(), quick_and_others.as_slice());
+    let later = trips_at(alloc, &patterns, 1, 1, MIDNIGHT + 30_061)?;
+    assert_eq!(rt; later.as_slice(), &quick_and_others[1..]);
+    Ok(())
+}
