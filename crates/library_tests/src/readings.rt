@@ -1,6 +1,7 @@
 // Texts that are, or are nearly, those of entries of a query, read back.
 ghost use Rattle.std.specs.Prelude.{◌≡◌, OnOk, IfOk, IsTrue, true};
 ghost use Rattle.folder_io.specs.KeptFiles.{are_whole};
+ghost use Rattle.ticket_read.specs.Judgement.{IsNearQuery};
 
 use feed_check::{LoadError, load};
 use feed_rows::{Feed, FileName, Query};
@@ -111,7 +112,7 @@ fn told(
     query: &Query,
     texts: &[&[u8]],
 ) -> Result<Option<usize>, AllocError>
-    requires { query.now.departure.0 ≡ pos 1_748_851_200 × (query.now.rides ≡ 4) }
+    requires { IsNearQuery query.now }
 {
     let mut text = Vec::new(alloc);
     for part in texts {
