@@ -220,7 +220,7 @@ head_or : {X : Type 0} → X → List X → X
 head_or d [] = d
 head_or d (x ∷ xs) = x
 
-same_head : {X : Type 0} (x y : X) → x ∷ [] ≡ y ∷ [] → x ≡ y
+pub same_head : {X : Type 0} (x y : X) → x ∷ [] ≡ y ∷ [] → x ≡ y
 unfolding head_or
 same_head x y same = ap (head_or x) same
 
@@ -233,7 +233,7 @@ same_by : (a b : List LegChoice) (c d : List (Option ChangeChoice)) → a ≡ b 
 same_by a b c d e f = rw (e, f) refl
 
 -- choices with the same places are one
-same_choice : (a b : Choice) → a.legs ≡ b.legs → a.changes ≡ b.changes → a ≡ b
+pub same_choice : (a b : Choice) → a.legs ≡ b.legs → a.changes ≡ b.changes → a ≡ b
 unfolding choice_by
 same_choice a b e f = same_by a.legs b.legs a.changes b.changes e f
 
@@ -476,3 +476,19 @@ module _ (feed : FeedRows) (rider : Option RiderId) (legs : List LegFacts) (leg 
         (found.0, are.all found.0 found.1, found.2);
     once = λ i j d lt lt' same. are.once i j d lt lt' (once_of (slice_index_or moves i d) (slice_index_or moves j d) (are.right i d (omega (arith, lt, lt'))) (are.right j d lt') same);
   }
+
+-- the moves after the state and what is held of any legs are exactly those that extend the choice that pays them
+pub step_extends : (feed : FeedRows) (rider : Option RiderId) (legs : List LegFacts) (choice : Choice) (leg : LegFacts) (state : FareState) (held : ℤ)
+    (moves : List Move) → is_fare_choice feed legs choice rider ≡ true → fare_state feed legs choice ≡ Some state → held_amount feed choice ≡ held →
+    AreMovesAfter feed rider (Some state) held leg moves → AreExtensions feed rider legs choice leg moves
+unfolding fare_state
+step_extends feed rider [] choice leg after held moves pays is_state is_held are = absurd (none-some after is_state)
+step_extends feed rider (l ∷ ls) choice leg after held moves pays is_state is_held are =
+    let long : length (l ∷ ls) ≡ suc (length ls) = refl in
+    let stands = stand_of_paid feed rider (l ∷ ls) choice (length ls) long pays in
+    let places = (places_of_paid feed rider (l ∷ ls) choice pays).0 in
+    let same_state = same_Some _ _ (sym (fare_state-told feed (l ∷ ls) choice (length ls) stands.stand long places stands.of) ∙ is_state) in
+    let same_held = sym (held_amount-stand feed (l ∷ ls) choice (length ls) stands.stand long places stands.of) ∙ is_held in
+    moves_extend feed rider (l ∷ ls) leg choice (length ls) stands.stand (starts_chain (transfer_kind feed choice) (length ls)) long pays stands.of moves
+    (subst (λ (h : ℤ). AreMovesAfter feed rider (Some (told feed stands.stand.run (starts_chain (transfer_kind feed choice) (length ls)))) h leg moves) (sym same_held)
+    (subst (λ (s : FareState). AreMovesAfter feed rider (Some s) held leg moves) (sym same_state) are))

@@ -1,2 +1,4 @@
 pub mod Terms
 pub mod Changes
+pub mod Options
+pub mod Steps

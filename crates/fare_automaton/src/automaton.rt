@@ -1,5 +1,5 @@
 //! The automaton of a feed and a rider.
-ghost use Rattle.std.specs.Prelude.{◌≡◌, IfOk};
+ghost use Rattle.std.specs.Prelude.{◌≡◌, ◌<◌, ◌^◌, length, IfOk};
 ghost use Rattle.feed_rows.specs.FareFloor.{fare_floor};
 ghost use Rattle.feed_rows.specs.SoundFeed.{IsSoundFeed};
 ghost use Rattle.fare_automaton.specs.Terms.{terms};
@@ -99,22 +99,31 @@ impl<'f> Automaton<'f> {
 
     /// The rows of `fare_leg_rules.txt`.
     pub(crate) fn leg_rows(&self) -> &'f [LegRuleRow]
-        ensures { result.now ≡ self.now.feed.leg_rules }
+        ensures value { result.now ≡ self.now.feed.leg_rules }
+        ensures few { length result.now < 2 ^ 32 }
     {
+        // A sound feed has few rows.
+        let _sound = self.feed();
         self.feed().leg_rules.items()
     }
 
     /// The rows of `fare_transfer_rules.txt`.
     pub(crate) fn transfer_rows(&self) -> &'f [TransferRuleRow]
-        ensures { result.now ≡ self.now.feed.transfer_rules }
+        ensures value { result.now ≡ self.now.feed.transfer_rules }
+        ensures few { length result.now < 2 ^ 32 }
     {
+        // A sound feed has few rows.
+        let _sound = self.feed();
         self.feed().transfer_rules.items()
     }
 
     /// The rows of `fare_products.txt`.
     pub(crate) fn product_rows(&self) -> &'f [ProductRow]
-        ensures { result.now ≡ self.now.feed.products }
+        ensures value { result.now ≡ self.now.feed.products }
+        ensures few { length result.now < 2 ^ 32 }
     {
+        // A sound feed has few rows.
+        let _sound = self.feed();
         self.feed().products.items()
     }
 }

@@ -33,14 +33,14 @@ impl<'f> Automaton<'f> {
     }
 
     /// Whether the leg selects the rule.
-    fn selects_rule(&self, leg: &LegFacts, rule: RuleId) -> bool
+    pub(crate) fn selects_rule(&self, leg: &LegFacts, rule: RuleId) -> bool
         ensures { result ≡ at_and self.now.feed.leg_rules rule.0 (is_selected_rule self.now.feed leg.now) }
     {
         self.leg_rules.selects(leg, rule)
     }
 
     /// Whether the row is an open row of the rule's product.
-    fn is_row_of_rule(&self, rule: RuleId, row: ProductRowId) -> bool
+    pub(crate) fn is_row_of_rule(&self, rule: RuleId, row: ProductRowId) -> bool
         ensures { result ≡ at_and self.now.feed.leg_rules rule.0 (λ r. at_and self.now.feed.products row.0 (is_open r.product self.now.rider)) }
     {
         match self.leg_rows().get(rule.0 as usize) {
@@ -50,7 +50,7 @@ impl<'f> Automaton<'f> {
     }
 
     /// Whether the row is an open row of the product.
-    fn is_open_row(&self, product: ProductId, row: ProductRowId) -> bool
+    pub(crate) fn is_open_row(&self, product: ProductId, row: ProductRowId) -> bool
         ensures { result ≡ at_and self.now.feed.products row.0 (is_open product self.now.rider) }
     {
         match self.product_rows().get(row.0 as usize) {

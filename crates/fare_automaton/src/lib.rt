@@ -9,6 +9,8 @@ mod changes;
 mod floor;
 mod judge;
 mod moves;
+mod options;
 mod rows;
+mod steps;
 
 pub use automaton::Automaton;

@@ -1,0 +1,307 @@
+-- The moves that are made option by option are exactly those that there are.
+use Rattle.std.proofs.Common.{◌≡◌, ◌≢◌, refl, sym, ◌∙◌, ap, subst, ℕ, zero, suc, ◌+◌, ◌<◌, Bool, true, false, ◌&&◌, List, [], ◌∷◌, ◌++◌, length, get_or, arith}
+use Rattle.std.specs.Prelude.{if◌then◌else◌, Option, Some, None, is_none, ℤ, pos, map, option_map, option_and_then, slice_get, slice_index_or, All, AllPairs, Contains}
+use Rattle.std.specs.Option.{option_map_or}
+use Rattle.std.proofs.lemmas.Bool.{and_parts}
+use Rattle.std.proofs.lemmas.Option.{same_Some, none-some, cond_some, slice_get_within, slice_get-map, slice_get-get_or}
+use Rattle.std.proofs.lemmas.List.{length-map}
+use Rattle.transit_base.specs.declared.numbers.ProductRowId.{ProductRowId}
+use Rattle.transit_base.specs.declared.numbers.RiderId.{RiderId}
+use Rattle.transit_base.specs.declared.numbers.XferId.{XferId}
+use Rattle.feed_rows.specs.declared.fares.ChangeChoice.{ChangeChoice}
+use Rattle.feed_rows.specs.declared.fares.LegChoice.{LegChoice}
+use Rattle.feed_rows.specs.declared.journeys.LegFacts.{LegFacts}
+use Rattle.feed_rows.specs.declared.states.FareState.{FareState}
+use Rattle.feed_rows.specs.declared.states.Move.{Move}
+use Rattle.feed_rows.specs.FeedRows.{FeedRows}
+use Rattle.feed_rows.specs.TransferRules.{FareLeg}
+use Rattle.feed_rows.specs.FareChoices.{chosen_leg, is_leg_choice}
+use Rattle.feed_rows.specs.FareSteps.{leg_taken, place_taken, is_whole, asked_after, is_place_after, first_move, next_move, move_of_first, move_of_next, move_after, AreMovesAfter}
+use Rattle.plain_laws.specs.Plain.{joined_below, when}
+use Rattle.plain_laws.proofs.Laws.{Contains-joined_below, joined_below-tells, AllPairs-joined_below, All-from, All-slice_get, slice_get-Contains, Contains-map, map-tells}
+use Rattle.fare_automaton.specs.Options.{ArePicks, ArePlaces, place_list, bare, first_made, next_made, made_at}
+use Rattle.fare_automaton.proofs.MoveLaws.{first_when, next_when}
+use Rattle.fare_automaton.proofs.OptionLaws.{added_more, are_places}
+
+-- the list of the option with this number
+pub made_of : (made : LegChoice → List Move) (picks : List LegChoice) (i : ℕ) (pick : LegChoice) → slice_get picks i ≡ Some pick →
+    made_at made picks i ≡ made pick
+made_of made picks i pick is = rw is refl
+
+-- the lists so far, with that of the next option
+pub added_made : (old before now : List Move) (made : LegChoice → List Move) (picks : List LegChoice) (i : ℕ) (d : LegChoice) → i < length picks →
+    before ≡ old ++ joined_below i (made_at made picks) → now ≡ before ++ made (get_or picks i d) →
+    now ≡ old ++ joined_below (i + 1) (made_at made picks)
+added_made old before now made picks i d lt is more =
+    added_more old before now i (made_at made picks) is
+    (more ∙ ap (λ (xs : List Move). before ++ xs) (sym (made_of made picks i (get_or picks i d) (slice_get-get_or picks i d lt))))
+
+-- the moves are exactly those of this pick, each once
+record AreOf (step : Move → Option Move) (pick : LegChoice) (moves : List Move) : Type 0 where
+  pub right : (move : Move) → Contains moves move → (leg_taken move ≡ pick) × (step move ≡ Some move)
+  pub all : (move : Move) → step move ≡ Some move → leg_taken move ≡ pick → Contains moves move
+  pub once : AllPairs (λ a b. a ≢ b) moves
+
+-- the moves are exactly those that there are, each once
+record AreAll (step : Move → Option Move) (moves : List Move) : Type 0 where
+  pub right : All (λ move. step move ≡ Some move) moves
+  pub all : (move : Move) → step move ≡ Some move → Contains moves move
+  pub once : AllPairs (λ a b. a ≢ b) moves
+
+module _ (feed : FeedRows) (rider : Option RiderId) (leg : LegFacts) (picks : List LegChoice) (are : ArePicks feed rider leg picks)
+    (step : Move → Option Move) (made : LegChoice → List Move)
+    (each : (pick : LegChoice) → is_leg_choice feed rider leg pick ≡ true → AreOf step pick (made pick))
+    (judged : (move : Move) → step move ≡ Some move → is_leg_choice feed rider leg (leg_taken move) ≡ true) where
+  -- the pick of a number
+  at : (i : ℕ) (pick : LegChoice) → slice_get picks i ≡ Some pick → AreOf step pick (made pick)
+  at i pick is = each pick (All-slice_get (λ (p : LegChoice). is_leg_choice feed rider leg p ≡ true) picks i pick is are.right)
+
+  -- a move of a number
+  tells : (i : ℕ) (move : Move) → Contains (made_at made picks i) move →
+      (slice_get picks i ≡ Some (leg_taken move)) × (step move ≡ Some move)
+  tells i move c = by (slice_get picks i) refl c
+    where
+      by : (o : Option LegChoice) → slice_get picks i ≡ o → Contains (option_map_or made o []) move →
+          (slice_get picks i ≡ Some (leg_taken move)) × (step move ≡ Some move)
+      by None is (k, lt, e) = absurd (omega (arith, lt))
+      by (Some pick) is c =
+          let r = (at i pick is).right move c in
+          (is ∙ ap Some (sym r.0), r.1)
+
+  once_at : (i : ℕ) → AllPairs (λ (a b : Move). a ≢ b) (made_at made picks i)
+  once_at i = by (slice_get picks i) refl
+    where
+      by : (o : Option LegChoice) → slice_get picks i ≡ o → AllPairs (λ (a b : Move). a ≢ b) (option_map_or made o [])
+      by None is = λ a b d lt lt'. absurd (omega (arith, lt'))
+      by (Some pick) is = (at i pick is).once
+
+  -- two numbers have two picks
+  apart : (i j : ℕ) (pick : LegChoice) → i < j → slice_get picks i ≡ Some pick → slice_get picks j ≡ Some pick → ⊥
+  apart i j pick lt is is' =
+      let within = slice_get_within picks j pick is' in
+      are.once i j pick lt within
+      (same_Some _ _ (sym (slice_get-get_or picks i pick (omega (arith, lt, within))) ∙ is ∙ sym is' ∙ slice_get-get_or picks j pick within))
+
+  -- what is made pick by pick is all that there is
+  all_made : AreAll step (joined_below (length picks) (made_at made picks))
+  all_made = record {
+    right = All-from (λ (m : Move). step m ≡ Some m) _ (λ m c.
+        let f = joined_below-tells (length picks) (made_at made picks) m c in
+        (tells f.0 m f.2).1);
+    all = λ m is.
+        let place = slice_get-Contains picks (leg_taken m) (are.all (leg_taken m) (judged m is)) in
+        Contains-joined_below (length picks) (made_at made picks) place.0 m (slice_get_within picks place.0 (leg_taken m) place.1)
+        (subst (λ (xs : List Move). Contains xs m) (sym (made_of made picks place.0 (leg_taken m) place.1)) ((at place.0 (leg_taken m) place.1).all m is refl));
+    once = AllPairs-joined_below (λ (a b : Move). a ≢ b) (length picks) (made_at made picks) (λ i lt. once_at i)
+        (λ i j x y lt lt' c c' same.
+        let a = tells i x c in
+        let b = tells j y c' in
+        apart i j (leg_taken x) lt a.0 (b.0 ∙ ap (λ (m : Move). Some (leg_taken m)) (sym same)));
+  }
+
+-- ---- a first leg
+
+-- the place by a row and a product row
+abbrev place_by : Option XferId → Option ProductRowId → Option ChangeChoice
+place_by x row = option_map (λ r. record { rule = r; product = row }) x
+
+-- a move without a change takes what a bare one does
+pub first_is_bare : (feed : FeedRows) (first : FareLeg) (move : Move) → is_none (place_taken move) ≡ true → is_whole move ≡ true →
+    first_move feed first move ≡ first_move feed first (bare (leg_taken move) None)
+first_is_bare feed first move none whole = by move.xfer move.xfer_product none whole
+  where
+    by : (x : Option XferId) (row : Option ProductRowId) →
+        is_none (place_by x row) ≡ true → (if is_none x then is_none row else true) ≡ true →
+        first_move feed first (record move { xfer = x; xfer_product = row }) ≡ first_move feed first (bare (leg_taken move) None)
+    by None None none whole = refl
+    by None (Some row) none whole = absurd (let no : false ≡ true = whole in cc)
+    by (Some x) row none whole = absurd (let no : false ≡ true = none in cc)
+
+module _ (feed : FeedRows) (rider : Option RiderId) (leg : LegFacts) where
+  -- what a move of a first leg tells
+  pub record IsFirst (move : Move) : Type 0 where
+    pub first : FareLeg
+    pub chosen : chosen_leg feed leg (leg_taken move) ≡ Some first
+    pub paid_leg : is_leg_choice feed rider leg (leg_taken move) ≡ true
+    pub no_change : is_none (place_taken move) ≡ true
+    pub whole : is_whole move ≡ true
+    pub follows : first_move feed first move ≡ move
+
+  pub first_tells : (move : Move) → move_of_first feed rider leg move ≡ Some move → IsFirst move
+  unfolding move_of_first
+  first_tells move is = by (chosen_leg feed leg (leg_taken move)) refl is
+    where
+      by : (o : Option FareLeg) → chosen_leg feed leg (leg_taken move) ≡ o →
+          option_and_then (λ first. when (is_leg_choice feed rider leg (leg_taken move) && is_none (place_taken move) && is_whole move) (first_move feed first move)) o ≡ Some move →
+          IsFirst move
+      by None chosen e = absurd (none-some move e)
+      by (Some first) chosen e =
+          let found = cond_some _ _ _ e in
+          let parts = and_parts _ (is_whole move) found.0 in
+          let both = and_parts (is_leg_choice feed rider leg (leg_taken move)) _ parts.0 in
+          record { first = first; chosen = chosen; paid_leg = both.0; no_change = both.1; whole = parts.1; follows = found.1 }
+
+  first_of : (pick : LegChoice) → is_leg_choice feed rider leg pick ≡ true → AreOf (move_of_first feed rider leg) pick (first_made feed leg pick)
+  first_of pick paid = by (chosen_leg feed leg pick) refl
+    where
+      only : (m x : Move) → Contains (m ∷ []) x → m ≡ x
+      only m x (zero, lt, is) = is
+      only m x (suc k, lt, is) = absurd (omega (arith, lt))
+
+      by : (o : Option FareLeg) → chosen_leg feed leg pick ≡ o →
+          AreOf (move_of_first feed rider leg) pick (option_map_or (λ first. first_move feed first (bare pick None) ∷ []) o [])
+      by None chosen = record {
+        right = λ move (k, lt, e). absurd (omega (arith, lt));
+        all = λ move is same. let m = first_tells move is in absurd (none-some m.first (sym chosen ∙ ap (chosen_leg feed leg) (sym same) ∙ m.chosen));
+        once = λ i j d lt lt'. absurd (omega (arith, lt'));
+      }
+      by (Some first) chosen = record {
+        right = λ move c.
+            let same = only (first_move feed first (bare pick None)) move c in (
+              ap leg_taken (sym same),
+              subst (λ (m : Move). move_of_first feed rider leg m ≡ Some m) same
+                  (sym (first_when feed rider leg (first_move feed first (bare pick None)) first true chosen (rw paid refl))),
+            );
+        all = λ move is same.
+            let m = first_tells move is in
+            let legs : m.first ≡ first = same_Some m.first first (sym m.chosen ∙ ap (chosen_leg feed leg) same ∙ chosen) in (
+              0,
+              omega arith,
+              ap (λ (p : LegChoice). first_move feed first (bare p None)) (sym same) ∙ sym (first_is_bare feed first move m.no_change m.whole)
+                  ∙ ap (λ (f : FareLeg). first_move feed f move) (sym legs) ∙ m.follows,
+            );
+        once = λ i j d lt lt'. absurd (omega (arith, lt, lt'));
+      }
+
+  pub starts_are : (picks : List LegChoice) (moves : List Move) → ArePicks feed rider leg picks →
+      moves ≡ joined_below (length picks) (made_at (first_made feed leg) picks) → AreMovesAfter feed rider None (pos 0) leg moves
+  starts_are picks moves are is =
+      subst (AreMovesAfter feed rider None (pos 0) leg) (sym is)
+      (let all = all_made feed rider leg picks are (move_of_first feed rider leg) (first_made feed leg) first_of (λ move e. (first_tells move e).paid_leg) in
+      record { right = all.right; all = all.all; once = all.once })
+
+-- ---- a leg after a state
+
+-- what a bare move takes
+place_of_bare : (pick : LegChoice) (place : Option ChangeChoice) → place_taken (bare pick place) ≡ place
+place_of_bare pick None = refl
+place_of_bare pick (Some c) = refl
+
+whole_bare : (pick : LegChoice) (place : Option ChangeChoice) → is_whole (bare pick place) ≡ true
+whole_bare pick None = refl
+whole_bare pick (Some c) = refl
+
+-- different items are made different by what keeps them apart
+once_map : {X Y : Type 0} (g : X → Y) (back : Y → X) (xs : List X) → ((x : X) → back (g x) ≡ x) → AllPairs (λ (a b : X). a ≢ b) xs →
+    AllPairs (λ (a b : Y). a ≢ b) (map g xs)
+once_map {X} {Y} g back xs same once i j d lt lt' equal =
+    by (slice_get xs i) (slice_get xs j) refl refl
+  where
+    long : length (map g xs) ≡ length xs
+    long = simp length-map
+
+    within : j < length xs
+    within = omega (arith, lt', long)
+
+    at : (k : ℕ) → k < length (map g xs) → option_map g (slice_get xs k) ≡ Some (get_or (map g xs) k d)
+    at k in_list = sym (slice_get-map g xs k) ∙ slice_get-get_or (map g xs) k d in_list
+
+    by : (o p : Option X) → slice_get xs i ≡ o → slice_get xs j ≡ p → ⊥
+    by None p is is' = none-some _ (sym (ap (option_map g) is) ∙ at i (omega (arith, lt, lt')))
+    by (Some x) None is is' = none-some _ (sym (ap (option_map g) is') ∙ at j lt')
+    by (Some x) (Some y) is is' =
+        let a : g x ≡ get_or (map g xs) i d = same_Some _ _ (sym (ap (option_map g) is) ∙ at i (omega (arith, lt, lt'))) in
+        let b : g y ≡ get_or (map g xs) j d = same_Some _ _ (sym (ap (option_map g) is') ∙ at j lt') in
+        let items : x ≡ y = sym (same x) ∙ ap back (a ∙ equal ∙ sym b) ∙ same y in
+        once i j x lt within
+        (same_Some _ _ (sym (slice_get-get_or xs i x (omega (arith, lt, within))) ∙ is ∙ ap Some items ∙ sym is' ∙ slice_get-get_or xs j x within))
+
+module _ (feed : FeedRows) (rider : Option RiderId) (state : FareState) (held : ℤ) (leg : LegFacts) where
+  -- what a move of a leg after the state tells
+  record IsNext (move : Move) : Type 0 where
+    pub next : FareLeg
+    pub chosen : chosen_leg feed leg (leg_taken move) ≡ Some next
+    pub paid_leg : is_leg_choice feed rider leg (leg_taken move) ≡ true
+    pub right_place : is_place_after feed rider (asked_after state next) (place_taken move) ≡ true
+    pub whole : is_whole move ≡ true
+    pub follows : next_move feed state held next move ≡ move
+
+  next_tells : (move : Move) → move_of_next feed rider state held leg move ≡ Some move → IsNext move
+  unfolding move_of_next
+  next_tells move is = by (chosen_leg feed leg (leg_taken move)) refl is
+    where
+      by : (o : Option FareLeg) → chosen_leg feed leg (leg_taken move) ≡ o →
+          option_and_then (λ next. when (is_leg_choice feed rider leg (leg_taken move) && is_place_after feed rider (asked_after state next) (place_taken move) && is_whole move)
+          (next_move feed state held next move)) o ≡ Some move → IsNext move
+      by None chosen e = absurd (none-some move e)
+      by (Some next) chosen e =
+          let found = cond_some _ _ _ e in
+          let parts = and_parts _ (is_whole move) found.0 in
+          let both = and_parts (is_leg_choice feed rider leg (leg_taken move)) _ parts.0 in
+          record { next = next; chosen = chosen; paid_leg = both.0; right_place = both.1; whole = parts.1; follows = found.1 }
+
+  -- a whole move takes what a bare one does
+  next_is_bare : (next : FareLeg) (move : Move) → is_whole move ≡ true →
+      next_move feed state held next move ≡ next_move feed state held next (bare (leg_taken move) (place_taken move))
+  next_is_bare next move whole = by move.xfer move.xfer_product whole
+    where
+      by : (x : Option XferId) (row : Option ProductRowId) → (if is_none x then is_none row else true) ≡ true →
+          next_move feed state held next (record move { xfer = x; xfer_product = row })
+          ≡ next_move feed state held next (bare (leg_taken move) (place_by x row))
+      by None None whole = refl
+      by None (Some row) whole = absurd (let no : false ≡ true = whole in cc)
+      by (Some x) row whole = refl
+
+  -- a bare move, with what follows
+  abbrev full : FareLeg → LegChoice → Option ChangeChoice → Move
+  full next pick place = next_move feed state held next (bare pick place)
+
+  full_again : (next : FareLeg) (pick : LegChoice) (place : Option ChangeChoice) → next_move feed state held next (full next pick place) ≡ full next pick place
+  full_again next pick None = refl
+  full_again next pick (Some c) = refl
+
+  all_true : (a b c : Bool) → a ≡ true → b ≡ true → c ≡ true → true ≡ (a && b && c)
+  all_true a b c e f g = rw (e, f, g) refl
+
+  next_of : (pick : LegChoice) → is_leg_choice feed rider leg pick ≡ true → AreOf (move_of_next feed rider state held leg) pick (next_made feed rider state held leg pick)
+  next_of pick paid = by (chosen_leg feed leg pick) refl
+    where
+      by : (o : Option FareLeg) → chosen_leg feed leg pick ≡ o →
+          AreOf (move_of_next feed rider state held leg) pick
+          (option_map_or (λ next. map (full next pick) (place_list feed rider (asked_after state next))) o [])
+      by None chosen = record {
+        right = λ move (k, lt, e). absurd (omega (arith, lt));
+        all = λ move is same. let m = next_tells move is in absurd (none-some m.next (sym chosen ∙ ap (chosen_leg feed leg) (sym same) ∙ m.chosen));
+        once = λ i j d lt lt'. absurd (omega (arith, lt'));
+      }
+      by (Some next) chosen =
+          let places = are_places feed rider (asked_after state next) in
+          record {
+            right = λ move c.
+                let f = map-tells (full next pick) (place_list feed rider (asked_after state next)) move c in
+                let at = slice_get-Contains (place_list feed rider (asked_after state next)) f.0 f.1 in
+                let right_place = All-slice_get (λ (p : Option ChangeChoice). is_place_after feed rider (asked_after state next) p ≡ true) (place_list feed rider (asked_after state next)) at.0 f.0 at.1 places.right in (
+                  ap leg_taken (sym f.2),
+                  subst (λ (m : Move). move_of_next feed rider state held leg m ≡ Some m) f.2
+                      (sym (next_when feed rider leg (full next pick f.0) state held next true chosen
+                      (all_true _ _ _ paid (ap (is_place_after feed rider (asked_after state next)) (place_of_bare pick f.0) ∙ right_place) (whole_bare pick f.0)))
+                      ∙ ap Some (full_again next pick f.0)),
+                );
+            all = λ move is same.
+                let m = next_tells move is in
+                let legs : m.next ≡ next = same_Some m.next next (sym m.chosen ∙ ap (chosen_leg feed leg) same ∙ chosen) in
+                let right_place = subst (λ (x : FareLeg). is_place_after feed rider (asked_after state x) (place_taken move) ≡ true) legs m.right_place in
+                let is_full : full next pick (place_taken move) ≡ move =
+                ap (λ (p : LegChoice). full next p (place_taken move)) (sym same) ∙ sym (next_is_bare next move m.whole)
+                ∙ ap (λ (x : FareLeg). next_move feed state held x move) (sym legs) ∙ m.follows in
+                subst (Contains (map (full next pick) (place_list feed rider (asked_after state next)))) is_full
+                (Contains-map (full next pick) (place_list feed rider (asked_after state next)) (place_taken move) (places.all (place_taken move) right_place));
+            once = once_map (full next pick) place_taken (place_list feed rider (asked_after state next)) (place_of_bare pick) places.once;
+          }
+
+  pub steps_are : (picks : List LegChoice) (moves : List Move) → ArePicks feed rider leg picks →
+      moves ≡ joined_below (length picks) (made_at (next_made feed rider state held leg) picks) → AreMovesAfter feed rider (Some state) held leg moves
+  steps_are picks moves are is =
+      subst (AreMovesAfter feed rider (Some state) held leg) (sym is)
+      (let all = all_made feed rider leg picks are (move_of_next feed rider state held leg) (next_made feed rider state held leg) next_of (λ move e. (next_tells move e).paid_leg) in
+      record { right = all.right; all = all.all; once = all.once })

@@ -1,0 +1,112 @@
+-- What can be paid for a leg, and what may fill the place of a change: all that there is, in the order of the rows.
+use Rattle.std.specs.Prelude.{◌≡◌, ◌≢◌, ℕ, Bool, true, false, if◌then◌else◌, List, [], ◌∷◌, length, map, slice_get, All, AllPairs, Contains, Option, Some, None, option_map, option_and_then, ℤ, pos}
+use Rattle.std.specs.Option.{option_map_or}
+use Rattle.transit_base.specs.declared.numbers.ProductId.{ProductId}
+use Rattle.transit_base.specs.declared.numbers.RiderId.{RiderId}
+use Rattle.feed_rows.specs.declared.fares.ChangeChoice.{ChangeChoice}
+use Rattle.feed_rows.specs.declared.fares.LegChoice.{LegChoice}
+use Rattle.feed_rows.specs.declared.journeys.LegFacts.{LegFacts}
+use Rattle.feed_rows.specs.declared.rows.TransferRuleRow.{TransferRuleRow}
+use Rattle.feed_rows.specs.declared.states.FareState.{FareState}
+use Rattle.feed_rows.specs.declared.states.Move.{Move}
+use Rattle.feed_rows.specs.FeedRows.{FeedRows}
+use Rattle.feed_rows.specs.LegRules.{is_selected_rule}
+use Rattle.feed_rows.specs.TransferRules.{AskedChange, is_selected}
+use Rattle.feed_rows.specs.FareChoices.{is_open, chosen_leg, is_leg_choice}
+use Rattle.feed_rows.specs.FareSteps.{asked_after, is_arranged_after, is_place_after, first_move, next_move}
+use Rattle.plain_laws.specs.Plain.{at_and, joined_below}
+
+-- ---- legs
+
+-- the choices are exactly those for the leg, each once
+pub record ArePicks (feed : FeedRows) (rider : Option RiderId) (leg : LegFacts) (picks : List LegChoice) : Type 0 where
+  pub right : All (λ pick. is_leg_choice feed rider leg pick ≡ true) picks
+  pub all : (pick : LegChoice) → is_leg_choice feed rider leg pick ≡ true → Contains picks pick
+  pub once : AllPairs (λ a b. a ≢ b) picks
+
+abbrev pub pick_of : ℕ → ℕ → LegChoice
+pick_of rule row = record { rule = record { 0 = rule }; product = record { 0 = row } }
+
+-- the row is an open row of the rule's product
+abbrev pub is_row_of : FeedRows → Option RiderId → ℕ → ℕ → Bool
+is_row_of feed rider rule row = at_and feed.leg_rules rule (λ r. at_and feed.products row (is_open r.product rider))
+
+-- the choice of the row, where it is such
+abbrev pub pick_if : FeedRows → Option RiderId → ℕ → ℕ → List LegChoice
+pick_if feed rider rule row = if is_row_of feed rider rule row then pick_of rule row ∷ [] else []
+
+-- the choices of a rule
+unfoldable pub rule_picks : FeedRows → Option RiderId → ℕ → List LegChoice
+rule_picks feed rider rule = joined_below (length feed.products) (pick_if feed rider rule)
+
+-- the choices of a rule, where the leg selects it
+abbrev pub picks_if : FeedRows → Option RiderId → LegFacts → ℕ → List LegChoice
+picks_if feed rider leg rule = if at_and feed.leg_rules rule (is_selected_rule feed leg) then rule_picks feed rider rule else []
+
+-- ---- changes
+
+-- what may fill the place of the change is exactly this, each once
+pub record ArePlaces (feed : FeedRows) (rider : Option RiderId) (change : Option AskedChange)
+    (places : List (Option ChangeChoice)) : Type 0 where
+  pub right : All (λ place. is_place_after feed rider change place ≡ true) places
+  pub all : (place : Option ChangeChoice) → is_place_after feed rider change place ≡ true → Contains places place
+  pub once : AllPairs (λ a b. a ≢ b) places
+
+abbrev pub place_of : ℕ → Option ℕ → Option ChangeChoice
+place_of rule None = Some (record { rule = record { 0 = rule }; product = None })
+place_of rule (Some row) = Some (record { rule = record { 0 = rule }; product = Some (record { 0 = row }) })
+
+-- the place by the product row, where it is an open row of the product
+abbrev pub place_if : FeedRows → Option RiderId → ℕ → ProductId → ℕ → List (Option ChangeChoice)
+place_if feed rider rule product row =
+    if at_and feed.products row (is_open product rider) then place_of rule (Some row) ∷ [] else []
+
+-- the places by a transfer row with this product
+unfoldable pub product_places : FeedRows → Option RiderId → ℕ → Option ProductId → List (Option ChangeChoice)
+product_places feed rider rule None = place_of rule None ∷ []
+product_places feed rider rule (Some product) = joined_below (length feed.products) (place_if feed rider rule product)
+
+-- the places by a transfer row, where it is selected
+abbrev pub row_places : FeedRows → Option RiderId → AskedChange → ℕ → List (Option ChangeChoice)
+row_places feed rider change rule =
+    option_map_or (λ row. if is_selected feed change row then product_places feed rider rule row.product else [])
+    (slice_get feed.transfer_rules rule) []
+
+-- what may fill the place of a change: where it isn't arranged, or there is none, nothing
+unfoldable pub place_list : FeedRows → Option RiderId → Option AskedChange → List (Option ChangeChoice)
+place_list feed rider None = None ∷ []
+place_list feed rider (Some change) =
+    if is_arranged_after feed change
+    then joined_below (length feed.transfer_rules) (row_places feed rider change)
+    else None ∷ []
+
+-- ---- moves
+
+-- a move that takes these rows, before it says what follows
+abbrev pub bare : LegChoice → Option ChangeChoice → Move
+bare pick place =
+    record {
+      state = record { group = None; count = 0; departure = None; arrival = None; first = false };
+      paid = record { 0 = pos 0 };
+      held = record { 0 = pos 0 };
+      rule = pick.rule;
+      product = pick.product;
+      xfer = option_map (λ c. c.rule) place;
+      xfer_product = option_and_then (λ c. c.product) place;
+    }
+
+-- the move of a first leg that is paid so
+abbrev pub first_made : FeedRows → LegFacts → LegChoice → List Move
+first_made feed leg pick =
+    option_map_or (λ first. first_move feed first (bare pick None) ∷ []) (chosen_leg feed leg pick) []
+
+-- the moves of a leg after the state that is paid so: by each place of the change to it
+abbrev pub next_made : FeedRows → Option RiderId → FareState → ℤ → LegFacts → LegChoice → List Move
+next_made feed rider state held leg pick =
+    option_map_or
+    (λ next. map (λ place. next_move feed state held next (bare pick place)) (place_list feed rider (asked_after state next)))
+    (chosen_leg feed leg pick) []
+
+-- the lists of all choices, one after another
+abbrev pub made_at : (LegChoice → List Move) → List LegChoice → ℕ → List Move
+made_at made picks i = option_map_or made (slice_get picks i) []

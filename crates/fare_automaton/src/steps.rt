@@ -1,0 +1,219 @@
+//! All moves of a leg.
+ghost use Rattle.std.specs.Prelude.{◌≡◌, ◌≤◌, ◌^◌, ◌++◌, length, map, nat_abs, IfOk, OnOk};
+ghost use Rattle.plain_laws.specs.Plain.{joined_below};
+ghost use Rattle.feed_rows.specs.FareSteps.{next_move};
+ghost use Rattle.fare_automaton.specs.Steps.{AreStarts, AreSteps};
+ghost use Rattle.fare_automaton.specs.Changes.{leg_of};
+ghost use Rattle.fare_automaton.specs.Options.{ArePicks, bare, first_made, next_made, made_at};
+
+use crate::automaton::Automaton;
+use crate::changes::{GroupedLeg, change_after};
+use feed_rows::{ChangeChoice, FareState, LegChoice, LegFacts, Move, Moves};
+use std::alloc::{AllocError, Global};
+use transit_base::Money;
+
+impl<'f> Automaton<'f> {
+    /// The moves of a first leg: all that there are, each once. There are none exactly where nothing pays the leg.
+    ///
+    /// # Errors
+    /// Want of memory.
+    pub fn start(&self, alloc: Global, leg: &LegFacts) -> Result<Moves, AllocError>
+        ensures { IfOk result (AreStarts self.now.feed self.now.rider leg.now) }
+    {
+        let options = self.options(alloc, leg)?;
+        let mut moves = Vec::new(alloc);
+        self.start_into(leg, &options, &mut moves)?;
+        move_list(alloc, &moves)
+    }
+
+    /// The moves of a leg after the state, where so much is held: all that there are, each once. There are none exactly where
+    /// nothing pays the leg and the change to it.
+    ///
+    /// # Errors
+    /// Want of memory.
+    pub fn step(
+        &self,
+        alloc: Global,
+        state: &FareState,
+        held: Money,
+        leg: &LegFacts,
+    ) -> Result<Moves, AllocError>
+        requires held { nat_abs held.0 ≤ 10 ^ 16 }
+        ensures { IfOk result (AreSteps self.now.feed self.now.rider state.now held.0 leg.now) }
+    {
+        let options = self.options(alloc, leg)?;
+        let mut places = Vec::new(alloc);
+        let mut moves = Vec::new(alloc);
+        self.step_into(state, held, leg, &options, &mut places, &mut moves)?;
+        move_list(alloc, &moves)
+    }
+
+    /// Replaces what `moves` holds by the moves of a first leg with these options: all that there are, each once.
+    ///
+    /// # Errors
+    /// Want of memory.
+    pub fn start_into(
+        &self,
+        leg: &LegFacts,
+        options: &[LegChoice],
+        moves: &mut Vec<Move>,
+    ) -> Result<(), AllocError>
+        requires options { ArePicks self.now.feed self.now.rider leg.now options.now }
+        ensures { OnOk result (AreStarts self.now.feed self.now.rider leg.now moves.new.items) }
+    {
+        moves.clear();
+        self.push_starts(leg, options, moves)
+    }
+
+    /// Adds the moves of a first leg with these options.
+    fn push_starts(
+        &self,
+        leg: &LegFacts,
+        options: &[LegChoice],
+        moves: &mut Vec<Move>,
+    ) -> Result<(), AllocError>
+        ensures { OnOk result (moves.new.items ≡ moves.old.items ++ joined_below (length options.now) (made_at (first_made self.now.feed leg.now) options.now)) }
+    {
+        for number in 0..options.len() {
+            self.push_first(leg, &options[number], moves)?;
+        }
+        Ok(())
+    }
+
+    /// Adds the move of a first leg that is paid so.
+    fn push_first(
+        &self,
+        leg: &LegFacts,
+        pick: &LegChoice,
+        moves: &mut Vec<Move>,
+    ) -> Result<(), AllocError>
+        ensures { OnOk result (moves.new.items ≡ moves.old.items ++ first_made self.now.feed leg.now pick.now) }
+    {
+        let taken = bare(pick, None);
+        match self.chosen_leg(leg, &taken) {
+            Some(first) => {
+                moves.push(self.first_move(&first, &taken))?;
+                Ok(())
+            }
+            None => Ok(()),
+        }
+    }
+
+    /// Replaces what `moves` holds by the moves of a leg with these options after the state, where so much is held: all that
+    /// there are, each once. What `places` holds is lost.
+    ///
+    /// # Errors
+    /// Want of memory.
+    pub fn step_into(
+        &self,
+        state: &FareState,
+        held: Money,
+        leg: &LegFacts,
+        options: &[LegChoice],
+        places: &mut Vec<Option<ChangeChoice>>,
+        moves: &mut Vec<Move>,
+    ) -> Result<(), AllocError>
+        requires held { nat_abs held.0 ≤ 10 ^ 16 }
+        requires options { ArePicks self.now.feed self.now.rider leg.now options.now }
+        ensures { OnOk result (AreSteps self.now.feed self.now.rider state.now held.0 leg.now moves.new.items) }
+    {
+        moves.clear();
+        self.push_steps(state, held, leg, options, places, moves)
+    }
+
+    /// Adds the moves of a leg with these options after the state.
+    fn push_steps(
+        &self,
+        state: &FareState,
+        held: Money,
+        leg: &LegFacts,
+        options: &[LegChoice],
+        places: &mut Vec<Option<ChangeChoice>>,
+        moves: &mut Vec<Move>,
+    ) -> Result<(), AllocError>
+        requires held { nat_abs held.0 ≤ 10 ^ 16 }
+        ensures { OnOk result (moves.new.items ≡ moves.old.items ++ joined_below (length options.now) (made_at (next_made self.now.feed self.now.rider state.now held.0 leg.now) options.now)) }
+    {
+        for number in 0..options.len() {
+            self.push_next(state, held, leg, &options[number], places, moves)?;
+        }
+        Ok(())
+    }
+
+    /// Adds the moves of a leg after the state that is paid so.
+    fn push_next(
+        &self,
+        state: &FareState,
+        held: Money,
+        leg: &LegFacts,
+        pick: &LegChoice,
+        places: &mut Vec<Option<ChangeChoice>>,
+        moves: &mut Vec<Move>,
+    ) -> Result<(), AllocError>
+        requires held { nat_abs held.0 ≤ 10 ^ 16 }
+        ensures { OnOk result (moves.new.items ≡ moves.old.items ++ next_made self.now.feed self.now.rider state.now held.0 leg.now pick.now) }
+    {
+        match self.chosen_leg(leg, &bare(pick, None)) {
+            Some(next) => {
+                self.places_into(change_after(state, &next), places)?;
+                self.push_moves(state, held, &next, pick, places, moves)
+            }
+            None => Ok(()),
+        }
+    }
+
+    /// Adds the moves of the leg by these places of the change to it.
+    fn push_moves(
+        &self,
+        state: &FareState,
+        held: Money,
+        next: &GroupedLeg,
+        pick: &LegChoice,
+        places: &[Option<ChangeChoice>],
+        moves: &mut Vec<Move>,
+    ) -> Result<(), AllocError>
+        requires held { nat_abs held.0 ≤ 10 ^ 16 }
+        ensures { OnOk result (moves.new.items ≡ moves.old.items ++ map (λ place. next_move self.now.feed state.now held.0 (leg_of next.now) (bare pick.now place)) places.now) }
+    {
+        for place in places {
+            moves.push(self.next_move(state, held, next, &bare(pick, *place)))?;
+        }
+        Ok(())
+    }
+}
+
+/// The moves as a list.
+fn move_list(alloc: Global, moves: &[Move]) -> Result<Moves, AllocError>
+    ensures { IfOk result (λ list. list ≡ moves.now) }
+{
+    let mut list = Moves::empty(alloc);
+    for step in moves {
+        list.push(*step)?;
+    }
+    Ok(list)
+}
+
+/// A move that takes these rows, before it says what follows.
+fn bare(pick: &LegChoice, place: Option<ChangeChoice>) -> Move
+    ensures { result ≡ bare pick.now place }
+{
+    let (xfer, xfer_product) = match place {
+        Some(change) => (Some(change.rule), change.product),
+        None => (None, None),
+    };
+    Move {
+        state: FareState {
+            group: None,
+            count: 0,
+            departure: None,
+            arrival: None,
+            first: false,
+        },
+        paid: Money(0),
+        held: Money(0),
+        rule: pick.rule,
+        product: pick.product,
+        xfer,
+        xfer_product,
+    }
+}
