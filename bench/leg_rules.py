@@ -1,24 +1,25 @@
 #!/usr/bin/env python3
-"""Times the leg rules that legs select, beside a pass over all rules, and the making of legs.
+"""Times the leg rules that legs select, beside a Rust program that goes over all rules, which nothing proves.
 
-Usage: leg_rules.py [ASKS [SECONDS]]
+Usage: leg_rules.py [RUNS]
 
-A tariff of 500 leg rules with 50 areas, 5 networks and 6 timeframe groups, with and without the column `rule_priority`. There
-are 1,000 legs, which are asked for in turn, ASKS times, 20,000 if it is left out. Both ways add up the numbers of the rules
-that are selected, and must come to the same sum. Then as many legs are made from their rides, with their days at hand and
+A tariff of 500 leg rules with 50 areas, 5 networks and 6 timeframe groups, with and without the column `rule_priority`. The
+legs are 1,000, of which each is asked for 1,000 times. Both programs add up the numbers of the rules that are selected, and
+come to the same sum. Then the same thousand legs are made a thousand times from their rides, with their days at hand and
 without.
 
-The pass over all rules is not proved, so the program is run by `rt try`, which adds checks to each step: the times are many
-times those of a built program, and tell how one way compares with the other. SECONDS is the limit of a run, 600 if it is left
-out. Each line is what was asked, the milliseconds in which it was answered, those of the other way, and their ratio.
+The crates are copied to a scratch folder, with a program that asks them, which is proved and built as the gate does it; the
+Rust program is built by `rustc -O`. Both are run in turn, RUNS times, 5 if it is left out, and the least time
+counts. What a run takes without asking is taken off. Each line is what was asked, the milliseconds of the processor that a
+million took in both programs, and how many times as long the second took.
 """
 
 import os
-import re
-import shutil
 import subprocess
 import sys
 import tempfile
+
+import proved_program
 
 # The crates that the program calls.
 CALLED = ["fare_leg_rules", "fare_timeframes", "feed_check", "feed_rows", "folder_io", "transit_base"]
@@ -31,23 +32,26 @@ PROGRAM = """\
 //! Times the leg rules that legs select.
 #![tactic(auto)]
 
+ghost use Rattle.std.specs.Prelude.{◌<◌};
+
 use fare_leg_rules::LegRules;
 use fare_timeframes::Timeframes;
 use feed_check::load;
-use feed_rows::{Feed, LegFacts, LegRuleRow, RideFacts};
+use feed_rows::{LegFacts, RideFacts};
 use folder_io::DirFolder;
 use std::alloc::{AllocError, Global};
 use std::env;
 use std::test::Fail;
-use std::time::Instant;
-use transit_base::{AreaId, Moment, NetworkId, StopId};
+use transit_base::{Moment, NetworkId, StopId};
 
-const ASKS: u32 = @asks@;
+const ASKS: u32 = 1_000_000;
 const LEGS: u32 = 1_000;
 /// 2025-06-02 00:00:00.
 const MIDNIGHT: i64 = 1_748_822_400;
 
-fn scattered(n: u32, factor: u32, below: u32) -> u32 {
+fn scattered(n: u32, factor: u32, below: u32) -> u32
+    requires { 0 < below }
+{
     n.wrapping_mul(factor) % below
 }
 
@@ -89,60 +93,6 @@ fn select(alloc: Global, rules: &LegRules, legs: &[LegFacts]) -> Result<u64, All
     Ok(sum)
 }
 
-/// Whether the area of a rule is that of a stop with these.
-fn area_fits(feed: &Feed, listed: &[bool], rule: Option<AreaId>, areas: &[AreaId]) -> bool {
-    match rule {
-        Some(area) => areas.iter().any(|a| a.0 == area.0),
-        None => feed.has_priority || areas.iter().all(|a| !listed[a.0 as usize]),
-    }
-}
-
-/// Whether the rule matches the leg.
-fn matches(feed: &Feed, networks: &[bool], froms: &[bool], tos: &[bool], leg: &LegFacts, rule: &LegRuleRow) -> bool {
-    let network = match (rule.network, leg.network) {
-        (Some(n), Some(own)) => n.0 == own.0,
-        (Some(_), None) => false,
-        (None, Some(own)) => feed.has_priority || !networks[own.0 as usize],
-        (None, None) => true,
-    };
-    let frame = match rule.from_frame {
-        Some(f) => leg.from_frames.items().iter().any(|g| g.0 == f.0),
-        None => true,
-    };
-    network
-        && area_fits(feed, froms, rule.from_area, leg.from_areas.items())
-        && area_fits(feed, tos, rule.to_area, leg.to_areas.items())
-        && frame
-}
-
-/// The sum of the numbers of the rules that legs select, by a pass over all rules for each.
-fn plain(alloc: Global, feed: &Feed, legs: &[LegFacts]) -> Result<u64, AllocError> {
-    let mut networks = vec![in alloc; false; 5]?;
-    let mut froms = vec![in alloc; false; 50]?;
-    let mut tos = vec![in alloc; false; 50]?;
-    for row in feed.leg_rules.items() {
-        if let Some(n) = row.network { networks[n.0 as usize] = true; }
-        if let Some(n) = row.from_area { froms[n.0 as usize] = true; }
-        if let Some(n) = row.to_area { tos[n.0 as usize] = true; }
-    }
-    let mut sum = 0u64;
-    for n in 0..ASKS {
-        let leg = &legs[scattered(n, 7919, LEGS) as usize];
-        let mut top = 0;
-        let mut here = 0u64;
-        let mut number = 0u64;
-        for row in feed.leg_rules.items() {
-            if row.priority >= top && matches(feed, &networks, &froms, &tos, leg, row) {
-                if row.priority > top { here = 0; top = row.priority; }
-                here = here.wrapping_add(number);
-            }
-            number = number.wrapping_add(1);
-        }
-        sum = sum.wrapping_add(here);
-    }
-    Ok(sum)
-}
-
 /// How many of the timeframe groups hold at the departures of rides.
 fn make_facts(alloc: Global, timeframes: &Timeframes) -> Result<u64, AllocError> {
     let mut sum = 0u64;
@@ -153,11 +103,14 @@ fn make_facts(alloc: Global, timeframes: &Timeframes) -> Result<u64, AllocError>
     Ok(sum)
 }
 
-/// The word is the feed's folder.
+/// The words: the feed's folder, and what is asked.
 fn main(rt: HostRuntime) -> Result<(), Fail> {
     let alloc = rt.alloc();
     let mut words = env::args(&rt)?.skip(1);
-    let path = words.next().ok_or("path")?;
+    let Some(path) = words.next() else {
+        return Ok(());
+    };
+    let asked = words.next().ok_or("asked")?;
     let mut folder = DirFolder::new(rt, alloc, path.as_str())?;
     let Ok(feed) = load(alloc, &mut folder) else {
         return Err("the feed has a fault")?;
@@ -165,21 +118,139 @@ fn main(rt: HostRuntime) -> Result<(), Fail> {
     let rules = LegRules::build(alloc, &feed)?;
     let last = Moment(MIDNIGHT + 86_400);
     let kept = Timeframes::between(alloc, &feed, Moment(MIDNIGHT), last)?;
-    let plain_frames = Timeframes::build(alloc, &feed)?;
+    let plain = Timeframes::build(alloc, &feed)?;
     let legs = legs(alloc, &kept)?;
-    let start = Instant::now(&rt)?;
-    let sum = select(alloc, &rules, legs.as_slice())?;
-    println!(rt; "found\\t{sum}\\t{}", start.elapsed(&rt)?.as_millis())?;
-    let start = Instant::now(&rt)?;
-    let sum = plain(alloc, &feed, legs.as_slice())?;
-    println!(rt; "plain\\t{sum}\\t{}", start.elapsed(&rt)?.as_millis())?;
-    let start = Instant::now(&rt)?;
-    let sum = make_facts(alloc, &kept)?;
-    println!(rt; "kept\\t{sum}\\t{}", start.elapsed(&rt)?.as_millis())?;
-    let start = Instant::now(&rt)?;
-    let sum = make_facts(alloc, &plain_frames)?;
-    println!(rt; "anew\\t{sum}\\t{}", start.elapsed(&rt)?.as_millis())?;
+    let sum = match asked.as_str() {
+        "rules" => select(alloc, &rules, legs.as_slice())?,
+        "kept" => make_facts(alloc, &kept)?,
+        "facts" => make_facts(alloc, &plain)?,
+        _ => 0,
+    };
+    println!(rt; "{sum}")?;
     Ok(())
+}
+"""
+
+RUST = """\
+struct Rule {
+    network: Option<u32>,
+    from_area: Option<u32>,
+    to_area: Option<u32>,
+    from_frame: Option<u32>,
+    priority: u32,
+}
+
+struct Leg {
+    network: Option<u32>,
+    from_areas: Vec<u32>,
+    to_areas: Vec<u32>,
+    from_frames: Vec<u32>,
+}
+
+struct Tariff {
+    rules: Vec<Rule>,
+    has_priority: bool,
+    networks: Vec<bool>,
+    from_areas: Vec<bool>,
+    to_areas: Vec<bool>,
+}
+
+fn rule(n: u32) -> Rule {
+    Rule {
+        network: if n % 11 == 0 { None } else { Some(n % 5) },
+        from_area: if n % 10 == 3 { None } else { Some(n * 7 % 50) },
+        to_area: if n % 3 == 0 { None } else { Some((n * 13 + 5) % 25 * 2) },
+        from_frame: if n % 2 == 0 { None } else { Some(n % 6) },
+        priority: n % 4,
+    }
+}
+
+fn areas(stop: u32) -> Vec<u32> {
+    let mut areas = vec![stop];
+    if stop % 5 == 0 {
+        areas.push((stop + 1) % 50);
+        areas.sort_unstable();
+    }
+    areas
+}
+
+fn leg(n: u32) -> Leg {
+    Leg {
+        network: Some(n % 5),
+        from_areas: areas(n * 31 % 50),
+        to_areas: areas(n * 17 % 50),
+        from_frames: vec![n * 997 % 86_400 / 14_400],
+    }
+}
+
+fn marks(count: usize, named: impl Iterator<Item = Option<u32>>) -> Vec<bool> {
+    let mut marks = vec![false; count];
+    for number in named.flatten() {
+        marks[number as usize] = true;
+    }
+    marks
+}
+
+impl Tariff {
+    fn new(has_priority: bool) -> Tariff {
+        let mut rules: Vec<Rule> = (0..500).map(rule).collect();
+        if !has_priority {
+            rules.iter_mut().for_each(|rule| rule.priority = 0);
+        }
+        Tariff {
+            has_priority,
+            networks: marks(5, rules.iter().map(|rule| rule.network)),
+            from_areas: marks(50, rules.iter().map(|rule| rule.from_area)),
+            to_areas: marks(50, rules.iter().map(|rule| rule.to_area)),
+            rules,
+        }
+    }
+
+    fn area_fits(&self, named: &[bool], area: Option<u32>, areas: &[u32]) -> bool {
+        match area {
+            Some(area) => areas.contains(&area),
+            None => self.has_priority || areas.iter().all(|area| !named[*area as usize]),
+        }
+    }
+
+    fn matches(&self, leg: &Leg, rule: &Rule) -> bool {
+        (match (rule.network, leg.network) {
+            (Some(network), own) => own == Some(network),
+            (None, Some(own)) => self.has_priority || !self.networks[own as usize],
+            (None, None) => true,
+        }) && self.area_fits(&self.from_areas, rule.from_area, &leg.from_areas)
+            && self.area_fits(&self.to_areas, rule.to_area, &leg.to_areas)
+            && rule.from_frame.is_none_or(|frame| leg.from_frames.contains(&frame))
+    }
+
+    fn selected(&self, leg: &Leg) -> Vec<u32> {
+        let mut selected = Vec::new();
+        let mut top = 0;
+        for (number, rule) in self.rules.iter().enumerate() {
+            if rule.priority >= top && self.matches(leg, rule) {
+                if rule.priority > top {
+                    selected.clear();
+                    top = rule.priority;
+                }
+                selected.push(number as u32);
+            }
+        }
+        selected
+    }
+}
+
+fn main() {
+    let words: Vec<String> = std::env::args().collect();
+    let tariff = Tariff::new(words[1].ends_with("with"));
+    let legs: Vec<Leg> = (0..1_000).map(leg).collect();
+    let mut sum = 0u64;
+    if words[2] == "rules" {
+        for n in 0..1_000_000u32 {
+            let leg = &legs[(n.wrapping_mul(7919) % 1_000) as usize];
+            sum += tariff.selected(leg).iter().map(|rule| u64::from(*rule)).sum::<u64>();
+        }
+    }
+    println!("{sum}");
 }
 """
 
@@ -220,64 +291,52 @@ def make_feed(folder, has_priority):
     write(folder, "fare_leg_rules.txt", columns + priority, map(rule, range(RULES)))
 
 
-def copy_crates(root, scratch):
-    """Copies what the program stands on, without what earlier checks left there."""
-    with open(os.path.join(root, "crates.txt")) as file:
-        lines = [line.rstrip("\n") for line in file if ":" in line and not line.startswith("#")]
-    stands_on = {name: crates.split() for name, crates in (line.split(":") for line in lines)}
-    wanted = []
-    waiting = list(CALLED)
-    while waiting:
-        crate = waiting.pop()
-        # A crate that isn't listed is one of the kit's.
-        if crate in stands_on and crate not in wanted:
-            wanted.append(crate)
-            waiting.extend(stands_on[crate])
-    with open(os.path.join(scratch, "crates.txt"), "w") as file:
-        file.writelines(f"{line}\n" for line in lines if line.split(":")[0] in wanted)
-        file.write(f"leg_rules: {' '.join(CALLED)}\n")
-    for crate in wanted:
-        shutil.copytree(
-            os.path.join(root, "crates", crate),
-            os.path.join(scratch, "crates", crate),
-            ignore=shutil.ignore_patterns("out", "must-fail", "more-edits"),
-        )
+def build_rust(scratch):
+    source = os.path.join(scratch, "rules.rs")
+    with open(source, "w") as file:
+        file.write(RUST)
+    program = os.path.join(scratch, "rules")
+    subprocess.run(["rustc", "-O", "-o", program, source], check=True)
+    return program
 
 
-def run(scratch, feed, seconds):
-    """For each way the sum that it came to, and the milliseconds."""
-    folder = os.path.join(scratch, "crates", "leg_rules")
-    command = ["rt", "try", "--seconds", seconds, "--", feed]
-    said = subprocess.run(command, cwd=folder, stdout=subprocess.PIPE, stderr=subprocess.STDOUT, text=True).stdout
-    lines = re.findall(r"^(found|plain|kept|anew)\t(\d+)\t(\d+)$", said, re.MULTILINE)
-    if len(lines) != 4:
-        sys.exit(said)
-    return {way: (total, int(took)) for way, total, took in lines}
+def run(program, feed, asked):
+    """What a run says, and the milliseconds of the processor that it took."""
+    child = subprocess.Popen([program, feed, asked], stdout=subprocess.PIPE, text=True)
+    said = child.stdout.read().strip()
+    _, status, used = os.wait4(child.pid, 0)
+    if status != 0:
+        sys.exit(f"{program} failed")
+    return said, used.ru_utime * 1000
 
 
-def tell(what, found, other):
-    if found[0] != other[0]:
-        sys.exit(f"{what}: {found[0]} and {other[0]}")
-    print(f"{what}\t{found[1]}\t{other[1]}\t{other[1] / max(found[1], 1):.1f}", flush=True)
+def least(runs, program, feed, asked):
+    found = [run(program, feed, asked) for _ in range(runs)]
+    return found[0][0], min(took for _, took in found)
 
 
 def main():
-    asks = sys.argv[1] if len(sys.argv) > 1 else "20000"
-    seconds = sys.argv[2] if len(sys.argv) > 2 else "600"
-    root = os.path.dirname(os.path.dirname(os.path.abspath(__file__)))
+    runs = int(sys.argv[1]) if len(sys.argv) > 1 else 5
     with tempfile.TemporaryDirectory() as scratch:
-        copy_crates(root, scratch)
-        folder = os.path.join(scratch, "crates", "leg_rules", "src")
-        os.makedirs(folder)
-        with open(os.path.join(folder, "main.rt"), "w") as file:
-            file.write(PROGRAM.replace("@asks@", asks))
-        print("asked\tmilliseconds\tthe other way\tratio")
-        for kind in ["without", "with"]:
-            feed = os.path.join(scratch, kind)
+        feeds = {kind: os.path.join(scratch, kind) for kind in ["without", "with"]}
+        for kind, feed in feeds.items():
             make_feed(feed, kind == "with")
-            took = run(scratch, feed, seconds)
-            tell(f"rules, {kind} priorities, beside a pass over all", took["found"], took["plain"])
-            tell("legs, with their days at hand beside without", took["kept"], took["anew"])
+        proved = proved_program.build(scratch, "leg_rules", CALLED, PROGRAM)
+        rust = build_rust(scratch)
+        print("asked\tproved\tbeside it\tratio")
+        for kind, feed in feeds.items():
+            nothing = [least(runs, program, feed, "nothing")[1] for program in (proved, rust)]
+            found = [least(runs, program, feed, "rules") for program in (proved, rust)]
+            if found[0][0] != found[1][0]:
+                sys.exit(f"the programs differ in what they selected: {found[0][0]} and {found[1][0]}")
+            took = [max(found[n][1] - nothing[n], 0.1) for n in range(2)]
+            print(f"rules, {kind} priorities\t{took[0]:.0f}\t{took[1]:.0f}\t{took[1] / took[0]:.1f}", flush=True)
+        nothing = least(runs, proved, feeds["with"], "nothing")[1]
+        found = [least(runs, proved, feeds["with"], asked) for asked in ("kept", "facts")]
+        if found[0][0] != found[1][0]:
+            sys.exit("the legs differ with their days at hand")
+        took = [max(each[1] - nothing, 0.1) for each in found]
+        print(f"legs, with days at hand and without\t{took[0]:.0f}\t{took[1]:.0f}\t{took[1] / took[0]:.1f}", flush=True)
 
 
 if __name__ == "__main__":
