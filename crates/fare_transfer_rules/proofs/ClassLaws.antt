@@ -1,74 +1,142 @@
--- The rows of each class, row by row, and that a row which a change may select is of the class of the leg before it.
-use Rattle.std.proofs.Common.{◌≡◌, refl, sym, ◌∙◌, ap, ℕ, suc, ◌+◌, ◌<◌, ◌≤◌, ◌⊎◌, inl, inr, Bool, true, false, not, List, [], ◌∷◌, ◌++◌, length, get_or, Option, Some, None, arith}
-use Rattle.std.specs.Prelude.{◌==◌, if◌then◌else◌, slice_get}
-use Rattle.std.specs.List.{list_any}
+-- The rows of each pair of classes, and that a row which a change may select is of the classes of its two legs.
+use Rattle.std.proofs.Common.{◌≡◌, refl, sym, ◌∙◌, ap, ℕ, zero, suc, ◌+◌, ◌<◌, ◌≤◌, ◌⊎◌, inl, inr, max, Bool, true, false, not, ◌&&◌, List, [], ◌∷◌, ◌++◌, length, map, filter, get_or, Option, Some, None, arith}
+use Rattle.std.specs.Prelude.{◌==◌, if◌then◌else◌, slice_get, slice_range, nat_lt, nat_le}
+use Rattle.std.specs.List.{AllWithin}
+use Rattle.std.specs.List.Sorted.{IsNonDecreasingBy}
 use Rattle.std.specs.Option.{ForSome}
 use Rattle.std.proofs.lemmas.Bool.{cases_lt}
 use Rattle.std.proofs.lemmas.Bool.Decides.{nat_tests}
-use Rattle.std.proofs.lemmas.Option.{slice_get-get_or}
+use Rattle.std.proofs.lemmas.List.Elements.{filter-append, filter_agree}
+use Rattle.std.proofs.lemmas.List.Sorted.{IsNonDecreasingBy-short}
+use Rattle.std.proofs.lemmas.Option.{slice_get_cases}
 use Rattle.transit_base.specs.declared.numbers.LegGroupId.{LegGroupId}
-use Rattle.transit_base.specs.declared.numbers.XferId.{XferId}
 use Rattle.feed_rows.specs.declared.rows.TransferRuleRow.{TransferRuleRow}
 use Rattle.feed_rows.specs.FeedRows.{FeedRows}
 use Rattle.feed_rows.specs.SoundFares.{AreSoundTransferRules}
 use Rattle.feed_rows.specs.TransferRules.{is_listed_group}
 use Rattle.plain_laws.specs.declared.groups.Grouped.{Grouped}
-use Rattle.plain_laws.specs.Plain.{at_and, filled_and, picks_below, ids_where, group_of, groups_below}
-use Rattle.plain_laws.proofs.Laws.{All-slice_get, filled_and-true, groups_below-at, groups_below-past, picks_below-none, list_any-place}
+use Rattle.plain_laws.specs.Plain.{filled_and, at_and, list_below, picks_below, ids_where, group_of, groups_below}
+use Rattle.plain_laws.proofs.Laws.{All-slice_get, filter-filter, filter-map, filter_part, group_of-append, group_rises, groups_below-at, groups_below-past, picks_below-none, list_any-place}
+use Rattle.fare_transfer_rules.specs.declared.groups.ClassedRow.{ClassedRow}
 use Rattle.fare_transfer_rules.specs.Marks.{is_marked}
-use Rattle.fare_transfer_rules.specs.Classes.{xfer_of, row_class, class_of, is_of, rows_at, AreByClass}
+use Rattle.fare_transfer_rules.specs.Classes.{field_class, class_of, is_of, row_to, member_at, leads_to, rows_at, IsPutByTo, AreByClasses}
 use Rattle.fare_transfer_rules.specs.Fits.{group_fits}
 
--- the rows that pass a test, with one more
-pub picks_more : (test : TransferRuleRow → Bool) (rows : List TransferRuleRow) (k : ℕ) (d : TransferRuleRow) (before now : List XferId) → k < length rows
-    → before ≡ picks_below k (λ i. at_and rows i test) xfer_of →
-    now ≡ before ++ (if test (get_or rows k d) then xfer_of k ∷ [] else [])
-    → now ≡ picks_below (k + 1) (λ i. at_and rows i test) xfer_of
-picks_more test rows k d before now lt was made =
-    let next : k + 1 ≡ suc k = omega arith in
-    rw (next, slice_get-get_or rows k d lt, ← was) made
+-- the items of a key are a part of those that stand by their keys
+pub part_of_key : {X : Type 0} (key : X → ℕ) (xs : List X) (n first end : ℕ) → first ≤ length xs → end ≤ length xs
+    → AllWithin (λ x. nat_lt (key x) n ≡ true) xs 0 first → AllWithin (λ x. nat_lt (key x) n ≡ false) xs first (length xs)
+    → AllWithin (λ x. nat_le (key x) n ≡ true) xs 0 end → AllWithin (λ x. nat_le (key x) n ≡ false) xs end (length xs)
+    → slice_range xs first (max end first) ≡ filter (λ x. key x == n) xs
+part_of_key key xs n first end within inside below from upto past =
+    sym (filter_part (λ x. key x == n) xs first (max end first) (omega arith) (omega arith)
+    (λ k d low high. let h = below k d low high in grind (arith, nat_tests, h))
+    (λ k d low high. let h = from k d low (omega arith) in let u = upto k d (omega arith) (omega arith) in grind (arith, nat_tests, h, u))
+    (λ k d low high. let h = past k d (omega arith) high in grind (arith, nat_tests, h)))
 
--- the rows in groups, from members of which each group is known
-pub grouped_by_class : (rows : List TransferRuleRow) (members : List (Grouped XferId)) (groups : List (List XferId)) (n : ℕ)
-    → ((class : ℕ) → group_of members class ≡ ids_where xfer_of (is_of class) rows) →
-    groups ≡ groups_below n members → AreByClass rows n groups
-grouped_by_class rows members groups n each are =
-    record {
-      has = λ class lt. rw are (groups_below-at n members class lt) ∙ each class;
-      none = λ class past. rw are (groups_below-past n members class past);
-    }
-
--- each class has its rows, and no row is of a class that isn't there
-pub rows_of : (feed : FeedRows) (rows : List TransferRuleRow) (groups : List (List XferId)) (n : ℕ) →
-    AreSoundTransferRules feed → rows ≡ feed.transfer_rules → n ≡ length feed.group_names →
-    AreByClass rows (n + 1) groups
-    → (class : ℕ) → rows_at groups class ≡ ids_where xfer_of (is_of class) feed.transfer_rules
-rows_of feed rows groups n sound same count are class = step (cases_lt class (n + 1))
+-- those of a group that pass a test are the group of those that pass it
+filter-group_of : {X : Type 0} (p : X → Bool) (ms : List (Grouped X)) (i : ℕ)
+    → filter p (group_of ms i) ≡ group_of (filter (λ (m : Grouped X). p m.item) ms) i
+filter-group_of {X} p ms i = filter-map p (λ (m : Grouped X). m.item) (filter in_group ms) ∙ ap (map (λ (m : Grouped X). m.item)) turned
   where
-    low : (o : Option LegGroupId) → ForSome o (λ g. g.0 < length feed.group_names) → n + 1 ≤ class →
-        (row : TransferRuleRow) → row.from ≡ o → is_of class row ≡ false
-    low None within past row is = rw is (grind (arith, nat_tests))
-    low (Some g) within past row is = rw is (let lt : g.0 < length feed.group_names = within g refl in grind (arith, nat_tests))
+    in_group : Grouped X → Bool
+    in_group m = m.group == i
 
-    fails : n + 1 ≤ class → (i : ℕ) → (o : Option TransferRuleRow) → slice_get feed.transfer_rules i ≡ o →
-        filled_and o (is_of class) ≡ false
+    passes : Grouped X → Bool
+    passes m = p m.item
+
+    both : (a b : Bool) → (a && b) ≡ (b && a)
+    both true true = refl
+    both true false = refl
+    both false true = refl
+    both false false = refl
+
+    turned : filter passes (filter in_group ms) ≡ filter in_group (filter passes ms)
+    turned =
+        filter-filter passes in_group ms
+        ∙ filter_agree (λ m. passes m && in_group m) (λ m. in_group m && passes m) (λ m. both (passes m) (in_group m)) ms
+        ∙ sym (filter-filter in_group passes ms)
+
+-- of the first rows in file order, those of a pair of classes
+members_of_pair : (rows : List TransferRuleRow) (from to n : ℕ) → n ≤ length rows
+    → filter (leads_to to) (group_of (list_below n (member_at rows)) from) ≡ picks_below n (λ i. at_and rows i (is_of from to)) (row_to to)
+members_of_pair rows from to zero within = refl
+members_of_pair rows from to (suc n) within =
+    ap (filter (leads_to to)) (group_of-append (list_below n (member_at rows)) (member_at rows n ∷ []) from)
+    ∙ filter-append (leads_to to) (group_of (list_below n (member_at rows)) from) (group_of (member_at rows n ∷ []) from)
+    ∙ rw (members_of_pair rows from to n (omega arith))
+    (ap (λ xs. picks_below n (λ i. at_and rows i (is_of from to)) (row_to to) ++ xs) (last (slice_get_cases rows n).1))
+  where
+    step : (row : TransferRuleRow) (a b : Bool) → (field_class row.from == from) ≡ a → (field_class row.to == to) ≡ b
+        → filter (leads_to to) (group_of (record { group = field_class row.from; item = row_to (field_class row.to) n } ∷ []) from)
+        ≡ (if is_of from to row then row_to to n ∷ [] else [])
+    step row true true own next = let same : field_class row.to ≡ to = grind (arith, nat_tests, next) in rw (own, next) (ap (λ k. row_to k n ∷ []) same)
+    step row true false own next = rw (own, next) refl
+    step row false b own next = rw own refl
+
+    last : ((x : TransferRuleRow) × (n < length rows) × (slice_get rows n ≡ Some x) × (get_or rows n x ≡ x)) ⊎ ((length rows ≤ n) × (slice_get rows n ≡ None))
+        → filter (leads_to to) (group_of (member_at rows n ∷ []) from) ≡ (if at_and rows n (is_of from to) then row_to to n ∷ [] else [])
+    last (inl found) = rw found.2 (step found.0 _ _ refl refl)
+    last (inr past) = absurd (let le = past.0 in omega arith)
+
+-- the rows in groups, from members in file order that were put by the classes after a change
+pub grouped_by_class : (rows : List TransferRuleRow) (made sorted : List (Grouped ClassedRow)) (groups : List (List ClassedRow)) (n : ℕ)
+    → made ≡ list_below (length rows) (member_at rows) → IsPutByTo made sorted → groups ≡ groups_below n sorted → AreByClasses rows n groups
+grouped_by_class rows made sorted groups n is put are =
+    record {
+      rises = λ from. step from (cases_lt from n);
+      has = λ from to lt. rw (at from lt) (of_pair from to);
+      none = past;
+    }
+  where
+    at : (from : ℕ) → from < n → rows_at groups from ≡ group_of sorted from
+    at from lt = rw are (groups_below-at n sorted from lt)
+
+    past : (from : ℕ) → n ≤ from → rows_at groups from ≡ []
+    past from le = rw are (groups_below-past n sorted from le)
+
+    step : (from : ℕ) → (from < n) ⊎ (n ≤ from) → IsNonDecreasingBy (λ (r : ClassedRow). r.to_class) (rows_at groups from)
+    step from (inl lt) = rw (at from lt) (group_rises (λ (r : ClassedRow). r.to_class) sorted from put.rises)
+    step from (inr le) = rw (past from le) (IsNonDecreasingBy-short (λ (r : ClassedRow). r.to_class) [] (omega arith))
+
+    of_pair : (from to : ℕ) → filter (leads_to to) (group_of sorted from) ≡ ids_where (row_to to) (is_of from to) rows
+    of_pair from to =
+        filter-group_of (leads_to to) sorted from ∙ ap (λ ms. group_of ms from) (put.same to)
+        ∙ sym (filter-group_of (leads_to to) made from)
+        ∙ ap (λ ms. filter (leads_to to) (group_of ms from)) is ∙ members_of_pair rows from to (length rows) (omega arith)
+
+-- each pair of classes has its rows, and no row is of a class that isn't there
+pub rows_of : (feed : FeedRows) (rows : List TransferRuleRow) (groups : List (List ClassedRow)) (n : ℕ) →
+    AreSoundTransferRules feed → rows ≡ feed.transfer_rules → n ≡ length feed.group_names →
+    AreByClasses rows (n + 1) groups
+    → (from to : ℕ) → filter (leads_to to) (rows_at groups from) ≡ ids_where (row_to to) (is_of from to) feed.transfer_rules
+rows_of feed rows groups n sound same count are from to = step (cases_lt from (n + 1))
+  where
+    low : (o : Option LegGroupId) → ForSome o (λ g. g.0 < length feed.group_names) → n + 1 ≤ from → (field_class o == from) ≡ false
+    low None within past = grind (arith, nat_tests)
+    low (Some g) within past = let lt : g.0 < length feed.group_names = within g refl in grind (arith, nat_tests)
+
+    fails : n + 1 ≤ from → (i : ℕ) → (o : Option TransferRuleRow) → slice_get feed.transfer_rules i ≡ o →
+        filled_and o (is_of from to) ≡ false
     fails past i None got = refl
-    fails past i (Some row) got = low row.from (All-slice_get (λ r. ForSome r.from (λ g. g.0 < length feed.group_names)) feed.transfer_rules i row got sound.froms) past row refl
+    fails past i (Some row) got =
+        rw (low row.from (All-slice_get (λ r. ForSome r.from (λ g. g.0 < length feed.group_names)) feed.transfer_rules i row got sound.froms) past) refl
 
-    step : (class < n + 1) ⊎ (n + 1 ≤ class) →
-        rows_at groups class ≡ ids_where xfer_of (is_of class) feed.transfer_rules
-    step (inl lt) = are.has class lt ∙ ap (ids_where xfer_of (is_of class)) same
-    step (inr past) = are.none class past ∙ sym (picks_below-none (length feed.transfer_rules) _ xfer_of (λ i lt. fails past i (slice_get feed.transfer_rules i) refl))
+    step : (from < n + 1) ⊎ (n + 1 ≤ from) →
+        filter (leads_to to) (rows_at groups from) ≡ ids_where (row_to to) (is_of from to) feed.transfer_rules
+    step (inl lt) = are.has from to lt ∙ ap (ids_where (row_to to) (is_of from to)) same
+    step (inr past) =
+        ap (filter (leads_to to)) (are.none from past)
+        ∙ sym (picks_below-none (length feed.transfer_rules) _ (row_to to) (λ i lt. fails past i (slice_get feed.transfer_rules i) refl))
 
 -- a row of the feed matches a group exactly where it is of the group's class
-pub class_fits : (feed : FeedRows) (named : List Bool) →
-    ((group : LegGroupId) → is_marked named group.0 ≡ is_listed_group feed (λ r. r.from) group)
+pub class_fits : (feed : FeedRows) (column : TransferRuleRow → Option LegGroupId) (named : List Bool) →
+    ((group : LegGroupId) → is_marked named group.0 ≡ is_listed_group feed column group)
     → (i : ℕ) (row : TransferRuleRow) → slice_get feed.transfer_rules i ≡ Some row → (group : LegGroupId)
-    → group_fits named row.from group ≡ true → is_of (class_of named group.0) row ≡ true
-class_fits feed named marks i row at group fits = by row.from refl (is_marked named group.0) refl
+    → group_fits named (column row) group ≡ true → (field_class (column row) == class_of named group.0) ≡ true
+class_fits feed column named marks i row at group fits = by (column row) refl (is_marked named group.0) refl
   where
-    by : (o : Option LegGroupId) → row.from ≡ o → (b : Bool) → is_marked named group.0 ≡ b →
-        is_of (class_of named group.0) row ≡ true
+    by : (o : Option LegGroupId) → column row ≡ o → (b : Bool) → is_marked named group.0 ≡ b →
+        (field_class (column row) == class_of named group.0) ≡ true
     by None is true marked =
         let no : not (is_marked named group.0) ≡ true = rw is at fits in
         absurd (let bad : false ≡ true = rw marked at no in cc)
@@ -78,6 +146,6 @@ class_fits feed named marks i row at group fits = by row.from refl (is_marked na
         rw (is, marked) (grind (arith, nat_tests, same))
     by (Some own) is false marked =
         let same : (own.0 == group.0) ≡ true = rw is at fits in
-        let names : filled_and row.from (λ g. g.0 == group.0) ≡ true = rw is same in
-        let listed = list_any-place (λ r. filled_and r.from (λ g. g.0 == group.0)) feed.transfer_rules i row at names in
+        let names : filled_and (column row) (λ g. g.0 == group.0) ≡ true = rw is same in
+        let listed = list_any-place (λ r. filled_and (column r) (λ g. g.0 == group.0)) feed.transfer_rules i row at names in
         absurd (let bad : false ≡ true = sym marked ∙ marks group ∙ listed in cc)

@@ -1,5 +1,5 @@
 -- Whether a row is selected for a change, where the groups that rows name are marked.
-use Rattle.std.specs.Prelude.{◌≡◌, ℕ, Bool, not, ◌&&◌, ◌||◌, ◌==◌, nat_le, is_some, List, Option, Some, None, slice_get}
+use Rattle.std.specs.Prelude.{◌≡◌, ℕ, Bool, not, ◌&&◌, ◌||◌, ◌==◌, nat_le, is_some, List, map, filter, Option, Some, None, slice_get}
 use Rattle.std.specs.List.{list_any, list_all}
 use Rattle.transit_base.specs.declared.numbers.LegGroupId.{LegGroupId}
 use Rattle.transit_base.specs.declared.numbers.XferId.{XferId}
@@ -8,8 +8,9 @@ use Rattle.feed_rows.specs.declared.rows.TransferRuleRow.{TransferRuleRow}
 use Rattle.feed_rows.specs.TransferRules.{limit_holds, count_le}
 use Rattle.plain_laws.specs.Plain.{at_and, empty_or}
 use Rattle.fare_transfer_rules.specs.declared.XferRules.{XferRules}
+use Rattle.fare_transfer_rules.specs.declared.groups.ClassedRow.{ClassedRow}
 use Rattle.fare_transfer_rules.specs.Marks.{is_marked}
-use Rattle.fare_transfer_rules.specs.Classes.{class_of, rows_at}
+use Rattle.fare_transfer_rules.specs.Classes.{class_of, leads_to, rows_at}
 use Rattle.fare_transfer_rules.specs.Counts.{is_within}
 
 -- the leg group of a row is that of a leg
@@ -47,12 +48,19 @@ is_chosen rules change least row = fits rules change row && is_within least row.
 abbrev pub is_chosen_at : XferRules → TransferFacts → Option (Option ℕ) → XferId → Bool
 is_chosen_at rules change least row = at_and rules.rules.items row.0 (is_chosen rules change least)
 
--- the rows of the class of the leg before the change
-abbrev pub rows_for : XferRules → TransferFacts → List XferId
-rows_for rules change = rows_at rules.by_from (class_of rules.froms.items change.from.0)
+-- those that are chosen among these
+abbrev pub chosen_among : XferRules → TransferFacts → Option (Option ℕ) → List ClassedRow → List XferId
+chosen_among rules change least among =
+    map (λ (r : ClassedRow). r.row) (filter (λ (r : ClassedRow). is_chosen_at rules change least r.row) among)
 
--- the least count among these rows: no count is above it that none of these rows that fit is below, and there is one exactly
--- where one of them fits
-pub record AreLeast (rules : XferRules) (change : TransferFacts) (among : List XferId) (least : Option (Option ℕ)) : Type 0 where
-  pub within : (count : Option ℕ) → is_within least count ≡ list_all (not_above_at rules change count) among
-  pub some : is_some least ≡ list_any (fits_at rules change) among
+-- the rows of the classes of the two legs' groups
+abbrev pub rows_for : XferRules → TransferFacts → List ClassedRow
+rows_for rules change =
+    filter (leads_to (class_of rules.tos.items change.to.0)) (rows_at rules.by_from (class_of rules.froms.items change.from.0))
+
+-- the least count among these rows: no count is above it that none of these rows that fit is below, and there is one
+-- exactly where one of them fits
+pub record AreLeast (rules : XferRules) (change : TransferFacts) (among : List ClassedRow) (least : Option (Option ℕ)) : Type 0 where
+  pub within : (count : Option ℕ) →
+      is_within least count ≡ list_all (λ (r : ClassedRow). not_above_at rules change count r.row) among
+  pub some : is_some least ≡ list_any (λ (r : ClassedRow). fits_at rules change r.row) among

@@ -1,20 +1,20 @@
 //! The transfer rules of a feed: which changes between legs are arranged, and by which rows.
 #![tactic(auto)]
 
-ghost use Rattle.std.specs.Prelude.{◌≡◌, Option, ℕ, ◌&&◌, ◌||◌, ◌++◌, filter, is_some, IfOk, OnOk};
+ghost use Rattle.std.specs.Prelude.{◌≡◌, Option, ℕ, ◌&&◌, ◌||◌, ◌++◌, is_some, IfOk, OnOk};
 ghost use Rattle.feed_rows.specs.FeedRows.{FeedRows};
 ghost use Rattle.feed_rows.specs.TransferRules.{is_selected_transfer, is_arranged, selected_transfers, limit_holds, elapsed, counted_from, counted_to};
 ghost use Rattle.plain_laws.specs.Plain.{at_and, empty_or};
 ghost use Rattle.fare_transfer_rules.specs.BuiltTransferRules.{AreXferRulesOf};
 ghost use Rattle.fare_transfer_rules.specs.Counts.{is_within};
-ghost use Rattle.fare_transfer_rules.specs.Fits.{group_fits, count_fits, fits, fits_at, not_above_at, is_chosen_at, rows_for, AreLeast};
+ghost use Rattle.fare_transfer_rules.specs.Fits.{group_fits, count_fits, fits, fits_at, not_above_at, is_chosen_at, chosen_among, rows_for, AreLeast};
 
 mod counts;
 mod groups;
 mod marks;
 
 use crate::counts::{is_within, lesser};
-use crate::groups::{class_of, rows_by_from};
+use crate::groups::{ClassedRow, class_of, rows_by_from, rows_to};
 use crate::marks::{Column, is_marked, marked};
 use feed_rows::{Feed, Limit, TransferFacts, TransferRuleRow, XferList};
 use plain_laws::Groups;
@@ -27,8 +27,9 @@ use transit_base::{LegGroupId, Moment, XferId};
 pub struct XferRules {
     /// The rows, in file order.
     rules: Vec<TransferRuleRow>,
-    /// The rows of each leg group that rows name in the column `from_leg_group_id`, and first those that name none.
-    by_from: Groups<XferId>,
+    /// The rows of each leg group that rows name in the column `from_leg_group_id`, and first those that name none; of
+    /// each by what they name in the column `to_leg_group_id`, and first those that name nothing there.
+    by_from: Groups<ClassedRow>,
     /// Whether a row names each leg group in the column `from_leg_group_id`.
     froms: Vec<bool>,
     /// Whether a row names each leg group in the column `to_leg_group_id`.
@@ -109,22 +110,23 @@ impl XferRules {
         self.least_count(change, self.rows_for(change)).is_some()
     }
 
-    /// The rows that may match the leg before the change, in file order.
-    fn rows_for(&self, change: &TransferFacts) -> &[XferId]
-        ensures { result.now ≡ rows_for self.now change.now }
+    /// The rows that may match both legs of the change, in file order.
+    fn rows_for(&self, change: &TransferFacts) -> &[ClassedRow]
+        ensures { (feed : FeedRows) → AreXferRulesOf feed self.now → result.now ≡ rows_for self.now change.now }
     {
-        self.by_from
-            .get(class_of(&self.froms, change.from.0) as usize)
+        let from = class_of(&self.froms, change.from.0);
+        let to = class_of(&self.tos, change.to.0);
+        rows_to(self.by_from.get(from as usize), to)
     }
 
     /// Of the rows among these that are candidates and whose count is at least the change's, the least count; none where
     /// there is no such row.
-    fn least_count(&self, change: &TransferFacts, among: &[XferId]) -> Option<Option<u32>>
+    fn least_count(&self, change: &TransferFacts, among: &[ClassedRow]) -> Option<Option<u32>>
         ensures { AreLeast self.now change.now among.now result }
     {
         let mut least = None;
-        for row in among {
-            least = self.with_count(change, *row, least);
+        for classed in among {
+            least = self.with_count(change, classed.row, least);
         }
         least
     }
@@ -149,15 +151,15 @@ impl XferRules {
     fn push_chosen(
         &self,
         change: &TransferFacts,
-        among: &[XferId],
+        among: &[ClassedRow],
         least: Option<Option<u32>>,
         rows: &mut Vec<XferId>,
     ) -> Result<(), AllocError>
-        ensures { OnOk result (rows.new.items ≡ rows.old.items ++ filter (is_chosen_at self.now change.now least) among.now) }
+        ensures { OnOk result (rows.new.items ≡ rows.old.items ++ chosen_among self.now change.now least among.now) }
     {
-        for row in among {
-            if self.is_chosen(change, least, *row) {
-                rows.push(*row)?;
+        for classed in among {
+            if self.is_chosen(change, least, classed.row) {
+                rows.push(classed.row)?;
             }
         }
         Ok(())

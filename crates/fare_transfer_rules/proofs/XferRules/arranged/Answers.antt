@@ -7,5 +7,5 @@ pub returns : goal.returns
 returns c = λ feed are.
     let rules = c.args.self.now in
     let change = c.args.change.now in
-    let least = subst (λ rows. AreLeast rules change rows c.least_count.result) c.rows_for.ensures c.least_count.ensures in
+    let least = subst (λ rows. AreLeast rules change rows c.least_count.result) (c.rows_for.ensures feed are) c.least_count.ensures in
     c.is_some.ensures ∙ some_is feed rules are change c.least_count.result least

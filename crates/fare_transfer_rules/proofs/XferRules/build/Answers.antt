@@ -1,4 +1,3 @@
-use Rattle.std.proofs.Common.{refl}
 use Rattle.fare_transfer_rules.proofs.RowLaws.{built}
 use Rattle.fare_transfer_rules.proofs.XferRules.build.Goals as goal
 

@@ -2,5 +2,5 @@ use Rattle.std.proofs.Common.{take}
 use Rattle.fare_transfer_rules.specs.Fits.{AreLeast}
 use Rattle.fare_transfer_rules.proofs.XferRules.least_count.Given as goal
 
-abbrev pub invariant-loop-row : goal.invariant-loop-row
-invariant-loop-row l = AreLeast l.self l.change (take l.row-index l.among) l.least
+abbrev pub invariant-loop-classed : goal.invariant-loop-classed
+invariant-loop-classed l = AreLeast l.self l.change (take l.classed-index l.among) l.least

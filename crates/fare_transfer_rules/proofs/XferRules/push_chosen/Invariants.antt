@@ -1,6 +1,6 @@
-use Rattle.std.proofs.Common.{◌≡◌, ◌++◌, take, filter}
-use Rattle.fare_transfer_rules.specs.Fits.{is_chosen_at}
+use Rattle.std.proofs.Common.{◌≡◌, ◌++◌, take}
+use Rattle.fare_transfer_rules.specs.Fits.{chosen_among}
 use Rattle.fare_transfer_rules.proofs.XferRules.push_chosen.Given as goal
 
-abbrev pub invariant-loop-row : goal.invariant-loop-row
-invariant-loop-row l = l.rows.items ≡ l.fn.rows.items ++ filter (is_chosen_at l.self l.change l.least) (take l.row-index l.among)
+abbrev pub invariant-loop-classed : goal.invariant-loop-classed
+invariant-loop-classed l = l.rows.items ≡ l.fn.rows.items ++ chosen_among l.self l.change l.least (take l.classed-index l.among)

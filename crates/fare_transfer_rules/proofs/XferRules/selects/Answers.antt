@@ -7,5 +7,6 @@ pub returns : goal.returns
 returns c = λ feed are.
     let rules = c.args.self.now in
     let change = c.args.change.now in
-    let least = subst (λ rows. AreLeast rules change rows c.least_count-least.result) c.rows_for.ensures c.least_count-least.ensures in
-    c.is_chosen.ensures ∙ chosen_is feed rules are change c.least_count-least.result least c.args.row.0
+    let found = c.least_count-least.result in
+    let least = subst (λ rows. AreLeast rules change rows found) (c.rows_for.ensures feed are) c.least_count-least.ensures in
+    c.is_chosen.ensures ∙ chosen_is feed rules are change found least c.args.row.0
