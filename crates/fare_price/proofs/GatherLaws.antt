@@ -1,5 +1,5 @@
 -- What is kept of offers that are made one after another.
-use Rattle.std.proofs.Common.{◌≡◌, refl, subst, append_assoc, sym, ◌∙◌, ap, ℕ, ◌+◌, ◌<◌, ◌⊎◌, inl, inr, Bool, true, List, [], ◌∷◌, ◌++◌, length, get_or, take, map, All, Contains, arith}
+use Rattle.std.proofs.Common.{◌≡◌, refl, subst, append_assoc, sym, ◌∙◌, ap, ℕ, ◌+◌, ◌<◌, ◌⊎◌, inl, inr, Bool, true, List, [], ◌∷◌, ◌++◌, length, get_or, take, map, Contains}
 use Rattle.std.specs.List.{flat_map, filter_map}
 use Rattle.std.specs.Prelude.{Option, Some, None, slice_get, option_to_list, Result, Ok, Err, OnOk}
 use Rattle.plain_laws.specs.Plain.{joined_below}

@@ -1,7 +1,6 @@
 -- What a search keeps true from leg to leg, and that the cheapest of its ways is the least price.
-use Rattle.std.proofs.Common.{◌≡◌, refl, sym, ◌∙◌, ap, subst, ℕ, zero, suc, ◌+◌, ◌-◌, ◌^◌, ◌<◌, ◌≤◌, ◌⊎◌, ⊎_elim, Bool, true, false, ◌&&◌, List, [], ◌∷◌, ◌++◌, length, map, take, length-take-le, All, Contains, arith}
+use Rattle.std.proofs.Common.{◌≡◌, refl, sym, ◌∙◌, ap, subst, ℕ, zero, suc, ◌+◌, ◌-◌, ◌<◌, ◌≤◌, ◌⊎◌, ⊎_elim, Bool, true, false, ◌&&◌, List, [], ◌∷◌, ◌++◌, length, map, take, length-take-le, All, Contains, arith}
 use Rattle.std.specs.Prelude.{Option, Some, None, ℤ, pos, ◌+ℤ◌, ◌≤ℤ◌, slice_get, option_map, option_and_then}
-use Rattle.std.specs.List.{list_any, flat_map}
 use Rattle.std.specs.Option.{is_some, option_map_or}
 use Rattle.std.proofs.lemmas.Int.{ints}
 use Rattle.std.proofs.lemmas.Bool.{and_parts, and_from}
@@ -16,15 +15,15 @@ use Rattle.feed_rows.specs.declared.fares.Choice.{Choice}
 use Rattle.feed_rows.specs.declared.journeys.LegFacts.{LegFacts}
 use Rattle.feed_rows.specs.FeedRows.{FeedRows}
 use Rattle.feed_rows.specs.SoundFeed.{IsSoundFeed}
-use Rattle.plain_laws.specs.Plain.{when, joined_below}
+use Rattle.plain_laws.specs.Plain.{when}
 use Rattle.feed_rows.specs.TransferRules.{FareLeg}
 use Rattle.feed_rows.specs.FareChoices.{chosen_leg, is_leg_choice, is_change_choice, is_fare_choice}
-use Rattle.feed_rows.specs.FareSums.{amount_of, fare_sum, fare_price}
-use Rattle.feed_rows.specs.FareStands.{Run, fresh_run, change_to, place_kind, place_charge, FareStand, stand_price, stand_of_first, stand_of_next, first_fare_stand, next_fare_stand, IsStandOf}
+use Rattle.feed_rows.specs.FareSums.{amount_of, fare_sum}
+use Rattle.feed_rows.specs.FareStands.{Run, fresh_run, change_to, FareStand, stand_price, stand_of_first, stand_of_next, first_fare_stand, next_fare_stand, IsStandOf}
 use Rattle.feed_rows.specs.LeastPrices.{IsLeastPriceOfLegs, AreUncoveredLegs}
 use Rattle.plain_laws.proofs.Laws.{slice_get-append_left, Contains-slice_get, slice_get-Contains, Contains-map, map-tells, Contains-flat_map, flat_map-tells, Contains-joined_below, joined_below-tells, list_any_tells, All-from}
 use Rattle.feed_laws.proofs.SumLaws.{IsPushed}
-use Rattle.feed_laws.proofs.StandLaws.{choice_of_one, first_fare_stand-paid, first_fare_stand-of, next_fare_stand-of, places_of_paid, one_of_paid, IsStandOf-one, StandsAfter, stand_of_paid, IsStepFrom, step_of_paid, paid_of_step}
+use Rattle.feed_laws.proofs.StandLaws.{choice_of_one, first_fare_stand-paid, first_fare_stand-of, next_fare_stand-of, places_of_paid, one_of_paid, IsStandOf-one, stand_of_paid, step_of_paid, paid_of_step}
 use Rattle.label_bag.specs.Bags.{covers, Gathers}
 use Rattle.fare_price.specs.declared.offers.LegOffer.{LegOffer}
 use Rattle.fare_price.specs.declared.offers.ChangeOffer.{ChangeOffer}
@@ -36,7 +35,7 @@ use Rattle.fare_price.specs.WayLaws.{is_below-tells, below_trans}
 use Rattle.fare_price.specs.Ways.{is_as_good, first_way, next_way, ways_by, ways_from, ways_at, next_ways, first_ways, pushed, no_choice, choice_of, IsTraced, IsReal, HasBelow, AreWaysOf}
 use Rattle.fare_price.proofs.GatherLaws.{take_next}
 use Rattle.fare_price.proofs.StepLaws.{below_next, next_stand-is, bounded_next, bounded_first, bounded_more}
-use Rattle.fare_price.proofs.OfferLaws.{IsLegOffer, leg_offers-right, HasCheaperLeg, leg_offers-cheapest, IsChangeOffer, change_offers-right, HasCheaperChange, change_offers-cheapest, low_amount, low_charge}
+use Rattle.fare_price.proofs.OfferLaws.{IsLegOffer, leg_offers-right, leg_offers-cheapest, IsChangeOffer, change_offers-right, change_offers-cheapest, low_amount, low_charge}
 
 -- ---- what gathers
 
@@ -469,6 +468,14 @@ no_legs feed rider = record {
         omega (arith, ints, zero_sum)
 
 -- ---- the first legs
+
+-- the first layer, from what can be paid for the leg
+pub first_ways_of : (feed : FeedRows) (rider : Option RiderId) (leg : LegFacts) (offers : List LegOffer) (new : List Way) →
+    offers ≡ leg_offers feed rider leg → Gathers is_as_good [] (map (first_way leg) offers) new →
+    Gathers is_as_good [] (first_ways feed rider leg) new
+unfolding first_ways
+first_ways_of feed rider leg offers new is gathers =
+    subst (λ (os : List LegOffer). Gathers is_as_good [] (map (first_way leg) os) new) is gathers
 
 -- the first layer, as the first of all legs
 pub first_layer-take : (feed : FeedRows) (rider : Option RiderId) (legs : List LegFacts) (leg : LegFacts) (steps : List Way)

@@ -4,3 +4,4 @@ pub mod LayerLaws
 pub mod GatherLaws
 pub mod CheapestLaws
 pub mod CheckLaws
+pub mod KnownLaws

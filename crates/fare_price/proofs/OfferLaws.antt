@@ -1,5 +1,5 @@
 -- What is offered for a leg and for a change: it is right, and nothing that is right costs less.
-use Rattle.std.proofs.Common.{◌≡◌, refl, sym, ◌∙◌, ap, subst, ℕ, ◌+◌, ◌^◌, ◌<◌, ◌≤◌, ◌⊎◌, inl, inr, ⊎_elim, Bool, true, false, not, ◌&&◌, List, [], ◌∷◌, length, All, Contains, arith}
+use Rattle.std.proofs.Common.{◌≡◌, refl, sym, ◌∙◌, ap, subst, ℕ, ◌^◌, ◌≤◌, ⊎_elim, Bool, true, false, not, ◌&&◌, List, [], ◌∷◌, length, All, Contains, arith}
 use Rattle.std.specs.Prelude.{Option, Some, None, ℤ, pos, ◌≤ℤ◌, nat_abs, slice_get, option_map, option_and_then, IfSome}
 use Rattle.std.specs.List.{filter_map, cons_option, list_any}
 use Rattle.std.specs.Option.{is_some, option_map_or}
@@ -28,7 +28,7 @@ use Rattle.feed_rows.specs.FareChoices.{is_open, chosen_leg, is_leg_choice, is_c
 use Rattle.feed_rows.specs.FareSums.{amount_of}
 use Rattle.feed_rows.specs.FareStands.{change_to, place_kind, place_charge, stand_of_first, stand_of_next, first_fare_stand, next_fare_stand}
 use Rattle.plain_laws.specs.Plain.{at_and, filled_and, when}
-use Rattle.plain_laws.proofs.Laws.{filled_and-true, Contains-picks_below, picks_below-tells, Contains-cons_first, Contains-cons_later, Contains-cons_cases, place_of_any, list_any-place, Contains-slice_get, All-from}
+use Rattle.plain_laws.proofs.Laws.{filled_and-true, Contains-picks_below, picks_below-tells, Contains-cons_first, Contains-cons_later, Contains-cons_cases, place_of_any, list_any-place, All-from}
 use Rattle.feed_laws.proofs.OpenRowLaws.{IsLeastOpenRow, least_open_row-some, least_open_row-open}
 use Rattle.fare_products.specs.declared.Priced1.{Priced1}
 use Rattle.fare_price.specs.declared.offers.LegOffer.{LegOffer}

@@ -9,7 +9,7 @@ use Rattle.feed_rows.specs.FeedRows.{FeedRows}
 use Rattle.plain_laws.specs.Plain.{filled_and}
 use Rattle.feed_rows.specs.TransferRules.{FareLeg, same_group, is_arranged}
 use Rattle.feed_rows.specs.FareSums.{amount_of}
-use Rattle.feed_rows.specs.FareStands.{Run, change_to, extends, fresh_run, next_run, frees_first, frees_next, next_held, next_paid, place_kind, place_charge, FareStand, stand_price, stand_of_next}
+use Rattle.feed_rows.specs.FareStands.{Run, change_to, extends, fresh_run, next_run, frees_first, frees_next, next_held, next_paid, place_kind, place_charge, FareStand, stand_of_next}
 use Rattle.fare_price.specs.declared.stands.GroupedLeg.{GroupedLeg}
 use Rattle.fare_price.specs.declared.stands.Stand.{Stand}
 use Rattle.fare_price.specs.Stands.{leg_of, stand_of, stays, next_stand, IsBelow, IsLow, IsBounded}

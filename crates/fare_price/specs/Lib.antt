@@ -3,3 +3,4 @@ pub mod Stands
 pub mod Offers
 pub mod WayLaws
 pub mod Ways
+pub mod Known

@@ -5,10 +5,12 @@ ghost use Rattle.label_bag.specs.Bags.{Gathers};
 ghost use Rattle.fare_price.specs.Prices.{IsLeastOrNone};
 ghost use Rattle.fare_price.specs.Stands.{stand_of, IsLow, IsBounded};
 ghost use Rattle.fare_price.specs.Offers.{leg_offers};
-ghost use Rattle.fare_price.specs.Ways.{is_as_good, first_way, next_way, ways_by, ways_from, next_ways, first_ways, no_choice, pushed, choice_of, cheaper, AreWaysOf};
+ghost use Rattle.fare_price.specs.Known.{known_of, AreKept};
+ghost use Rattle.fare_price.specs.Ways.{is_as_good, first_way, next_way, ways_by, ways_from, next_ways, no_choice, pushed, choice_of, cheaper, AreWaysOf};
 
 use crate::Priced;
 use crate::fares::{Fares, RiderFares};
+use crate::known::{KeptOffers, KnownOffers, offers_at};
 use crate::offers::{ChangeOffer, LegOffer};
 use crate::stands::Stand;
 use crate::ways::{Way, Ways};
@@ -48,6 +50,26 @@ impl<'s, 'f> RiderFares<'s, 'f> {
         requires few { length legs.now ≤ 12 }
         ensures { IfOk result (IsLeastOrNone self.now.feed legs.now self.now.rider) }
     {
+        let mut known = KnownOffers::of(alloc, self);
+        let numbers = known.know_all(alloc, legs)?;
+        known.price(alloc, legs, &numbers)
+    }
+
+    /// The same, where what can be paid for each leg is kept under its number.
+    ///
+    /// # Errors
+    /// Want of memory.
+    pub fn price_kept(
+        &self,
+        alloc: Global,
+        legs: &[LegFacts],
+        numbers: &[usize],
+        kept: &[KeptOffers],
+    ) -> Result<Option<Priced>, AllocError>
+        requires few { length legs.now ≤ 12 }
+        requires kept { AreKept (known_of self.now kept.now) legs.now numbers.now }
+        ensures { IfOk result (IsLeastOrNone self.now.feed legs.now self.now.rider) }
+    {
         if legs.is_empty() {
             return Ok(Some(Priced {
                 sum: Money(0),
@@ -55,7 +77,7 @@ impl<'s, 'f> RiderFares<'s, 'f> {
             }));
         }
         let mut steps = Vec::new(alloc);
-        let ways = self.ways(alloc, legs, &mut steps)?;
+        let ways = self.ways(alloc, legs, numbers, kept, &mut steps)?;
         match cheapest(&ways) {
             None => Ok(None),
             Some(way) => Ok(Some(Priced {
@@ -70,14 +92,17 @@ impl<'s, 'f> RiderFares<'s, 'f> {
         &self,
         alloc: Global,
         legs: &[LegFacts],
+        numbers: &[usize],
+        kept: &[KeptOffers],
         steps: &mut Vec<Way>,
     ) -> Result<Ways, AllocError>
         requires some { 0 < length legs.now }
         requires few { length legs.now ≤ 12 }
+        requires kept { AreKept (known_of self.now kept.now) legs.now numbers.now }
         ensures { IfOk result (AreWaysOf self.now.feed self.now.rider legs.now steps.new.items (length legs.now - 1)) }
     {
         let _feed = self.feed();
-        let mut ways = self.first_ways(alloc, &legs[0])?;
+        let mut ways = first_ways(alloc, &legs[0], offers_at(kept, numbers, 0))?;
         let mut found = Found {
             rows: Vec::new(alloc),
             changes: Vec::new(alloc),
@@ -85,19 +110,9 @@ impl<'s, 'f> RiderFares<'s, 'f> {
         for number in 0..legs.len() - 1 {
             let base = steps.len();
             keep(steps, &ways)?;
-            ways = self.next_ways(alloc, &legs[number + 1], base, &ways, &mut found)?;
+            let offers = offers_at(kept, numbers, number + 1);
+            ways = self.next_ways(alloc, &legs[number + 1], offers, base, &ways, &mut found)?;
         }
-        Ok(ways)
-    }
-
-    /// The best ways to pay one leg.
-    #[tactic(auto, unfolding(crate::specs::Ways::first_ways))]
-    fn first_ways(&self, alloc: Global, leg: &LegFacts) -> Result<Ways, AllocError>
-        ensures { IfOk result (Gathers is_as_good [] (first_ways self.now.feed self.now.rider leg.now)) }
-    {
-        let offers = self.leg_offers(alloc, leg)?;
-        let mut ways = Ways::empty(alloc);
-        offer_first(&mut ways, leg, &offers)?;
         Ok(ways)
     }
 
@@ -106,19 +121,21 @@ impl<'s, 'f> RiderFares<'s, 'f> {
         &self,
         alloc: Global,
         leg: &LegFacts,
+        offers: &[LegOffer],
         base: usize,
         ways: &Ways,
         found: &mut Found,
     ) -> Result<Ways, AllocError>
+        requires offers { offers.now ≡ leg_offers self.now.feed self.now.rider leg.now }
+        requires low { All (λ (offer : LegOffer). IsLow offer.amount) offers.now }
         requires bounded { All (λ (way : Way). IsBounded 11 way.stand) ways.now }
         requires numbers { base + length ways.now < 2 ^ 64 }
         ensures { IfOk result (Gathers is_as_good [] (next_ways self.now.feed self.now.rider leg.now base ways.now)) }
     {
-        let offers = self.leg_offers(alloc, leg)?;
         let mut next = Ways::empty(alloc);
         for number in 0..ways.len() {
             let stand = ways.get(number).stand;
-            self.offer_from(&mut next, leg, &stand, base + number, &offers, found)?;
+            self.offer_from(&mut next, leg, &stand, base + number, offers, found)?;
         }
         Ok(next)
     }
@@ -161,6 +178,15 @@ impl<'s, 'f> RiderFares<'s, 'f> {
         self.change_offers_into(change, &mut found.rows, &mut found.changes)?;
         offer_changes(next, leg, stand, number, offer, &found.changes)
     }
+}
+
+/// The best ways to pay one leg by one of these.
+fn first_ways(alloc: Global, leg: &LegFacts, offers: &[LegOffer]) -> Result<Ways, AllocError>
+    ensures { IfOk result (Gathers is_as_good [] (map (first_way leg.now) offers.now)) }
+{
+    let mut ways = Ways::empty(alloc);
+    offer_first(&mut ways, leg, offers)?;
+    Ok(ways)
 }
 
 /// Offers the leg, paid by each of these.

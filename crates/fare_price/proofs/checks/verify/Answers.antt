@@ -1,4 +1,4 @@
-use Rattle.std.proofs.Common.{◌≡◌, sym, ◌∙◌, ap}
+use Rattle.std.proofs.Common.{◌∙◌, ap}
 use Rattle.std.specs.Prelude.{Some, None}
 use Rattle.fare_price.specs.Stands.{stand_of}
 use Rattle.fare_price.proofs.CheckLaws.{misfit, empty_price, price_after}

@@ -1,9 +1,9 @@
-use Rattle.std.proofs.Common.{◌≡◌, sym, ◌∙◌, ap, arith}
+use Rattle.std.proofs.Common.{sym, ◌∙◌, ap, arith}
 use Rattle.std.specs.Prelude.{Some, None}
 use Rattle.std.proofs.lemmas.Result.{IfOk-weaker}
 use Rattle.std.proofs.lemmas.Option.{slice_get_past, slice_get-get_or}
 use Rattle.feed_rows.specs.declared.fares.Choice.{Choice}
-use Rattle.fare_price.specs.Ways.{pushed, choice_of}
+use Rattle.fare_price.specs.Ways.{pushed}
 use Rattle.fare_price.proofs.LayerLaws.{choice_of-step}
 use Rattle.fare_price.proofs.search.+choice_of.Goals as goal
 

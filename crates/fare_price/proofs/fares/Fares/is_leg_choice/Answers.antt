@@ -1,5 +1,5 @@
 use Rattle.std.proofs.Common.{◌≡◌, refl, sym, ◌∙◌, ap, true, false, List}
-use Rattle.std.specs.Prelude.{Some, None, slice_get}
+use Rattle.std.specs.Prelude.{Some, slice_get}
 use Rattle.std.proofs.lemmas.Option.{slice_get-get_or, slice_get_past}
 use Rattle.feed_rows.specs.declared.rows.LegRuleRow.{LegRuleRow}
 use Rattle.feed_rows.specs.FeedRows.{FeedRows}

@@ -1,5 +1,4 @@
-use Rattle.std.proofs.Common.{◌∙◌, ap}
-use Rattle.fare_price.specs.Offers.{offers_of_rows}
+use Rattle.std.proofs.Common.{◌∙◌}
 use Rattle.fare_price.proofs.GatherLaws.{OnOk_then}
 use Rattle.fare_price.proofs.OfferLaws.{change_offers-by_rows}
 use Rattle.fare_price.proofs.fares.RiderFares.change_offers_into.Goals as goal

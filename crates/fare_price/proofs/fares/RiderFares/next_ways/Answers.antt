@@ -17,7 +17,7 @@ loop-number-preserved c =
     c.offer_from.new.next _ c.loop-number.invariant
     (ap (λ o. option_map_or (λ way. ways_from feed rider leg way.stand (c.args.base + c.loop-number.number)) o []) c.get.ensures
     ∙ ap (flat_map (ways_by feed rider leg c.get.result.now.stand (c.args.base + c.loop-number.number)))
-    (sym (c.deref.ensures.value ∙ c.in_ok-offers.ensures.value)))
+    (sym c.requires.offers))
     c.in_ok-offer_from.ensures
 
 pub returns : goal.returns

@@ -1,4 +1,4 @@
-use Rattle.std.proofs.Common.{◌≡◌, sym, ◌∙◌, ap, subst, map, List}
+use Rattle.std.proofs.Common.{◌∙◌, ap, subst, map, List}
 use Rattle.label_bag.specs.Bags.{Gathers}
 use Rattle.feed_rows.specs.FareStands.{change_to}
 use Rattle.fare_price.specs.declared.ways.Way.{Way}

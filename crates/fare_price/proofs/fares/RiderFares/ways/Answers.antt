@@ -1,8 +1,13 @@
-use Rattle.std.proofs.Common.{◌≡◌, refl, subst, ◌+◌, ◌-◌, ℕ, List, length, take, take_all, arith}
+use Rattle.std.proofs.Common.{◌≡◌, refl, sym, subst, ◌+◌, ◌-◌, ℕ, List, All, length, take, take_all, arith}
 use Rattle.std.proofs.lemmas.Option.{slice_get_read}
 use Rattle.feed_rows.specs.declared.journeys.LegFacts.{LegFacts}
+use Rattle.fare_price.specs.declared.offers.LegOffer.{LegOffer}
+use Rattle.fare_price.specs.Known.{known_of}
+use Rattle.fare_price.specs.Stands.{IsLow}
 use Rattle.fare_price.specs.Ways.{AreWaysOf}
-use Rattle.fare_price.proofs.LayerLaws.{first_layer-take, next_layer-take, ways_bounded}
+use Rattle.fare_price.proofs.KnownLaws.{offers_kept, kept_within}
+use Rattle.fare_price.proofs.LayerLaws.{first_layer-take, first_ways_of, next_layer-take, ways_bounded}
+use Rattle.fare_price.proofs.OfferLaws.{leg_offers-low}
 use Rattle.fare_price.proofs.fares.RiderFares.ways.Goals as goal
 
 pub loop-number-init : goal.loop-number-init
@@ -10,7 +15,33 @@ loop-number-init c =
     first_layer-take c.args.self.now.feed c.args.self.now.rider c.args.legs.now c.index-legs-0.result c.args.steps.now.items
     c.in_ok-ways.ways c.feed-feed.ensures.sound
     (slice_get_read c.args.legs.now (length c.args.legs.now) 0 c.index-legs-0.result refl c.requires.some c.index-legs-0.is)
-    c.in_ok-ways.ensures
+    (first_ways_of c.args.self.now.feed c.args.self.now.rider c.index-legs-0.result _ c.in_ok-ways.ways
+    (offers_kept (known_of c.args.self.now c.args.kept.now) c.args.legs.now c.args.numbers.now 0 c.index-legs-0.result _ c.requires.kept
+    (slice_get_read c.args.legs.now (length c.args.legs.now) 0 c.index-legs-0.result refl c.requires.some c.index-legs-0.is)
+    c.offers_at.ensures)
+    c.in_ok-ways.ensures)
+
+pub offers_at-requires-clause-number : goal.offers_at-requires-clause-number
+offers_at-requires-clause-number c =
+    kept_within c.args.self.now c.args.kept.now c.args.legs.now c.args.numbers.now 0 c.index-legs-0.result c.requires.kept c.requires.some
+
+pub offers_at-offers-requires-clause-number : goal.offers_at-offers-requires-clause-number
+offers_at-offers-requires-clause-number c =
+    kept_within c.args.self.now c.args.kept.now c.args.legs.now c.args.numbers.now (c.loop-number.number + 1) c.index-legs-0.result c.requires.kept
+    (omega arith)
+
+pub next_ways-requires-clause-offers : goal.next_ways-requires-clause-offers
+next_ways-requires-clause-offers c =
+    offers_kept (known_of c.args.self.now c.args.kept.now) c.args.legs.now c.args.numbers.now (c.loop-number.number + 1) c.index-legs-number.result _
+    c.requires.kept
+    (slice_get_read c.args.legs.now (length c.args.legs.now) (c.loop-number.number + 1) c.index-legs-number.result refl
+    (omega arith) c.index-legs-number.is)
+    c.offers_at-offers.ensures
+
+pub next_ways-requires-clause-low : goal.next_ways-requires-clause-low
+next_ways-requires-clause-low c =
+    subst (λ (offers : List LegOffer). All (λ (offer : LegOffer). IsLow offer.amount) offers) (sym (next_ways-requires-clause-offers c))
+    (leg_offers-low c.args.self.now.feed c.args.self.now.rider c.index-legs-number.result c.feed-feed.ensures.sound)
 
 pub next_ways-requires-clause-bounded : goal.next_ways-requires-clause-bounded
 next_ways-requires-clause-bounded c =

@@ -1,4 +1,4 @@
-use Rattle.std.proofs.Common.{◌≡◌, ◌∙◌, ℕ, arith}
+use Rattle.std.proofs.Common.{◌≡◌, ℕ, arith}
 use Rattle.std.specs.Prelude.{ℤ, ◌+ℤ◌, Option, None}
 use Rattle.std.proofs.lemmas.Int.{ints}
 use Rattle.feed_rows.specs.FareStands.{next_paid}
