@@ -16,7 +16,7 @@ use feed_maker::gen_files;
 use feed_rows::Feed;
 use feed_text::TextError;
 use folder_io::Folder;
-use plan_words::{Asked, GenWords, WordList, asked_of};
+use plan_words::{Asked, GenWords, WordList, WordsError, asked_of};
 use std::alloc::Global;
 
 // The feed that is made by rule, or its first fault.
@@ -68,7 +68,8 @@ pub(crate) fn made<F: Folder>(
 {
     let asked = match asked_of(words) {
         Ok(asked) => asked,
-        Err(fault) => return Ok(refused(alloc, Refusal::Usage(fault))?),
+        Err(WordsError::Usage(fault)) => return Ok(refused(alloc, Refusal::Usage(fault))?),
+        Err(WordsError::NoMemory) => return Err(Stop::NoMemory),
     };
     let feed = match feed_for(alloc, &asked, folder) {
         Ok(feed) => feed,

@@ -1,3 +1,7 @@
+pub mod ClapLaws
+pub mod OptionLaws
 pub mod RequestLaws
 pub mod RideLaws
+pub mod RowLaws
+pub mod WalkLaws
 pub mod WordLaws

@@ -1,5 +1,5 @@
 -- Words that name rides.
-use Rattle.std.proofs.Common.{◌≡◌, ◌⊎◌, inl, inr, ℕ, ◌+◌, ◌<◌, ◌≤◌, Bool, true, false, List, [], length, slice_get, get_or, Option, Some, None, refl, sym, subst, ◌∙◌, ap, arith, add-one, ◌&&◌}
+use Rattle.std.proofs.Common.{◌≡◌, ◌⊎◌, inl, inr, ℕ, ◌+◌, ◌<◌, ◌≤◌, Bool, true, List, [], length, slice_get, get_or, Option, Some, None, refl, sym, subst, ◌∙◌, ap, arith, add-one}
 use Rattle.std.specs.Prelude.{if◌then◌else◌, is_none, nat_le, option_map, option_and_then, unwrap_or, Ok, Err}
 use Rattle.std.proofs.lemmas.Bool.Decides.{nat_tests}
 use Rattle.plain_laws.specs.Plain.{collect_below, find_below, last_below}
@@ -10,6 +10,7 @@ use Rattle.feed_rows.specs.NumberedItems.{read_at, read_each}
 use Rattle.feed_rows.specs.RideWords.{RideWord, ride_word}
 use Rattle.feed_rows.specs.declared.usage.UsageFault.{UsageFault}
 use Rattle.plan_words.specs.Rides.{rides_named}
+use Rattle.plan_words.proofs.OptionLaws.{both}
 use Rattle.plan_words.proofs.WordLaws.{word_there}
 
 -- the last place that passes, one place further on
@@ -80,6 +81,17 @@ ride_unread fault texts i found = rw (one_unread (read_at ride_word texts) (leng
 pub unread_within : (texts : List (List ℕ)) (i : ℕ) → find_below (length texts) (λ k. is_none (read_at ride_word texts k)) ≡ Some i → i < length texts
 unread_within texts i found = let first = find_below_tells (λ k. is_none (read_at ride_word texts k)) (length texts) i found in first.within
 
+-- there are no more rides than words
+pub ride_within : (texts : List (List ℕ)) (k : ℕ) → k < length (rides_named texts) → k < length texts
+ride_within texts k lt = step (collect_below (length texts) (read_at ride_word texts)) refl lt
+  where
+    step : (o : Option (List RideWord)) → collect_below (length texts) (read_at ride_word texts) ≡ o → k < length (unwrap_or o []) → k < length texts
+    step None e inside = absurd (omega (arith, inside))
+    step (Some xs) e inside =
+        let tells = collect_below_tells (length texts) (read_at ride_word texts) xs e in
+        let long = tells.length_is in
+        omega (arith, long, inside)
+
 -- a ride is what its word reads as
 pub ride_there : (texts : List (List ℕ)) (k : ℕ) → k < length (rides_named texts) → slice_get (rides_named texts) k ≡ ride_word (word_at texts k)
 ride_there texts k lt = step (collect_below (length texts) (read_at ride_word texts)) refl
@@ -104,10 +116,6 @@ no_ride texts k lt none = step (slice_get_cases (rides_named texts) k).1
 pub record AreAsMany (form : CommandForm) (words : List (List ℕ)) : Type 0 where
   pub fewest : form.fewest ≤ length (positional_words form words)
   pub most : length (positional_words form words) ≤ form.most
-
-both : (a b : Bool) → (a && b) ≡ true → (a ≡ true) × (b ≡ true)
-both true b e = (refl, e)
-both false b e = absurd (cc)
 
 pub as_many : (form : CommandForm) (words : List (List ℕ)) → fits_form form words ≡ true → AreAsMany form words
 unfolding fits_form

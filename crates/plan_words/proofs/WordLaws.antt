@@ -1,11 +1,10 @@
 -- Words behind a command, and what is counted and picked of them.
-use Rattle.std.proofs.Common.{◌≡◌, ℕ, zero, suc, ◌+◌, ◌-◌, ◌<◌, ◌≤◌, ◌⊎◌, inl, inr, Bool, true, false, List, [], ◌∷◌, ◌++◌, length, slice_get, Some, None, refl, sym, subst, ◌∙◌, arith, add-one, length-append, nat_lt, ◌&&◌}
+use Rattle.std.proofs.Common.{◌≡◌, ℕ, zero, suc, ◌+◌, ◌-◌, ◌<◌, ◌≤◌, Bool, true, false, List, [], ◌∷◌, ◌++◌, length, slice_get, Some, None, refl, sym, subst, ◌∙◌, arith, add-one, length-append, nat_lt, ◌&&◌}
 use Rattle.std.specs.Prelude.{if◌then◌else◌, is_some, codes, bytes_eq}
 use Rattle.std.specs.List.{list_any}
-use Rattle.std.proofs.lemmas.Bool.{cases_lt}
-use Rattle.std.proofs.lemmas.Option.{slice_get_within, slice_get-get_or}
+use Rattle.std.proofs.lemmas.Option.{slice_get-get_or}
 use Rattle.plain_laws.specs.Plain.{count_below, picks_below, all_below, any_below}
-use Rattle.plain_laws.proofs.Laws.{slice_get-push_last, slice_get-append_left, all_below-at, bytes_eq-true}
+use Rattle.plain_laws.proofs.Laws.{all_below-at, bytes_eq-true}
 use Rattle.feed_rows.specs.CommandWords.{CommandForm, word_at, is_one_of, is_dashed, joined_value, follows_option, role_at, is_taken, has_flag, fits_form}
 use Rattle.feed_rows.specs.declared.usage.WordRole.{WordRole}
 use Rattle.feed_rows.specs.declared.usage.WordRole.TheVariants as role
@@ -48,21 +47,6 @@ picks_next i test f = rw (add-one i) (step (test i))
     step true = length-append (picks_below i test f) (f i ∷ [])
     step false = length-append (picks_below i test f) []
 
--- a number that is picked stands behind those before it
-pub picked_at : {X : Type 0} (n i k : ℕ) (test : ℕ → Bool) (f : ℕ → X) → i < n → test i ≡ true → length (picks_below i test f) ≡ k → slice_get (picks_below n test f) k ≡ Some (f i)
-picked_at zero i k test f lt passes before = absurd (omega arith)
-picked_at (suc n) i k test f lt passes before = step (cases_lt i n) (λ lower. picked_at n i k test f lower passes before)
-  where
-    inside : slice_get (picks_below n test f) k ≡ Some (f i) → slice_get (picks_below (suc n) test f) k ≡ Some (f i)
-    inside at = slice_get-append_left (picks_below n test f) (if test n then f n ∷ [] else []) k (slice_get_within (picks_below n test f) k (f i) at) ∙ at
-
-    last_at : n ≡ i → slice_get (picks_below (suc n) test f) k ≡ Some (f i)
-    last_at same = rw (same, passes) (slice_get-push_last (picks_below i test f) (f i) k (sym before))
-
-    step : (i < n) ⊎ (n ≤ i) → (i < n → slice_get (picks_below n test f) k ≡ Some (f i)) → slice_get (picks_below (suc n) test f) k ≡ Some (f i)
-    step (inl lower) rest = inside (rest lower)
-    step (inr last) rest = last_at (let same : n ≡ i = omega arith in same)
-
 -- a word by its place
 pub word_there : (words : List (List ℕ)) (i : ℕ) → i < length words → slice_get words i ≡ Some (word_at words i)
 word_there words i lt = slice_get-get_or words i [] lt
@@ -73,7 +57,7 @@ no_word (word ∷ words) zero past = absurd (omega arith)
 no_word (word ∷ words) (suc i) past = no_word words i (omega arith)
 
 -- what a word is, by its text
-abbrev role_of_word : CommandForm → List (List ℕ) → ℕ → List ℕ → WordRole
+abbrev pub role_of_word : CommandForm → List (List ℕ) → ℕ → List ℕ → WordRole
 role_of_word form words i word =
     if is_one_of ([] ∷ codes "-" ∷ codes "--" ∷ []) word then role.Refused
     else if follows_option form words i then (if is_dashed word then role.Refused else role.OptionValue)
@@ -83,7 +67,7 @@ role_of_word form words i word =
     else if is_dashed word then role.Refused
     else role.Positional
 
-role_by_word : (form : CommandForm) (words : List (List ℕ)) (i : ℕ) → role_at form words i ≡ role_of_word form words i (word_at words i)
+pub role_by_word : (form : CommandForm) (words : List (List ℕ)) (i : ℕ) → role_at form words i ≡ role_of_word form words i (word_at words i)
 unfolding role_at
 role_by_word form words i = refl
 
@@ -95,7 +79,7 @@ stats_refused words i = step (follows_option (form_of form.Plan) words i)
     step true = refl
     step false = refl
 
-first_of_two : (a b : Bool) → (a && b) ≡ true → a ≡ true
+pub first_of_two : (a b : Bool) → (a && b) ≡ true → a ≡ true
 first_of_two true b e = refl
 first_of_two false b e = e
 

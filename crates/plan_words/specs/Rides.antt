@@ -1,13 +1,11 @@
 -- The rides that words name, as contracts see them.
-use Rattle.std.specs.Prelude.{◌≡◌, ℕ, ◌≤ℤ◌, ◌≤◌, List, [], length, unwrap_or, IfSome, pos, negsuc}
+use Rattle.std.specs.Prelude.{◌≡◌, ℕ, ◌≤ℤ◌, ◌≤◌, List, [], length, map, unwrap_or, IfSome, pos, negsuc}
+use Rattle.std.specs.Borrow.{Bor}
 use Rattle.transit_base.specs.Limits.{most_time}
 use Rattle.plain_laws.specs.Plain.{collect_below}
-use Rattle.feed_rows.specs.CommandWords.{positional_words}
 use Rattle.feed_rows.specs.NumberedItems.{read_at}
 use Rattle.feed_rows.specs.RideWords.{ride_word}
 use Rattle.feed_rows.specs.RideWords.{RideWord as NamedRide, RideParts as NamedParts}
-use Rattle.plan_words.specs.Words.{behind, form_of}
-use Rattle.plan_words.specs.declared.grammar.Form.TheVariants as form
 use Rattle.plan_words.specs.declared.rides.RideWord.{RideWord}
 use Rattle.plan_words.specs.declared.rides.RideWords.{RideWords}
 use Rattle.plan_words.specs.declared.rides.RideParts.{RideParts}
@@ -21,17 +19,17 @@ abbrev pub parts_of : RideParts → NamedParts
 parts_of parts =
     record { trip = parts.trip.now; date = parts.date.now; start = parts.start.now; from = parts.from.now; to = parts.to.now }
 
--- the words that name the rides
-abbrev pub ride_texts : List (List ℕ) → List (List ℕ)
-ride_texts words = positional_words (form_of form.Price) (behind words)
-
 -- the rides that words name, in order, where each can be read
 abbrev pub rides_named : List (List ℕ) → List NamedRide
 rides_named texts = unwrap_or (collect_below (length texts) (read_at ride_word texts)) []
 
+-- the texts behind references
+abbrev pub texts_of : List (Bor (List ℕ)) → List (List ℕ)
+texts_of = map (λ text. text.now)
+
 -- the rides, in order
 abbrev pub rides_of : RideWords → List NamedRide
-rides_of rides = rides_named (ride_texts rides.words.now)
+rides_of rides = rides_named (texts_of rides.texts.items)
 
 -- a ride on a day from 1900-01-01 to 2999-12-31, whose start and places are in the bounds of their columns
 pub record IsUsualRide (ride : RideWord) : Type 0 where
@@ -43,6 +41,6 @@ pub record IsUsualRide (ride : RideWord) : Type 0 where
 
 -- one to eight rides
 pub record AreUsualRides (rides : RideWords) : Type 0 where
-  pub counted : rides.count ≡ length (rides_of rides)
-  pub some : 1 ≤ rides.count
-  pub few : rides.count ≤ 8
+  pub counted : length rides.texts.items ≡ length (rides_of rides)
+  pub some : 1 ≤ length (rides_of rides)
+  pub few : length (rides_of rides) ≤ 8

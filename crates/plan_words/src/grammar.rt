@@ -3,7 +3,7 @@ ghost use Rattle.std.specs.Prelude.{◌≡◌, ◌<◌, if◌then◌else◌, len
 ghost use Rattle.std.specs.List.{list_any, list_all};
 ghost use Rattle.std.specs.Option.{option_copied};
 ghost use Rattle.plain_laws.specs.Plain.{all_below, count_below};
-ghost use Rattle.feed_rows.specs.CommandWords.{is_one_of, is_dashed, joined_value, follows_option, role_at, is_taken, is_positional, positional_words, value_at, option_value, is_single_option, fits_form, word_at};
+ghost use Rattle.feed_rows.specs.CommandWords.{is_one_of, is_dashed, joined_value, follows_option, role_at, is_taken, is_positional, positional_words, value_at, is_single_option, fits_form, word_at};
 ghost use Rattle.plan_words.specs.Words.{behind};
 
 use crate::words::WordList;
@@ -184,9 +184,9 @@ impl Form {
         true
     }
 
-    /// How many words are positional.
+    // How many words are positional.
     #[tactic(auto, using(crate::proofs::WordLaws::picks_next))]
-    pub(crate) fn count_positional(self, words: &WordList) -> usize
+    fn count_positional(self, words: &WordList) -> usize
         ensures { result ≡ length (positional_words (form_of self) (behind words.now)) }
     {
         let mut count = 0;
@@ -196,23 +196,6 @@ impl Form {
             }
         }
         count
-    }
-
-    /// The positional word of that number, or the empty word past the last.
-    #[tactic(auto, using(crate::proofs::WordLaws::picks_next, crate::proofs::WordLaws::picked_at, std::proofs::lemmas::Option::get_or_from_slice_get))]
-    pub(crate) fn positional<'a>(self, words: &'a WordList, number: usize) -> &'a str
-        ensures { result.now ≡ word_at (positional_words (form_of self) (behind words.now)) number }
-    {
-        let mut before = 0;
-        for i in 0..words.count_behind() {
-            if self.is_positional(words, i) {
-                if before == number {
-                    return words.behind(i);
-                }
-                before += 1;
-            }
-        }
-        ""
     }
 
     /// Whether the words behind the command are such as it takes, each option at most once, with as many positional words as
@@ -306,17 +289,4 @@ fn count_values(words: &WordList, option: &str) -> usize
         }
     }
     count
-}
-
-/// The value of an option, if the words behind the command give one.
-#[tactic(auto, using(plain_laws::proofs::Laws::first_below_found, plain_laws::proofs::Laws::first_below_next))]
-pub(crate) fn option_value<'a>(words: &'a WordList, option: &str) -> Option<&'a [u8]>
-    ensures { option_copied result ≡ option_value (behind words.now) option.now }
-{
-    for i in 0..words.count_behind() {
-        if let Some(value) = value_at(words, option, i) {
-            return Some(value);
-        }
-    }
-    None
 }

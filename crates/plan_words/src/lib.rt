@@ -1,12 +1,15 @@
 //! The words of a command: what they ask for, or their first fault.
 #![tactic(auto)]
 
+mod error;
+mod found;
 mod grammar;
 mod request;
 mod rides;
 mod values;
 mod words;
 
+pub use error::WordsError;
 pub use request::{Asked, GenWords, PlanWords, PriceWords, asked_of};
 pub use rides::{RideWord, RideWords};
 pub use words::WordList;

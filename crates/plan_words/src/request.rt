@@ -1,14 +1,16 @@
 //! What a command's words ask for.
-ghost use Rattle.std.specs.Prelude.{◌≡◌, true, Ok, IfOk, option_map};
-ghost use Rattle.feed_rows.specs.CommandWords.{option_value, positional_words, fits_form};
+ghost use Rattle.std.specs.Prelude.{◌≡◌, true, Ok, IfOk, IfErr, option_map};
+ghost use Rattle.feed_rows.specs.CommandWords.{positional_words, fits_form};
 ghost use Rattle.feed_rows.specs.Commands.{read_plan, read_price, read_gen};
 ghost use Rattle.feed_rows.specs.Requests.{Request};
-ghost use Rattle.feed_rows.specs.UsageFaults.{unless_fault};
+ghost use Rattle.plan_words.specs.Errors.{IsErrorOf};
 ghost use Rattle.plan_words.specs.Words.{asked_of, behind, form_of, command_of, command_named};
 ghost use Rattle.plan_words.specs.Request.{request_of, price_request, gen_request, asked_request, IsUsualPlan, IsUsualGen, IsUsualRequest};
 ghost use Rattle.plan_words.specs.Rides.{AreUsualRides};
 
-use crate::grammar::{Form, option_value};
+use crate::error::WordsError;
+use crate::found::{all_named, found_in, named, value_of};
+use crate::grammar::Form;
 use crate::rides::{RideWords, rides_in};
 use crate::values::{date_in, number_in, option_number};
 use crate::words::WordList;
@@ -20,7 +22,7 @@ use transit_base::Moment;
 const MOST_WINDOW: u32 = 259_200;
 
 /// What a command's words ask for.
-#[derive(Clone, Copy)]
+#[derive(Drop)]
 pub enum Asked<'a> {
     /// The journeys of a plan.
     Plan(PlanWords<'a>),
@@ -49,7 +51,7 @@ pub struct PlanWords<'a> {
 }
 
 /// The rides of which the price is asked, as words say it.
-#[derive(Clone, Copy)]
+#[derive(Drop)]
 pub struct PriceWords<'a> {
     /// The id of the rider category.
     pub rider: Option<&'a [u8]>,
@@ -67,54 +69,62 @@ pub struct GenWords {
 }
 
 // The plan that the words ask for, or their first fault.
-fn plan_of(words: &WordList) -> Result<PlanWords<'_>, UsageFault>
+fn plan_of(words: &WordList) -> Result<PlanWords<'_>, WordsError>
     requires { fits_form (form_of Form.Plan) (behind words.now) ≡ true }
-    ensures value { unless_fault result (λ plan. Ok (Request.Plan (request_of plan))) ≡ read_plan (positional_words (form_of Form.Plan) (behind words.now)) (behind words.now) }
+    ensures value { IfOk result (λ plan. Ok (Request.Plan (request_of plan)) ≡ read_plan (positional_words (form_of Form.Plan) (behind words.now)) (behind words.now)) }
     ensures usual { IfOk result IsUsualPlan }
+    ensures err { IfErr result (IsErrorOf (read_plan (positional_words (form_of Form.Plan) (behind words.now)) (behind words.now))) }
 {
-    let Some(day) = date_in(Form::Plan.positional(words, 2).as_bytes()) else {
-        return Err(UsageFault::BadDate);
+    let found = found_in(Form::Plan, words)?;
+    let Some(day) = date_in(named(&found, 2).as_bytes()) else {
+        return Err(WordsError::Usage(UsageFault::BadDate));
     };
-    let Some(seconds) = time_of(Form::Plan.positional(words, 3).as_bytes(), 86_399) else {
-        return Err(UsageFault::BadTime);
+    let Some(seconds) = time_of(named(&found, 3).as_bytes(), 86_399) else {
+        return Err(WordsError::Usage(UsageFault::BadTime));
     };
-    let Some(rides) = option_number(words, "--rides", 4, 0, 8) else {
-        return Err(UsageFault::BadRides);
+    let Some(rides) = option_number(value_of(&found, "--rides"), 4, 0, 8) else {
+        return Err(WordsError::Usage(UsageFault::BadRides));
     };
-    let Some(window) = option_number(words, "--within", USUAL_WINDOW, 1, MOST_WINDOW) else {
-        return Err(UsageFault::BadWindow);
+    let within = value_of(&found, "--within");
+    let Some(window) = option_number(within, USUAL_WINDOW, 1, MOST_WINDOW) else {
+        return Err(WordsError::Usage(UsageFault::BadWindow));
     };
     Ok(PlanWords {
-        from: Form::Plan.positional(words, 0),
-        to: Form::Plan.positional(words, 1),
+        from: named(&found, 0),
+        to: named(&found, 1),
         departure: Moment::at(day, i64::from(seconds)),
         rides: rides as u8,
-        rider: option_value(words, "--rider"),
+        rider: value_of(&found, "--rider"),
         window,
     })
 }
 
 // The rides whose price the words ask for, or their first fault.
-fn price_of(words: &WordList) -> Result<PriceWords<'_>, UsageFault>
+fn price_of(words: &WordList) -> Result<PriceWords<'_>, WordsError>
     requires { fits_form (form_of Form.Price) (behind words.now) ≡ true }
-    ensures value { unless_fault result (λ price. Ok (Request.Price (price_request price))) ≡ read_price (positional_words (form_of Form.Price) (behind words.now)) (behind words.now) }
+    ensures value { IfOk result (λ price. Ok (Request.Price (price_request price)) ≡ read_price (positional_words (form_of Form.Price) (behind words.now)) (behind words.now)) }
     ensures usual { IfOk result (λ price. AreUsualRides price.rides) }
+    ensures err { IfErr result (IsErrorOf (read_price (positional_words (form_of Form.Price) (behind words.now)) (behind words.now))) }
 {
-    let rides = rides_in(words)?;
-    let rider = option_value(words, "--rider");
+    let found = found_in(Form::Price, words)?;
+    let rides = rides_in(all_named(words.alloc(), &found)?)?;
+    let rider = value_of(&found, "--rider");
     Ok(PriceWords { rider, rides })
 }
 
 // The generated feed that the words ask for, or their first fault.
-fn gen_of(words: &WordList) -> Result<GenWords, UsageFault>
-    ensures value { unless_fault result (λ asked. Ok (Request.Gen (gen_request asked))) ≡ read_gen (positional_words (form_of Form.Gen) (behind words.now)) (behind words.now) }
+fn gen_of(words: &WordList) -> Result<GenWords, WordsError>
+    requires { fits_form (form_of Form.Gen) (behind words.now) ≡ true }
+    ensures value { IfOk result (λ asked. Ok (Request.Gen (gen_request asked)) ≡ read_gen (positional_words (form_of Form.Gen) (behind words.now)) (behind words.now)) }
     ensures usual { IfOk result IsUsualGen }
+    ensures err { IfErr result (IsErrorOf (read_gen (positional_words (form_of Form.Gen) (behind words.now)) (behind words.now))) }
 {
-    let Some(seed) = number_in(Form::Gen.positional(words, 0).as_bytes(), 0, 65_535) else {
-        return Err(UsageFault::BadSeed);
+    let found = found_in(Form::Gen, words)?;
+    let Some(seed) = number_in(named(&found, 0).as_bytes(), 0, 65_535) else {
+        return Err(WordsError::Usage(UsageFault::BadSeed));
     };
-    let Some(lines) = number_in(Form::Gen.positional(words, 1).as_bytes(), 2, 32) else {
-        return Err(UsageFault::BadLines);
+    let Some(lines) = number_in(named(&found, 1).as_bytes(), 2, 32) else {
+        return Err(WordsError::Usage(UsageFault::BadLines));
     };
     Ok(GenWords { seed, lines })
 }
@@ -132,25 +142,33 @@ fn form_named(name: &str) -> Option<Form>
     }
 }
 
-/// What the words ask for, or their first fault.
+/// What the words ask for, or their first fault. They are judged by the definitions; those without a fault of their grammar go
+/// through `clap`, which finds the fields.
+///
+/// # Errors
+/// That fault; want of memory.
 #[tactic(auto, unfolding(crate::specs::Words::asked_of, feed_rows::specs::Commands::read_words))]
-pub fn asked_of(words: &WordList) -> Result<Asked<'_>, UsageFault>
-    ensures value { unless_fault result (λ asked. Ok (asked_request asked)) ≡ asked_of words.now }
+pub fn asked_of(words: &WordList) -> Result<Asked<'_>, WordsError>
+    ensures value { IfOk result (λ asked. Ok (asked_request asked) ≡ asked_of words.now) }
     ensures usual { IfOk result IsUsualRequest }
+    ensures err { IfErr result (IsErrorOf (asked_of words.now)) }
 {
     if words.is_empty() {
-        return Err(UsageFault::WrongWords);
+        return Err(WordsError::Usage(UsageFault::WrongWords));
     }
     let Some(form) = form_named(words.word(0)) else {
-        return Err(UsageFault::WrongWords);
+        return Err(WordsError::Usage(UsageFault::WrongWords));
     };
     if !form.fits(words) {
-        return Err(UsageFault::WrongWords);
+        return Err(WordsError::Usage(UsageFault::WrongWords));
     }
     match form {
         Form::Plan => Ok(Asked::Plan(plan_of(words)?)),
         Form::Price => Ok(Asked::Price(price_of(words)?)),
-        Form::Check => Ok(Asked::Check),
+        Form::Check => {
+            found_in(Form::Check, words)?;
+            Ok(Asked::Check)
+        }
         Form::Gen => Ok(Asked::Gen(gen_of(words)?)),
     }
 }

@@ -1,18 +1,15 @@
 //! The words that name the rides of `price`.
-ghost use Rattle.std.specs.Prelude.{◌≡◌, ◌<◌, ◌≤◌, true, IfOk, IfSome, Ok, Some, is_none, length, option_map, slice_get};
+ghost use Rattle.std.specs.Prelude.{◌≡◌, ◌<◌, ◌≤◌, IfOk, IfSome, Ok, Some, is_none, length, option_map, slice_get};
 ghost use Rattle.plain_laws.specs.Plain.{find_below};
-ghost use Rattle.feed_rows.specs.CommandWords.{fits_form, word_at};
+ghost use Rattle.feed_rows.specs.CommandWords.{word_at};
 ghost use Rattle.feed_rows.specs.NumberedItems.{read_at, read_each};
 ghost use Rattle.feed_rows.specs.RideWords.{comma_before, ride_parts, start_value, sequence_value, ride_word};
 ghost use Rattle.feed_rows.specs.UsageFaults.{unless_fault};
 ghost use Rattle.feed_rows.specs.declared.usage.UsageFault.TheVariants as usage;
 ghost use Rattle.transit_base.specs.Limits.{most_time};
-ghost use Rattle.plan_words.specs.Words.{behind, form_of};
-ghost use Rattle.plan_words.specs.Rides.{ride_of, parts_of, ride_texts, rides_of, IsUsualRide, AreUsualRides};
+ghost use Rattle.plan_words.specs.Rides.{ride_of, parts_of, texts_of, rides_of, IsUsualRide, AreUsualRides};
 
-use crate::grammar::Form;
 use crate::values::{date_in, number_in};
-use crate::words::WordList;
 use feed_rows::UsageFault;
 use feed_text::time_of;
 use transit_base::{Day, MOST_TIME};
@@ -36,21 +33,27 @@ pub struct RideWord<'a> {
 const MOST_SEQUENCE: u32 = 2_147_483_647;
 
 /// The rides of `price`, in order, each read of its word where it is asked for.
-#[derive(Clone, Copy)]
+#[derive(Drop)]
 pub struct RideWords<'a> {
-    words: &'a WordList,
-    /// How many rides there are.
-    pub count: usize,
+    texts: Vec<&'a str>,
 }
 
 impl<'a> RideWords<'a> {
+    /// How many rides there are.
+    pub fn count(&self) -> usize
+        requires { AreUsualRides self.now }
+        ensures { result ≡ length (rides_of self.now) }
+    {
+        self.texts.len()
+    }
+
     /// A ride.
     pub fn ride(&self, number: usize) -> RideWord<'a>
         requires { number < length (rides_of self.now) }
         ensures value { slice_get (rides_of self.now) number ≡ Some (ride_of result) }
         ensures usual { IsUsualRide result }
     {
-        match ride_at(self.words, number) {
+        match ride_at(self.texts.as_slice(), number) {
             Some(ride) => ride,
             None => unreachable!(),
         }
@@ -143,20 +146,21 @@ fn ride_in(word: &[u8]) -> Option<RideWord<'_>>
     })
 }
 
-// The ride that the positional word of that number names.
-fn ride_at(words: &WordList, number: usize) -> Option<RideWord<'_>>
-    ensures value { option_map ride_of result ≡ ride_word (word_at (ride_texts words.now) number) }
+// The ride that the word of that number names.
+fn ride_at<'a>(texts: &[&'a str], number: usize) -> Option<RideWord<'a>>
+    requires { number < length texts.now }
+    ensures value { option_map ride_of result ≡ ride_word (word_at (texts_of texts.now) number) }
     ensures usual { IfSome result IsUsualRide }
 {
-    ride_in(Form::Price.positional(words, number).as_bytes())
+    ride_in(texts[number].as_bytes())
 }
 
-// The first positional word that names no ride.
-fn first_unread(words: &WordList) -> Option<usize>
-    ensures { result ≡ find_below (length (ride_texts words.now)) (λ i. is_none (read_at ride_word (ride_texts words.now) i)) }
+// The first word that names no ride.
+fn first_unread(texts: &[&str]) -> Option<usize>
+    ensures { result ≡ find_below (length (texts_of texts.now)) (λ i. is_none (read_at ride_word (texts_of texts.now) i)) }
 {
-    for i in 0..Form::Price.count_positional(words) {
-        match ride_at(words, i) {
+    for i in 0..texts.len() {
+        match ride_at(texts, i) {
             Some(_) => {}
             None => return Some(i),
         }
@@ -164,17 +168,15 @@ fn first_unread(words: &WordList) -> Option<usize>
     None
 }
 
-/// The rides that the positional words of `price` name, or the first word that names none, counted from 1.
-pub(crate) fn rides_in(words: &WordList) -> Result<RideWords<'_>, UsageFault>
-    requires { fits_form (form_of Form.Price) (behind words.now) ≡ true }
-    ensures value { unless_fault result (λ rides. Ok (rides_of rides)) ≡ read_each ride_word usage.BadRide (ride_texts words.now) }
+/// The rides that one to eight words name, or the first word that names none, counted from 1.
+pub(crate) fn rides_in(texts: Vec<&str>) -> Result<RideWords<'_>, UsageFault>
+    requires some { 1 ≤ length texts.items }
+    requires few { length texts.items ≤ 8 }
+    ensures value { unless_fault result (λ rides. Ok (rides_of rides)) ≡ read_each ride_word usage.BadRide (texts_of texts.entry.items) }
     ensures usual { IfOk result AreUsualRides }
 {
-    match first_unread(words) {
+    match first_unread(texts.as_slice()) {
         Some(place) => Err(UsageFault::BadRide(place as u32 + 1)),
-        None => {
-            let count = Form::Price.count_positional(words);
-            Ok(RideWords { words, count })
-        }
+        None => Ok(RideWords { texts }),
     }
 }

@@ -1,12 +1,9 @@
 //! What words say of numbers and dates.
 ghost use Rattle.std.specs.Prelude.{◌≡◌, ◌≤◌, ◌≤ℤ◌, pos, negsuc, IfSome, option_map};
-ghost use Rattle.feed_rows.specs.CommandWords.{option_value};
+ghost use Rattle.std.specs.Option.{option_copied};
 ghost use Rattle.feed_rows.specs.Numerals.{within};
 ghost use Rattle.feed_rows.specs.WordValues.{word_date, word_number, option_number};
-ghost use Rattle.plan_words.specs.Words.{behind};
 
-use crate::grammar::option_value;
-use crate::words::WordList;
 use feed_text::{day_of_parts, int_of};
 use transit_base::Day;
 
@@ -39,19 +36,18 @@ pub(crate) fn number_in(word: &[u8], least: u32, most: u32) -> Option<u32>
     Some(value as u32)
 }
 
-/// The number of an option, or the default where the words give none.
+/// The number of an option, or the default where none is given.
 pub(crate) fn option_number(
-    words: &WordList,
-    option: &str,
+    given: Option<&[u8]>,
     default: u32,
     least: u32,
     most: u32,
 ) -> Option<u32>
     requires { default ≤ most }
-    ensures value { result ≡ option_number default least most (option_value (behind words.now) option.now) }
+    ensures value { result ≡ option_number default least most (option_copied given.entry) }
     ensures high { IfSome result (λ n. n ≤ most) }
 {
-    match option_value(words, option) {
+    match given {
         None => Some(default),
         Some(word) => number_in(word, least, most),
     }

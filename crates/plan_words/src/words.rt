@@ -1,5 +1,5 @@
 //! The words of a command.
-ghost use Rattle.std.specs.Prelude.{◌≡◌, ◌<◌, ◌==◌, ◌++◌, ◌∷◌, [], List, ℕ, OnOk, OnErr, length};
+ghost use Rattle.std.specs.Prelude.{◌≡◌, ◌<◌, ◌==◌, ◌++◌, ◌∷◌, [], List, ℕ, OnOk, OnErr, length, map, string_bytes};
 ghost use Rattle.feed_rows.specs.CommandWords.{word_at};
 ghost use Rattle.plan_words.specs.Words.{behind};
 
@@ -43,6 +43,18 @@ impl WordList {
         let word = String::from_str(self.alloc, word)?;
         self.words.push(word)?;
         Ok(())
+    }
+
+    // What its memory comes from.
+    pub(crate) fn alloc(&self) -> Global {
+        self.alloc
+    }
+
+    // The words, as they are passed on.
+    pub(crate) fn as_slice(&self) -> &[String]
+        ensures { map string_bytes result.now ≡ self.now }
+    {
+        self.words.as_slice()
     }
 
     /// How many words there are.

@@ -74,7 +74,7 @@ fn named_rides(
     ensures err { IfErr result (IsErrorOf (named_rides timetable.now (words_of words.now))) }
 {
     let mut rides = Vec::new(alloc);
-    for k in 0..words.count {
+    for k in 0..words.count() {
         let Some(named) = named_ride(timetable, &words.ride(k)) else {
             return Err(PriceQueryError::Usage(UsageFault::NoSuchRide(k as u32 + 1)));
         };

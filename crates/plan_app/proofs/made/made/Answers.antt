@@ -1,9 +1,13 @@
+use Rattle.std.proofs.Common.{subst}
+use Rattle.plan_words.specs.Errors.{IsErrorOf}
 use Rattle.plan_app.proofs.MadeLaws.{wrong_made, stopped_late, fault_after_reading}
 use Rattle.plan_words.specs.Request.{asked_request}
 use Rattle.plan_app.proofs.made.made.Goals as goal
 
-pub returns-in-Err-clause-made : goal.returns-in-Err-clause-made
-returns-in-Err-clause-made g c = wrong_made _ _ c.in-Err.fault _ _ c.in-Err.ensures.value c.in_ok-refused-in-Err.ensures
+pub returns-in-Err-Usage-clause-made : goal.returns-in-Err-Usage-clause-made
+returns-in-Err-Usage-clause-made g c =
+    wrong_made _ _ c.in-Err-Usage.fault _ _ (subst (IsErrorOf _) c.in-Err-Usage.field-0-is c.in-Err-Usage.ensures.err)
+    c.in_ok-refused-in-Err-Usage.ensures
 
 pub returns-in_err-refused-in-Err-Fault-clause-err : goal.returns-in_err-refused-in-Err-Fault-clause-err
 returns-in_err-refused-in-Err-Fault-clause-err g c =

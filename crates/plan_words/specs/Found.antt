@@ -1,0 +1,44 @@
+-- What `clap` finds in the words of a command that fit its form.
+use Rattle.std.specs.Prelude.{◌≡◌, true, List, [], ℕ, Some, unwrap_or, option_map, codes}
+use Rattle.feed_rows.specs.CommandWords.{CommandForm, is_one_of, positional_words, option_value}
+use Rattle.clap.specs.Matches.{found_of, first_value, matched_of, raw_values}
+use Rattle.clap.specs.Simple.{App, new_app, new_rule, on_top, with_rule}
+use Rattle.clap.specs.Walk.{Rule}
+use Rattle.clap.specs.declared.builder.action.ArgAction.TheVariants.{Append}
+use Rattle.clap.specs.declared.parser.matches.ArgMatches.{ArgMatches}
+use Rattle.plan_words.specs.declared.grammar.Form.{Form}
+use Rattle.plan_words.specs.declared.grammar.Form.TheVariants as form
+
+-- the option of that id, which words name so
+abbrev pub option_rule : List ℕ → List ℕ → Rule
+option_rule id name = record (new_rule id) { long = Some name; action = Some Append }
+
+-- the positional words
+abbrev pub words_rule : Rule
+words_rule = record (new_rule (codes "WORDS")) { action = Some Append }
+
+-- a command without options, help and version
+abbrev pub plain_command : App
+plain_command =
+    with_rule (on_top (λ s. record s { disable_help_flag = true; disable_version_flag = true })
+    (new_app (codes "farewise"))) words_rule
+
+-- the command as `clap` knows it
+abbrev pub known_as : Form → App
+known_as form.Plan =
+    with_rule (with_rule (with_rule plain_command (option_rule (codes "--rides") (codes "rides")))
+    (option_rule (codes "--rider") (codes "rider")))
+    (option_rule (codes "--within") (codes "within"))
+known_as form.Price = with_rule plain_command (option_rule (codes "--rider") (codes "rider"))
+known_as form.Check = plain_command
+known_as form.Gen = plain_command
+
+-- the positional words that were found, in order
+abbrev pub named_in : ArgMatches → List (List ℕ)
+named_in found = unwrap_or (option_map raw_values (matched_of (found_of found) (codes "WORDS"))) []
+
+-- what was found is what the definitions give
+pub record IsFound (taken : CommandForm) (words : List (List ℕ)) (found : ArgMatches) : Type 0 where
+  pub named : named_in found ≡ positional_words taken words
+  pub options : (option : List ℕ) → is_one_of taken.options option ≡ true
+      → first_value (found_of found) option ≡ option_value words option

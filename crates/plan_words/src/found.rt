@@ -1,0 +1,104 @@
+//! What `clap` finds in the words of a command.
+//!
+//! The words are judged before, by the definitions of the commands; what it finds in words that fit is what they give.
+ghost use Rattle.std.specs.Prelude.{◌≡◌, true, IfOk};
+ghost use Rattle.std.specs.Option.{option_copied};
+ghost use Rattle.clap.specs.Matches.{found_of, first_value};
+ghost use Rattle.clap.specs.Simple.{app_of, with_rule};
+ghost use Rattle.feed_rows.specs.CommandWords.{fits_form, word_at};
+ghost use Rattle.plan_words.specs.Found.{option_rule, known_as, named_in, IsFound};
+ghost use Rattle.plan_words.specs.Rides.{texts_of};
+ghost use Rattle.plan_words.specs.Words.{behind, form_of};
+
+use crate::grammar::Form;
+use crate::words::WordList;
+use clap::{Arg, ArgAction, ArgMatches, Command};
+use std::alloc::{AllocError, Global};
+
+// The command with one option more. Each use of an option is kept: whether it stands once is judged before.
+fn with_option<'a>(
+    command: Command<'a>,
+    alloc: Global,
+    id: &'a str,
+    name: &'a str,
+) -> Result<Command<'a>, AllocError>
+    ensures { IfOk result (λ more. app_of more ≡ with_rule (app_of command.entry) (option_rule id.now name.now)) }
+{
+    let option = Arg::new(alloc, id).long(name).action(ArgAction::Append);
+    command.arg(option)
+}
+
+// The command as `clap` knows it.
+fn command_of<'a>(alloc: Global, form: Form) -> Result<Command<'a>, AllocError>
+    ensures { IfOk result (λ command. app_of command ≡ known_as form) }
+{
+    let words = Arg::new(alloc, "WORDS").action(ArgAction::Append);
+    let command = Command::new(alloc, "farewise")
+        .disable_help_flag(true)
+        .disable_version_flag(true)
+        .arg(words)?;
+    match form {
+        Form::Plan => {
+            let command = with_option(command, alloc, "--rides", "rides")?;
+            let command = with_option(command, alloc, "--rider", "rider")?;
+            with_option(command, alloc, "--within", "within")
+        }
+        Form::Price => with_option(command, alloc, "--rider", "rider"),
+        Form::Check | Form::Gen => Ok(command),
+    }
+}
+
+/// What `clap` finds in words that fit their command, the first of which it takes for the program's name.
+///
+/// # Errors
+/// Want of memory; also where `clap` refuses the words.
+pub(crate) fn found_in(form: Form, words: &WordList) -> Result<ArgMatches<'_>, AllocError>
+    requires { fits_form (form_of form) (behind words.now) ≡ true }
+    ensures { IfOk result (IsFound (form_of form) (behind words.now)) }
+{
+    let command = command_of(words.alloc(), form)?;
+    match command.try_get_matches_from(words.as_slice()) {
+        Ok(found) => Ok(found),
+        Err(_) => Err(AllocError),
+    }
+}
+
+/// A positional word that was found, by its number; the empty word past the last.
+pub(crate) fn named<'a>(found: &ArgMatches<'a>, number: usize) -> &'a str
+    ensures { result.now ≡ word_at (named_in found.now) number }
+{
+    let Some(words) = found.get_strs("WORDS") else {
+        return "";
+    };
+    match words.get(number) {
+        Some(word) => word,
+        None => "",
+    }
+}
+
+/// The positional words that were found, in order.
+///
+/// # Errors
+/// Want of memory.
+pub(crate) fn all_named<'a>(
+    alloc: Global,
+    found: &ArgMatches<'a>,
+) -> Result<Vec<&'a str>, AllocError>
+    ensures { IfOk result (λ texts. texts_of texts.items ≡ named_in found.now) }
+{
+    let mut texts = Vec::new(alloc);
+    if let Some(words) = found.get_strs("WORDS") {
+        texts.extend_from_slice(words)?;
+    }
+    Ok(texts)
+}
+
+/// The value of an option that was found.
+pub(crate) fn value_of<'a>(found: &ArgMatches<'a>, option: &str) -> Option<&'a [u8]>
+    ensures { option_copied result ≡ first_value (found_of found.now) option.now }
+{
+    match found.get_str(option) {
+        Some(value) => Some(value.as_bytes()),
+        None => None,
+    }
+}
