@@ -1,15 +1,16 @@
 -- Lists that are made of the items of another, one after another.
-use Rattle.std.proofs.Common.{◌≡◌, sym, ◌∙◌, ap, subst, ℕ, zero, suc, ◌<◌, List, [], ◌∷◌, ◌++◌, length, get_or, set, append_assoc, take, ◌≤◌, arith, IsPermutation}
+use Rattle.std.proofs.Common.{◌≡◌, sym, ◌∙◌, ap, subst, ℕ, zero, suc, ◌+◌, ◌-◌, ◌<◌, List, [], ◌∷◌, ◌++◌, length, get_or, set, append_assoc, ◌≤◌, arith, IsPermutation}
 use Rattle.std.specs.List.{flat_map, swap}
 use Rattle.std.proofs.lemmas.List.{get_or_default, append-nil}
 use Rattle.std.proofs.lemmas.List.Elements.{All-push}
 use Rattle.std.proofs.lemmas.List.Concat.{flat_map-append}
-use Rattle.std.proofs.Math.Seq.{take-length}
 use Rattle.std.proofs.lemmas.List.Sorted.{IsPermutation-refl, IsPermutation-trans, IsPermutation-keeps, IsPermutation-append_left, IsPermutation-append_right, IsPermutation-append_comm}
 use Rattle.trip_order.specs.declared.keys.PlaceKey.{PlaceKey}
 use Rattle.trip_order.specs.declared.stretches.Stretch.{Stretch}
 use Rattle.trip_order.specs.Joined.{keys_within, LiesWithin, AreCut}
-use Rattle.plain_laws.proofs.Laws.{cut_further}
+use Rattle.trip_order.specs.Order.{key_of}
+use Rattle.plain_laws.specs.Plain.{list_below}
+use Rattle.feed_rows.specs.declared.rows.StopTimeRow.{StopTimeRow}
 
 module _ {X Y : Type 0} (f : X → List Y) where
   abbrev all : List X → List Y
@@ -50,19 +51,49 @@ module _ {X Y : Type 0} (f : X → List Y) where
   joined_IsPermutation xs ys moved =
       IsPermutation-keeps xs (λ l. IsPermutation (all xs) (all l)) (IsPermutation-refl (all xs)) (λ l i j li lj p. IsPermutation-trans (all xs) (all l) (all (swap l i j)) p (swapped l i j li lj)) ys moved
 
+-- the first rows, and those from there on
+list_below_on : {X : Type 0} (f : ℕ → X) (from n : ℕ) →
+    list_below (from + n) f ≡ list_below from f ++ list_below n (λ k. f (from + k))
+list_below_on f from zero = let none : from + 0 ≡ from = omega arith in rw none (sym (append-nil (list_below from f)))
+list_below_on f from (suc n) =
+    let next : from + suc n ≡ suc (from + n) = omega arith in
+    rw next
+    (ap (λ xs. xs ++ f (from + n) ∷ []) (list_below_on f from n)
+    ∙ append_assoc (list_below from f) (list_below n (λ k. f (from + k))) (f (from + n) ∷ []))
+
 -- one stretch more reaches further
-pub joined_further : (keys : List PlaceKey) (stretches : List Stretch) (stretch : Stretch) → AreCut keys stretches stretch.from → stretch.from ≤ stretch.to → stretch.to ≤ length keys → AreCut keys (stretches ++ stretch ∷ []) stretch.to
-joined_further keys stretches stretch cut le within =
+pub joined_further : (times : List StopTimeRow) (stretches : List Stretch) (stretch : Stretch) →
+    AreCut times stretches stretch.from → stretch.from ≤ stretch.to → stretch.to ≤ length times →
+    AreCut times (stretches ++ stretch ∷ []) stretch.to
+joined_further times stretches stretch cut le within =
+    let whole : stretch.from + (stretch.to - stretch.from) ≡ stretch.to = omega arith in
     record {
-      joined = flat_map-append (keys_within keys) stretches (stretch ∷ []) ∙ ap (λ xs. xs ++ (keys_within keys stretch ++ [])) cut.joined ∙ ap (λ xs. take stretch.from keys ++ xs) (append-nil (keys_within keys stretch)) ∙ sym (cut_further keys stretch.from stretch.to le);
-      within = All-push (LiesWithin keys) stretches stretch cut.within (record { forward = le; ends = within });
+      joined = flat_map-append (keys_within times) stretches (stretch ∷ [])
+          ∙ ap (λ xs. xs ++ (keys_within times stretch ++ [])) cut.joined
+          ∙ ap (λ xs. list_below stretch.from (key_of times) ++ xs) (append-nil (keys_within times stretch))
+          ∙ sym (list_below_on (key_of times) stretch.from (stretch.to - stretch.from))
+          ∙ ap (λ n. list_below n (key_of times)) whole;
+      within = All-push (LiesWithin times) stretches stretch cut.within (record { forward = le; ends = within });
     }
 
--- stretches up to the end are all keys
-pub all_joined : (keys : List PlaceKey) (stretches : List Stretch) → AreCut keys stretches (length keys) → flat_map (keys_within keys) stretches ≡ keys
-all_joined keys stretches cut = cut.joined ∙ take-length keys
-
 -- in any order they have the same keys
-pub joined_permutation : (keys : List PlaceKey) (old new : List Stretch) → AreCut keys old (length keys) → IsPermutation old new → IsPermutation keys (flat_map (keys_within keys) new)
-joined_permutation keys old new cut moved =
-    subst (λ xs. IsPermutation xs (flat_map (keys_within keys) new)) (all_joined keys old cut) (joined_IsPermutation (keys_within keys) old new moved)
+pub joined_permutation : (times : List StopTimeRow) (old new : List Stretch) → AreCut times old (length times) →
+    IsPermutation old new →
+    IsPermutation (list_below (length times) (key_of times)) (flat_map (keys_within times) new)
+joined_permutation times old new cut moved =
+    subst (λ xs. IsPermutation xs (flat_map (keys_within times) new)) cut.joined
+    (joined_IsPermutation (keys_within times) old new moved)
+
+-- one key more of a stretch
+pub keys_more : (times : List StopTimeRow) (stretch : Stretch) (row : ℕ) (old mid new : List PlaceKey) →
+    stretch.from ≤ row →
+    mid ≡ old ++ list_below (row - stretch.from) (λ k. key_of times (stretch.from + k)) →
+    new ≡ mid ++ key_of times row ∷ [] →
+    new ≡ old ++ list_below (row + 1 - stretch.from) (λ k. key_of times (stretch.from + k))
+keys_more times stretch row old mid new le before pushed =
+    let next : row + 1 - stretch.from ≡ suc (row - stretch.from) = omega arith in
+    let here : stretch.from + (row - stretch.from) ≡ row = omega arith in
+    rw next
+    (pushed ∙ ap (λ xs. xs ++ key_of times row ∷ []) before
+    ∙ append_assoc old (list_below (row - stretch.from) (λ k. key_of times (stretch.from + k))) (key_of times row ∷ [])
+    ∙ ap (λ n. old ++ (list_below (row - stretch.from) (λ k. key_of times (stretch.from + k)) ++ key_of times n ∷ [])) (sym here))

@@ -2,10 +2,9 @@
 ghost use Rattle.std.specs.Prelude.{◌≡◌, ◌<◌, ◌^◌, length, IfOk};
 ghost use Rattle.std.specs.Bool.{OnTrue};
 ghost use Rattle.std.specs.List.Sorted.{IsPermutation};
-ghost use Rattle.plain_laws.specs.Plain.{list_below};
 ghost use Rattle.trip_order.specs.Order.{key_of, DoAscend, AreSorted};
 
-use crate::stretches::gathered_by_trip;
+use crate::stretches::keys_by_trip;
 use feed_rows::StopTimeRow;
 use std::alloc::{AllocError, Global};
 
@@ -20,21 +19,19 @@ pub struct PlaceKey {
     pub row: u32,
 }
 
-// The key of each row, in file order.
-fn keys_of(alloc: Global, times: &[StopTimeRow]) -> Result<Vec<PlaceKey>, AllocError>
-    requires { length times.now < 2 ^ 32 }
-    ensures { IfOk result (λ keys. keys.items ≡ list_below (length times.now) (key_of times.now)) }
+/// The key of a row.
+#[inline(always)]
+pub fn key_of(times: &[StopTimeRow], row: usize) -> PlaceKey
+    requires few { length times.now < 2 ^ 32 }
+    requires within { row < length times.now }
+    ensures { result ≡ key_of times.now row }
 {
-    let mut keys = Vec::with_capacity(alloc, times.len())?;
-    for row in 0..times.len() {
-        let time = times[row];
-        keys.push(PlaceKey {
-            trip: time.trip.0,
-            sequence: time.sequence,
-            row: row as u32,
-        })?;
+    let time = times[row];
+    PlaceKey {
+        trip: time.trip.0,
+        sequence: time.sequence,
+        row: row as u32,
     }
-    Ok(keys)
 }
 
 // Whether no key comes before the one before it.
@@ -63,11 +60,7 @@ pub fn sorted_keys(alloc: Global, times: &[StopTimeRow]) -> Result<Vec<PlaceKey>
     requires { length times.now < 2 ^ 32 }
     ensures { IfOk result (λ keys. AreSorted times.now keys.items) }
 {
-    let keys = keys_of(alloc, times)?;
-    if do_ascend(&keys) {
-        return Ok(keys);
-    }
-    let mut gathered = gathered_by_trip(alloc, &keys)?;
-    put_in_order(&mut gathered);
-    Ok(gathered)
+    let mut keys = keys_by_trip(alloc, times)?;
+    put_in_order(&mut keys);
+    Ok(keys)
 }

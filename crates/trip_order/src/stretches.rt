@@ -1,10 +1,13 @@
-//! Stretches of keys of one trip that stand together. There are far fewer of them than keys, so they are sorted sooner.
-ghost use Rattle.std.specs.Prelude.{◌≡◌, ◌<◌, ◌≤◌, length, All, IfOk, OnOk};
+//! Stretches of rows of one trip that stand together. There are far fewer of them than rows, so they are sorted sooner.
+ghost use Rattle.std.specs.Prelude.{◌≡◌, ◌<◌, ◌≤◌, ◌^◌, ◌++◌, length, All, IfOk, OnOk};
 ghost use Rattle.std.specs.List.{flat_map};
 ghost use Rattle.std.specs.List.Sorted.{IsPermutation};
+ghost use Rattle.plain_laws.specs.Plain.{list_below};
 ghost use Rattle.trip_order.specs.Joined.{keys_within, LiesWithin, AreCut};
+ghost use Rattle.trip_order.specs.Order.{key_of};
 
-use crate::keys::PlaceKey;
+use crate::keys::{PlaceKey, key_of};
+use feed_rows::StopTimeRow;
 use std::alloc::{AllocError, Global};
 
 // Neighbours of one trip: from a place, and up to the place after the last.
@@ -19,66 +22,84 @@ struct Stretch {
 #[tactic(auto, using(crate::proofs::JoinLaws::joined_further))]
 fn push_stretch(
     stretches: &mut Vec<Stretch>,
-    keys: &[PlaceKey],
+    times: &[StopTimeRow],
     from: usize,
     to: usize,
 ) -> Result<(), AllocError>
-    requires cut { AreCut keys.now stretches.old.items from }
+    requires cut { AreCut times.now stretches.old.items from }
     requires some { from < to }
-    requires within { to ≤ length keys.now }
-    ensures { OnOk result (AreCut keys.now stretches.new.items to) }
+    requires within { to ≤ length times.now }
+    ensures { OnOk result (AreCut times.now stretches.new.items to) }
 {
     stretches.push(Stretch {
-        trip: keys[from].trip,
+        trip: times[from].trip.0,
         from,
         to,
     })?;
     Ok(())
 }
 
-// The keys cut wherever the trip changes.
-fn stretches_of(alloc: Global, keys: &[PlaceKey]) -> Result<Vec<Stretch>, AllocError>
-    ensures { IfOk result (λ stretches. AreCut keys.now stretches.items (length keys.now)) }
+// The rows cut wherever the trip changes.
+fn stretches_of(alloc: Global, times: &[StopTimeRow]) -> Result<Vec<Stretch>, AllocError>
+    ensures { IfOk result (λ stretches. AreCut times.now stretches.items (length times.now)) }
 {
-    let mut stretches = Vec::with_capacity(alloc, keys.len())?;
+    let mut stretches = Vec::new(alloc);
     let mut from = 0;
-    for to in 0..keys.len() {
-        if keys[to].trip != keys[from].trip {
-            push_stretch(&mut stretches, keys, from, to)?;
+    for to in 0..times.len() {
+        if times[to].trip.0 != times[from].trip.0 {
+            push_stretch(&mut stretches, times, from, to)?;
             from = to;
         }
     }
-    if from < keys.len() {
-        push_stretch(&mut stretches, keys, from, keys.len())?;
+    if from < times.len() {
+        push_stretch(&mut stretches, times, from, times.len())?;
     }
     Ok(stretches)
 }
 
-// The keys of stretches, one stretch after another.
+// Appends the keys of the rows of a stretch.
+fn push_keys(
+    keys: &mut Vec<PlaceKey>,
+    times: &[StopTimeRow],
+    stretch: &Stretch,
+) -> Result<(), AllocError>
+    requires few { length times.now < 2 ^ 32 }
+    requires within { LiesWithin times.now stretch.now }
+    ensures { OnOk result (keys.new.items ≡ keys.old.items ++ keys_within times.now stretch.now) }
+{
+    for row in stretch.from..stretch.to {
+        keys.push(key_of(times, row))?;
+    }
+    Ok(())
+}
+
+// The keys of the rows of stretches, one stretch after another.
 fn joined(
     alloc: Global,
-    keys: &[PlaceKey],
+    times: &[StopTimeRow],
     stretches: &[Stretch],
 ) -> Result<Vec<PlaceKey>, AllocError>
-    requires { All (LiesWithin keys.now) stretches.now }
-    ensures { IfOk result (λ joined. joined.items ≡ flat_map (keys_within keys.now) stretches.now) }
+    requires few { length times.now < 2 ^ 32 }
+    requires within { All (LiesWithin times.now) stretches.now }
+    ensures { IfOk result (λ joined. joined.items ≡ flat_map (keys_within times.now) stretches.now) }
 {
-    let mut joined = Vec::with_capacity(alloc, keys.len())?;
+    let mut joined = Vec::with_capacity(alloc, times.len())?;
     for stretch in stretches {
-        joined.extend_from_slice(&keys[stretch.from..stretch.to])?;
+        push_keys(&mut joined, times, stretch)?;
     }
     Ok(joined)
 }
 
-/// The same keys by trip, those of one trip in the order that they had.
+/// The keys of all rows by trip, those of one trip in file order.
 ///
 /// # Errors
 /// Want of memory.
 #[tactic(auto, using(crate::proofs::JoinLaws::joined_permutation))]
-pub fn gathered_by_trip(alloc: Global, keys: &[PlaceKey]) -> Result<Vec<PlaceKey>, AllocError>
-    ensures { IfOk result (λ gathered. IsPermutation keys.now gathered.items) }
+pub fn keys_by_trip(alloc: Global, times: &[StopTimeRow]) -> Result<Vec<PlaceKey>, AllocError>
+    requires { length times.now < 2 ^ 32 }
+    ensures { IfOk result (λ keys. IsPermutation (list_below (length times.now) (key_of times.now)) keys.items) }
 {
-    let mut stretches = stretches_of(alloc, keys)?;
+    let mut stretches = stretches_of(alloc, times)?;
     stretches.sort_unstable();
-    joined(alloc, keys, &stretches)
+    joined(alloc, times, &stretches)
 }
