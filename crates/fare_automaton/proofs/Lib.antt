@@ -1,8 +1,4 @@
 pub mod JudgeLaws
-pub mod MoveLaws
 pub mod FloorLaws
-pub mod StateLaws
-pub mod ExtensionLaws
 pub mod OptionLaws
 pub mod MadeLaws
-pub mod StartLaws

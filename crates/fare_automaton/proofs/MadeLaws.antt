@@ -1,9 +1,8 @@
 -- The moves that are made option by option are exactly those that there are.
 use Rattle.std.proofs.Common.{◌≡◌, ◌≢◌, refl, sym, ◌∙◌, ap, subst, ℕ, zero, suc, ◌+◌, ◌<◌, Bool, true, false, ◌&&◌, List, [], ◌∷◌, ◌++◌, length, get_or, arith}
-use Rattle.std.specs.Prelude.{if◌then◌else◌, Option, Some, None, is_none, ℤ, pos, map, option_map, option_and_then, slice_get, slice_index_or, All, AllPairs, Contains}
+use Rattle.std.specs.Prelude.{if◌then◌else◌, Option, Some, None, is_none, ℤ, pos, map, option_map, slice_get, All, AllPairs, Contains}
 use Rattle.std.specs.Option.{option_map_or}
-use Rattle.std.proofs.lemmas.Bool.{and_parts}
-use Rattle.std.proofs.lemmas.Option.{same_Some, none-some, cond_some, slice_get_within, slice_get-map, slice_get-get_or}
+use Rattle.std.proofs.lemmas.Option.{same_Some, none-some, slice_get_within, slice_get-map, slice_get-get_or}
 use Rattle.std.proofs.lemmas.List.{length-map}
 use Rattle.transit_base.specs.declared.numbers.ProductRowId.{ProductRowId}
 use Rattle.transit_base.specs.declared.numbers.RiderId.{RiderId}
@@ -16,11 +15,12 @@ use Rattle.feed_rows.specs.declared.states.Move.{Move}
 use Rattle.feed_rows.specs.FeedRows.{FeedRows}
 use Rattle.feed_rows.specs.TransferRules.{FareLeg}
 use Rattle.feed_rows.specs.FareChoices.{chosen_leg, is_leg_choice}
-use Rattle.feed_rows.specs.FareSteps.{leg_taken, place_taken, is_whole, asked_after, is_place_after, first_move, next_move, move_of_first, move_of_next, move_after, AreMovesAfter}
-use Rattle.plain_laws.specs.Plain.{joined_below, when}
+use Rattle.feed_rows.specs.FareSteps.{leg_taken, place_taken, is_whole, asked_after, is_place_after, first_move, next_move, move_of_first, move_of_next, AreMovesAfter}
+use Rattle.plain_laws.specs.Plain.{joined_below}
 use Rattle.plain_laws.proofs.Laws.{Contains-joined_below, joined_below-tells, AllPairs-joined_below, All-from, All-slice_get, slice_get-Contains, Contains-map, map-tells}
-use Rattle.fare_automaton.specs.Options.{ArePicks, ArePlaces, place_list, bare, first_made, next_made, made_at}
-use Rattle.fare_automaton.proofs.MoveLaws.{first_when, next_when}
+use Rattle.fare_automaton.specs.Options.{ArePicks, place_list, first_made, next_made, made_at}
+use Rattle.fare_laws.specs.BareMoves.{bare}
+use Rattle.fare_laws.proofs.MoveLaws.{place_by, first_tells, first_is_bare, first_when, next_tells, next_when}
 use Rattle.fare_automaton.proofs.OptionLaws.{added_more, are_places}
 
 -- the list of the option with this number
@@ -101,46 +101,7 @@ module _ (feed : FeedRows) (rider : Option RiderId) (leg : LegFacts) (picks : Li
 
 -- ---- a first leg
 
--- the place by a row and a product row
-abbrev place_by : Option XferId → Option ProductRowId → Option ChangeChoice
-place_by x row = option_map (λ r. record { rule = r; product = row }) x
-
--- a move without a change takes what a bare one does
-pub first_is_bare : (feed : FeedRows) (first : FareLeg) (move : Move) → is_none (place_taken move) ≡ true → is_whole move ≡ true →
-    first_move feed first move ≡ first_move feed first (bare (leg_taken move) None)
-first_is_bare feed first move none whole = by move.xfer move.xfer_product none whole
-  where
-    by : (x : Option XferId) (row : Option ProductRowId) →
-        is_none (place_by x row) ≡ true → (if is_none x then is_none row else true) ≡ true →
-        first_move feed first (record move { xfer = x; xfer_product = row }) ≡ first_move feed first (bare (leg_taken move) None)
-    by None None none whole = refl
-    by None (Some row) none whole = absurd (let no : false ≡ true = whole in cc)
-    by (Some x) row none whole = absurd (let no : false ≡ true = none in cc)
-
 module _ (feed : FeedRows) (rider : Option RiderId) (leg : LegFacts) where
-  -- what a move of a first leg tells
-  pub record IsFirst (move : Move) : Type 0 where
-    pub first : FareLeg
-    pub chosen : chosen_leg feed leg (leg_taken move) ≡ Some first
-    pub paid_leg : is_leg_choice feed rider leg (leg_taken move) ≡ true
-    pub no_change : is_none (place_taken move) ≡ true
-    pub whole : is_whole move ≡ true
-    pub follows : first_move feed first move ≡ move
-
-  pub first_tells : (move : Move) → move_of_first feed rider leg move ≡ Some move → IsFirst move
-  unfolding move_of_first
-  first_tells move is = by (chosen_leg feed leg (leg_taken move)) refl is
-    where
-      by : (o : Option FareLeg) → chosen_leg feed leg (leg_taken move) ≡ o →
-          option_and_then (λ first. when (is_leg_choice feed rider leg (leg_taken move) && is_none (place_taken move) && is_whole move) (first_move feed first move)) o ≡ Some move →
-          IsFirst move
-      by None chosen e = absurd (none-some move e)
-      by (Some first) chosen e =
-          let found = cond_some _ _ _ e in
-          let parts = and_parts _ (is_whole move) found.0 in
-          let both = and_parts (is_leg_choice feed rider leg (leg_taken move)) _ parts.0 in
-          record { first = first; chosen = chosen; paid_leg = both.0; no_change = both.1; whole = parts.1; follows = found.1 }
-
   first_of : (pick : LegChoice) → is_leg_choice feed rider leg pick ≡ true → AreOf (move_of_first feed rider leg) pick (first_made feed leg pick)
   first_of pick paid = by (chosen_leg feed leg pick) refl
     where
@@ -152,7 +113,7 @@ module _ (feed : FeedRows) (rider : Option RiderId) (leg : LegFacts) where
           AreOf (move_of_first feed rider leg) pick (option_map_or (λ first. first_move feed first (bare pick None) ∷ []) o [])
       by None chosen = record {
         right = λ move (k, lt, e). absurd (omega (arith, lt));
-        all = λ move is same. let m = first_tells move is in absurd (none-some m.first (sym chosen ∙ ap (chosen_leg feed leg) (sym same) ∙ m.chosen));
+        all = λ move is same. let m = first_tells feed rider leg move is in absurd (none-some m.first (sym chosen ∙ ap (chosen_leg feed leg) (sym same) ∙ m.chosen));
         once = λ i j d lt lt'. absurd (omega (arith, lt'));
       }
       by (Some first) chosen = record {
@@ -163,7 +124,7 @@ module _ (feed : FeedRows) (rider : Option RiderId) (leg : LegFacts) where
                   (sym (first_when feed rider leg (first_move feed first (bare pick None)) first true chosen (rw paid refl))),
             );
         all = λ move is same.
-            let m = first_tells move is in
+            let m = first_tells feed rider leg move is in
             let legs : m.first ≡ first = same_Some m.first first (sym m.chosen ∙ ap (chosen_leg feed leg) same ∙ chosen) in (
               0,
               omega arith,
@@ -177,7 +138,7 @@ module _ (feed : FeedRows) (rider : Option RiderId) (leg : LegFacts) where
       moves ≡ joined_below (length picks) (made_at (first_made feed leg) picks) → AreMovesAfter feed rider None (pos 0) leg moves
   starts_are picks moves are is =
       subst (AreMovesAfter feed rider None (pos 0) leg) (sym is)
-      (let all = all_made feed rider leg picks are (move_of_first feed rider leg) (first_made feed leg) first_of (λ move e. (first_tells move e).paid_leg) in
+      (let all = all_made feed rider leg picks are (move_of_first feed rider leg) (first_made feed leg) first_of (λ move e. (first_tells feed rider leg move e).paid_leg) in
       record { right = all.right; all = all.all; once = all.once })
 
 -- ---- a leg after a state
@@ -217,29 +178,6 @@ once_map {X} {Y} g back xs same once i j d lt lt' equal =
         (same_Some _ _ (sym (slice_get-get_or xs i x (omega (arith, lt, within))) ∙ is ∙ ap Some items ∙ sym is' ∙ slice_get-get_or xs j x within))
 
 module _ (feed : FeedRows) (rider : Option RiderId) (state : FareState) (held : ℤ) (leg : LegFacts) where
-  -- what a move of a leg after the state tells
-  record IsNext (move : Move) : Type 0 where
-    pub next : FareLeg
-    pub chosen : chosen_leg feed leg (leg_taken move) ≡ Some next
-    pub paid_leg : is_leg_choice feed rider leg (leg_taken move) ≡ true
-    pub right_place : is_place_after feed rider (asked_after state next) (place_taken move) ≡ true
-    pub whole : is_whole move ≡ true
-    pub follows : next_move feed state held next move ≡ move
-
-  next_tells : (move : Move) → move_of_next feed rider state held leg move ≡ Some move → IsNext move
-  unfolding move_of_next
-  next_tells move is = by (chosen_leg feed leg (leg_taken move)) refl is
-    where
-      by : (o : Option FareLeg) → chosen_leg feed leg (leg_taken move) ≡ o →
-          option_and_then (λ next. when (is_leg_choice feed rider leg (leg_taken move) && is_place_after feed rider (asked_after state next) (place_taken move) && is_whole move)
-          (next_move feed state held next move)) o ≡ Some move → IsNext move
-      by None chosen e = absurd (none-some move e)
-      by (Some next) chosen e =
-          let found = cond_some _ _ _ e in
-          let parts = and_parts _ (is_whole move) found.0 in
-          let both = and_parts (is_leg_choice feed rider leg (leg_taken move)) _ parts.0 in
-          record { next = next; chosen = chosen; paid_leg = both.0; right_place = both.1; whole = parts.1; follows = found.1 }
-
   -- a whole move takes what a bare one does
   next_is_bare : (next : FareLeg) (move : Move) → is_whole move ≡ true →
       next_move feed state held next move ≡ next_move feed state held next (bare (leg_taken move) (place_taken move))
@@ -271,7 +209,7 @@ module _ (feed : FeedRows) (rider : Option RiderId) (state : FareState) (held : 
           (option_map_or (λ next. map (full next pick) (place_list feed rider (asked_after state next))) o [])
       by None chosen = record {
         right = λ move (k, lt, e). absurd (omega (arith, lt));
-        all = λ move is same. let m = next_tells move is in absurd (none-some m.next (sym chosen ∙ ap (chosen_leg feed leg) (sym same) ∙ m.chosen));
+        all = λ move is same. let m = next_tells feed rider state held leg move is in absurd (none-some m.next (sym chosen ∙ ap (chosen_leg feed leg) (sym same) ∙ m.chosen));
         once = λ i j d lt lt'. absurd (omega (arith, lt'));
       }
       by (Some next) chosen =
@@ -288,7 +226,7 @@ module _ (feed : FeedRows) (rider : Option RiderId) (state : FareState) (held : 
                       ∙ ap Some (full_again next pick f.0)),
                 );
             all = λ move is same.
-                let m = next_tells move is in
+                let m = next_tells feed rider state held leg move is in
                 let legs : m.next ≡ next = same_Some m.next next (sym m.chosen ∙ ap (chosen_leg feed leg) same ∙ chosen) in
                 let right_place = subst (λ (x : FareLeg). is_place_after feed rider (asked_after state x) (place_taken move) ≡ true) legs m.right_place in
                 let is_full : full next pick (place_taken move) ≡ move =
@@ -303,5 +241,5 @@ module _ (feed : FeedRows) (rider : Option RiderId) (state : FareState) (held : 
       moves ≡ joined_below (length picks) (made_at (next_made feed rider state held leg) picks) → AreMovesAfter feed rider (Some state) held leg moves
   steps_are picks moves are is =
       subst (AreMovesAfter feed rider (Some state) held leg) (sym is)
-      (let all = all_made feed rider leg picks are (move_of_next feed rider state held leg) (next_made feed rider state held leg) next_of (λ move e. (next_tells move e).paid_leg) in
+      (let all = all_made feed rider leg picks are (move_of_next feed rider state held leg) (next_made feed rider state held leg) next_of (λ move e. (next_tells feed rider state held leg move e).paid_leg) in
       record { right = all.right; all = all.all; once = all.once })

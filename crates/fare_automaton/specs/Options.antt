@@ -1,5 +1,5 @@
 -- What can be paid for a leg, and what may fill the place of a change: all that there is, in the order of the rows.
-use Rattle.std.specs.Prelude.{◌≡◌, ◌≢◌, ℕ, Bool, true, false, if◌then◌else◌, List, [], ◌∷◌, length, map, slice_get, All, AllPairs, Contains, Option, Some, None, option_map, option_and_then, ℤ, pos}
+use Rattle.std.specs.Prelude.{◌≡◌, ◌≢◌, ℕ, Bool, true, false, if◌then◌else◌, List, [], ◌∷◌, length, map, slice_get, All, AllPairs, Contains, Option, Some, None, ℤ}
 use Rattle.std.specs.Option.{option_map_or}
 use Rattle.transit_base.specs.declared.numbers.ProductId.{ProductId}
 use Rattle.transit_base.specs.declared.numbers.RiderId.{RiderId}
@@ -15,6 +15,7 @@ use Rattle.feed_rows.specs.TransferRules.{AskedChange, is_selected}
 use Rattle.feed_rows.specs.FareChoices.{is_open, chosen_leg, is_leg_choice}
 use Rattle.feed_rows.specs.FareSteps.{asked_after, is_arranged_after, is_place_after, first_move, next_move}
 use Rattle.plain_laws.specs.Plain.{at_and, joined_below}
+use Rattle.fare_laws.specs.BareMoves.{bare}
 
 -- ---- legs
 
@@ -81,19 +82,6 @@ place_list feed rider (Some change) =
     else None ∷ []
 
 -- ---- moves
-
--- a move that takes these rows, before it says what follows
-abbrev pub bare : LegChoice → Option ChangeChoice → Move
-bare pick place =
-    record {
-      state = record { group = None; count = 0; departure = None; arrival = None; first = false };
-      paid = record { 0 = pos 0 };
-      held = record { 0 = pos 0 };
-      rule = pick.rule;
-      product = pick.product;
-      xfer = option_map (λ c. c.rule) place;
-      xfer_product = option_and_then (λ c. c.product) place;
-    }
 
 -- the move of a first leg that is paid so
 abbrev pub first_made : FeedRows → LegFacts → LegChoice → List Move

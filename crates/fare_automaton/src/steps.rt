@@ -4,7 +4,8 @@ ghost use Rattle.plain_laws.specs.Plain.{joined_below};
 ghost use Rattle.feed_rows.specs.FareSteps.{next_move};
 ghost use Rattle.fare_automaton.specs.Steps.{AreStarts, AreSteps};
 ghost use Rattle.fare_automaton.specs.Changes.{leg_of};
-ghost use Rattle.fare_automaton.specs.Options.{ArePicks, bare, first_made, next_made, made_at};
+ghost use Rattle.fare_laws.specs.BareMoves.{bare};
+ghost use Rattle.fare_automaton.specs.Options.{ArePicks, first_made, next_made, made_at};
 
 use crate::automaton::Automaton;
 use crate::changes::{GroupedLeg, change_after};

@@ -2,7 +2,7 @@
 use Rattle.std.proofs.Common.{◌≡◌, arith}
 use Rattle.std.specs.Prelude.{◌+ℤ◌}
 use Rattle.std.proofs.lemmas.Int.{ints}
-use Rattle.fare_automaton.proofs.MoveLaws.{with_sum}
+use Rattle.fare_laws.proofs.MoveLaws.{with_sum}
 use Rattle.fare_automaton.proofs.FloorLaws.{floor_of_parts, parts_low}
 use Rattle.fare_automaton.proofs.floor.floor_of.Goals as goal
 

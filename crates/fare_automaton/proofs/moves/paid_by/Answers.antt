@@ -3,7 +3,7 @@ use Rattle.std.proofs.Common.{arith}
 use Rattle.std.specs.Prelude.{◌+ℤ◌}
 use Rattle.std.proofs.lemmas.Int.{ints}
 use Rattle.std.proofs.lemmas.Bool.Decides.{nat_tests}
-use Rattle.fare_automaton.proofs.MoveLaws.{with_sum, paid_both}
+use Rattle.fare_laws.proofs.MoveLaws.{with_sum, paid_both}
 use Rattle.fare_automaton.proofs.moves.paid_by.Goals as goal
 
 pub returns-else-code-eq0 : goal.returns-else-code-eq0

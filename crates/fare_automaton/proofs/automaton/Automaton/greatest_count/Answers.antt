@@ -1,6 +1,6 @@
 -- The greatest count of a sound feed is low.
 use Rattle.std.proofs.Common.{◌≡◌, ◌<◌, ◌≤◌, arith}
-use Rattle.fare_automaton.proofs.MoveLaws.{greatest_count-low}
+use Rattle.fare_laws.proofs.MoveLaws.{greatest_count-low}
 use Rattle.fare_automaton.proofs.automaton.Automaton.greatest_count.Goals as goal
 
 pub returns-clause-low : goal.returns-clause-low

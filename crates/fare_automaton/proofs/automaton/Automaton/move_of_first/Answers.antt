@@ -2,7 +2,7 @@
 use Rattle.std.proofs.Common.{◌∙◌, sym, ap, true, false}
 use Rattle.std.specs.Prelude.{Some}
 use Rattle.fare_automaton.specs.Changes.{leg_of}
-use Rattle.fare_automaton.proofs.MoveLaws.{first_none, first_when}
+use Rattle.fare_laws.proofs.MoveLaws.{first_none, first_when}
 use Rattle.fare_automaton.proofs.automaton.Automaton.move_of_first.Goals as goal
 
 pub returns-in_default : goal.returns-in_default

@@ -2,7 +2,7 @@
 use Rattle.std.proofs.Common.{◌∙◌, sym, ap, true, false}
 use Rattle.std.specs.Prelude.{Some}
 use Rattle.fare_automaton.specs.Changes.{leg_of}
-use Rattle.fare_automaton.proofs.MoveLaws.{next_none, next_when}
+use Rattle.fare_laws.proofs.MoveLaws.{next_none, next_when}
 use Rattle.fare_automaton.proofs.automaton.Automaton.move_of_next.Goals as goal
 
 pub returns-in_default : goal.returns-in_default

@@ -3,7 +3,7 @@ use Rattle.std.proofs.Common.{◌≡◌, ◌++◌, take}
 use Rattle.std.specs.Prelude.{map}
 use Rattle.feed_rows.specs.FareSteps.{next_move}
 use Rattle.fare_automaton.specs.Changes.{leg_of}
-use Rattle.fare_automaton.specs.Options.{bare}
+use Rattle.fare_laws.specs.BareMoves.{bare}
 use Rattle.fare_automaton.proofs.automaton.Automaton.push_moves.Given as goal
 
 abbrev pub invariant-loop-place : goal.invariant-loop-place

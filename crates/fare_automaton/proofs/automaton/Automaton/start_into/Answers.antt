@@ -5,7 +5,7 @@ use Rattle.plain_laws.specs.Plain.{joined_below}
 use Rattle.feed_rows.specs.declared.states.Move.{Move}
 use Rattle.fare_automaton.specs.Options.{first_made, made_at}
 use Rattle.fare_automaton.proofs.MadeLaws.{starts_are}
-use Rattle.fare_automaton.proofs.StartLaws.{start_extends}
+use Rattle.fare_laws.proofs.StartLaws.{start_extends}
 use Rattle.fare_automaton.proofs.automaton.Automaton.start_into.Goals as goal
 
 pub returns : goal.returns

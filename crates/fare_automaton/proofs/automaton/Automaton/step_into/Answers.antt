@@ -5,7 +5,7 @@ use Rattle.plain_laws.specs.Plain.{joined_below}
 use Rattle.feed_rows.specs.declared.states.Move.{Move}
 use Rattle.fare_automaton.specs.Options.{next_made, made_at}
 use Rattle.fare_automaton.proofs.MadeLaws.{steps_are}
-use Rattle.fare_automaton.proofs.ExtensionLaws.{step_extends}
+use Rattle.fare_laws.proofs.ExtensionLaws.{step_extends}
 use Rattle.fare_automaton.proofs.automaton.Automaton.step_into.Goals as goal
 
 pub returns : goal.returns

@@ -1,9 +1,8 @@
 -- Moves after a fare state of legs are what extends their choice: each pays one more leg with the amounts and the state that it says, and
 -- each longer choice is made by one.
-use Rattle.std.proofs.Common.{◌≡◌, refl, sym, ◌∙◌, ap, subst, ℕ, zero, suc, ◌+◌, ◌-◌, ◌<◌, ◌≤◌, Bool, true, false, not, ◌&&◌, ◌||◌, List, [], ◌∷◌, ◌++◌, length, take, drop, arith, cond}
-use Rattle.std.specs.Prelude.{◌==◌, if◌then◌else◌, min, Option, Some, None, is_none, ℤ, pos, ◌+ℤ◌, ◌-ℤ◌, slice_get, option_map, option_and_then, All, AllPairs, Contains, slice_index_or}
+use Rattle.std.proofs.Common.{◌≡◌, refl, sym, ◌∙◌, ap, subst, ℕ, zero, suc, ◌+◌, ◌-◌, ◌≤◌, Bool, true, false, not, ◌&&◌, ◌||◌, List, [], ◌∷◌, ◌++◌, length, take, drop, arith, cond}
+use Rattle.std.specs.Prelude.{if◌then◌else◌, Option, Some, None, is_none, ℤ, pos, ◌+ℤ◌, ◌-ℤ◌, slice_get, option_and_then, slice_index_or}
 use Rattle.std.specs.Option.{is_some}
-use Rattle.std.specs.List.{list_any}
 use Rattle.std.proofs.lemmas.Int.{ints}
 use Rattle.std.proofs.lemmas.Bool.{and_parts, eqb-true}
 use Rattle.std.proofs.lemmas.List.{length_push}
@@ -24,18 +23,18 @@ use Rattle.feed_rows.specs.declared.states.Move.{Move}
 use Rattle.feed_rows.specs.FeedRows.{FeedRows}
 use Rattle.feed_rows.specs.TransferRules.{FareLeg, AskedChange, asked_change, same_group, is_same_group_at, run_start, is_selected, is_selected_transfer, is_arranged, IsRun}
 use Rattle.feed_rows.specs.FareChoices.{chosen_leg, fare_leg, is_leg_choice, is_change_product, is_transfer_choice, is_change_choice, is_fare_choice}
-use Rattle.feed_rows.specs.FareSums.{transfer_kind, starts_chain, leg_amount, amount_of, fare_sum}
-use Rattle.feed_rows.specs.FareStands.{Run, fresh_run, change_to, extends, next_run, IsRunAt, held_at, frees_first, frees_next, next_held, next_paid, place_kind, place_charge, FareStand, stand_price, stand_of_next, next_fare_stand, IsStandOf}
+use Rattle.feed_rows.specs.FareSums.{transfer_kind, starts_chain, amount_of}
+use Rattle.feed_rows.specs.FareStands.{Run, fresh_run, change_to, extends, next_run, IsRunAt, frees_first, frees_next, next_paid, place_kind, place_charge, FareStand, stand_of_next, next_fare_stand, IsStandOf}
 use Rattle.feed_rows.specs.FareStates.{held_of, held_amount, paid_amount, greatest_count, capped_count, state_of_run, state_at, state_of, fare_state}
-use Rattle.feed_rows.specs.FareSteps.{leg_taken, place_taken, is_whole, asked_after, is_arranged_after, is_row_after, is_place_after, next_state, next_move, move_of_next, move_after, AreMovesAfter}
+use Rattle.feed_rows.specs.FareSteps.{leg_taken, place_taken, is_whole, asked_after, is_arranged_after, is_row_after, is_place_after, next_state, next_move, move_of_next, AreMovesAfter}
 use Rattle.feed_rows.specs.FareExtensions.{changes_with, extended, Extends, BeginsWith, AreExtensions}
-use Rattle.plain_laws.specs.Plain.{at_and, filled_and, when}
+use Rattle.plain_laws.specs.Plain.{filled_and, when}
 use Rattle.plain_laws.proofs.Laws.{list_any-place, slice_get-new_item}
 use Rattle.feed_laws.proofs.TransferLaws.{run_start-run}
 use Rattle.feed_laws.proofs.SumLaws.{IsPushed}
-use Rattle.feed_laws.proofs.StandLaws.{next_fare_stand-of, places_of_paid, IsStandOf-one, StandsAfter, stand_of_paid, IsStepFrom, step_of_paid, paid_of_step}
-use Rattle.fare_automaton.proofs.MoveLaws.{next_when}
-use Rattle.fare_automaton.proofs.StateLaws.{told, SameRows, selected_same, arranged_same, Agree, agree, capped_again}
+use Rattle.feed_laws.proofs.StandLaws.{next_fare_stand-of, places_of_paid, IsStandOf-one, stand_of_paid, step_of_paid, paid_of_step}
+use Rattle.fare_laws.proofs.MoveLaws.{next_tells, next_when}
+use Rattle.fare_laws.proofs.StateLaws.{told, SameRows, selected_same, arranged_same, agree, capped_again}
 
 -- ---- the state of legs
 
@@ -237,11 +236,11 @@ pub same_choice : (a b : Choice) → a.legs ≡ b.legs → a.changes ≡ b.chang
 unfolding choice_by
 same_choice a b e f = same_by a.legs b.legs a.changes b.changes e f
 
-all_true : (a b c : Bool) → a ≡ true → b ≡ true → c ≡ true → true ≡ (a && b && c)
+pub all_true : (a b c : Bool) → a ≡ true → b ≡ true → c ≡ true → true ≡ (a && b && c)
 all_true a b c e f g = rw (e, f, g) refl
 
 -- a change more is added to what is paid
-next_paid-from : (p h a c : ℤ) (kind : Option ℕ) → next_paid p h kind a c ≡ p +ℤ next_paid (pos 0) h kind a c
+pub next_paid-from : (p h a c : ℤ) (kind : Option ℕ) → next_paid p h kind a c ≡ p +ℤ next_paid (pos 0) h kind a c
 next_paid-from p h a c kind = by (cond (frees_first kind) (pos 0) h) (cond (is_none kind || frees_next kind) (pos 0) a)
   where
     by : (x y : ℤ) → p +ℤ x +ℤ c +ℤ y ≡ p +ℤ (pos 0 +ℤ x +ℤ c +ℤ y)
@@ -284,25 +283,16 @@ module _ (feed : FeedRows) (rider : Option RiderId) (legs : List LegFacts) (leg 
     pub follows : next_move feed state stand.held next move ≡ move
 
   tells : (move : Move) → move_of_next feed rider state stand.held leg move ≡ Some move → IsMove move
-  unfolding move_of_next
-  tells move is = by (chosen_leg feed leg (leg_taken move)) refl is
-    where
-      by : (o : Option FareLeg) → chosen_leg feed leg (leg_taken move) ≡ o →
-          option_and_then (λ next. when (is_leg_choice feed rider leg (leg_taken move) && is_place_after feed rider (asked_after state next) (place_taken move) && is_whole move)
-          (next_move feed state stand.held next move)) o ≡ Some move → IsMove move
-      by None chosen e = absurd (none-some move e)
-      by (Some next) chosen e =
-          let found = cond_some _ _ _ e in
-          let parts = and_parts _ (is_whole move) found.0 in
-          let both = and_parts (is_leg_choice feed rider leg (leg_taken move)) _ parts.0 in
-          record {
-            next = next;
-            chosen = chosen;
-            paid_leg = both.0;
-            paid_change = sym (place_same feed rider stand.run next is_first (place_taken move)) ∙ both.1;
-            whole = parts.1;
-            follows = found.1;
-          }
+  tells move is =
+      let m = next_tells feed rider state stand.held leg move is in
+      record {
+        next = m.next;
+        chosen = m.chosen;
+        paid_leg = m.paid_leg;
+        paid_change = sym (place_same feed rider stand.run m.next is_first (place_taken move)) ∙ m.right_place;
+        whole = m.whole;
+        follows = m.follows;
+      }
 
   -- its step along legs
   step_of : (move : Move) (m : IsMove move) →

@@ -1,10 +1,10 @@
 -- The state decides: a fare state of legs selects the same transfer rows for the change to any next leg as the whole list of legs
 -- does, and the state after that leg follows from it.
-use Rattle.std.proofs.Common.{◌≡◌, refl, sym, ◌∙◌, ap, subst, ℕ, zero, suc, ◌+◌, ◌-◌, ◌<◌, ◌≤◌, ◌⊎◌, inl, inr, Bool, true, false, not, ◌&&◌, ◌||◌, List, [], ◌∷◌, ◌++◌, length, arith, cond}
-use Rattle.std.specs.Prelude.{◌==◌, if◌then◌else◌, nat_le, min, max, map, fold, Option, Some, None, is_none, ℤ, pos, slice_get, option_map, option_and_then}
+use Rattle.std.proofs.Common.{◌≡◌, refl, sym, ap, subst, ℕ, zero, suc, ◌+◌, ◌≤◌, Bool, true, false, not, ◌&&◌, ◌||◌, List, [], ◌∷◌, arith}
+use Rattle.std.specs.Prelude.{◌==◌, if◌then◌else◌, nat_le, min, max, map, fold, Option, Some, None, pos, slice_get}
 use Rattle.std.specs.Option.{is_some, unwrap_or}
 use Rattle.std.specs.List.{list_any, list_all}
-use Rattle.std.proofs.lemmas.Bool.{and_parts, cases_lt, eqb-true}
+use Rattle.std.proofs.lemmas.Bool.{eqb-true}
 use Rattle.std.proofs.lemmas.Bool.Decides.{nat_tests}
 use Rattle.std.proofs.lemmas.Option.{same_Some, none-some}
 use Rattle.transit_base.specs.declared.numbers.LegGroupId.{LegGroupId}
@@ -14,12 +14,12 @@ use Rattle.feed_rows.specs.declared.rows.Limit.{Limit}
 use Rattle.feed_rows.specs.declared.rows.TransferRuleRow.{TransferRuleRow}
 use Rattle.feed_rows.specs.declared.states.FareState.{FareState}
 use Rattle.feed_rows.specs.FeedRows.{FeedRows}
-use Rattle.feed_rows.specs.TransferRules.{FareLeg, AskedChange, asked_change, same_group, group_matches, limit_holds, is_candidate, suffices, count_le, is_least_count, is_selected, is_selected_transfer, is_arranged}
-use Rattle.feed_rows.specs.FareStands.{Run, change_to, fresh_run, extends, next_run}
-use Rattle.feed_rows.specs.FareStates.{is_within, count_within, greatest_count, capped_count, counts_from_departure, counts_from_arrival, is_clock_read, state_of_run}
-use Rattle.feed_rows.specs.FareSteps.{run_told, has_clock, asked_after, is_arranged_after}
+use Rattle.feed_rows.specs.TransferRules.{FareLeg, AskedChange, asked_change, group_matches, limit_holds, is_candidate, suffices, count_le, is_least_count, is_selected}
+use Rattle.feed_rows.specs.FareStands.{Run, change_to}
+use Rattle.feed_rows.specs.FareStates.{is_within, count_within, greatest_count, counts_from_departure, counts_from_arrival, is_clock_read, state_of_run}
+use Rattle.feed_rows.specs.FareSteps.{asked_after}
 use Rattle.plain_laws.specs.Plain.{empty_or, filled_and, when}
-use Rattle.plain_laws.proofs.Laws.{list_any-place, list_all-from, list_all-at, same_test}
+use Rattle.plain_laws.proofs.Laws.{list_any-place}
 
 -- the state that tells of this run
 abbrev pub told : FeedRows → Run → Bool → FareState

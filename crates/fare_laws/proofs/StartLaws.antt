@@ -1,13 +1,10 @@
 -- Moves of a first leg are what extends the choice for no leg.
-use Rattle.std.proofs.Common.{◌≡◌, refl, sym, ◌∙◌, ap, subst, ℕ, zero, suc, ◌<◌, Bool, true, false, ◌&&◌, List, [], ◌∷◌, ◌++◌, length, arith}
-use Rattle.std.specs.Prelude.{if◌then◌else◌, Option, Some, None, is_none, ℤ, pos, ◌+ℤ◌, ◌-ℤ◌, option_map, option_and_then, slice_index_or, Contains}
+use Rattle.std.proofs.Common.{◌≡◌, refl, sym, ◌∙◌, ap, subst, Bool, true, false, List, [], ◌∷◌, length, arith}
+use Rattle.std.specs.Prelude.{Option, Some, None, is_none, ℤ, pos, ◌+ℤ◌, option_and_then, slice_index_or}
 use Rattle.std.specs.Option.{is_some}
 use Rattle.std.proofs.lemmas.Int.{ints}
-use Rattle.std.proofs.lemmas.Bool.{and_parts}
-use Rattle.std.proofs.lemmas.Option.{same_Some, none-some, cond_some}
-use Rattle.transit_base.specs.declared.numbers.ProductRowId.{ProductRowId}
+use Rattle.std.proofs.lemmas.Option.{same_Some}
 use Rattle.transit_base.specs.declared.numbers.RiderId.{RiderId}
-use Rattle.transit_base.specs.declared.numbers.XferId.{XferId}
 use Rattle.feed_rows.specs.declared.fares.ChangeChoice.{ChangeChoice}
 use Rattle.feed_rows.specs.declared.fares.Choice.{Choice}
 use Rattle.feed_rows.specs.declared.fares.LegChoice.{LegChoice}
@@ -16,20 +13,19 @@ use Rattle.feed_rows.specs.declared.states.Move.{Move}
 use Rattle.feed_rows.specs.FeedRows.{FeedRows}
 use Rattle.feed_rows.specs.TransferRules.{FareLeg}
 use Rattle.feed_rows.specs.FareChoices.{chosen_leg, is_leg_choice, is_fare_choice}
-use Rattle.feed_rows.specs.FareSums.{transfer_kind, starts_chain, fare_sum}
-use Rattle.feed_rows.specs.FareStands.{FareStand, stand_of_first, first_fare_stand, IsStandOf}
-use Rattle.feed_rows.specs.FareStates.{held_of, held_amount, paid_amount, fare_state}
-use Rattle.feed_rows.specs.FareSteps.{leg_taken, place_taken, is_whole, first_move, move_of_first, AreMovesAfter}
-use Rattle.feed_rows.specs.FareExtensions.{changes_with, extended, Extends, BeginsWith, AreExtensions}
+use Rattle.feed_rows.specs.FareSums.{starts_chain, fare_sum}
+use Rattle.feed_rows.specs.FareStands.{stand_of_first, first_fare_stand}
+use Rattle.feed_rows.specs.FareStates.{held_amount, paid_amount, fare_state}
+use Rattle.feed_rows.specs.FareSteps.{leg_taken, place_taken, first_move, move_of_first, AreMovesAfter}
+use Rattle.feed_rows.specs.FareExtensions.{changes_with, extended, Extends, AreExtensions}
 use Rattle.plain_laws.specs.Plain.{when}
 use Rattle.feed_laws.proofs.StandLaws.{choice_of_one, first_fare_stand-paid, first_fare_stand-of, places_of_paid, one_of_paid}
-use Rattle.fare_automaton.specs.Options.{bare}
-use Rattle.fare_automaton.proofs.ExtensionLaws.{fare_state-told, held_amount-stand, paid_amount-stand, same_choice, same_head}
-use Rattle.fare_automaton.proofs.MoveLaws.{first_when}
-use Rattle.fare_automaton.proofs.MadeLaws.{IsFirst, first_tells, first_is_bare}
+use Rattle.fare_laws.specs.BareMoves.{bare}
+use Rattle.fare_laws.proofs.ExtensionLaws.{fare_state-told, held_amount-stand, paid_amount-stand, same_choice, same_head}
+use Rattle.fare_laws.proofs.MoveLaws.{first_when, IsFirst, first_tells, first_is_bare}
 
 -- a choice for no leg is empty
-none_paid : (feed : FeedRows) (rider : Option RiderId) (choice : Choice) → is_fare_choice feed [] choice rider ≡ true →
+pub none_paid : (feed : FeedRows) (rider : Option RiderId) (choice : Choice) → is_fare_choice feed [] choice rider ≡ true →
     choice ≡ record { legs = []; changes = [] }
 none_paid feed rider choice pays =
     let p = places_of_paid feed rider [] choice pays in
@@ -65,7 +61,7 @@ module _ (feed : FeedRows) (rider : Option RiderId) (leg : LegFacts) where
       let paid_leg = m.paid_leg in
       rw (chosen, paid_leg) refl
 
-  first_extends : (move : Move) → move_of_first feed rider leg move ≡ Some move → Extends feed rider [] none leg move
+  pub first_extends : (move : Move) → move_of_first feed rider leg move ≡ Some move → Extends feed rider [] none leg move
   unfolding starts_chain
   first_extends move is =
       let m = first_tells feed rider leg move is in
@@ -96,7 +92,7 @@ module _ (feed : FeedRows) (rider : Option RiderId) (leg : LegFacts) where
       zero_both p e = omega (arith, ints, e)
 
   -- each choice of one leg is made by a move that there is
-  first_all : (longer : Choice) → is_fare_choice feed (leg ∷ []) longer rider ≡ true →
+  pub first_all : (longer : Choice) → is_fare_choice feed (leg ∷ []) longer rider ≡ true →
       (move : Move) × (move_of_first feed rider leg move ≡ Some move) × (longer ≡ extended none move)
   unfolding first_fare_stand
   first_all longer pays =

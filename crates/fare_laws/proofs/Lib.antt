@@ -1,0 +1,5 @@
+pub mod StateLaws
+pub mod MoveLaws
+pub mod ExtensionLaws
+pub mod StartLaws
+pub mod LongerLaws
