@@ -1,0 +1,10 @@
+pub mod IntLaws
+pub mod PartLaws
+pub mod StartLaws
+pub mod GoingOnLaws
+pub mod LastRideLaws
+pub mod CoverLaws
+pub mod TimeLaws
+pub mod EndLaws
+pub mod TableLaws
+pub mod AnswerLaws
