@@ -2,7 +2,7 @@
 ghost use Rattle.std.specs.Prelude.{◌≡◌, ◌||◌, IfOk};
 ghost use Rattle.feed_rows.specs.StopLinks.{is_platform, is_station};
 ghost use Rattle.feed_rows.specs.Queries.{named_stop, query_of};
-ghost use Rattle.plan_plain.specs.InTime.{IsUsualQuery};
+ghost use Rattle.plan_rides.specs.InTime.{IsUsualQuery};
 ghost use Rattle.plan_words.specs.Request.{request_of, IsUsualPlan};
 
 use fare_products::chosen_rider;

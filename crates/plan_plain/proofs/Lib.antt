@@ -1,4 +1,1 @@
-pub mod CaughtLaws
-pub mod DepartureLaws
-pub mod MarkLaws
 pub mod SearchLaws

@@ -29,7 +29,7 @@ use Rattle.feed_rows.specs.StopLinks.{stop_set}
 use Rattle.plain_laws.specs.Plain.{after, when}
 use Rattle.feed_laws.proofs.ExactLaws.{exact_of_front, covers_offers}
 use Rattle.fare_price.specs.declared.Priced.{Priced}
-use Rattle.fare_price.specs.Prices.{IsLeastOrNone}
+use Rattle.fare_price.specs.Prices.{IsLeastOrNone, terms}
 use Rattle.feed_laws.proofs.ChoiceLaws.{legs_of-push}
 use Rattle.feed_laws.proofs.JourneyLaws.{taken_of_next, journey_of_after, after_of_journey}
 use Rattle.feed_laws.proofs.LeastPriceLaws.{least_price_of_rides, uncovered_rides}
@@ -38,11 +38,15 @@ use Rattle.feed_laws.proofs.RideLaws.{ride_facts_timed}
 use Rattle.feed_laws.proofs.SoundTrips.{sound_trip}
 use Rattle.plain_laws.proofs.Laws.{chain_gives, after-push, collect_below_tells, filled_and-true}
 use Rattle.pareto_front.specs.Fronts.{CoversAll, IsFront}
-use Rattle.plan_plain.specs.declared.caught.CaughtRide.{CaughtRide}
-use Rattle.plan_plain.specs.InTime.{next_in_time, if_in_time, deadline, IsRight, IsWithinWindow, HasCaught}
+use Rattle.plan_rides.specs.declared.caught.CaughtRide.{CaughtRide}
+use Rattle.plan_rides.specs.InTime.{next_in_time, if_in_time, deadline, IsRight, IsWithinWindow, HasCaught}
 use Rattle.plan_plain.specs.Paths.{Taken, no_ride, with_ride}
+use Rattle.plan_rides.specs.Asked.{arrival_in_time}
+use Rattle.plan_rides.specs.Boarding.{IsAmong, MayRide}
+use Rattle.plan_rides.proofs.ArrivalLaws.{arrives_in_time}
+use Rattle.plan_rides.proofs.MarkLaws.{stop_id, stands_for_member, member_of_stands_for, among_more}
 use Rattle.plan_plain.specs.declared.search.End.{End}
-use Rattle.plan_plain.specs.Searches.{covers_entry, AddsEnd, EndsBy, HasRides, IsBest, IsCheapest, IsEarliest, IsEarliestEnd, IsEndIn, GoesOn, Gains, StartsAt, IsSearched, IsAmong, StartsAmong, CoversWays, arrival_in_time}
+use Rattle.plan_plain.specs.Searches.{covers_entry, AddsEnd, EndsBy, HasRides, IsBest, IsCheapest, IsEarliest, IsEarliestEnd, IsEndIn, GoesOn, Gains, StartsAt, IsSearched, StartsAmong, CoversWays}
 
 -- one step in time is a step
 pub step_of_timed : (feed : FeedRows) (query : Query) (s : Stand) (r : Ride) (m : Stand) → next_in_time feed query s r ≡ Some m → next_stand feed query s r ≡ Some m
@@ -150,37 +154,6 @@ gains_offer feed query Part item old new is least covered still from = record {
   right = λ h. All-weaker (λ x. Contains old x ⊎ (x ≡ item)) (IsEntry feed query) (λ x. ⊎_elim (λ in_old. All-contains (IsEntry feed query) old x h in_old) (λ same. subst (IsEntry feed query) (sym same) is)) new from;
   all = λ e part. covers-upward new item e covered (least e part);
 }
-
--- the stop of a number
-abbrev pub stop_id : ℕ → StopId
-stop_id n = record { 0 = n }
-
--- a stop of those that a stop stands for
-pub stands_for_member : (feed : FeedRows) (stop member : StopId) (k : ℕ) → slice_get (stop_set feed stop) k ≡ Some member → IsTrue (stands_for feed stop member)
-stands_for_member feed stop member k at =
-    let lt = slice_get_within (stop_set feed stop) k member at in
-    let is = same_Some _ _ (sym (slice_get-get_or (stop_set feed stop) k member lt) ∙ at) in
-    list_any-from_Any (λ (s : StopId). s.0 == member.0) (stop_set feed stop) (k, member, lt, is, same member.0)
-  where
-    same : (n : ℕ) → (n == n) ≡ true
-    same n = grind (arith, nat_tests)
-
--- and each that it stands for is one
-pub member_of_stands_for : (feed : FeedRows) (stop member : StopId) → IsTrue (stands_for feed stop member) → IsAmong (stop_set feed stop) (length (stop_set feed stop)) member
-member_of_stands_for feed stop member h =
-    let some = Any-from_list_any (λ (s : StopId). s.0 == member.0) (stop_set feed stop) h in
-    (some.0, some.2, slice_get-get_or (stop_set feed stop) some.0 some.1 some.2 ∙ ap Some (some.3 ∙ ap stop_id (told some.1.0 member.0 some.4)))
-  where
-    told : (m n : ℕ) → (m == n) ≡ true → m ≡ n
-    told m n e = grind (arith, nat_tests)
-
--- one more of these stops
-pub among_more : (stops : List StopId) (k : ℕ) (d stop : StopId) → k < length stops → IsAmong stops (k + 1) stop → IsAmong stops k stop ⊎ (stop ≡ get_or stops k d)
-among_more stops k d stop lt among =
-    let below = among.1 in
-    ⊎_elim (λ lower. inl (among.0, lower, among.2))
-    (λ upper. let same : among.0 ≡ k = omega arith in inr (same_Some _ _ (sym among.2 ∙ ap (slice_get stops) same ∙ slice_get-get_or stops k d lt)))
-    (cases_lt among.0 k)
 
 -- where one arrives at none in time, the end stays
 pub keeps_end : (feed : FeedRows) (query : Query) (stand : Stand) (last : StopId) (old : Option End) →
@@ -300,17 +273,6 @@ exact_of_gains feed query firsts k entries same all gains front = (
         let long = ap length same in
         let lt = member.1 in
         gains.all e (record { right = right; among = (member.0, omega arith, ap (λ stops. slice_get stops member.0) same ∙ member.2) })
-
--- an arrival in time is an arrival, and in time
-pub arrives_in_time : (feed : FeedRows) (query : Query) (stand : Stand) (last : StopId) (arrival : ℤ) → arrival_in_time feed query stand last ≡ Some arrival → (end_arrival feed query stand last ≡ Some arrival) × (arrival ≤ℤ deadline query)
-unfolding arrival_in_time
-arrives_in_time feed query stand last arrival e =
-    let got = chain_gives (λ z. when (int_le z (deadline query)) z) (end_arrival feed query stand last) arrival e in
-    let late = cond_some (int_le got.value (deadline query)) got.value arrival got.gives in
-    (got.is ∙ ap Some late.1, subst (λ z. z ≤ℤ deadline query) late.1 (from_test got.value (deadline query) late.0))
-  where
-    from_test : (x y : ℤ) → int_le x y ≡ true → x ≤ℤ y
-    from_test x y h = grind (arith, ints)
 
 -- an entry with the rides of a path arrives when one gets to its last stop from where the path leads
 pub entry_arrival : (feed : FeedRows) (query : Query) (first : StopId) (stand : Stand) (taken : Taken) (e : Entry) →
@@ -486,10 +448,10 @@ gains_end feed query first path stand left old new none here =
 pub searched_first : (feed : FeedRows) (query : Query) (first : StopId) (stand : Stand) →
     stand ≡ first_stand query first →
     IsWithinWindow query stand.at → IsTrue (stands_for feed query.from first) →
-    IsSearched feed query first stand no_ride
+    IsSearched feed query first stand (no_ride (terms feed query.rider))
 unfolding legs_of
 searched_first feed query first stand is within starts =
-    record { within = within; starts = starts; goes = ap Some (sym is); legs = refl }
+    record { within = within; starts = starts; goes = ap Some (sym is); legs = refl; terms = refl }
 
 -- where the path leads with the ride at a place
 pub searched_on : (feed : FeedRows) (query : Query) (first : StopId) (stand : Stand) (taken : Taken)
@@ -503,6 +465,7 @@ searched_on feed query first stand taken caught searched right within = record {
   goes = after-push (next_in_time feed query) (first_stand query first) taken.rides caught.ride
       ∙ rw (searched.goes) right.next;
   legs = legs_of-push feed taken.rides caught.ride ∙ rw (searched.legs, right.facts) refl;
+  terms = searched.terms;
 }
 
 -- nothing goes on where no ride is left and no journey ends in time
@@ -514,3 +477,22 @@ gains_dead feed query first stand taken left entries searched none late =
     gains_end feed query first taken.rides stand left entries entries none
     (gains_none feed query (HasRides feed query first taken.rides) entries
     (none_late feed query first stand taken searched late))
+
+-- one may ride where rides are left
+pub may_ride : (feed : FeedRows) (query : Query) (first : StopId) (stand : Stand) (taken : Taken) (left : ℕ) →
+    IsSearched feed query first stand taken →
+    length taken.rides + left ≡ query.rides → 0 < left → MayRide feed query stand
+may_ride feed query first stand taken left searched few some = record {
+  some = omega (arith, few, some);
+  one = λ one. (
+    first,
+    searched.starts,
+    sym (same_Some _ _
+        (subst (λ rs. after (next_in_time feed query) (first_stand query first) rs ≡ Some stand)
+        (none taken.rides (omega (arith, few, some, one))) searched.goes)),
+  );
+}
+  where
+    none : (rides : List Ride) → length rides ≤ 0 → rides ≡ []
+    none [] few = refl
+    none (r ∷ rs) few = absurd (omega arith)

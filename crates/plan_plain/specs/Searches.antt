@@ -1,5 +1,5 @@
 -- The entries of a query that go on from where a search stands, and lists that cover them.
-use Rattle.std.specs.Prelude.{ℤ, ◌≤ℤ◌, int_le, option_and_then, IsTrue, ◌≡◌, ◌⊎◌, ℕ, ◌<◌, ◌≤◌, ◌++◌, [], ◌∷◌, slice_get, slice_index_or, true, List, length, All, Option, Some, None}
+use Rattle.std.specs.Prelude.{ℤ, ◌≤ℤ◌, IsTrue, ◌≡◌, ◌⊎◌, ℕ, ◌<◌, ◌≤◌, ◌++◌, [], ◌∷◌, slice_get, slice_index_or, true, List, length, All, Option, Some, None}
 use Rattle.transit_base.specs.declared.numbers.RiderId.{RiderId}
 use Rattle.transit_base.specs.declared.numbers.StopId.{StopId}
 use Rattle.feed_rows.specs.declared.journeys.Query.{Query}
@@ -7,26 +7,21 @@ use Rattle.feed_rows.specs.declared.journeys.Ride.{Ride}
 use Rattle.feed_rows.specs.declared.fares.Entry.{Entry}
 use Rattle.feed_rows.specs.FeedRows.{FeedRows}
 use Rattle.feed_rows.specs.JourneyEntries.{IsEntry}
-use Rattle.feed_rows.specs.JourneyStands.{Stand, first_stand, stand_at_end, end_arrival}
+use Rattle.feed_rows.specs.JourneyStands.{Stand, first_stand, stand_at_end}
 use Rattle.feed_rows.specs.Journeys.{stands_for}
 use Rattle.feed_rows.specs.Legs.{legs_of}
 use Rattle.feed_rows.specs.PriceTexts.{IsLeastPrice, IsUncovered}
-use Rattle.plain_laws.specs.Plain.{when, after}
+use Rattle.plain_laws.specs.Plain.{after}
 use Rattle.feed_rows.specs.ParetoTriples.{at_most}
 use Rattle.fare_price.specs.declared.Priced.{Priced}
+use Rattle.fare_price.specs.Prices.{terms}
 use Rattle.pareto_front.specs.Fronts.{has_as_good, CoversAll}
-use Rattle.plan_plain.specs.InTime.{next_in_time, deadline, IsWithinWindow}
+use Rattle.plan_rides.specs.Asked.{arrival_in_time}
+use Rattle.plan_rides.specs.Boarding.{IsAmong}
+use Rattle.plan_rides.specs.InTime.{next_in_time, IsWithinWindow}
 use Rattle.plan_plain.specs.Paths.{Taken}
-use Rattle.plan_plain.specs.declared.caught.CaughtRide.{CaughtRide}
+use Rattle.plan_rides.specs.declared.caught.CaughtRide.{CaughtRide}
 use Rattle.plan_plain.specs.declared.search.End.{End}
-
--- what is searched: a feed, and a query over it
-pub record Asked : Type 0 where
-  pub feed : FeedRows
-  pub query : Query
-
-abbrev pub asked : FeedRows → Query → Asked
-asked feed query = record { feed = feed; query = query }
 
 -- some entry of the list has a triple that is at most that of this entry
 abbrev pub covers_entry : List Entry → Entry → Type 0
@@ -70,16 +65,13 @@ pub record StartsAt (feed : FeedRows) (query : Query) (first : StopId) (entry : 
   pub starts : entry.journey.first ≡ first
 
 -- the rides are caught in time one after another from the first stop, lead here within the window, and these are their
--- legs
+-- legs, which are priced by the rows of the feed for the query's rider
 pub record IsSearched (feed : FeedRows) (query : Query) (first : StopId) (stand : Stand) (taken : Taken) : Type 0 where
   pub within : IsWithinWindow query stand.at
   pub starts : IsTrue (stands_for feed query.from first)
   pub goes : after (next_in_time feed query) (first_stand query first) taken.rides ≡ Some stand
   pub legs : legs_of feed taken.rides ≡ Some taken.legs
-
--- the arrival at the last stop from where one stands after all rides, within the window
-unfoldable pub arrival_in_time : FeedRows → Query → Stand → StopId → Option ℤ
-arrival_in_time feed query stand last = option_and_then (λ arrival. when (int_le arrival (deadline query)) arrival) (end_arrival feed query stand last)
+  pub terms : taken.terms ≡ terms feed query.rider
 
 -- there is an end, at this moment or before
 abbrev pub EndsBy : ℤ → Option End → Type 0
@@ -109,10 +101,6 @@ pub record IsEarliest (feed : FeedRows) (query : Query) (stand : Stand) (Part : 
 abbrev pub IsEarliestEnd : FeedRows → Query → Stand → Option End → Type 0
 IsEarliestEnd feed query stand end = IsEarliest feed query stand (λ (last : StopId). IsTrue
     (stands_for feed query.to last)) end
-
--- the stop stands among the first k of a list
-abbrev pub IsAmong : List StopId → ℕ → StopId → Type 0
-IsAmong stops k stop = (i : ℕ) × (i < k) × (slice_get stops i ≡ Some stop)
 
 -- the entry is one of the query, from one of the first k of these stops
 pub record StartsAmong (feed : FeedRows) (query : Query) (firsts : List StopId) (k : ℕ) (entry : Entry) : Type 0 where

@@ -1,37 +1,39 @@
 //! The rides that a search has taken, and their legs.
-ghost use Rattle.std.specs.Prelude.{◌≡◌, length, IfOk, OnOk};
+ghost use Rattle.std.specs.Prelude.{◌≡◌, ◌≤◌, length, IfOk, OnOk};
+ghost use Rattle.fare_price.specs.Prices.{IsLeastOrNone};
 ghost use Rattle.feed_rows.specs.declared.journeys.LegFacts.{LegFacts};
 ghost use Rattle.feed_rows.specs.declared.journeys.Ride.{Ride};
 ghost use Rattle.plan_plain.specs.Paths.{Taken, no_ride, with_ride};
 
+use fare_price::{KnownLegs, Priced, RiderFares};
 use feed_rows::{LegFacts, Ride, RideList};
 use std::alloc::{AllocError, Global};
 use std::marker::Model;
 
-/// The rides that a search has taken, in order, and what fare rules look at in each. Contracts see it as these two
-/// lists.
+/// The rides that a search has taken, in order, and what fare rules look at in each, with what can be paid for it.
+/// Contracts see it as these two lists, and whose fares are asked.
 #[derive(Drop)]
-pub struct Path {
+pub struct Path<'r, 's, 'f> {
     rides: Vec<Ride>,
-    legs: Vec<LegFacts>,
+    legs: KnownLegs<'r, 's, 'f>,
 }
 
-impl Model for Path {
+impl<'r, 's, 'f> Model for Path<'r, 's, 'f> {
     ghost use Rattle.plan_plain.specs.Paths.{Taken};
 
     ghost Value = { Taken };
 
-    ghost view = { λ s. record { rides = s.rides.items; legs = s.legs.items } };
+    ghost view = { λ s. record { terms = s.legs.terms; rides = s.rides.items; legs = s.legs.legs } };
 }
 
-impl Path {
+impl<'r, 's, 'f> Path<'r, 's, 'f> {
     /// No ride is taken yet.
-    pub fn empty(alloc: Global) -> Path
-        ensures { result ≡ no_ride }
+    pub fn empty(alloc: Global, fares: &'r RiderFares<'s, 'f>) -> Path<'r, 's, 'f>
+        ensures { result ≡ no_ride fares.now }
     {
         Path {
             rides: Vec::new(alloc),
-            legs: Vec::new(alloc),
+            legs: KnownLegs::empty(alloc, fares),
         }
     }
 
@@ -42,11 +44,15 @@ impl Path {
         self.rides.len()
     }
 
-    /// What fare rules look at in each ride.
-    pub fn legs(&self) -> &[LegFacts]
-        ensures { result.now ≡ self.now.legs }
+    /// A choice of least price for the rides; none where no choice pays them.
+    ///
+    /// # Errors
+    /// Want of memory.
+    pub fn price(&self, alloc: Global) -> Result<Option<Priced>, AllocError>
+        requires { length self.now.legs ≤ 12 }
+        ensures { IfOk result (IsLeastOrNone self.now.terms.feed self.now.legs self.now.terms.rider) }
     {
-        self.legs.as_slice()
+        self.legs.price(alloc)
     }
 
     /// The rides, as a journey has them.
@@ -67,11 +73,11 @@ impl Path {
     ///
     /// # Errors
     /// Want of memory.
-    pub fn push(&mut self, ride: Ride, leg: LegFacts) -> Result<(), AllocError>
+    pub fn push(&mut self, alloc: Global, ride: Ride, leg: LegFacts) -> Result<(), AllocError>
         ensures { OnOk result (self.new ≡ with_ride self.old ride leg) }
     {
         self.rides.push(ride)?;
-        self.legs.push(leg)?;
+        self.legs.push(alloc, leg)?;
         Ok(())
     }
 

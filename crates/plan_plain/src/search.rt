@@ -1,28 +1,28 @@
 //! All journeys of a query, with the best of them kept.
-ghost use Rattle.std.specs.Prelude.{◌≡◌, ◌<◌, ◌≤◌, ◌+◌, ◌++◌, ◌∷◌, [], false, All, IfOk, OnOk, IsTrue, Some, None, length, option_map};
+ghost use Rattle.std.specs.Prelude.{◌≡◌, ◌<◌, ◌≤◌, ◌+◌, ◌++◌, ◌∷◌, [], false, All, IfOk, OnOk, IsTrue, Some, None, length};
 ghost use Rattle.feed_rows.specs.Journeys.{stands_for};
 ghost use Rattle.feed_rows.specs.JourneyEntries.{IsExactAnswer, CoversOffers};
 ghost use Rattle.feed_rows.specs.JourneyStands.{first_stand, stand_at_end};
-ghost use Rattle.feed_rows.specs.Legs.{leg_facts, legs_of};
 ghost use Rattle.feed_rows.specs.SoundFeed.{IsSoundFeed};
+ghost use Rattle.feed_rows.specs.StopLinks.{stop_set};
+ghost use Rattle.plan_rides.specs.Boarding.{MayRide};
+ghost use Rattle.feed_rows.specs.Legs.{leg_facts, legs_of};
+ghost use Rattle.fare_price.specs.Prices.{terms};
 ghost use Rattle.feed_timetable.specs.Standings.{stand_of};
-ghost use Rattle.plan_plain.specs.Boarding.{MayRide};
-ghost use Rattle.plan_plain.specs.InTime.{IsUsualQuery, IsWithinWindow, HasCaught, IsRight};
-ghost use Rattle.plan_plain.specs.Paths.{with_ride};
-ghost use Rattle.plan_plain.specs.Searches.{asked, AddsEnd, IsBest, IsCheapest, IsEarliestEnd, HasRides, GoesOn, Gains, StartsAt, IsSearched, arrival_in_time};
+ghost use Rattle.plan_plain.specs.Paths.{no_ride, with_ride};
+ghost use Rattle.plan_plain.specs.Searches.{AddsEnd, IsBest, IsCheapest, IsEarliestEnd, HasRides, GoesOn, Gains, StartsAt, IsSearched};
+ghost use Rattle.plan_rides.specs.Asked.{asked};
+ghost use Rattle.plan_rides.specs.InTime.{HasCaught, IsRight, IsUsualQuery, IsWithinWindow};
 ghost use Rattle.transit_base.specs.declared.moments.Moment.{Moment};
 ghost use Rattle.transit_base.specs.declared.numbers.StopId.{StopId};
 
-use crate::caught::{CaughtRide, Traveller};
-use crate::departures::{Departure, deadline, departures_of};
 use crate::path::Path;
-use crate::sought::Sought;
 use fare_price::{Fares, Priced, RiderFares};
 use fare_timeframes::Timeframes;
 use feed_rows::{Entry, Journey, Query, Triple};
 use feed_timetable::{Standing, Timetable};
 use pareto_front::Front;
-use plain_laws::Groups;
+use plan_rides::{CaughtRide, Rides};
 use std::alloc::{AllocError, Global};
 use std::marker::Model;
 use transit_base::{Moment, StopId};
@@ -36,27 +36,19 @@ struct End {
 
 /// A query over a timetable, with what is computed once for it. Contracts see it as the feed and the query.
 struct Search<'s, 'f> {
-    timetable: &'s Timetable<'f>,
-    query: &'s Query,
-    sought: Sought<'s>,
+    rides: Rides<'s, 'f>,
     timeframes: Timeframes,
     /// The fares for the query's rider.
     fares: RiderFares<'s, 'f>,
-    departures: Groups<Departure>,
-    deadline: Moment,
 }
 
 // Written out, so that what holds one needn't look into it to let go of it.
 impl<'s, 'f> Drop for Search<'s, 'f> {
     fn drop(self) {
         let Search {
-            timetable: _,
-            query: _,
-            sought: _,
+            rides: _,
             timeframes: _,
             fares: _,
-            departures: _,
-            deadline: _,
         } = self;
     }
 }
@@ -65,16 +57,13 @@ impl<'s, 'f> Model for Search<'s, 'f> {
     ghost use Rattle.std.specs.Prelude.{◌≡◌};
     ghost use Rattle.fare_price.specs.Prices.{terms};
     ghost use Rattle.fare_timeframes.specs.BuiltTimeframes.{AreTimeframesOf};
-    ghost use Rattle.plan_plain.specs.Boarding.{AreMarks};
-    ghost use Rattle.plan_plain.specs.InTime.{IsUsualQuery, IsDeadline};
-    ghost use Rattle.plan_plain.specs.Searches.{Asked, asked};
-    ghost use Rattle.plan_plain.specs.Departures.{AreDepartures};
+    ghost use Rattle.plan_rides.specs.Asked.{Asked};
 
     ghost Value = { Asked };
 
-    ghost view = { λ s. asked s.timetable.now s.query.now };
+    ghost view = { λ s. s.rides };
 
-    ghost invariant = { λ s. IsUsualQuery s.query.now × IsDeadline s.query.now s.deadline.0 × AreTimeframesOf s.timetable.now s.timeframes × (s.fares ≡ terms s.timetable.now s.query.now.rider) × AreDepartures s.timetable.now s.sought s.departures × (s.sought.query ≡ s.query.now) × AreMarks s.timetable.now s.sought };
+    ghost invariant = { λ s. AreTimeframesOf s.rides.feed s.timeframes × (s.fares ≡ terms s.rides.feed s.rides.query.rider) };
 }
 
 impl<'s, 'f> Search<'s, 'f> {
@@ -89,19 +78,18 @@ impl<'s, 'f> Search<'s, 'f> {
         requires same { fares.now ≡ timetable.now }
         ensures { IfOk result (λ search. search ≡ asked timetable.now query.now) }
     {
-        let last = deadline(query);
-        let timeframes = Timeframes::between(alloc, timetable.feed(), query.departure, last)?;
+        let rides = Rides::of(alloc, timetable, query)?;
+        let timeframes = Timeframes::between(
+            alloc,
+            timetable.feed(),
+            query.departure,
+            rides.deadline(),
+        )?;
         let fares = RiderFares::of(alloc, fares, query.rider)?;
-        let sought = Sought::new(alloc, timetable, query)?;
-        let departures = departures_of(alloc, timetable, &sought)?;
         Ok(Search {
-            timetable,
-            query,
-            sought,
+            rides,
             timeframes,
             fares,
-            departures,
-            deadline: last,
         })
     }
 
@@ -110,7 +98,14 @@ impl<'s, 'f> Search<'s, 'f> {
         ensures is { result ≡ self.now.query.rides }
         ensures usual { IsUsualQuery self.now.query }
     {
-        self.query.rides
+        self.rides.query().rides
+    }
+
+    // The stops at which journeys end.
+    fn lasts(&self) -> &'s [StopId]
+        ensures { result.now ≡ stop_set self.now.feed self.now.query.to }
+    {
+        self.rides.timetable().members(self.rides.query().to)
     }
 
     // Where one stands at a first stop, before any ride.
@@ -119,35 +114,36 @@ impl<'s, 'f> Search<'s, 'f> {
         ensures within { IsWithinWindow self.now.query result.at.0 }
         ensures sound { IsSoundFeed self.now.feed }
     {
-        let _feed = self.timetable.feed();
-        Standing {
-            stop: first,
-            at: self.query.departure,
-            fresh: true,
-        }
+        self.rides.start(first)
+    }
+
+    // The rides that are caught from where one stands and end within the window.
+    fn rides_from(&self, alloc: Global, standing: Standing) -> Result<Vec<CaughtRide>, AllocError>
+        requires within { IsWithinWindow self.now.query standing.at.0 }
+        requires may { MayRide self.now.feed self.now.query (stand_of standing) }
+        ensures all { IfOk result (λ rides. HasCaught self.now.feed self.now.query (stand_of standing) rides.items) }
+        ensures right { IfOk result (λ rides. All (IsRight self.now.feed self.now.query (stand_of standing)) rides.items) }
+        ensures sound { IsSoundFeed self.now.feed }
+    {
+        self.rides.next(alloc, standing)
+    }
+
+    // No ride is taken yet.
+    fn no_path<'p>(&'p self, alloc: Global) -> Path<'p, 's, 'f>
+        ensures { result ≡ no_ride (terms self.now.feed self.now.query.rider) }
+    {
+        Path::empty(alloc, &self.fares)
     }
 
     // A choice of least price for the rides of the path; none where no choice pays them.
     fn price_of(&self, alloc: Global, path: &Path) -> Result<Option<Priced>, AllocError>
         requires legs { legs_of self.now.feed path.now.rides ≡ Some path.now.legs }
+        requires terms { path.now.terms ≡ terms self.now.feed self.now.query.rider }
         requires few { length path.now.rides ≤ self.now.query.rides }
         ensures { IfOk result (IsCheapest self.now.feed path.now.rides self.now.query.rider) }
     {
         let _limit = self.limit();
-        self.fares.price(alloc, path.legs())
-    }
-
-    // The arrival at the last stop within the window.
-    #[tactic(auto, unfolding(crate::specs::Searches::arrival_in_time))]
-    fn arrival_in_time(&self, standing: Standing, last: StopId) -> Option<Moment>
-        requires { IsWithinWindow self.now.query standing.at.0 }
-        ensures { option_map (λ (moment : Moment). moment.0) result ≡ arrival_in_time self.now.feed self.now.query (stand_of standing) last }
-    {
-        let arrival = self.timetable.end_arrival(self.query, standing, last)?;
-        if arrival.0 > self.deadline.0 {
-            return None;
-        }
-        Some(arrival)
+        path.price(alloc)
     }
 
     // The earlier of an end and that at this stop, the former of equals.
@@ -155,7 +151,7 @@ impl<'s, 'f> Search<'s, 'f> {
         requires { IsWithinWindow self.now.query standing.at.0 }
         ensures { AddsEnd self.now.feed self.now.query (stand_of standing) last best result }
     {
-        let Some(arrival) = self.arrival_in_time(standing, last) else {
+        let Some(arrival) = self.rides.arrival_in_time(standing, last) else {
             return best;
         };
         match best {
@@ -170,7 +166,7 @@ impl<'s, 'f> Search<'s, 'f> {
         requires { IsWithinWindow self.now.query standing.at.0 }
         ensures { IsEarliestEnd self.now.feed self.now.query (stand_of standing) result }
     {
-        let lasts = self.timetable.members(self.query.to);
+        let lasts = self.lasts();
         let mut earliest = None;
         for k in 0..lasts.len() {
             earliest = self.earlier(standing, lasts[k], earliest);
@@ -237,18 +233,6 @@ impl<'s, 'f> Search<'s, 'f> {
         }
     }
 
-    // The rides that are caught from where one stands and end within the window.
-    fn rides_from(&self, alloc: Global, standing: Standing) -> Result<Vec<CaughtRide>, AllocError>
-        requires within { IsWithinWindow self.now.query standing.at.0 }
-        requires may { MayRide self.now.feed self.now.query (stand_of standing) }
-        ensures all { IfOk result (λ rides. HasCaught self.now.feed self.now.query (stand_of standing) rides.items) }
-        ensures right { IfOk result (λ rides. All (IsRight self.now.feed self.now.query (stand_of standing)) rides.items) }
-        ensures sound { IsSoundFeed self.now.feed }
-    {
-        let _feed = self.timetable.feed();
-        Traveller::new(self.timetable, &self.sought, &self.departures, standing).rides(alloc)
-    }
-
     // Whether entries may go on from here with at most so many rides more.
     fn goes_on(&self, standing: Standing, left: u8) -> bool
         requires { IsWithinWindow self.now.query standing.at.0 }
@@ -257,12 +241,13 @@ impl<'s, 'f> Search<'s, 'f> {
         left > 0 || self.earliest_end(standing).is_some()
     }
 
-    // Takes the ride onto the path, with what fare rules look at in it.
+    // Takes the ride onto the path, with what fare rules look at in it. What can be paid for it is asked there, once for
+    // all legs that these rules can't tell apart.
     fn take(&self, alloc: Global, caught: &CaughtRide, path: &mut Path) -> Result<(), AllocError>
         ensures { OnOk result (path.new ≡ with_ride path.old caught.now.ride (leg_facts self.now.feed caught.now.facts)) }
     {
         let leg = self.timeframes.leg_facts(alloc, &caught.facts)?;
-        path.push(caught.ride, leg)?;
+        path.push(alloc, caught.ride, leg)?;
         Ok(())
     }
 
@@ -308,14 +293,16 @@ impl<'s, 'f> Search<'s, 'f> {
         &self,
         alloc: Global,
         first: StopId,
+        path: &mut Path,
         front: &mut Front<Entry>,
     ) -> Result<(), AllocError>
         requires starts { IsTrue (stands_for self.now.feed self.now.query.from first) }
-        ensures { OnOk result (Gains self.now.feed self.now.query (StartsAt self.now.feed self.now.query first) front.old front.new) }
+        requires path { path.old ≡ no_ride (terms self.now.feed self.now.query.rider) }
+        ensures path { OnOk result (path.new ≡ path.old) }
+        ensures gains { OnOk result (Gains self.now.feed self.now.query (StartsAt self.now.feed self.now.query first) front.old front.new) }
     {
-        let mut path = Path::empty(alloc);
         let standing = self.start(first);
-        self.explore(alloc, first, standing, &mut path, self.limit(), front)?;
+        self.explore(alloc, first, standing, path, self.limit(), front)?;
         Ok(())
     }
 }
@@ -335,10 +322,11 @@ pub fn plain_entries(
 {
     let fares = Fares::build(alloc, timetable.feed())?;
     let search = Search::new(alloc, timetable, &fares, query)?;
+    let mut path = search.no_path(alloc);
     let mut front = Front::empty(alloc);
     let firsts = timetable.members(query.from);
     for k in 0..firsts.len() {
-        search.offer_from(alloc, firsts[k], &mut front)?;
+        search.offer_from(alloc, firsts[k], &mut path, &mut front)?;
     }
     Ok(front.into_items())
 }

@@ -2,12 +2,11 @@ use Rattle.std.proofs.Common.{refl, sym, ◌∙◌, ap, subst, arith, length, �
 use Rattle.std.proofs.lemmas.List.{length_push}
 use Rattle.feed_rows.specs.Legs.{leg_facts}
 use Rattle.feed_timetable.specs.Standings.{stand_of}
-use Rattle.plan_plain.specs.InTime.{IsRight}
+use Rattle.plan_rides.specs.InTime.{IsRight}
 use Rattle.plan_plain.specs.Paths.{Taken, with_ride}
 use Rattle.plan_plain.specs.Searches.{IsSearched}
-use Rattle.plan_plain.proofs.CaughtLaws.{caught_within}
-use Rattle.plan_plain.proofs.MarkLaws.{may_ride}
-use Rattle.plan_plain.proofs.SearchLaws.{gains_then, gains_explored, gains_all, gains_dead, gains_end, searched_on}
+use Rattle.plan_rides.proofs.CaughtLaws.{caught_within}
+use Rattle.plan_plain.proofs.SearchLaws.{may_ride, gains_then, gains_explored, gains_all, gains_dead, gains_end, searched_on}
 use Rattle.plan_plain.proofs.search.Search.+explore.Goals as goal
 use Rattle.plan_plain.proofs.search.Search.+explore.Goals.{then-goes_on+in_ok-take+in_ok-explore, else-goes_on}
 

@@ -1,6 +1,4 @@
-use Rattle.std.proofs.Common.{refl, inl, ◌∙◌, ap, arith}
-use Rattle.feed_rows.specs.StopLinks.{stop_set}
-use Rattle.plan_plain.specs.Searches.{Asked}
+use Rattle.std.proofs.Common.{refl, inl, arith}
 use Rattle.plan_plain.proofs.SearchLaws.{earliest_more, earliest_end}
 use Rattle.plan_plain.proofs.search.Search.earliest_end.Goals as goal
 
@@ -16,4 +14,4 @@ loop-k-preserved c = earliest_more _ _ _ _ _ _ _ _ c.loop-k-test.true c.loop-k.i
 pub returns : goal.returns
 returns c =
     earliest_end c.args.self.now.feed c.args.self.now.query _ _ c.loop-k.k _
-    (c.members-lasts.ensures ∙ ap (λ (a : Asked). stop_set a.feed a.query.to) c.self.view_is) c.loop-k-test.false c.loop-k.invariant
+    c.lasts-lasts.ensures c.loop-k-test.false c.loop-k.invariant

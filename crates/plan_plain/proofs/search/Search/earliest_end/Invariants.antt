@@ -1,5 +1,6 @@
 use Rattle.feed_timetable.specs.Standings.{stand_of}
-use Rattle.plan_plain.specs.Searches.{IsAmong, IsEarliest}
+use Rattle.plan_plain.specs.Searches.{IsEarliest}
+use Rattle.plan_rides.specs.Boarding.{IsAmong}
 use Rattle.plan_plain.proofs.search.Search.earliest_end.Given as goal
 
 abbrev pub invariant-loop-k : goal.invariant-loop-k

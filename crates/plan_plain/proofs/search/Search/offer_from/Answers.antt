@@ -9,11 +9,11 @@ use Rattle.plan_plain.proofs.search.Search.offer_from.Goals as goal
 pub explore-requires-clause-searched : goal.explore-requires-clause-searched
 explore-requires-clause-searched c =
     subst (IsSearched c.args.self.now.feed c.args.self.now.query c.args.first (stand_of c.start-standing.result))
-    (sym c.empty-path.ensures)
+    (sym c.requires.path)
     (searched_first _ _ _ _ c.start-standing.ensures.stand c.start-standing.ensures.within c.requires.starts)
 
-pub returns : goal.returns
-returns c =
+pub returns-clause-gains : goal.returns-clause-gains
+returns-clause-gains c =
     let feed = c.args.self.now.feed in
     let query = c.args.self.now.query in
     gains_start feed query c.args.first c.args.front.now c.explore.new.front c.start-standing.ensures.sound
@@ -21,4 +21,4 @@ returns c =
     (first_stand query c.args.first) n) c.args.front.now c.explore.new.front) c.limit.ensures.is
     (subst (λ stand. Gains feed query (GoesOn feed query c.args.first [] stand c.limit.result) c.args.front.now c.explore.new.front) c.start-standing.ensures.stand
     (subst (λ (taken : Taken). Gains feed query (GoesOn feed query c.args.first taken.rides
-    (stand_of c.start-standing.result) c.limit.result) c.args.front.now c.explore.new.front) c.empty-path.ensures c.in_ok-explore.ensures.gains)))
+    (stand_of c.start-standing.result) c.limit.result) c.args.front.now c.explore.new.front) c.requires.path c.in_ok-explore.ensures.gains)))

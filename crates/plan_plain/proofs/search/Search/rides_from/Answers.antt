@@ -1,35 +1,23 @@
-use Rattle.std.proofs.Common.{◌∙◌, ap, sym, subst}
+use Rattle.std.proofs.Common.{sym, subst}
 use Rattle.std.specs.Prelude.{All, IfOk}
+use Rattle.feed_rows.specs.SoundFeed.{IsSoundFeed}
 use Rattle.feed_timetable.specs.Standings.{stand_of}
-use Rattle.plan_plain.specs.Boarding.{MayRide}
-use Rattle.plan_plain.specs.InTime.{HasCaught, IsRight, IsUsualQuery, IsWithinWindow}
-use Rattle.plan_plain.specs.Searches.{Asked}
-use Rattle.plan_plain.specs.Travelling.{Travelling, travelling}
-use Rattle.plan_plain.proofs.MarkLaws.{may_board}
+use Rattle.plan_rides.specs.Asked.{Asked}
+use Rattle.plan_rides.specs.Boarding.{MayRide}
+use Rattle.plan_rides.specs.InTime.{HasCaught, IsRight, IsWithinWindow}
 use Rattle.plan_plain.proofs.search.Search.rides_from.Goals as goal
 
-pub new-requires-clause-usual : goal.new-requires-clause-usual
-new-requires-clause-usual c = subst IsUsualQuery (sym c.self.invariant.5) c.self.invariant.0
+pub next-requires-clause-within : goal.next-requires-clause-within
+next-requires-clause-within c = subst (λ (a : Asked). IsWithinWindow a.query c.args.standing.at.0) (sym c.self.view_is) c.requires.within
 
-pub new-requires-clause-within : goal.new-requires-clause-within
-new-requires-clause-within c =
-    subst (λ q. IsWithinWindow q c.args.standing.at.0) (ap (λ (a : Asked). a.query) (sym c.self.view_is)
-    ∙ sym c.self.invariant.5) c.requires.within
-
-pub new-requires-clause-boards : goal.new-requires-clause-boards
-new-requires-clause-boards c =
-    may_board c.self.inside.timetable.now c.self.inside.sought (stand_of c.args.standing) c.self.invariant.6
-    (subst (λ q. MayRide c.self.inside.timetable.now q (stand_of c.args.standing)) (sym c.self.invariant.5)
-    (subst (λ (a : Asked). MayRide a.feed a.query (stand_of c.args.standing)) (sym c.self.view_is) c.requires.may))
+pub next-requires-clause-may : goal.next-requires-clause-may
+next-requires-clause-may c =
+    subst (λ (a : Asked). MayRide a.feed a.query (stand_of c.args.standing)) (sym c.self.view_is) c.requires.may
 
 pub returns-clause-all : goal.returns-clause-all
 returns-clause-all c =
-    subst (λ (t : Travelling). IfOk c.rides.result (λ rides. HasCaught t.feed t.query t.stand rides.items))
-    (c.new.ensures ∙ ap (λ q. travelling c.self.inside.timetable.now q (stand_of c.args.standing)) c.self.invariant.5
-    ∙ ap (λ (a : Asked). travelling a.feed a.query (stand_of c.args.standing)) c.self.view_is) c.rides.ensures.all
+    subst (λ (a : Asked). IfOk c.next.result (λ rides. HasCaught a.feed a.query (stand_of c.args.standing) rides.items)) c.self.view_is c.next.ensures.all
 
 pub returns-clause-right : goal.returns-clause-right
 returns-clause-right c =
-    subst (λ (t : Travelling). IfOk c.rides.result (λ rides. All (IsRight t.feed t.query t.stand) rides.items))
-    (c.new.ensures ∙ ap (λ q. travelling c.self.inside.timetable.now q (stand_of c.args.standing)) c.self.invariant.5
-    ∙ ap (λ (a : Asked). travelling a.feed a.query (stand_of c.args.standing)) c.self.view_is) c.rides.ensures.right
+    subst (λ (a : Asked). IfOk c.next.result (λ rides. All (IsRight a.feed a.query (stand_of c.args.standing)) rides.items)) c.self.view_is c.next.ensures.right

@@ -1,0 +1,4 @@
+pub mod ArrivalLaws
+pub mod CaughtLaws
+pub mod DepartureLaws
+pub mod MarkLaws

@@ -1,0 +1,6 @@
+pub mod Asked
+pub mod Boarding
+pub mod Departures
+pub mod InTime
+pub mod Runs
+pub mod Travelling

@@ -1,0 +1,201 @@
+//! The rides that a traveller may take next, which end within the query's window.
+ghost use Rattle.std.specs.Prelude.{◌≡◌, ◌<◌, ◌≤◌, ◌^◌, All, IfOk, OnOk, Some, length, slice_get};
+ghost use Rattle.feed_rows.specs.Calls.{calls_of};
+ghost use Rattle.feed_rows.specs.declared.journeys.Call.{Call};
+ghost use Rattle.feed_timetable.specs.Standings.{stand_of};
+ghost use Rattle.plan_rides.specs.Boarding.{MayBoard};
+ghost use Rattle.plan_rides.specs.Departures.{AreDepartures, BoardsAt, DoRise, IsBy, IsDeparture, IsByTo, IsFirstSince, IsReached, facts_in_time};
+ghost use Rattle.plan_rides.specs.InTime.{IsUsualQuery, IsWithinWindow, AddsCaught, HasCaught, IsRight};
+ghost use Rattle.plan_rides.specs.Travelling.{IsBarred, travelling};
+ghost use Rattle.transit_base.specs.Limits.{most_time};
+
+use crate::departures::{Departure, deadline};
+use crate::sought::Sought;
+use feed_rows::{Call, Query, Ride, RideFacts};
+use feed_timetable::{Standing, Timetable};
+use plain_laws::Groups;
+use std::alloc::{AllocError, Global};
+use std::marker::Model;
+use transit_base::{Moment, Secs, StopId};
+
+/// A ride that is caught, and where and when it goes.
+#[derive(Clone, Copy)]
+pub struct CaughtRide {
+    pub ride: Ride,
+    pub facts: RideFacts,
+}
+
+// How many of the departures are before the moment.
+fn first_since(departures: &[Departure], moment: Moment) -> usize
+    requires { DoRise departures.now }
+    ensures { IsFirstSince departures.now moment.0 result }
+{
+    departures.partition_point(|departure| departure.at.0 < moment.0)
+}
+
+/// A traveller of a query, and where they stand. Contracts see it as the feed, the query and the stand.
+#[derive(Drop)]
+pub struct Traveller<'s, 'f> {
+    timetable: &'s Timetable<'f>,
+    sought: &'s Sought<'s>,
+    query: &'s Query,
+    departures: &'s Groups<Departure>,
+    standing: Standing,
+}
+
+impl<'s, 'f> Model for Traveller<'s, 'f> {
+    ghost use Rattle.std.specs.Prelude.{◌≡◌};
+    ghost use Rattle.feed_timetable.specs.Standings.{stand_of};
+    ghost use Rattle.plan_rides.specs.Boarding.{MayBoard};
+    ghost use Rattle.plan_rides.specs.Departures.{AreDepartures};
+    ghost use Rattle.plan_rides.specs.InTime.{IsUsualQuery, IsWithinWindow};
+    ghost use Rattle.plan_rides.specs.Travelling.{Travelling, travelling};
+
+    ghost Value = { Travelling };
+
+    ghost view = { λ s. travelling s.timetable.now s.query.now (stand_of s.standing) };
+
+    ghost invariant = { λ s. IsUsualQuery s.query.now × IsWithinWindow s.query.now s.standing.at.0 × AreDepartures s.timetable.now s.sought.now s.departures.now × (s.sought.now.query ≡ s.query.now) × MayBoard s.timetable.now s.sought.now (stand_of s.standing) };
+}
+
+impl<'s, 'f> Traveller<'s, 'f> {
+    /// The traveller of the query, with the departures that are sought for it, who stands there.
+    pub fn new(
+        timetable: &'s Timetable<'f>,
+        sought: &'s Sought<'s>,
+        departures: &'s Groups<Departure>,
+        standing: Standing,
+    ) -> Traveller<'s, 'f>
+        requires usual { IsUsualQuery sought.now.query }
+        requires within { IsWithinWindow sought.now.query standing.at.0 }
+        requires listed { AreDepartures timetable.now sought.now departures.now }
+        requires boards { MayBoard timetable.now sought.now (stand_of standing) }
+        ensures { result ≡ travelling timetable.now sought.now.query (stand_of standing) }
+    {
+        Traveller {
+            timetable,
+            sought,
+            query: sought.query(),
+            departures,
+            standing,
+        }
+    }
+
+    // The calls of the departure's trip.
+    fn calls_of(&self, departure: &Departure) -> &'s [Call]
+        requires { IsDeparture self.now.feed departure.now }
+        ensures value { result.now ≡ calls_of self.now.feed departure.now.trip }
+        ensures times { All (λ (c : Call). (c.arrival ≤ most_time) × (c.departure ≤ most_time)) result.now }
+        ensures few { length result.now < 2 ^ 32 }
+    {
+        departure.run(self.timetable).calls()
+    }
+
+    // Where and when the ride by the departure goes that alights at the call; none where riders may not alight there,
+    // or it ends past the window.
+    #[tactic(auto, unfolding(crate::specs::Departures::facts_in_time))]
+    fn facts_in_time(&self, departure: &Departure, call: &Call) -> Option<RideFacts>
+        requires right { IsDeparture self.now.feed departure.now }
+        requires time { call.now.arrival ≤ most_time }
+        ensures { result ≡ facts_in_time self.now.query departure.now call.now }
+    {
+        let run = departure.run(self.timetable);
+        let arrival = run.moment(call.arrival);
+        if !call.drop_off || arrival.0 > deadline(self.query).0 {
+            return None;
+        }
+        Some(RideFacts {
+            from: departure.stop,
+            to: call.stop,
+            network: departure.network,
+            departure: departure.at,
+            arrival,
+        })
+    }
+
+    // Adds the ride by the departure that alights at the call.
+    fn add_ride(
+        &self,
+        departure: &Departure,
+        to: u32,
+        call: &Call,
+        rides: &mut Vec<CaughtRide>,
+    ) -> Result<(), AllocError>
+        requires reached { IsReached self.now.feed self.now.query self.now.stand departure.now }
+        requires later { departure.now.from < to }
+        requires is { slice_get (calls_of self.now.feed departure.now.trip) to ≡ Some call.now }
+        requires time { call.now.arrival ≤ most_time }
+        ensures { OnOk result (AddsCaught self.now.feed self.now.query self.now.stand (IsByTo self.now.feed departure.now to) rides.old.items rides.new.items) }
+    {
+        let Some(facts) = self.facts_in_time(departure, call) else {
+            return Ok(());
+        };
+        rides.push(CaughtRide {
+            ride: departure.ride_to(to),
+            facts,
+        })?;
+        Ok(())
+    }
+
+    // Adds the rides by a departure that one reaches.
+    fn add_departure(
+        &self,
+        departure: &Departure,
+        rides: &mut Vec<CaughtRide>,
+    ) -> Result<(), AllocError>
+        requires reached { IsReached self.now.feed self.now.query self.now.stand departure.now }
+        ensures { OnOk result (AddsCaught self.now.feed self.now.query self.now.stand (IsBy self.now.feed departure.now) rides.old.items rides.new.items) }
+    {
+        let calls = self.calls_of(departure);
+        for to in departure.from + 1..calls.len() as u32 {
+            self.add_ride(departure, to, &calls[to as usize], rides)?;
+        }
+        Ok(())
+    }
+
+    // Adds the rides from a stop: by the departures since one gets there.
+    fn add_stop(&self, stop: StopId, rides: &mut Vec<CaughtRide>) -> Result<(), AllocError>
+        ensures { OnOk result (AddsCaught self.now.feed self.now.query self.now.stand (BoardsAt self.now.feed stop.0) rides.old.items rides.new.items) }
+    {
+        let Some(seconds) = self.timetable.way_to(self.query, self.standing, stop) else {
+            return Ok(());
+        };
+        let earliest = self.standing.at.plus(Secs(seconds));
+        let departures = self.departures.get(stop.0 as usize);
+        let first = first_since(departures, earliest);
+        for k in first..departures.len() {
+            self.add_departure(&departures[k], rides)?;
+        }
+        Ok(())
+    }
+
+    // Adds the rides from where one stands, where no walk leads from there to itself: a journey may still begin there.
+    fn add_barred(&self, rides: &mut Vec<CaughtRide>) -> Result<(), AllocError>
+        ensures { OnOk result (AddsCaught self.now.feed self.now.query self.now.stand (IsBarred self.now.feed self.now.stand) rides.old.items rides.new.items) }
+    {
+        let stop = self.standing.stop;
+        if let Some(_seconds) = self.timetable.link(stop, stop) {
+            return Ok(());
+        }
+        self.add_stop(stop, rides)?;
+        Ok(())
+    }
+
+    /// Replaces what `rides` holds by all rides that are caught and end within the query's window.
+    ///
+    /// # Errors
+    /// Want of memory.
+    pub fn rides_into(&self, rides: &mut Vec<CaughtRide>) -> Result<(), AllocError>
+        ensures all { OnOk result (HasCaught self.now.feed self.now.query self.now.stand rides.new.items) }
+        ensures right { OnOk result (All (IsRight self.now.feed self.now.query self.now.stand) rides.new.items) }
+    {
+        let _feed = self.timetable.feed();
+        rides.clear();
+        self.add_barred(rides)?;
+        let walks = self.timetable.walks_from(self.standing.stop);
+        for k in 0..walks.len() {
+            self.add_stop(walks[k].to, rides)?;
+        }
+        Ok(())
+    }
+}

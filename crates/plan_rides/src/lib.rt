@@ -1,0 +1,11 @@
+//! The rides of a query: which can be caught from where a traveller stands, and end within the query's window.
+#![tactic(auto)]
+
+mod caught;
+mod departures;
+mod rides;
+mod runs;
+mod sought;
+
+pub use caught::CaughtRide;
+pub use rides::Rides;

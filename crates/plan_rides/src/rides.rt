@@ -1,0 +1,164 @@
+//! The rides of a query over a timetable.
+ghost use Rattle.std.specs.Prelude.{◌≡◌, All, IfOk, OnOk, option_map};
+ghost use Rattle.feed_rows.specs.JourneyStands.{first_stand};
+ghost use Rattle.feed_rows.specs.SoundFeed.{IsSoundFeed};
+ghost use Rattle.feed_timetable.specs.Standings.{stand_of};
+ghost use Rattle.plan_rides.specs.Asked.{asked, arrival_in_time};
+ghost use Rattle.plan_rides.specs.Boarding.{MayRide};
+ghost use Rattle.plan_rides.specs.InTime.{IsUsualQuery, IsDeadline, IsWithinWindow, HasCaught, IsRight};
+
+use crate::caught::{CaughtRide, Traveller};
+use crate::departures::{Departure, deadline, departures_of};
+use crate::sought::Sought;
+use feed_rows::Query;
+use feed_timetable::{Standing, Timetable};
+use plain_laws::Groups;
+use std::alloc::{AllocError, Global};
+use std::marker::Model;
+use transit_base::{Moment, StopId};
+
+/// The rides of a query over a timetable, by where they can be caught: the departures of its window are listed once.
+/// Contracts see it as the feed and the query.
+pub struct Rides<'s, 'f> {
+    timetable: &'s Timetable<'f>,
+    query: &'s Query,
+    sought: Sought<'s>,
+    departures: Groups<Departure>,
+    deadline: Moment,
+}
+
+// Written out, so that what holds one needn't look into it to let go of it.
+impl<'s, 'f> Drop for Rides<'s, 'f> {
+    fn drop(self) {
+        let Rides {
+            timetable: _,
+            query: _,
+            sought: _,
+            departures: _,
+            deadline: _,
+        } = self;
+    }
+}
+
+impl<'s, 'f> Model for Rides<'s, 'f> {
+    ghost use Rattle.std.specs.Prelude.{◌≡◌};
+    ghost use Rattle.plan_rides.specs.Asked.{Asked, asked};
+    ghost use Rattle.plan_rides.specs.Boarding.{AreMarks};
+    ghost use Rattle.plan_rides.specs.Departures.{AreDepartures};
+    ghost use Rattle.plan_rides.specs.InTime.{IsUsualQuery, IsDeadline};
+
+    ghost Value = { Asked };
+
+    ghost view = { λ s. asked s.timetable.now s.query.now };
+
+    ghost invariant = { λ s. IsUsualQuery s.query.now × IsDeadline s.query.now s.deadline.0 × AreDepartures s.timetable.now s.sought s.departures × (s.sought.query ≡ s.query.now) × AreMarks s.timetable.now s.sought };
+}
+
+impl<'s, 'f> Rides<'s, 'f> {
+    /// The rides of the query over the timetable.
+    ///
+    /// # Errors
+    /// Want of memory.
+    pub fn of(
+        alloc: Global,
+        timetable: &'s Timetable<'f>,
+        query: &'s Query,
+    ) -> Result<Rides<'s, 'f>, AllocError>
+        requires usual { IsUsualQuery query.now }
+        ensures { IfOk result (λ rides. rides ≡ asked timetable.now query.now) }
+    {
+        let sought = Sought::new(alloc, timetable, query)?;
+        let departures = departures_of(alloc, timetable, &sought)?;
+        Ok(Rides {
+            timetable,
+            query,
+            sought,
+            departures,
+            deadline: deadline(query),
+        })
+    }
+
+    /// The timetable.
+    pub fn timetable(&self) -> &'s Timetable<'f>
+        ensures { result.now ≡ self.now.feed }
+    {
+        self.timetable
+    }
+
+    /// The query.
+    pub fn query(&self) -> &'s Query
+        ensures is { result.now ≡ self.now.query }
+        ensures usual { IsUsualQuery self.now.query }
+    {
+        self.query
+    }
+
+    /// The latest moment at which a journey may end.
+    pub fn deadline(&self) -> Moment
+        ensures { IsDeadline self.now.query result.0 }
+    {
+        self.deadline
+    }
+
+    /// Where one stands at a first stop, before any ride.
+    pub fn start(&self, first: StopId) -> Standing
+        ensures stand { stand_of result ≡ first_stand self.now.query first }
+        ensures within { IsWithinWindow self.now.query result.at.0 }
+        ensures sound { IsSoundFeed self.now.feed }
+    {
+        let _feed = self.timetable.feed();
+        Standing {
+            stop: first,
+            at: self.query.departure,
+            fresh: true,
+        }
+    }
+
+    /// The arrival at the last stop within the window, from where one stands.
+    #[tactic(auto, unfolding(crate::specs::Asked::arrival_in_time))]
+    pub fn arrival_in_time(&self, standing: Standing, last: StopId) -> Option<Moment>
+        requires { IsWithinWindow self.now.query standing.at.0 }
+        ensures { option_map (λ (moment : Moment). moment.0) result ≡ arrival_in_time self.now.feed self.now.query (stand_of standing) last }
+    {
+        let arrival = self.timetable.end_arrival(self.query, standing, last)?;
+        if arrival.0 > self.deadline.0 {
+            return None;
+        }
+        Some(arrival)
+    }
+
+    /// Replaces what `rides` holds by the rides that are caught from where one stands and end within the window.
+    ///
+    /// # Errors
+    /// Want of memory.
+    pub fn next_into(
+        &self,
+        standing: Standing,
+        rides: &mut Vec<CaughtRide>,
+    ) -> Result<(), AllocError>
+        requires within { IsWithinWindow self.now.query standing.at.0 }
+        requires may { MayRide self.now.feed self.now.query (stand_of standing) }
+        ensures all { OnOk result (HasCaught self.now.feed self.now.query (stand_of standing) rides.new.items) }
+        ensures right { OnOk result (All (IsRight self.now.feed self.now.query (stand_of standing)) rides.new.items) }
+        ensures sound { IsSoundFeed self.now.feed }
+    {
+        let _feed = self.timetable.feed();
+        Traveller::new(self.timetable, &self.sought, &self.departures, standing).rides_into(rides)
+    }
+
+    /// The same rides in a list of their own.
+    ///
+    /// # Errors
+    /// Want of memory.
+    pub fn next(&self, alloc: Global, standing: Standing) -> Result<Vec<CaughtRide>, AllocError>
+        requires within { IsWithinWindow self.now.query standing.at.0 }
+        requires may { MayRide self.now.feed self.now.query (stand_of standing) }
+        ensures all { IfOk result (λ rides. HasCaught self.now.feed self.now.query (stand_of standing) rides.items) }
+        ensures right { IfOk result (λ rides. All (IsRight self.now.feed self.now.query (stand_of standing)) rides.items) }
+        ensures sound { IsSoundFeed self.now.feed }
+    {
+        let mut rides = Vec::new(alloc);
+        self.next_into(standing, &mut rides)?;
+        Ok(rides)
+    }
+}

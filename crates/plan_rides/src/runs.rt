@@ -1,0 +1,132 @@
+//! The runs of trips, and where they depart.
+ghost use Rattle.std.specs.Prelude.{◌≡◌, ◌<◌, ◌≤◌, ◌+ℤ◌, ◌^◌, pos, length, All, OnOk, Some, slice_get};
+ghost use Rattle.feed_rows.specs.Calls.{calls_of};
+ghost use Rattle.feed_rows.specs.SoundFeed.{IsSoundFeed};
+ghost use Rattle.feed_rows.specs.declared.journeys.Call.{Call};
+ghost use Rattle.plan_rides.specs.Departures.{Lists, departure_from};
+ghost use Rattle.plan_rides.specs.InTime.{IsUsualQuery, IsAt, IsBefore, IsOfRun};
+ghost use Rattle.plan_rides.specs.Runs.{run_of, IsRun};
+ghost use Rattle.transit_base.specs.Limits.{most_time};
+ghost use Rattle.transit_base.specs.Moments.{moment_at};
+
+use crate::departures::{Departure, is_listed};
+use crate::sought::Sought;
+use feed_rows::Call;
+use feed_timetable::Timetable;
+use plain_laws::Grouped;
+use std::alloc::AllocError;
+use std::marker::Model;
+use transit_base::{Day, Moment, TripId};
+
+/// A trip on a day on which it runs, with the shift of one of its runs. Contracts see it as its feed and these three.
+#[derive(Drop)]
+pub struct Run<'t, 'f> {
+    timetable: &'t Timetable<'f>,
+    trip: TripId,
+    day: Day,
+    shift: i64,
+}
+
+impl<'t, 'f> Model for Run<'t, 'f> {
+    ghost use Rattle.plan_rides.specs.Runs.{RunOf, run_of, IsRun};
+
+    ghost Value = { RunOf };
+
+    ghost view = { λ s. run_of s.timetable.now s.trip s.day s.shift };
+
+    ghost invariant = { λ s. IsRun (run_of s.timetable.now s.trip s.day s.shift) };
+}
+
+impl<'t, 'f> Run<'t, 'f> {
+    /// The run of the trip on the day with the shift.
+    pub fn new(timetable: &'t Timetable<'f>, trip: TripId, day: Day, shift: i64) -> Run<'t, 'f>
+        requires { IsRun (run_of timetable.now trip day shift) }
+        ensures { result ≡ run_of timetable.now trip day shift }
+    {
+        Run {
+            timetable,
+            trip,
+            day,
+            shift,
+        }
+    }
+
+    /// The calls of its trip, in order.
+    pub fn calls(&self) -> &'t [Call]
+        ensures value { result.now ≡ calls_of self.now.feed self.now.trip }
+        ensures times { All (λ (c : Call). (c.arrival ≤ most_time) × (c.departure ≤ most_time)) result.now }
+        ensures few { length result.now < 2 ^ 32 }
+    {
+        self.timetable.calls_of(self.trip)
+    }
+
+    /// The moment that is so many seconds of its day, shifted as the run is.
+    pub fn moment(&self, seconds: u32) -> Moment
+        requires { seconds ≤ most_time }
+        ensures { result.0 ≡ moment_at self.now.day.0 (self.now.shift +ℤ pos seconds) }
+    {
+        Moment::at(self.day, self.shift + i64::from(seconds))
+    }
+
+    // Its departure from a call.
+    fn departure(&self, from: u32, call: &Call) -> Departure
+        requires { call.now.departure ≤ most_time }
+        ensures value { result ≡ departure_from self.now call.now from }
+        ensures runs { IsRun self.now }
+        ensures sound { IsSoundFeed self.now.feed }
+    {
+        let _feed = self.timetable.feed();
+        Departure {
+            trip: self.trip,
+            day: self.day,
+            shift: self.shift,
+            network: self.timetable.network(self.trip),
+            from,
+            stop: call.stop,
+            at: self.moment(call.departure),
+        }
+    }
+
+    // Lists the departure from this one of its calls.
+    fn list_call(
+        &self,
+        sought: &Sought,
+        from: u32,
+        call: &Call,
+        listed: &mut Vec<Grouped<Departure>>,
+    ) -> Result<(), AllocError>
+        requires usual { IsUsualQuery sought.now.query }
+        requires is { slice_get (calls_of self.now.feed self.now.trip) from ≡ Some call.now }
+        requires time { call.now.departure ≤ most_time }
+        ensures { OnOk result (Lists self.now.feed sought.now (IsAt self.now from) listed.old.items listed.new.items) }
+    {
+        let item = self.departure(from, call);
+        if !is_listed(sought, call, item.at) {
+            return Ok(());
+        }
+        listed.push(Grouped {
+            group: call.stop.0,
+            item,
+        })?;
+        Ok(())
+    }
+
+    /// Lists its departures.
+    ///
+    /// # Errors
+    /// Want of memory.
+    pub fn list(
+        &self,
+        sought: &Sought,
+        listed: &mut Vec<Grouped<Departure>>,
+    ) -> Result<(), AllocError>
+        requires usual { IsUsualQuery sought.now.query }
+        ensures { OnOk result (Lists self.now.feed sought.now (IsOfRun self.now) listed.old.items listed.new.items) }
+    {
+        let calls = self.calls();
+        for from in 0..calls.len() as u32 {
+            self.list_call(sought, from, &calls[from as usize], listed)?;
+        }
+        Ok(())
+    }
+}

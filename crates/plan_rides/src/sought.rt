@@ -1,0 +1,124 @@
+//! A query, and where its rides may board.
+ghost use Rattle.std.specs.Prelude.{◌≡◌, length, IfOk, IsTrue};
+ghost use Rattle.feed_rows.specs.JourneyStands.{first_stand};
+ghost use Rattle.feed_rows.specs.Journeys.{stands_for};
+ghost use Rattle.feed_rows.specs.declared.journeys.Query.{Query};
+ghost use Rattle.plan_rides.specs.Boarding.{AddsMarks, AreMarks, MarksFirsts, MarksFrom, is_marked, seeking};
+ghost use Rattle.plan_rides.specs.InTime.{IsUsualQuery};
+ghost use Rattle.transit_base.specs.declared.numbers.StopId.{StopId};
+
+use feed_rows::Query;
+use feed_timetable::Timetable;
+use std::alloc::{AllocError, Global};
+use std::marker::Model;
+use transit_base::StopId;
+
+/// A query, with marks of the stops at which its rides may board, so that no departures are listed from others.
+/// Contracts see it as these two.
+pub struct Sought<'q> {
+    query: &'q Query,
+    /// By stop. A stop past their end counts as marked.
+    marks: Vec<bool>,
+}
+
+// Written out, so that what holds one needn't look into it to let go of it.
+impl<'q> Drop for Sought<'q> {
+    fn drop(self) {
+        let Sought { query: _, marks: _ } = self;
+    }
+}
+
+impl<'q> Model for Sought<'q> {
+    ghost use Rattle.plan_rides.specs.Boarding.{Seeking, seeking};
+
+    ghost Value = { Seeking };
+
+    ghost view = { λ s. seeking s.query.now s.marks.items };
+}
+
+impl<'q> Sought<'q> {
+    /// The query over the timetable. Where it has one ride alone, the stops are marked at which that may board.
+    ///
+    /// # Errors
+    /// Want of memory.
+    pub fn new(
+        alloc: Global,
+        timetable: &Timetable,
+        query: &'q Query,
+    ) -> Result<Sought<'q>, AllocError>
+        ensures query { IfOk result (λ sought. sought.query ≡ query.now) }
+        ensures marks { IfOk result (λ sought. AreMarks timetable.now sought) }
+    {
+        let marks = marks_of(alloc, timetable, query)?;
+        Ok(Sought { query, marks })
+    }
+
+    /// The query.
+    pub fn query(&self) -> &'q Query
+        ensures { result.now ≡ self.now.query }
+    {
+        self.query
+    }
+
+    /// Whether the stop is marked.
+    pub fn boards_at(&self, stop: StopId) -> bool
+        ensures { result ≡ is_marked self.now.marks stop.0 }
+    {
+        let stop = stop.0 as usize;
+        stop >= self.marks.len() || self.marks[stop]
+    }
+}
+
+// The marks of the stops at which rides of the query may board.
+fn marks_of(alloc: Global, timetable: &Timetable, query: &Query) -> Result<Vec<bool>, AllocError>
+    ensures { IfOk result (λ marks. AreMarks timetable.now (seeking query.now marks.items)) }
+{
+    if query.rides > 1 {
+        return Ok(Vec::new(alloc));
+    }
+    first_marks(alloc, timetable, query)
+}
+
+// The marks of the stops at which a first ride may board.
+fn first_marks(alloc: Global, timetable: &Timetable, query: &Query) -> Result<Vec<bool>, AllocError>
+    ensures { IfOk result (λ marks. (first : StopId) → IsTrue (stands_for timetable.now query.now.from first) → MarksFrom timetable.now query.now marks.items (first_stand query.now first)) }
+{
+    let stops = timetable.feed().stops.items().len();
+    let mut marks = vec![in alloc; false; stops]?;
+    mark_all(timetable, timetable.members(query.from), &mut marks);
+    Ok(marks)
+}
+
+// Marks the stops at which a first ride may board from these first stops.
+fn mark_all(timetable: &Timetable, firsts: &[StopId], marks: &mut [bool])
+    requires { length marks.old ≡ length timetable.now.stops }
+    ensures many { length marks.new ≡ length marks.old }
+    ensures all { (query : Query) → MarksFirsts timetable.now query firsts.now (length firsts.now) marks.new }
+{
+    for k in 0..firsts.len() {
+        mark_from(timetable, firsts[k], marks);
+    }
+}
+
+// Marks the stops at which a first ride may board from a first stop.
+fn mark_from(timetable: &Timetable, first: StopId, marks: &mut [bool])
+    requires { length marks.old ≡ length timetable.now.stops }
+    ensures adds { AddsMarks (λ stop. stop ≡ first.0) marks.old marks.new }
+    ensures all { (query : Query) → MarksFrom timetable.now query marks.new (first_stand query first) }
+{
+    mark(marks, first);
+    let walks = timetable.walks_from(first);
+    for k in 0..walks.len() {
+        mark(marks, walks[k].to);
+    }
+}
+
+// Marks the stop.
+fn mark(marks: &mut [bool], stop: StopId)
+    ensures { AddsMarks (λ other. other ≡ stop.0) marks.old marks.new }
+{
+    let stop = stop.0 as usize;
+    if stop < marks.len() {
+        marks[stop] = true;
+    }
+}
