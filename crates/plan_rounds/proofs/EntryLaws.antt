@@ -1,0 +1,97 @@
+-- The entries that are read off labels.
+use Rattle.std.proofs.Common.{◌≡◌, refl, ◌∙◌, ap, subst, ℕ, zero, suc, ◌+◌, ◌-◌, ◌<◌, ◌⊎◌, inl, inr, true, false, List, [], ◌∷◌, ◌++◌, length, get_or, arith}
+use Rattle.std.specs.Prelude.{Option, Some, None, IsSome, option_map, option_and_then, slice_get}
+use Rattle.std.proofs.lemmas.Bool.{cases_Bool}
+use Rattle.std.proofs.lemmas.List.{length-map}
+use Rattle.std.proofs.lemmas.Option.{slice_get-map, slice_get-get_or, slice_get_within}
+use Rattle.transit_base.specs.declared.numbers.StopId.{StopId}
+use Rattle.feed_rows.specs.declared.journeys.Ride.{Ride}
+use Rattle.feed_rows.specs.declared.states.Move.{Move}
+use Rattle.feed_rows.specs.FareSteps.{is_whole}
+use Rattle.feed_rows.specs.PartialJourneys.{PartialJourney, journey_to}
+use Rattle.feed_rows.specs.declared.fares.Entry.{Entry}
+use Rattle.feed_rows.specs.RoundTables.{Label as Kept, Final as KeptFinal, RoundTable, with_ride, traced, entry_of_final, entries_of}
+use Rattle.plain_laws.specs.Plain.{collect_below}
+use Rattle.plain_laws.proofs.Laws.{collect_below_more, collect_below_tells}
+use Rattle.plan_rounds.specs.declared.finals.Final.{Final}
+use Rattle.plan_rounds.specs.Finals.{final_of, finals_of}
+use Rattle.plan_rounds.specs.declared.label.Label.{Label}
+use Rattle.plan_rounds.specs.Labels.{label_of, labels_of}
+
+-- a label that leads back is one of the labels
+traced_inside : (labels : List Kept) (rides number : ℕ) → IsSome (traced labels rides number) → number < length labels
+traced_inside labels rides number some = by (slice_get labels number) refl
+  where
+    none : slice_get labels number ≡ None → (n : ℕ) → traced labels n number ≡ None
+    none is zero = rw is refl
+    none is (suc n) = rw is refl
+
+    by : (o : Option Kept) → slice_get labels number ≡ o → number < length labels
+    by None is = absurd (let no : false ≡ true = subst IsSome (none is rides) some in cc)
+    by (Some l) is = slice_get_within labels number l is
+
+-- so it is where the program finds it
+pub label_there : (labels : List Label) (rides number : ℕ) (d : Label) → IsSome (traced (labels_of labels) rides number) →
+    slice_get labels number ≡ Some (get_or labels number d)
+label_there labels rides number d some =
+    let lt = traced_inside (labels_of labels) rides number some in
+    let long = length-map labels label_of in
+    slice_get-get_or labels number d (omega (arith, lt, long))
+
+-- the partial journey of a label is that of its parent with its ride
+pub traced_more : (labels : List Label) (rides number : ℕ) (label : Label) (parent : ℕ) (ride : Ride) (taken : Move) (part longer : PartialJourney) →
+    (rides ≡ 0 → ⊥) → slice_get labels number ≡ Some label → label.parent ≡ Some parent → label.ride ≡ Some ride → label.taken ≡ Some taken →
+    IsSome (traced (labels_of labels) rides number) → traced (labels_of labels) (rides - 1) parent ≡ Some part → longer ≡ with_ride part ride taken →
+    traced (labels_of labels) rides number ≡ Some longer
+traced_more labels zero number label parent ride taken part longer some at p r t known before is = absurd (some refl)
+traced_more labels (suc n) number label parent ride taken part longer some at p r t known before is = by (cases_Bool (is_whole taken))
+  where
+    there : slice_get (labels_of labels) number ≡ Some (label_of label)
+    there = slice_get-map label_of labels number ∙ ap (option_map label_of) at
+
+    earlier : traced (labels_of labels) n parent ≡ Some part
+    earlier = subst (λ (k : ℕ). traced (labels_of labels) k parent ≡ Some part) (omega arith) before
+
+    by : (is_whole taken ≡ true) ⊎ (is_whole taken ≡ false) → traced (labels_of labels) (suc n) number ≡ Some longer
+    by (inl whole) = rw (there, p, r, t, whole, earlier, is) refl
+    by (inr broken) = absurd (let no : false ≡ true = subst IsSome nothing known in cc)
+      where
+        nothing : traced (labels_of labels) (suc n) number ≡ None
+        nothing = rw (there, p, r, t, broken) refl
+
+-- a final that has an entry leads back
+pub final_traced : (labels : List Kept) (final : KeptFinal) (bag : ℕ → StopId → List ℕ) (finals : List KeptFinal) →
+    IsSome (entry_of_final (record { labels = labels; bag = bag; finals = finals }) final) → IsSome (traced labels final.triple.rides final.label)
+final_traced labels final bag finals some = by (traced labels final.triple.rides final.label) some
+  where
+    by : (o : Option PartialJourney) → IsSome {T = Entry} (option_map (λ part. record { triple = final.triple; journey = journey_to final.last part; choice = part.choice }) o) → IsSome o
+    by None none = none
+    by (Some part) known = refl
+
+-- a place within a list has an item
+some_within : {X : Type 0} (xs : List X) (i : ℕ) → i < length xs → IsSome (slice_get xs i)
+some_within [] i lt = absurd (omega (arith, lt))
+some_within (x ∷ xs) zero lt = refl
+some_within (x ∷ xs) (suc i) lt = some_within xs i (omega (arith, lt))
+
+-- where all finals have entries, each has
+pub entry_given : (table : RoundTable) (n : ℕ) (final : KeptFinal) → IsSome (entries_of table) → slice_get table.finals n ≡ Some final →
+    IsSome (entry_of_final table final)
+entry_given table n final some at = by (entries_of table) refl some
+  where
+    by : (o : Option (List Entry)) → entries_of table ≡ o → IsSome o → IsSome (entry_of_final table final)
+    by None is none = absurd (let no : false ≡ true = none in cc)
+    by (Some entries) is known =
+        let all = collect_below_tells (length table.finals) (λ i. option_and_then (entry_of_final table) (slice_get table.finals i)) entries is in
+        let lt = slice_get_within table.finals n final at in
+        let long = all.length_is in
+        subst IsSome (all.items n lt ∙ ap (option_and_then (entry_of_final table)) at) (some_within entries n (omega (arith, lt, long)))
+
+-- one entry more
+pub entries_more : (table : RoundTable) (finals : List Final) (n : ℕ) (d : Final) (entries : List Entry) (entry : Entry) → n < length finals →
+    collect_below n (λ i. option_and_then (entry_of_final table) (slice_get (finals_of finals) i)) ≡ Some entries →
+    entry_of_final table (final_of (get_or finals n d)) ≡ Some entry →
+    collect_below (n + 1) (λ i. option_and_then (entry_of_final table) (slice_get (finals_of finals) i)) ≡ Some (entries ++ entry ∷ [])
+entries_more table finals n d entries entry lt before is =
+    collect_below_more n _ entries entry before
+    (ap (option_and_then (entry_of_final table)) (slice_get-map final_of finals n ∙ ap (option_map final_of) (slice_get-get_or finals n d lt)) ∙ is)

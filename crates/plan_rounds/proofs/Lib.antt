@@ -1,0 +1,12 @@
+pub mod BagLaws
+pub mod EntryLaws
+pub mod FinalSteps
+pub mod MoveBounds
+pub mod MoveLaws
+pub mod RideSteps
+pub mod SourceLaws
+pub mod SpreadLaws
+pub mod StopLaws
+pub mod StoreLaws
+pub mod TableLaws
+pub mod WholeLaws

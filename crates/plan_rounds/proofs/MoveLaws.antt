@@ -1,0 +1,46 @@
+-- The moves that an automaton finds for a label.
+use Rattle.std.proofs.Common.{◌≡◌, sym, subst, List, pos}
+use Rattle.std.specs.Prelude.{Some, None, Result, Ok, Err, OnOk}
+use Rattle.feed_rows.specs.declared.journeys.LegFacts.{LegFacts}
+use Rattle.feed_rows.specs.declared.journeys.Query.{Query}
+use Rattle.feed_rows.specs.declared.states.FareState.{FareState}
+use Rattle.feed_rows.specs.declared.states.Move.{Move}
+use Rattle.feed_rows.specs.FareSteps.{AreMovesAfter}
+use Rattle.feed_rows.specs.FeedRows.{FeedRows}
+use Rattle.feed_rows.specs.SoundFeed.{IsSoundFeed}
+use Rattle.fare_automaton.specs.Terms.{FareTerms, terms}
+use Rattle.fare_automaton.specs.Steps.{AreStarts, AreSteps}
+use Rattle.plan_rounds.specs.declared.label.Label.{Label}
+use Rattle.plan_rounds.specs.Labels.{IsBounded}
+use Rattle.plan_rounds.specs.Moves.{AreMovesOf}
+use Rattle.plan_rounds.proofs.MoveBounds.{move_small}
+
+-- all moves after a label
+moves_of : (feed : FeedRows) (query : Query) (label : Label) (leg : LegFacts) (moves : List Move) → IsSoundFeed feed → IsBounded label →
+    AreMovesAfter feed query.rider label.state label.held.0 leg moves → AreMovesOf feed query label leg moves
+moves_of feed query label leg moves sound bounded are = record {
+  exact = are;
+  small = λ k d lt. move_small feed query.rider label.state label.held.0 leg _ sound bounded.held (are.right k d lt);
+}
+
+-- of a label without rides
+pub moves_of_starts : {E : Type 0} (result : Result (Unit {0}) E) (own : FareTerms) (feed : FeedRows) (query : Query) (label : Label) (leg : LegFacts) (moves : List Move) →
+    own ≡ terms feed query.rider → IsSoundFeed feed → IsBounded label → label.state ≡ None →
+    OnOk result (AreStarts own.feed own.rider leg moves) → OnOk result (AreMovesOf feed query label leg moves)
+moves_of_starts (Err e) own feed query label leg moves same sound bounded none are = are
+moves_of_starts (Ok u) own feed query label leg moves same sound bounded none are =
+    moves_of feed query label leg moves sound bounded
+    (subst (λ state. AreMovesAfter feed query.rider state label.held.0 leg moves) (sym none) (record { right = exact.right; all = exact.all; once = exact.once }))
+  where
+    exact : AreMovesAfter feed query.rider None (pos 0) leg moves
+    exact = (subst (λ (t : FareTerms). AreStarts t.feed t.rider leg moves) same are).exact
+
+-- of a label with a state
+pub moves_of_steps : {E : Type 0} (result : Result (Unit {0}) E) (own : FareTerms) (feed : FeedRows) (query : Query) (label : Label) (state : FareState) (leg : LegFacts) (moves : List Move) →
+    own ≡ terms feed query.rider → IsSoundFeed feed → IsBounded label → label.state ≡ Some state →
+    OnOk result (AreSteps own.feed own.rider state label.held.0 leg moves) → OnOk result (AreMovesOf feed query label leg moves)
+moves_of_steps (Err e) own feed query label state leg moves same sound bounded some are = are
+moves_of_steps (Ok u) own feed query label state leg moves same sound bounded some are =
+    moves_of feed query label leg moves sound bounded
+    (subst (λ s. AreMovesAfter feed query.rider s label.held.0 leg moves) (sym some)
+    (subst (λ (t : FareTerms). AreSteps t.feed t.rider state label.held.0 leg moves) same are).exact)

@@ -1,0 +1,162 @@
+-- The rides that are caught from a label, and the labels that they lead to.
+use Rattle.std.proofs.Common.{◌≡◌, refl, sym, ◌∙◌, ap, subst, ℕ, ◌+◌, ◌<◌, ◌≤◌, ◌⊎◌, inl, inr, ⊎_elim, true, List, [], length, arith}
+use Rattle.std.specs.Prelude.{IsTrue, Some, slice_get, option_map}
+use Rattle.std.proofs.lemmas.Bool.{cases_lt}
+use Rattle.std.proofs.lemmas.Int.{ints}
+use Rattle.std.proofs.lemmas.Option.{same_Some, slice_get-map, slice_get_within}
+use Rattle.transit_base.specs.declared.numbers.StopId.{StopId}
+use Rattle.feed_rows.specs.Journeys.{stands_for}
+use Rattle.feed_rows.specs.declared.journeys.LegFacts.{LegFacts}
+use Rattle.feed_rows.specs.declared.journeys.Query.{Query}
+use Rattle.feed_rows.specs.declared.journeys.Ride.{Ride}
+use Rattle.feed_rows.specs.declared.journeys.RideFacts.{RideFacts}
+use Rattle.feed_rows.specs.declared.states.Move.{Move}
+use Rattle.feed_rows.specs.FareSteps.{move_after}
+use Rattle.feed_rows.specs.FeedRows.{FeedRows}
+use Rattle.feed_rows.specs.Journeys.{is_caught}
+use Rattle.feed_rows.specs.JourneyStands.{stand_at_end, way_to, next_stand}
+use Rattle.feed_rows.specs.Legs.{leg_facts}
+use Rattle.feed_rows.specs.PartialJourneys.{LabelFacts}
+use Rattle.feed_rows.specs.SoundFeed.{IsSoundFeed}
+use Rattle.plain_laws.proofs.Laws.{le-int_le, slice_get-Contains}
+use Rattle.plan_rides.specs.InTime.{IsRight, HasCaught, next_in_time}
+use Rattle.plan_rides.specs.declared.caught.CaughtRide.{CaughtRide}
+use Rattle.feed_rows.specs.StopLinks.{stop_set}
+use Rattle.plan_rides.proofs.MarkLaws.{member_of_stands_for}
+use Rattle.plan_rides.proofs.CaughtLaws.{caught_ride, caught_within}
+use Rattle.round_laws.specs.LabelSteps.{IsCaughtRide, IsLabelStep, facts_after, start_facts}
+use Rattle.plan_rounds.specs.declared.label.Label.{Label}
+use Rattle.plan_rounds.specs.declared.search.Source.{Source}
+use Rattle.plan_rounds.specs.Labels.{IsBounded, facts_of, label_of, stand_of_label, started, went_on}
+use Rattle.plan_rounds.specs.Moves.{AreMovesOf}
+use Rattle.plan_rounds.specs.Sources.{IsSource, StepsByFirst, LeadsByFirst}
+use Rattle.plan_rounds.specs.Stores.{IsFresh, StepsBy, StepsTo, IsStartOf, IsStartAmong}
+
+-- ---- rides
+
+-- a ride that is caught in time is one by which labels go on
+rides_by : (feed : FeedRows) (query : Query) (x : Label) (caught : CaughtRide) → x.rides < query.rides →
+    IsRight feed query (stand_of_label x) caught → IsCaughtRide feed query (facts_of x) caught.ride caught.facts
+rides_by feed query x caught few right =
+    let c = caught_ride feed query (stand_of_label x) caught.ride (stand_at_end caught.facts) right.next in
+    let same : c.facts ≡ caught.facts = same_Some _ _ (sym c.is ∙ right.facts) in
+    record {
+      is = right.facts;
+      few = few;
+      caught = subst (λ (f : RideFacts). is_caught x.arrival.0 (way_to feed query (stand_of_label x) f.from) f ≡ true) same
+          (rw c.way_is (le-int_le _ _ c.catches));
+      in_time = c.in_time;
+    }
+
+-- and each by which they go on is caught in time
+in_time_of : (feed : FeedRows) (query : Query) (x : Label) (ride : Ride) (facts : RideFacts) →
+    IsCaughtRide feed query (facts_of x) ride facts → next_in_time feed query (stand_of_label x) ride ≡ Some (stand_at_end facts)
+unfolding next_in_time next_stand
+in_time_of feed query x ride facts c = rw (c.is, c.caught, le-int_le _ _ c.in_time) refl
+
+-- ---- labels
+
+-- the label without rides at a first stop
+pub fresh_start : (feed : FeedRows) (query : Query) (first : StopId) → IsTrue (stands_for feed query.from first) →
+    IsFresh feed query [] 0 first.0 (started query first)
+fresh_start feed query first stands = record {
+  stands = refl;
+  counts = refl;
+  bounded = record { paid = omega arith; held = omega arith };
+  within = record { since = omega (arith, ints); until = omega (arith, ints) };
+  linked = inl (record { stands = stands; facts = refl; parent = refl; ride = refl; taken = refl });
+}
+
+-- where the ride and a move lead from a source is a label of its own
+module _ (feed : FeedRows) (query : Query) (source : Source) (is : IsSource feed query source) (caught : CaughtRide)
+    (right : IsRight feed query (stand_of_label source.label.now) caught) where
+  abbrev from : Label
+  from = source.label.now
+
+  abbrev leg : LegFacts
+  leg = leg_facts feed caught.facts
+
+  pub fresh_after : (taken : Move) → IsSoundFeed feed →
+      move_after feed query.rider from.state from.held.0 leg taken ≡ Some taken → IsBounded (went_on from source.number caught taken) →
+      IsFresh feed query source.labels.now (from.rides + 1) caught.facts.to.0 (went_on from source.number caught taken)
+  fresh_after taken sound pays bounded = record {
+    stands = refl;
+    counts = refl;
+    bounded = bounded;
+    within = caught_within feed query (stand_of_label from) caught.ride (stand_at_end caught.facts) sound is.within right.next;
+    linked = inr (record {
+      number = source.number;
+      before = label_of from;
+      is = slice_get-map label_of source.labels.now source.number ∙ ap (option_map label_of) is.is;
+      by = caught.ride;
+      move = taken;
+      parent = refl;
+      ride = refl;
+      taken = refl;
+      step = record { facts = caught.facts; rides = rides_by feed query from caught is.few right; pays = pays; next = refl };
+    });
+  }
+
+  -- one more of the moves
+  pub leads_more : (moves : List Move) (k : ℕ) (taken : Move) (b : LabelFacts) → slice_get moves k ≡ Some taken →
+      LeadsByFirst source caught moves (k + 1) b →
+      LeadsByFirst source caught moves k b ⊎ (b ≡ facts_after (facts_of from) caught.facts taken)
+  leads_more moves k taken b at leads =
+      let below = leads.1 in
+      ⊎_elim (λ lower. inl (leads.0, lower, leads.2, leads.3, leads.4))
+      (λ upper. let same : leads.0 ≡ k = omega (arith, below, upper) in
+      inr (leads.4 ∙ ap (λ (m : Move). facts_after (facts_of from) caught.facts m)
+      (same_Some _ _ (sym leads.3 ∙ ap (slice_get moves) same ∙ at)))) (cases_lt leads.0 k)
+
+  -- each step by the ride is by one of its moves
+  pub leads_by : (moves : List Move) (n : ℕ) (b : LabelFacts) → AreMovesOf feed query from leg moves → length moves ≤ n →
+      StepsBy feed query (facts_of from) caught.ride b → LeadsByFirst source caught moves n b
+  leads_by moves n b are all by =
+      let step = by.1 in
+      let same : step.facts ≡ caught.facts = same_Some _ _ (sym step.rides.is ∙ right.facts) in
+      let at = slice_get-Contains moves by.0 (are.exact.all by.0 (subst (λ (f : RideFacts). move_after feed query.rider from.state from.held.0 (leg_facts feed f) by.0 ≡ Some by.0) same step.pays)) in
+      let lt = slice_get_within moves at.0 by.0 at.1 in
+      (at.0, omega (arith, lt, all), by.0, at.1, step.next ∙ ap (λ (f : RideFacts). facts_after (facts_of from) f by.0) same)
+
+-- ---- all rides
+
+module _ (feed : FeedRows) (query : Query) (source : Source) (rides : List CaughtRide) where
+  -- one more of the rides
+  pub rides_more : (k : ℕ) (caught : CaughtRide) (b : LabelFacts) → slice_get rides k ≡ Some caught →
+      StepsByFirst feed query source rides (k + 1) b →
+      StepsByFirst feed query source rides k b ⊎ StepsBy feed query (facts_of source.label.now) caught.ride b
+  rides_more k caught b at steps =
+      let below = steps.1 in
+      ⊎_elim (λ lower. inl (steps.0, lower, steps.2, steps.3, steps.4))
+      (λ upper. let same : steps.0 ≡ k = omega (arith, below, upper) in
+      inr (subst (λ (c : CaughtRide). StepsBy feed query (facts_of source.label.now) c.ride b)
+      (same_Some _ _ (sym steps.3 ∙ ap (slice_get rides) same ∙ at)) steps.4)) (cases_lt steps.0 k)
+
+  -- each step is by one of the rides
+  pub steps_by : (n : ℕ) (b : LabelFacts) → HasCaught feed query (stand_of_label source.label.now) rides → length rides ≤ n →
+      StepsTo feed query (facts_of source.label.now) b → StepsByFirst feed query source rides n b
+  steps_by n b has all to =
+      let step = to.2 in
+      let some = has to.0 (stand_at_end step.facts) (in_time_of feed query source.label.now to.0 step.facts step.rides) in
+      let at = slice_get-Contains rides some.0 some.1 in
+      let lt = slice_get_within rides at.0 some.0 at.1 in
+      (at.0, omega (arith, lt, all), some.0, at.1, (to.1, subst (λ (r : Ride). IsLabelStep feed query (facts_of source.label.now) r to.1 b) (sym some.2) step))
+
+-- ---- starts
+
+-- one more of the first stops
+pub starts_one : (query : Query) (firsts : List StopId) (k : ℕ) (first : StopId) (b : LabelFacts) → slice_get firsts k ≡ Some first →
+    IsStartAmong query firsts (k + 1) b → IsStartAmong query firsts k b ⊎ (b ≡ start_facts query first)
+starts_one query firsts k first b at among =
+    let below = among.1 in
+    ⊎_elim (λ lower. inl (among.0, lower, among.2, among.3, among.4))
+    (λ upper. let same : among.0 ≡ k = omega (arith, below, upper) in
+    inr (among.4 ∙ ap (start_facts query) (same_Some _ _ (sym among.3 ∙ ap (slice_get firsts) same ∙ at)))) (cases_lt among.0 k)
+
+-- each start is at one of them
+pub starts_among : (feed : FeedRows) (query : Query) (firsts : List StopId) (n : ℕ) (b : LabelFacts) → firsts ≡ stop_set feed query.from →
+    length firsts ≤ n → IsStartOf feed query b → IsStartAmong query firsts n b
+starts_among feed query firsts n b is all start =
+    let member = member_of_stands_for feed query.from start.0 start.1 in
+    let lt = member.1 in
+    (member.0, omega (arith, lt, ap length is, all), start.0, ap (λ ss. slice_get ss member.0) is ∙ member.2, start.2)

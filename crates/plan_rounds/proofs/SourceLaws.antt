@@ -1,0 +1,78 @@
+-- The labels from which a round goes on.
+use Rattle.std.proofs.Common.{◌≡◌, sym, ◌∙◌, ap, subst, ℕ, ◌+◌, ◌<◌, ◌≤◌, ◌⊎◌, inl, inr, ⊎_elim, List, length, arith}
+use Rattle.std.specs.Prelude.{Some, slice_get, IsTrue, option_map, take}
+use Rattle.std.proofs.lemmas.Bool.{cases_lt}
+use Rattle.std.proofs.lemmas.Option.{same_Some, slice_get-map, slice_get_within}
+use Rattle.transit_base.specs.declared.numbers.StopId.{StopId}
+use Rattle.feed_rows.specs.declared.journeys.Query.{Query}
+use Rattle.feed_rows.specs.FeedRows.{FeedRows}
+use Rattle.feed_rows.specs.Journeys.{stands_for}
+use Rattle.feed_rows.specs.JourneyStands.{first_stand}
+use Rattle.feed_rows.specs.RoundTables.{Label as Kept}
+use Rattle.feed_rows.specs.PartialJourneys.{LabelFacts}
+use Rattle.plain_laws.proofs.Laws.{All-slice_get, slice_get-Contains}
+use Rattle.plan_rides.specs.InTime.{IsUsualQuery, IsWithinWindow}
+use Rattle.round_laws.specs.LabelSteps.{stand_of_facts}
+use Rattle.round_laws.specs.LinkedTables.{IsLinked}
+use Rattle.plan_rounds.specs.declared.label.Label.{Label}
+use Rattle.plan_rounds.specs.declared.search.Source.{Source}
+use Rattle.plan_rounds.specs.Labels.{IsBounded, facts_of, label_of, labels_of, stand_of_label}
+use Rattle.plan_rounds.specs.Sources.{IsSource}
+use Rattle.plan_rounds.specs.Stores.{AreStored, StepsTo, StepsFrom, StepsFromFirst}
+
+-- a label without rides stands at a first stop
+first_of : (feed : FeedRows) (query : Query) (before : List Kept) (x : Label) → IsLinked feed query before (label_of x) → x.rides ≡ 0 →
+    (first : StopId) × IsTrue (stands_for feed query.from first) × (stand_of_label x ≡ first_stand query first)
+first_of feed query before x (inl start) none = (x.stop, start.stands, ap stand_of_facts start.facts)
+first_of feed query before x (inr next) none =
+    let more = ap (λ (f : LabelFacts). f.rides) next.step.next in
+    absurd (omega (arith, more, none))
+
+-- a stored label that has fewer rides than the query's limit is a source
+pub source_is : (feed : FeedRows) (query : Query) (count : ℕ) (bags : List (List Label)) (source : Source) → IsUsualQuery query →
+    count < query.rides → AreStored feed query (count + 1) source.labels.now bags →
+    slice_get source.labels.now source.number ≡ Some source.label.now → source.label.now.rides ≡ count → IsSource feed query source
+source_is feed query count bags source usual few stored at same = record {
+  is = at;
+  usual = usual;
+  few = omega (arith, few, same);
+  bounded = All-slice_get IsBounded source.labels.now source.number source.label.now at stored.bounded;
+  within = All-slice_get (λ x. IsWithinWindow query x.arrival.0) source.labels.now source.number source.label.now at stored.within;
+  may = record {
+    some = omega (arith, few);
+    one = λ one. first_of feed query (take source.number (labels_of source.labels.now)) source.label.now linked (omega (arith, one, few, same));
+  };
+}
+  where
+    linked : IsLinked feed query (take source.number (labels_of source.labels.now)) (label_of source.label.now)
+    linked =
+        stored.linked source.number (label_of source.label.now)
+        (slice_get-map label_of source.labels.now source.number ∙ ap (option_map label_of) at)
+
+module _ (feed : FeedRows) (query : Query) (labels : List Label) (rides n : ℕ) (x : Label) (b : LabelFacts) (at : slice_get labels n ≡ Some x) where
+  -- one label more, which has so many rides
+  pub from_more : StepsFromFirst feed query labels rides (n + 1) b →
+      StepsFromFirst feed query labels rides n b ⊎ StepsTo feed query (facts_of x) b
+  from_more steps =
+      let below = steps.1 in
+      ⊎_elim (λ lower. inl (steps.0, lower, steps.2, steps.3, steps.4, steps.5))
+      (λ upper. let same : steps.0 ≡ n = omega (arith, below, upper) in
+      inr (subst (λ (y : Label). StepsTo feed query (facts_of y) b) (same_Some _ _ (sym steps.3 ∙ ap (slice_get labels) same ∙ at)) steps.5))
+      (cases_lt steps.0 n)
+
+  -- or which has not
+  pub from_only : (x.rides ≡ rides → ⊥) → StepsFromFirst feed query labels rides (n + 1) b → StepsFromFirst feed query labels rides n b
+  from_only differs steps =
+      let below = steps.1 in
+      ⊎_elim (λ lower. (steps.0, lower, steps.2, steps.3, steps.4, steps.5))
+      (λ upper. let same : steps.0 ≡ n = omega (arith, below, upper) in
+      absurd (differs (ap (λ (y : Label). y.rides) (sym (same_Some _ _ (sym steps.3 ∙ ap (slice_get labels) same ∙ at))) ∙ steps.4)))
+      (cases_lt steps.0 n)
+
+-- each step from a label with so many rides is one from them
+pub from_all : (feed : FeedRows) (query : Query) (labels : List Label) (rides n : ℕ) (b : LabelFacts) → length labels ≤ n →
+    StepsFrom feed query labels rides b → StepsFromFirst feed query labels rides n b
+from_all feed query labels rides n b all from =
+    let at = slice_get-Contains labels from.0 from.1 in
+    let lt = slice_get_within labels at.0 from.0 at.1 in
+    (at.0, omega (arith, lt, all), from.0, at.1, from.2, from.3)

@@ -1,0 +1,14 @@
+use Rattle.std.proofs.Common.{◌≡◌, ◌+◌, length}
+use Rattle.plan_rounds.specs.Labels.{labels_of}
+use Rattle.plan_rounds.specs.Stores.{AreStored, AreClosedTo, AreApartByStop}
+use Rattle.round_laws.specs.LinkedTables.{CoversStarts}
+use Rattle.plan_rounds.proofs.search.Search.labels.Given as goal
+
+abbrev pub invariant-loop-count : goal.invariant-loop-count
+invariant-loop-count l = record {
+  many : length l.bags ≡ length l.self.feed.stops;
+  stored : AreStored l.self.feed l.self.query (l.count + 1) l.labels.items l.bags;
+  apart : AreApartByStop l.bags;
+  closed : AreClosedTo l.self.feed l.self.query l.count l.labels.items;
+  starts : CoversStarts l.self.feed l.self.query (labels_of l.labels.items);
+}

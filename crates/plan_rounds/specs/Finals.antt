@@ -1,0 +1,46 @@
+-- What the labels of a search end in.
+use Rattle.std.specs.Prelude.{◌≡◌, ℕ, ◌<◌, true, List, map, slice_get, All, Some}
+use Rattle.std.specs.List.{list_any}
+use Rattle.transit_base.specs.declared.numbers.StopId.{StopId}
+use Rattle.feed_rows.specs.declared.fares.Triple.{Triple}
+use Rattle.feed_rows.specs.declared.journeys.Query.{Query}
+use Rattle.feed_rows.specs.FeedRows.{FeedRows}
+use Rattle.feed_rows.specs.ParetoTriples.{at_most}
+use Rattle.feed_rows.specs.RoundTables.{Final as KeptFinal}
+use Rattle.round_laws.specs.LabelSteps.{IsLabelEnd}
+use Rattle.round_laws.specs.LinkedTables.{IsFinal}
+use Rattle.plan_rounds.specs.declared.finals.Final.{Final}
+use Rattle.plan_rounds.specs.declared.label.Label.{Label}
+use Rattle.plan_rounds.specs.Labels.{facts_of, labels_of}
+
+-- the final as tables have it
+abbrev pub final_of : Final → KeptFinal
+final_of final = record { triple = final.triple; label = final.label; last = final.last }
+
+abbrev pub finals_of : List Final → List KeptFinal
+finals_of finals = map final_of finals
+
+-- some final's triple is at most this one
+abbrev pub is_bettered : List Final → Triple → Type 0
+is_bettered finals triple = list_any (λ final. at_most final.triple triple) finals ≡ true
+
+-- the label ends in the triple at one of the first n stops
+abbrev pub EndsAmong : FeedRows → Query → Label → List StopId → ℕ → Triple → Type 0
+EndsAmong feed query label lasts n triple =
+    (i : ℕ) × (i < n) × (last : StopId) × (slice_get lasts i ≡ Some last) × IsLabelEnd feed query (facts_of label) last triple
+
+-- the label ends in the triple
+abbrev pub EndsIn : FeedRows → Query → Label → Triple → Type 0
+EndsIn feed query label triple = (last : StopId) × IsLabelEnd feed query (facts_of label) last triple
+
+-- one of the first n labels does
+abbrev pub EndsBelow : FeedRows → Query → List Label → ℕ → Triple → Type 0
+EndsBelow feed query labels n triple =
+    (k : ℕ) × (k < n) × (label : Label) × (slice_get labels k ≡ Some label) × EndsIn feed query label triple
+
+-- what was bettered still is, and so is each triple of this part; the finals are ends of labels
+pub record AddsEnds (feed : FeedRows) (query : Query) (labels : List Label) (Part : Triple → Type 0) (old new : List Final) : Type 0 where
+  pub still : (triple : Triple) → is_bettered old triple → is_bettered new triple
+  pub right : All (λ final. IsFinal feed query (labels_of labels) (final_of final)) old →
+      All (λ final. IsFinal feed query (labels_of labels) (final_of final)) new
+  pub all : (triple : Triple) → Part triple → is_bettered new triple

@@ -1,0 +1,9 @@
+pub mod CoverLaws
+pub mod Entries
+pub mod FinalLaws
+pub mod Finals
+pub mod Labels
+pub mod Moves
+pub mod Sources
+pub mod Stores
+pub mod Tables

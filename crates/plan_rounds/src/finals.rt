@@ -1,0 +1,106 @@
+//! What the labels of a search end in.
+ghost use Rattle.std.specs.Prelude.{◌≡◌, ◌<◌, ◌^◌, length, IfOk, IsTrue, OnOk};
+ghost use Rattle.feed_rows.specs.Journeys.{stands_for};
+ghost use Rattle.plan_rounds.specs.Finals.{AddsEnds, EndsIn, finals_of};
+ghost use Rattle.plan_rounds.specs.Labels.{facts_of, labels_of};
+ghost use Rattle.plan_rounds.specs.Sources.{IsEnding};
+ghost use Rattle.plan_rounds.specs.Stores.{AreWhole};
+ghost use Rattle.round_laws.specs.LabelSteps.{IsLabelEnd};
+ghost use Rattle.round_laws.specs.LinkedTables.{AreFinals};
+
+use crate::label::Label;
+use crate::search::{Search, Source};
+use feed_rows::Triple;
+use pareto_front::{Front, Ranked};
+use std::alloc::{AllocError, Global};
+use transit_base::StopId;
+use triple_order::{is_at_most, is_before};
+
+/// A triple that is found, and the label whose journey has it, where that ends at this stop.
+#[derive(Clone, Copy)]
+pub struct Final {
+    pub triple: Triple,
+    /// The number of the label.
+    pub label: u32,
+    pub last: StopId,
+}
+
+impl Ranked for Final {
+    ghost use Rattle.feed_rows.specs.ParetoTriples.{at_most, is_before};
+    ghost use Rattle.plan_rounds.specs.FinalLaws.{final_laws};
+
+    ghost at_most = { λ a b. at_most a.triple b.triple };
+
+    ghost before = { λ a b. is_before a.triple b.triple };
+
+    fn is_at_most(&self, other: &Self) -> bool {
+        is_at_most(self.triple, other.triple)
+    }
+
+    fn is_before(&self, other: &Self) -> bool {
+        is_before(self.triple, other.triple)
+    }
+
+    ghost laws = { final_laws };
+}
+
+impl<'s, 'f> Search<'s, 'f> {
+    /// The best that the labels end in, in order.
+    ///
+    /// # Errors
+    /// Want of memory.
+    pub fn finals(&self, alloc: Global, labels: &[Label]) -> Result<Vec<Final>, AllocError>
+        requires whole { AreWhole self.now.feed self.now.query labels.now }
+        requires numbers { length labels.now < 2 ^ 32 }
+        ensures { IfOk result (λ finals. AreFinals self.now.feed self.now.query (labels_of labels.now) (finals_of finals.items)) }
+    {
+        let _limit = self.limit();
+        let mut front = Front::empty(alloc);
+        for number in 0..labels.len() {
+            let source = Source {
+                labels,
+                number: number as u32,
+                label: &labels[number],
+            };
+            self.offer_ends(&source, &mut front)?;
+        }
+        Ok(front.into_items())
+    }
+
+    /// Offers what the label ends in.
+    fn offer_ends(&self, source: &Source, front: &mut Front<Final>) -> Result<(), AllocError>
+        requires { IsEnding self.now.query source.now }
+        ensures { OnOk result (AddsEnds self.now.feed self.now.query source.now.labels.now (EndsIn self.now.feed self.now.query source.now.label.now) front.old front.new) }
+    {
+        let lasts = self.lasts();
+        for k in 0..lasts.len() {
+            self.offer_end(source, lasts[k], front)?;
+        }
+        Ok(())
+    }
+
+    /// Offers what the label ends in at this stop, which is one of the destination's.
+    fn offer_end(
+        &self,
+        source: &Source,
+        last: StopId,
+        front: &mut Front<Final>,
+    ) -> Result<(), AllocError>
+        requires source { IsEnding self.now.query source.now }
+        requires ends { IsTrue (stands_for self.now.feed self.now.query.to last) }
+        ensures { OnOk result (AddsEnds self.now.feed self.now.query source.now.labels.now (IsLabelEnd self.now.feed self.now.query (facts_of source.now.label.now) last) front.old front.new) }
+    {
+        let Some(arrival) = self.rides().arrival_in_time(source.label.standing(), last) else {
+            return Ok(());
+        };
+        front.offer(Final {
+            triple: Triple {
+                arrival,
+                rides: source.label.rides,
+                price: source.label.total(),
+            },
+            label: source.number,
+            last,
+        })
+    }
+}

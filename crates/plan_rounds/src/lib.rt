@@ -1,0 +1,16 @@
+//! Plans by rounds: labels of partial journeys, each gone on from by one more ride a round, of which only those are kept that
+//! no other is as good as.
+#![tactic(auto)]
+
+mod entries;
+mod finals;
+mod label;
+mod plan;
+mod search;
+mod stop_bags;
+mod table;
+
+pub use finals::Final;
+pub use label::Label;
+pub use plan::{round_entries, rounds};
+pub use table::RoundTable;

@@ -1,0 +1,55 @@
+//! The exact answer to a query, by rounds.
+ghost use Rattle.std.specs.Prelude.{IfOk};
+ghost use Rattle.feed_rows.specs.JourneyEntries.{CoversOffers, IsExactAnswer};
+ghost use Rattle.plan_rides.specs.InTime.{IsUsualQuery};
+ghost use Rattle.plan_rounds.specs.Tables.{IsWholeTable, table_by};
+
+use crate::search::Search;
+use crate::table::RoundTable;
+use feed_rows::{Entry, Query};
+use feed_timetable::Timetable;
+use std::alloc::{AllocError, Global};
+
+impl<'s, 'f> Search<'s, 'f> {
+    /// The table of all rounds.
+    fn table(&self, alloc: Global) -> Result<RoundTable, AllocError>
+        ensures { IfOk result (λ table. IsWholeTable self.now.feed self.now.query (table_by table)) }
+    {
+        let limit = self.limit();
+        let stops = self.stops();
+        let labels = self.labels(alloc)?;
+        if labels.len() >= 1 << 32 {
+            return Err(AllocError);
+        }
+        let finals = self.finals(alloc, &labels)?;
+        RoundTable::of(alloc, labels, finals, stops as u32, limit)
+    }
+}
+
+/// The labels of a query, round by round: they are real, none is in excess, they cover all partial journeys of the query, and
+/// what they end in is the exact answer.
+///
+/// # Errors
+/// Want of memory; so counts that there would be 2^32 labels or more.
+pub fn rounds(alloc: Global, timetable: &Timetable, query: &Query) -> Result<RoundTable, AllocError>
+    requires usual { IsUsualQuery query.now }
+    ensures { IfOk result (λ table. IsWholeTable timetable.now query.now (table_by table)) }
+{
+    Search::new(alloc, timetable, query)?.table(alloc)
+}
+
+/// The exact answer to a query, found by rounds.
+///
+/// # Errors
+/// Want of memory; so counts that there would be 2^32 labels or more.
+pub fn round_entries(
+    alloc: Global,
+    timetable: &Timetable,
+    query: &Query,
+) -> Result<Vec<Entry>, AllocError>
+    requires usual { IsUsualQuery query.now }
+    ensures exact { IfOk result (λ entries. IsExactAnswer timetable.now query.now entries.items) }
+    ensures covers { IfOk result (λ entries. CoversOffers timetable.now query.now entries.items) }
+{
+    rounds(alloc, timetable, query)?.entries(alloc)
+}
