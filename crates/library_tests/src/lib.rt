@@ -18,6 +18,8 @@ mod prices;
 #[cfg(test)]
 mod readings;
 #[cfg(test)]
+mod rounds;
+#[cfg(test)]
 mod tables;
 #[cfg(test)]
 mod triples;

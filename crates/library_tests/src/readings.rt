@@ -4,13 +4,17 @@ ghost use Rattle.folder_io.specs.KeptFiles.{are_whole};
 ghost use Rattle.ticket_read.specs.Judgement.{IsNearQuery};
 
 use feed_check::{LoadError, load};
-use feed_rows::{Feed, FileName, Query};
+use feed_rows::{
+    ChangeChoice, ChangeChoices, Choice, Entries, Entry, Feed, FileName, Journey, LegChoice,
+    LegChoices, Query, Ride, RideList, Triple,
+};
 use feed_text::TextError;
 use feed_timetable::Timetable;
 use folder_io::{ByteText, FileBytes, Files, MemFolder};
 use std::alloc::{AllocError, Global};
+use ticket_explain::lines_of;
 use ticket_read::entries_of;
-use transit_base::{Moment, StopId};
+use transit_base::{Day, Moment, Money, ProductRowId, RuleId, StopId, TripId, XferId};
 
 const STOPS: &[u8] = b"stop_id\nA\nB\nC\n";
 
@@ -105,6 +109,68 @@ const ONE_RIDE: &[u8] = b"journey\t2025-06-02 09:00:00\t1\t2.50\tEUR\n\
 
 const WALK: &[u8] = b"journey\t2025-06-02 09:00:00\t0\t0.00\tEUR\nwalk\tA\tC\t3600\n";
 
+// The ride of a trip from its first call to its second, on that day.
+fn ride(trip: u32) -> Ride {
+    Ride {
+        trip: TripId(trip),
+        day: Day(20_241),
+        shift: 0,
+        from: 0,
+        to: 1,
+    }
+}
+
+// The entry of the text of two rides.
+fn two_rides(alloc: Global) -> Result<Entry, AllocError> {
+    let mut rides = RideList::empty(alloc);
+    let mut legs = LegChoices::empty(alloc);
+    for number in 0..2 {
+        rides.push(ride(number))?;
+        legs.push(LegChoice {
+            rule: RuleId(number),
+            product: ProductRowId(number),
+        })?;
+    }
+    let mut changes = ChangeChoices::empty(alloc);
+    changes.push(Some(ChangeChoice {
+        rule: XferId(0),
+        product: Some(ProductRowId(2)),
+    }))?;
+    Ok(Entry {
+        triple: Triple {
+            arrival: Moment(1_748_853_000),
+            rides: 2,
+            price: Money(300),
+        },
+        journey: Journey {
+            first: StopId(0),
+            last: StopId(2),
+            rides,
+        },
+        choice: Choice { legs, changes },
+    })
+}
+
+// The entry of the text of a walk.
+fn walk(alloc: Global) -> Entry {
+    Entry {
+        triple: Triple {
+            arrival: Moment(1_748_854_800),
+            rides: 0,
+            price: Money(0),
+        },
+        journey: Journey {
+            first: StopId(0),
+            last: StopId(2),
+            rides: RideList::empty(alloc),
+        },
+        choice: Choice {
+            legs: LegChoices::empty(alloc),
+            changes: ChangeChoices::empty(alloc),
+        },
+    }
+}
+
 // How many entries of the query the texts tell, one behind the other; none where they are no text of entries.
 fn told(
     alloc: Global,
@@ -138,6 +204,50 @@ fn texts_of_entries(rt: HostRuntime) -> Result<(), TextError> {
     }
     let stay = b"journey\t2025-06-02 08:00:00\t0\t0.00\tEUR\nstay\tA\n";
     assert_eq!(rt; told(alloc, &timetable, &STAY, &[stay])?, Some(1));
+    Ok(())
+}
+
+// Entries are printed as their texts, and these tell them again.
+#[test]
+fn entries_printed_and_read(rt: HostRuntime) -> Result<(), TextError> {
+    let alloc = rt.alloc();
+    let feed = feed(alloc)?;
+    let timetable = Timetable::build(alloc, &feed)?;
+    let mut entries = Entries::empty(alloc);
+    entries.push(two_rides(alloc)?)?;
+    entries.push(walk(alloc))?;
+    let lines = lines_of(alloc, &timetable, entries.items())?;
+    let mut text = Vec::new(alloc);
+    for number in 0..lines.lines() {
+        text.extend_from_slice(lines.line(number))?;
+    }
+    assert!(rt; text.len() == TWO_RIDES.len() + WALK.len());
+    assert!(rt; text.starts_with(TWO_RIDES) && text.ends_with(WALK));
+    let again = entries_of(alloc, &timetable, &QUERY, text.as_slice())?.expect(&rt, "entries");
+    assert_eq!(rt; again.items().len(), 2);
+    let again = &again.items()[0];
+    assert!(rt; again.triple == entries.items()[0].triple);
+    assert!(rt; again.journey.first == StopId(0) && again.journey.last == StopId(2));
+    for number in 0..2 {
+        let ride = again
+            .journey
+            .rides
+            .items()
+            .get(number)
+            .expect(&rt, "a ride");
+        let leg = again.choice.legs.items().get(number).expect(&rt, "a leg");
+        assert!(rt; ride.trip.0 as usize == number && ride.day.0 == 20_241 && ride.shift == 0);
+        assert!(rt; ride.from == 0 && ride.to == 1);
+        assert!(rt; leg.rule.0 as usize == number && leg.product.0 as usize == number);
+    }
+    let change = again
+        .choice
+        .changes
+        .items()
+        .first()
+        .expect(&rt, "a change of legs")
+        .expect(&rt, "a change");
+    assert!(rt; change.rule.0 == 0 && change.product.map(|row| row.0) == Some(2));
     Ok(())
 }
 
