@@ -1,6 +1,5 @@
 -- The first row with an id stands at the place of that id.
-use Rattle.std.proofs.Common.{All, AllPairs, ◌≡◌, refl, sym, ◌∙◌, ap, subst, ℕ, zero, suc, ◌+◌, ◌-◌, ◌<◌, ◌≤◌, [], ◌++◌, take, ◌⊎◌, inl, inr, ⊎_elim, Bool, true, false, not, List, length, get_or, bytes_eq, Option, Some, None, slice_get, arith}
-use Rattle.std.specs.Prelude.{IfSome}
+use Rattle.std.proofs.Common.{AllPairs, ◌≡◌, refl, sym, ◌∙◌, ap, subst, ℕ, zero, suc, ◌-◌, ◌<◌, ◌≤◌, [], ◌++◌, take, ◌⊎◌, inl, inr, ⊎_elim, Bool, true, false, not, List, length, get_or, bytes_eq, Some, None, slice_get, arith}
 use Rattle.std.specs.Cmp.Lexicographic.{slice_cmp}
 use Rattle.std.specs.Ordering.{nat_cmp, is_lt}
 use Rattle.std.proofs.lemmas.Bool.{cases_eq, cases_Bool}

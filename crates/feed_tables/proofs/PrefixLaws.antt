@@ -1,5 +1,5 @@
 -- The numbers that texts of bytes begin with: they don't fall from a text to a greater one.
-use Rattle.std.proofs.Common.{lit<, ◌≡◌, refl, sym, ◌∙◌, ap, ℕ, zero, suc, ◌+◌, ◌*◌, ◌^◌, ◌<◌, ◌≤◌, ◌⊎◌, inl, inr, true, false, ◌==◌, List, [], ◌∷◌, length, get_or, nat_lt, arith}
+use Rattle.std.proofs.Common.{lit<, ◌≡◌, refl, sym, ◌∙◌, ap, ℕ, zero, suc, ◌+◌, ◌*◌, ◌^◌, ◌<◌, ◌≤◌, ◌⊎◌, inl, inr, true, false, ◌==◌, List, [], ◌∷◌, length, get_or, nat_lt, bytes_eq, arith}
 use Rattle.std.proofs.Math.Nat.{mul-le-mul_left, pow-le-pow_right}
 use Rattle.std.specs.Cmp.Lexicographic.{slice_cmp}
 use Rattle.std.specs.List.Sorted.{IsPartitionedBy}
@@ -12,7 +12,7 @@ use Rattle.std.proofs.lemmas.Cmp.{nat_list_cmp_total}
 use Rattle.std.proofs.lemmas.Map.Text.{is_eq-slice_cmp}
 use Rattle.std.proofs.lemmas.Slice.Eq.{bytes_eq-Decides}
 use Rattle.feed_tables.specs.declared.id_rows.IdRow.{IdRow}
-use Rattle.feed_tables.specs.OrderedRows.{prefix_below, prefix_of, AreBytes, IsPrefixed, is_id_before}
+use Rattle.feed_tables.specs.OrderedRows.{prefix_below, prefix_of, AreBytes, BeginsWith, IsPrefixed, is_id_before}
 
 -- one more byte
 pub prefix_next : (n : ℕ) (text : List ℕ) → prefix_below (n + 1) text ≡ prefix_below n text * 256 + get_or text n 0
@@ -74,6 +74,59 @@ prefix_rises (suc n) (a ∷ x) (b ∷ y) bytes less = rw (first_byte n a x, firs
 pub prefix_of_rises : (x y : List ℕ) → AreBytes x → slice_cmp nat_cmp x y ≡ Less → prefix_of x ≤ prefix_of y
 unfolding prefix_of
 prefix_of_rises = prefix_rises 8
+
+pub begins_with : (prefix : ℕ) (id : List ℕ) → prefix ≡ prefix_below 8 id → AreBytes id → BeginsWith prefix id
+unfolding prefix_of
+begins_with prefix id number bytes = record { number = number; bytes = bytes }
+
+-- texts of so many bytes at most whose numbers and lengths are the same are one
+same_bytes : (n : ℕ) (x y : List ℕ) → AreBytes x → AreBytes y → length x ≡ length y → length y ≤ n
+    → prefix_below n x ≡ prefix_below n y → x ≡ y
+same_bytes n [] [] first second long few e = refl
+same_bytes n [] (b ∷ y) first second long few e = absurd (omega arith)
+same_bytes n (a ∷ x) [] first second long few e = absurd (omega arith)
+same_bytes zero (a ∷ x) (b ∷ y) first second long few e = absurd (omega arith)
+same_bytes (suc n) (a ∷ x) (b ∷ y) first second long few e =
+    cons head (same_bytes n x y (later a x first) (later b y second) (omega arith) (omega arith) tail)
+  where
+    numbers : a * 256 ^ n + prefix_below n x ≡ b * 256 ^ n + prefix_below n y
+    numbers = sym (first_byte n a x) ∙ e ∙ first_byte n b y
+
+    one_small : prefix_below n x < 256 ^ n
+    one_small = prefix_small n x (later a x first)
+
+    other_small : prefix_below n y < 256 ^ n
+    other_small = prefix_small n y (later b y second)
+
+    at_most : (p q r s : ℕ) → p * 256 ^ n + r ≡ q * 256 ^ n + s → s < 256 ^ n → p ≤ q
+    at_most p q r s same small = step (cases_lt q p)
+      where
+        step : (q < p) ⊎ (p ≤ q) → p ≤ q
+        step (inr le) = le
+        step (inl lt) =
+            let up : q + 1 ≤ p = omega arith in
+            let more = mul-le-mul_left (256 ^ n) up in
+            absurd (omega (arith, same, small, more))
+
+    head : a ≡ b
+    head =
+        let up = at_most a b (prefix_below n x) (prefix_below n y) numbers other_small in
+        let down = at_most b a (prefix_below n y) (prefix_below n x) (sym numbers) one_small in
+        omega (arith, up, down)
+
+    tail : prefix_below n x ≡ prefix_below n y
+    tail = let same = rw head at numbers in omega (arith, same)
+
+    cons : a ≡ b → x ≡ y → a ∷ x ≡ b ∷ y
+    cons one rest = rw (one, rest) refl
+
+-- an id is told by its number and its length, where it has at most eight bytes
+pub same_id : (x y : List ℕ) (p q : ℕ) → BeginsWith p x → BeginsWith q y → p ≡ q → length x ≡ length y → length y ≤ 8
+    → bytes_eq x y ≡ true
+unfolding prefix_of
+same_id x y p q first second same long few =
+    let numbers = sym first.number ∙ same ∙ second.number in
+    (bytes_eq-Decides x y).1 (same_bytes 8 x y first.bytes second.bytes long few numbers)
 
 -- texts of numbers that differ are told apart by these
 pub told_by_prefix : (entry : IdRow) (prefix : ℕ) (id : List ℕ) → IsPrefixed entry → AreBytes id → prefix ≡ prefix_of id → is_id_before entry prefix id ≡ is_lt (slice_cmp nat_cmp entry.id.now id)

@@ -21,10 +21,14 @@ prefix_of text = prefix_below 8 text
 abbrev pub AreBytes : List ℕ → Type 0
 AreBytes text = (k : ℕ) → slice_index text k < 256
 
--- a row has the number that its id, a text of bytes, begins with
-pub record IsPrefixed (entry : IdRow) : Type 0 where
-  pub number : entry.prefix ≡ prefix_of entry.id.now
-  pub bytes : AreBytes entry.id.now
+-- an id, a text of bytes, begins with the number
+pub record BeginsWith (prefix : ℕ) (id : List ℕ) : Type 0 where
+  pub number : prefix ≡ prefix_of id
+  pub bytes : AreBytes id
+
+-- a row has the number that its id begins with
+abbrev pub IsPrefixed : IdRow → Type 0
+IsPrefixed entry = BeginsWith entry.prefix entry.id.now
 
 -- the list has the first n rows of the table, each with its field in the column
 pub record AreIdRows (table : FileTable) (name : ColumnName) (n : ℕ) (rows : List IdRow) : Type 0 where

@@ -4,27 +4,34 @@ ghost use Rattle.std.specs.Bool.{OnTrue};
 ghost use Rattle.feed_tables.specs.OrderedRows.{IsNotAfter, IsPrefixed};
 ghost use Rattle.feed_tables.specs.Guesses.{IsGuess, AreGuesses, IsFound};
 
-use crate::id_rows::{IdRow, place_of, row_at};
+use crate::id_rows::{IdRow, has_id, place_of, prefix_of, row_at};
 use std::alloc::{AllocError, Global};
 
-// A number made of all bytes of an id. What it is has no meaning; ids that meet in a slot are searched for.
+// A hash with a number more.
 #[inline(always)]
-fn hash_of(id: &[u8]) -> u64 {
-    let mut hash = 0u64;
-    for byte in id {
-        hash = (hash ^ u64::from(*byte)).wrapping_mul(0x9e37_79b9_7f4a_7c15);
-        hash ^= hash >> 29;
-    }
-    hash
+fn mixed(hash: u64, number: u64) -> u64 {
+    let product = (hash ^ number).wrapping_mul(0x9e37_79b9_7f4a_7c15);
+    product ^ (product >> 32)
 }
 
-// The slot of an id among so many.
+// A number made of all bytes of an id that begins with this number. What it is has no meaning; ids that meet in a slot
+// are searched for.
 #[inline(always)]
-fn slot_of(id: &[u8], slots: usize) -> usize
+fn hash_of(prefix: u64, id: &[u8]) -> u64 {
+    let mut hash = mixed(0, prefix);
+    for place in 8..id.len() {
+        hash = mixed(hash, u64::from(id[place]));
+    }
+    mixed(hash, id.len() as u64)
+}
+
+// The slot among so many of an id that begins with this number.
+#[inline(always)]
+fn slot_of(prefix: u64, id: &[u8], slots: usize) -> usize
     requires { 1 ≤ slots }
     ensures { result < slots }
 {
-    hash_of(id) as usize & (slots - 1)
+    hash_of(prefix, id) as usize & (slots - 1)
 }
 
 // How many slots so many rows have: a power of two, and twice as many or more.
@@ -43,13 +50,14 @@ fn slots_for(rows: usize) -> usize
 // Whether no earlier row has the id of the row at a place.
 fn is_first(rows: &[IdRow], place: usize) -> bool
     requires sorted { AllPairs IsNotAfter rows.now }
+    requires prefixed { All IsPrefixed rows.now }
     requires within { place < length rows.now }
     ensures { OnTrue result (IsGuess rows.now place) }
 {
     if place == 0 {
         return true;
     }
-    rows[place - 1].id != rows[place].id
+    !has_id(&rows[place - 1], rows[place].prefix, rows[place].id)
 }
 
 /// A guess for each slot.
@@ -57,14 +65,15 @@ fn is_first(rows: &[IdRow], place: usize) -> bool
 /// # Errors
 /// Want of memory.
 pub fn guesses_of(alloc: Global, rows: &[IdRow]) -> Result<Vec<u32>, AllocError>
-    requires { AllPairs IsNotAfter rows.now }
+    requires sorted { AllPairs IsNotAfter rows.now }
+    requires prefixed { All IsPrefixed rows.now }
     ensures { IfOk result (λ guesses. AreGuesses rows.now guesses.items) }
 {
     let mut guesses = Vec::new(alloc);
     guesses.resize(slots_for(rows.len()), 0u32)?;
     for place in 0..rows.len().min(u32::MAX as usize) {
         if is_first(rows, place) {
-            let slot = slot_of(rows[place].id, guesses.len());
+            let slot = slot_of(rows[place].prefix, rows[place].id, guesses.len());
             guesses[slot] = place as u32;
         }
     }
@@ -78,9 +87,10 @@ pub fn found_row(rows: &[IdRow], guesses: &[u32], id: &[u8]) -> Option<u32>
     requires guessed { AreGuesses rows.now guesses.now }
     ensures { IsFound rows.now id.now result }
 {
-    let guess = guesses[slot_of(id, guesses.len())];
-    if let Some(row) = row_at(rows, guess as usize, id) {
+    let prefix = prefix_of(id);
+    let guess = guesses[slot_of(prefix, id, guesses.len())];
+    if let Some(row) = row_at(rows, guess as usize, prefix, id) {
         return Some(row);
     }
-    row_at(rows, place_of(rows, id), id)
+    row_at(rows, place_of(rows, prefix, id), prefix, id)
 }

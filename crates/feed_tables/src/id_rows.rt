@@ -1,9 +1,9 @@
 //! The rows of a table in the order of their ids.
-ghost use Rattle.std.specs.Prelude.{◌≡◌, ◌≤◌, length, slice_index, All, AllPairs, IfOk};
+ghost use Rattle.std.specs.Prelude.{◌≡◌, ◌≤◌, length, slice_index, All, AllPairs, IfOk, bytes_eq};
 ghost use Rattle.std.specs.Cmp.Lexicographic.{slice_cmp};
 ghost use Rattle.std.specs.Ordering.{nat_cmp, is_lt};
 ghost use Rattle.feed_faults.specs.Records.{row_count};
-ghost use Rattle.feed_tables.specs.OrderedRows.{prefix_of, IsPrefixed, AreIdRows, AreOrderedRows, IsNotAfter, IsPlaceOf, is_id_before, row_at};
+ghost use Rattle.feed_tables.specs.OrderedRows.{BeginsWith, IsPrefixed, AreIdRows, AreOrderedRows, IsNotAfter, IsPlaceOf, is_id_before, row_at};
 
 use crate::named::NamedTable;
 use feed_rows::ColumnName;
@@ -25,9 +25,8 @@ fn byte_at(id: &[u8], place: usize) -> u8
 }
 
 /// The number that an id's first eight bytes make. It doesn't fall from an id to a greater one.
-#[tactic(auto, unfolding(crate::specs::OrderedRows::prefix_of))]
 pub fn prefix_of(id: &[u8]) -> u64
-    ensures { result ≡ prefix_of id.now }
+    ensures { BeginsWith result id.now }
 {
     let mut prefix = 0u64;
     for place in 0..8usize {
@@ -94,25 +93,45 @@ fn is_before(entry: &IdRow, prefix: u64, id: &[u8]) -> bool
     entry.prefix < prefix
 }
 
-/// The place of the first row whose id isn't less than this one.
-pub fn place_of(rows: &[IdRow], id: &[u8]) -> usize
+/// The place of the first row whose id isn't less than this one, which begins with this number.
+pub fn place_of(rows: &[IdRow], prefix: u64, id: &[u8]) -> usize
     requires sorted { AllPairs IsNotAfter rows.now }
     requires prefixed { All IsPrefixed rows.now }
+    requires begins { BeginsWith prefix id.now }
     ensures { IsPlaceOf rows.now id.now result }
 {
-    let prefix = prefix_of(id);
     rows.partition_point(|entry| is_before(entry, prefix, id))
 }
 
-/// The row at a place, where its id is this one.
-pub fn row_at(rows: &[IdRow], place: usize, id: &[u8]) -> Option<u32>
+/// Whether the id of a row is this one, which begins with this number. One of at most eight bytes is told by its number
+/// and its length, and none of its bytes is read.
+#[inline(always)]
+pub fn has_id(entry: &IdRow, prefix: u64, id: &[u8]) -> bool
+    requires prefixed { IsPrefixed entry.now }
+    requires begins { BeginsWith prefix id.now }
+    ensures { result ≡ bytes_eq entry.now.id.now id.now }
+{
+    if entry.prefix != prefix || entry.id.len() != id.len() {
+        return false;
+    }
+    if id.len() <= 8 {
+        return true;
+    }
+    entry.id == id
+}
+
+/// The row at a place, where its id is this one, which begins with this number.
+#[inline(always)]
+pub fn row_at(rows: &[IdRow], place: usize, prefix: u64, id: &[u8]) -> Option<u32>
+    requires prefixed { All IsPrefixed rows.now }
+    requires begins { BeginsWith prefix id.now }
     ensures { result ≡ row_at rows.now place id.now }
 {
     if place >= rows.len() {
         return None;
     }
     let entry = rows[place];
-    if entry.id == id {
+    if has_id(&entry, prefix, id) {
         Some(entry.row)
     } else {
         None

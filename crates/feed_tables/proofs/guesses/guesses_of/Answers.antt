@@ -7,7 +7,11 @@ use Rattle.feed_tables.proofs.guesses.guesses_of.Goals as goal
 use Rattle.feed_tables.proofs.guesses.guesses_of.Goals.{then-is_first, else-is_first}
 
 pub loop-place-init : goal.loop-place-init
-loop-place-init c = rw c.in_ok-resize.ensures.items (first_guesses c.args.rows.now c.requires c.slots_for.result _ c.new-guesses.result.items c.slots_for.ensures c.new-guesses.ensures.items c.new-guesses.ensures.len)
+loop-place-init c =
+    let new = c.new-guesses.ensures in
+    rw c.in_ok-resize.ensures.items
+    (first_guesses c.args.rows.now c.requires.sorted c.slots_for.result _ c.new-guesses.result.items
+    c.slots_for.ensures new.items new.len)
 
 pub loop-place-preserved : goal.loop-place-preserved
 loop-place-preserved c =

@@ -1,4 +1,4 @@
-use Rattle.std.proofs.Common.{◌∙◌, sym}
+use Rattle.std.proofs.Common.{◌∙◌, sym, not}
 use Rattle.feed_tables.proofs.GuessLaws.{not_so}
 use Rattle.std.proofs.lemmas.Bool.{OnTrue_from}
 use Rattle.feed_tables.specs.Guesses.{IsGuess}
@@ -10,5 +10,7 @@ returns-then-place-eq0 c = rw c.if-place-eq0.true (zero_guess c.args.rows.now c.
 
 pub returns : goal.returns
 returns c =
-    OnTrue_from c.ne.result (IsGuess c.args.rows.now c.args.place)
-    (λ is. other_guess c.args.rows.now c.requires.sorted c.args.place c.requires.within _ (not_so _ (sym c.ne.ensures ∙ is)))
+    OnTrue_from (not c.has_id.result) (IsGuess c.args.rows.now c.args.place)
+    (λ is.
+    let other = sym c.has_id.ensures ∙ not_so _ is in
+    other_guess c.args.rows.now c.requires.sorted c.args.place c.requires.within _ other)
