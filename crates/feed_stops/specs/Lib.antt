@@ -1,2 +1,1 @@
-pub mod StopNumbers
 pub mod BuiltStops

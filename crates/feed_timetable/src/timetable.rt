@@ -31,7 +31,7 @@ use transit_base::{Day, Moment, NetworkId, Secs, ServiceId, StopId, TripId};
 /// The stops, trips, walks and services of a feed. Contracts see it as the rows of its feed.
 pub struct Timetable<'f> {
     feed: &'f Feed,
-    stops: Stops,
+    stops: Stops<'f>,
     trips: Trips<'f>,
     walks: Walks,
     calendar: Calendar,

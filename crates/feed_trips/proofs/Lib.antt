@@ -1,7 +1,6 @@
 pub mod OrderLaws
 pub mod RunLaws
 pub mod NumberLaws
-pub mod NameLaws
 pub mod TableLaws
 pub mod StretchLaws
 pub mod TripLaws

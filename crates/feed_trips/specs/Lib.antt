@@ -1,4 +1,3 @@
-pub mod NamedTrips
 pub mod Runs
 pub mod Tables
 pub mod Trips

@@ -10,7 +10,7 @@ ghost use Rattle.feed_rows.specs.Queries.{find_trip};
 ghost use Rattle.plain_laws.specs.Plain.{at_and};
 ghost use Rattle.feed_trips.specs.Runs.{AreRunsOf, IsSoundRun};
 
-use crate::ids::{NamedTrip, find_named, trips_by_id};
+use crate::ids::trip_with;
 use crate::order::{calls_by_trip, runs_by_trip};
 use crate::runs::{has_run_at, shifts_of_runs};
 use feed_rows::{Call, Feed, FrequencyRow, Ride, RideFacts, Shifts};
@@ -26,8 +26,6 @@ pub struct Trips<'f> {
     calls: Groups<Call>,
     /// The frequency rows of each trip.
     frequencies: Groups<FrequencyRow>,
-    /// The trips in order of their ids.
-    by_id: Vec<NamedTrip<'f>>,
 }
 
 // Written out, so that what holds one needn't look into it to let go of it.
@@ -37,7 +35,6 @@ impl<'f> Drop for Trips<'f> {
             feed: _,
             calls: _,
             frequencies: _,
-            by_id: _,
         } = self;
     }
 }
@@ -65,12 +62,10 @@ impl<'f> Trips<'f> {
         let _rows = &feed.trips;
         let calls = calls_by_trip(alloc, feed)?;
         let frequencies = runs_by_trip(alloc, feed)?;
-        let by_id = trips_by_id(alloc, feed)?;
         Ok(Trips {
             feed,
             calls,
             frequencies,
-            by_id,
         })
     }
 
@@ -78,7 +73,7 @@ impl<'f> Trips<'f> {
     pub fn find(&self, id: &[u8]) -> Option<TripId>
         ensures { result ≡ find_trip self.now id.now }
     {
-        find_named(self.feed, &self.by_id, id)
+        trip_with(self.feed, id)
     }
 
     /// The calls of a trip, in order of their `stop_sequence`.
