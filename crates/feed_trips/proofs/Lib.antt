@@ -5,3 +5,4 @@ pub mod TableLaws
 pub mod StretchLaws
 pub mod TripLaws
 pub mod RideLaws
+pub mod GapLaws

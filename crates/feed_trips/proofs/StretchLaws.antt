@@ -18,7 +18,7 @@ use Rattle.feed_laws.proofs.CallLaws.{calls_of-pass}
 use Rattle.feed_laws.proofs.SoundTrips.{sound_ends, sound_rise, calls_apart}
 use Rattle.feed_trips.specs.declared.together.Stretch.{Stretch}
 use Rattle.feed_trips.specs.Tables.{trip_calls}
-use Rattle.feed_trips.specs.Stretches.{no_stretch, rows_of_stretch, rows_at, IsStretch, AreStretches, AreTimed, IsApart, IsScattered}
+use Rattle.feed_trips.specs.Stretches.{no_stretch, rows_of_stretch, rows_at, IsStretch, AreStretches, AreTimed, GoesOn, IsAnew, IsApart, IsPiece, IsScattered}
 use Rattle.std.proofs.lemmas.List.Sorted.{All-permutation, length_permutation}
 use Rattle.feed_laws.proofs.TimedLaws.{next_timed_hit, next_timed_end, untimed_more, is_timed_at_row}
 use Rattle.feed_trips.specs.Tables.{IsInOrder}
@@ -96,7 +96,9 @@ module _ (rows : List StopTimeRow) (n : ℕ) (d : StopTimeRow) (lt : n < length 
       rises k e low within (inr earlier) = is.rise k e low (omega arith)
 
   -- a row is put at its trip's stretch
-  pub put : (trips trip : ℕ) (stretches : List Stretch) (s : Stretch) → (get_or rows n d).trip.0 ≡ trip → trip < trips → AreStretches rows n trips stretches → IsStretch rows (n + 1) trip s → AreStretches rows (n + 1) trips (slice_set stretches trip s)
+  put : (trips trip : ℕ) (stretches : List Stretch) (s : Stretch) → (get_or rows n d).trip.0 ≡ trip → trip < trips
+      → AreStretches rows n trips stretches → IsStretch rows (n + 1) trip s
+      → AreStretches rows (n + 1) trips (slice_set stretches trip s)
   put trips trip stretches s same within are is = record { count = length-set stretches trip s ∙ are.count; each = λ t below. at t below (cases_eq t trip) }
     where
       at : (t : ℕ) → t < trips → (t ≡ trip) ⊎ (t ≡ trip → ⊥) → IsStretch rows (n + 1) t (get_or (slice_set stretches trip s) t no_stretch)
@@ -108,13 +110,126 @@ module _ (rows : List StopTimeRow) (n : ℕ) (d : StopTimeRow) (lt : n < length 
           let apart : t ≢ trip = other in
           rw get_or-set_other (other_stays t (get_or stretches t no_stretch) (λ e. other (sym e ∙ same)) (are.each t below))
 
-  pub put_first : (trips trip : ℕ) (stretches : List Stretch) (s : Stretch) → (get_or rows n d).trip.0 ≡ trip → trip < trips → AreStretches rows n trips stretches → get_or stretches trip no_stretch ≡ s → s.from ≡ s.to
+  put_first : (trips trip : ℕ) (stretches : List Stretch) (s : Stretch) → (get_or rows n d).trip.0 ≡ trip
+      → trip < trips → AreStretches rows n trips stretches → get_or stretches trip no_stretch ≡ s → s.from ≡ s.to
       → AreStretches rows (n + 1) trips (slice_set stretches trip (record { from = n; to = n + 1 }))
   put_first trips trip stretches s same within are at empty = put trips trip stretches (record { from = n; to = n + 1 }) same within are (begins trip s same empty (subst (IsStretch rows n trip) at (are.each trip within)))
 
-  pub put_next : (trips trip : ℕ) (stretches : List Stretch) (s : Stretch) → (get_or rows n d).trip.0 ≡ trip → trip < trips → AreStretches rows n trips stretches → get_or stretches trip no_stretch ≡ s → s.to ≡ n → (get_or rows (n - 1) d).sequence ≤ (get_or rows n d).sequence
+  put_next : (trips trip : ℕ) (stretches : List Stretch) (s : Stretch) → (get_or rows n d).trip.0 ≡ trip
+      → trip < trips → AreStretches rows n trips stretches → get_or stretches trip no_stretch ≡ s → s.to ≡ n
+      → (get_or rows (n - 1) d).sequence ≤ (get_or rows n d).sequence
       → AreStretches rows (n + 1) trips (slice_set stretches trip (record { from = s.from; to = n + 1 }))
   put_next trips trip stretches s same within are at here up = put trips trip stretches (record { from = s.from; to = n + 1 }) same within are (goes_on trip s same here up (subst (IsStretch rows n trip) at (are.each trip within)))
+
+-- an item that is put twice is there as it was put last
+set_again : {X : Type 0} (xs : List X) (i : ℕ) (a b : X) → slice_set (slice_set xs i a) i b ≡ slice_set xs i b
+set_again [] i a b = refl
+set_again (x ∷ xs) zero a b = refl
+set_again (x ∷ xs) (suc i) a b = ap (λ ys. x ∷ ys) (set_again xs i a b)
+
+-- rows that go on with one another are of one trip
+piece_trip : (rows : List StopTimeRow) (from n : ℕ) (d : StopTimeRow)
+    → ((k : ℕ) → from < k → k < from + suc n → GoesOn rows k)
+    → (get_or rows (from + n) d).trip.0 ≡ (get_or rows from d).trip.0
+piece_trip rows from zero d goes = let same : from + 0 ≡ from = omega arith in rw same refl
+piece_trip rows from (suc n) d goes =
+    let before = piece_trip rows from n d (λ k low lt. goes k low (omega arith)) in
+    let last : (from + suc n) - 1 ≡ from + n = omega arith in
+    (goes (from + suc n) (omega arith) (omega arith)).own d ∙ rw last before
+
+-- the stretch of a trip, put at its place
+abbrev at_trip : List Stretch → ℕ → ℕ → ℕ → List Stretch
+at_trip stretches trip from to = slice_set stretches trip (record { from = from; to = to })
+
+-- the rows that go on with those of a stretch lengthen it
+lengthened : (rows : List StopTimeRow) (from n k trips trip start : ℕ) (d : StopTimeRow) (stretches : List Stretch)
+    → n + k ≤ length rows → from < n → ((i : ℕ) → from < i → i < n + k → GoesOn rows i)
+    → (get_or rows from d).trip.0 ≡ trip → trip < trips → length stretches ≡ trips
+    → AreStretches rows n trips (at_trip stretches trip start n)
+    → AreStretches rows (n + k) trips (at_trip stretches trip start (n + k))
+lengthened rows from n zero trips trip start d stretches le low goes own within long are =
+    let same : n + 0 ≡ n = omega arith in
+    subst (λ m. AreStretches rows m trips (at_trip stretches trip start m)) (sym same) are
+lengthened rows from n (suc k) trips trip start d stretches le low goes own within long are =
+    let next : n + suc k ≡ (n + k) + 1 = omega arith in
+    let shorter = λ (i : ℕ) (above : from < i) (below : i < n + k). goes i above (omega arith) in
+    let before =
+    lengthened rows from n k trips trip start d stretches (omega arith) low shorter own within long are in
+    let on = goes (n + k) (omega arith) (omega arith) in
+    let there : from + ((n + k) - from) ≡ n + k = omega arith in
+    let of_trip = piece_trip rows from ((n + k) - from) d (λ i above below. goes i above (omega arith)) in
+    let own_last : (get_or rows (n + k) d).trip.0 ≡ trip = rw there at of_trip ∙ own in
+    let inside : trip < length stretches = omega arith in
+    let s : Stretch = record { from = start; to = n + k } in
+    let is = get_or-set_same stretches trip s no_stretch inside in
+    let put =
+    put_next rows (n + k) d (omega arith) trips trip (slice_set stretches trip s) s
+    own_last within before is refl (on.rise d) in
+    rw next (subst (AreStretches rows ((n + k) + 1) trips) (set_again stretches trip _ _) put)
+
+-- a piece is put at its trip's stretch
+pub piece_first : (rows : List StopTimeRow) (from to : ℕ) (d : StopTimeRow) → IsPiece rows from to
+    → (trips trip : ℕ) (stretches : List Stretch) (s : Stretch) → (get_or rows from d).trip.0 ≡ trip → trip < trips
+    → AreStretches rows from trips stretches → get_or stretches trip no_stretch ≡ s → s.from ≡ s.to
+    → AreStretches rows to trips (slice_set stretches trip (record { from = from; to = to }))
+piece_first rows from to d piece trips trip stretches s same within are at empty =
+    let some = piece.some in
+    let ends = piece.ends in
+    let size : (from + 1) + (to - (from + 1)) ≡ to = omega arith in
+    let first = put_first rows from d (omega arith) trips trip stretches s same within are at empty in
+    let goes = λ (k : ℕ) (low : from < k) (below : k < (from + 1) + (to - (from + 1))).
+    piece.goes_on k low (omega arith) in
+    rw size at
+    (lengthened rows from (from + 1) (to - (from + 1)) trips trip from d stretches
+    (omega arith) (omega arith) goes same within are.count first)
+
+-- a piece with the row that goes on with it
+piece_more : (rows : List StopTimeRow) (from place : ℕ) → IsPiece rows from place → place < length rows
+    → GoesOn rows place → IsPiece rows from (place + 1)
+piece_more rows from place piece lt on =
+    let low = piece.some in
+    record {
+      some = omega arith;
+      ends = omega arith;
+      anew = piece.anew;
+      goes_on = λ k above below. at k above below (cases_eq k place);
+    }
+  where
+    at : (k : ℕ) → from < k → k < place + 1 → (k ≡ place) ⊎ (k ≡ place → ⊥) → GoesOn rows k
+    at k above below (inl here) = rw here on
+    at k above below (inr earlier) = piece.goes_on k above (omega arith)
+
+-- it begins with a row
+pub piece_begins : {rows : List StopTimeRow} {from to : ℕ} → IsPiece rows from to → from < length rows
+piece_begins piece = let some = piece.some in let ends = piece.ends in omega arith
+
+-- a row alone
+pub piece_alone : (rows : List StopTimeRow) (place : ℕ) → place < length rows → (0 < place → IsAnew rows place)
+    → IsPiece rows place (place + 1)
+piece_alone rows place lt anew =
+    record { some = omega arith; ends = omega arith; anew = anew; goes_on = λ k low below. absurd (omega arith) }
+
+-- a row that begins anew has one before it
+pub anew_later : (rows : List StopTimeRow) (place : ℕ) → IsAnew rows place → 0 < place
+anew_later rows place anew = step (cases_lt 0 place)
+  where
+    step : (0 < place) ⊎ (place ≤ 0) → 0 < place
+    step (inl later) = later
+    step (inr first) =
+        let same : place - 1 ≡ place = omega arith in
+        let less = anew no_time (rw same refl) in
+        absurd (let no = rw same at less in omega (arith, no))
+
+-- the rows up to one that goes on are a piece too, also where it is the first
+pub piece_on : (rows : List StopTimeRow) (from place : ℕ) → (0 < place → IsPiece rows from place)
+    → (place ≡ 0 → from ≡ 0) → place < length rows → GoesOn rows place → IsPiece rows from (place + 1)
+piece_on rows from place before start lt on = step (cases_eq place 0)
+  where
+    step : (place ≡ 0) ⊎ (place ≡ 0 → ⊥) → IsPiece rows from (place + 1)
+    step (inl first) =
+        let alone = piece_alone rows place lt (λ some. absurd (omega arith)) in
+        subst (λ f. IsPiece rows f (place + 1)) (first ∙ sym (start first)) alone
+    step (inr later) = piece_more rows from place (before (omega arith)) lt on
 
 -- rows whose sequences don't fall are in order of them
 in_order_already : (rows : List StopTimeRow) → ((k : ℕ) (d : StopTimeRow) → k + 1 < length rows → (get_or rows k d).sequence ≤ (get_or rows (k + 1) d).sequence) → in_sequence rows ≡ rows
@@ -157,21 +272,6 @@ sorted_are feed rows trips t stretches sound moved up are lt =
 -- a row's trip has a stretch
 pub trip_stretched : (rows : List StopTimeRow) (place trips : ℕ) (stretches : List Stretch) (d : StopTimeRow) → place < length rows → All (λ (r : StopTimeRow). r.trip.0 < trips) rows → AreStretches rows place trips stretches → (get_or rows place d).trip.0 < length stretches
 trip_stretched rows place trips stretches d lt few are = rw are.count (few place d lt)
-
--- a place before is within the rows too
-pub place_before : {n : ℕ} (place : ℕ) → place < n → place - 1 < n
-place_before place lt = omega arith
-
--- a row that doesn't lengthen the stretch of its trip, which has begun, lies apart from it
-pub lies_apart : (rows : List StopTimeRow) (place trips : ℕ) (stretches : List Stretch) (d : StopTimeRow) (s : Stretch) → place < length rows → All (λ (r : StopTimeRow). r.trip.0 < trips) rows → AreStretches rows place trips stretches
-    → get_or stretches (get_or rows place d).trip.0 no_stretch ≡ s → (s.from ≡ s.to → ⊥) → (s.to ≡ place → (get_or rows place d).sequence < (get_or rows (place - 1) d).sequence) → IsApart rows place stretches
-lies_apart rows place trips stretches d s lt few are at some falls =
-    let forward = rw at at (are.each (get_or rows place d).trip.0 (few place d lt)).forward in
-    let begun : s.from < s.to = omega (arith, forward, some) in
-    record {
-      begun = λ e. rw (get_or_default rows place e d lt, at) begun;
-      apart = λ e here. rw (get_or_default rows place e d lt, get_or_default rows (place - 1) e d (place_before place lt)) (falls (rw (get_or_default rows place e d lt, at) at here));
-    }
 
 -- the rows of a file are of its trips, and few
 pub file_within : (feed : FeedRows) (rows : List StopTimeRow) (trips : ℕ) → IsSoundFeed feed → rows ≡ feed.stop_times → trips ≡ length feed.trips → All (λ (r : StopTimeRow). r.trip.0 < trips) rows
@@ -232,6 +332,49 @@ sorted_few feed rows sound moved =
 own_trip : (rows : List StopTimeRow) (n trip : ℕ) (s : Stretch) → IsStretch rows n trip s → All (λ r. (r.trip.0 == trip) ≡ true) (rows_of_stretch rows s)
 own_trip rows n trip s is = subst (All (λ (r : StopTimeRow). (r.trip.0 == trip) ≡ true)) (sym is.are) (filter_passes (λ (r : StopTimeRow). r.trip.0 == trip) (take n rows))
 
+-- so is the last of them
+last_own : (rows : List StopTimeRow) (n trip : ℕ) (s : Stretch) (d : StopTimeRow) → IsStretch rows n trip s
+    → n ≤ length rows → s.from < s.to → (get_or rows (s.to - 1) d).trip.0 ≡ trip
+last_own rows n trip s d is within begun =
+    let ends = is.ends in
+    let place : s.from + (s.to - 1 - s.from) ≡ s.to - 1 = omega arith in
+    let size = length-take (s.to - s.from) (drop s.from rows) in
+    let left = length-drop s.from rows in
+    let own = own_trip rows n trip s is (s.to - 1 - s.from) d (omega arith) in
+    let at_range = range_at rows s.from s.to (s.to - 1 - s.from) d (omega arith) in
+    let moved = rw at_range at own in
+    eqb-true (get_or rows (s.to - 1) d).trip.0 trip (rw place at moved)
+
+-- a piece of a trip whose stretch has begun lies apart from it
+pub lies_apart : (rows : List StopTimeRow) (from to trips : ℕ) (stretches : List Stretch) (d : StopTimeRow)
+    (s : Stretch)
+    → IsPiece rows from to → All (λ (r : StopTimeRow). r.trip.0 < trips) rows → AreStretches rows from trips stretches
+    → get_or stretches (get_or rows from d).trip.0 no_stretch ≡ s → (s.from ≡ s.to → ⊥) → IsApart rows from stretches
+lies_apart rows from to trips stretches d s piece few are at some =
+    record {
+      begun = λ e. rw (get_or_default rows from e d lt, at) begun;
+      apart = λ e here. falls e (rw (get_or_default rows from e d lt, at) at here);
+    }
+  where
+    lt : from < length rows
+    lt = piece_begins piece
+
+    is : IsStretch rows from (get_or rows from d).trip.0 s
+    is =
+        let trip = (get_or rows from d).trip.0 in
+        subst (IsStretch rows from trip) at (are.each trip (few from d lt))
+
+    begun : s.from < s.to
+    begun = let forward = is.forward in omega (arith, forward, some)
+
+    falls : (e : StopTimeRow) → s.to ≡ from → (get_or rows from e).sequence < (get_or rows (from - 1) e).sequence
+    falls e here =
+        let last = last_own rows from (get_or rows from d).trip.0 s e is (let le = lt in omega arith) begun in
+        let before : (get_or rows (from - 1) e).trip.0 ≡ (get_or rows from d).trip.0 = rw here at last in
+        let one = get_or_default rows from e d lt in
+        let own : (get_or rows from e).trip.0 ≡ (get_or rows from d).trip.0 = ap (λ (r : StopTimeRow). r.trip.0) one in
+        piece.anew (let low = begun in omega (arith, low, here)) e (own ∙ sym before)
+
 -- a range that isn't empty begins with its first item
 range_first : (rows : List StopTimeRow) (from to : ℕ) (d : StopTimeRow) → from < to → from < length rows → slice_range rows from to ≡ get_or rows from d ∷ slice_range rows (from + 1) to
 range_first rows from to d lt inside =
@@ -255,18 +398,10 @@ module _ (rows : List StopTimeRow) (trips : ℕ) (up : AllPairs IsInOrder rows) 
   unfolding here s
   begun = scattered.apart.begun no_time
 
-  last_own : (get_or rows (s.to - 1) no_time).trip.0 ≡ here.trip.0
-  last_own =
-      let from = begun in
-      let ends = is_stretch.ends in
+  last : (get_or rows (s.to - 1) no_time).trip.0 ≡ here.trip.0
+  last =
       let inside = scattered.inside in
-      let place : s.from + (s.to - 1 - s.from) ≡ s.to - 1 = omega arith in
-      let size = length-take (s.to - s.from) (drop s.from rows) in
-      let left = length-drop s.from rows in
-      let own = own_trip rows scattered.place here.trip.0 s is_stretch (s.to - 1 - s.from) no_time (omega arith) in
-      let at_range = range_at rows s.from s.to (s.to - 1 - s.from) no_time (omega arith) in
-      let moved = rw at_range at own in
-      eqb-true (get_or rows (s.to - 1) no_time).trip.0 here.trip.0 (rw place at moved)
+      last_own rows scattered.place here.trip.0 s no_time is_stretch (omega arith) begun
 
   -- a row between it and its trip's is of the trip too
   between : (a b c : StopTimeRow) → a.trip.0 ≡ c.trip.0 → IsInOrder a b → IsInOrder b c → b.trip.0 ≡ c.trip.0
@@ -280,7 +415,7 @@ module _ (rows : List StopTimeRow) (trips : ℕ) (up : AllPairs IsInOrder rows) 
   at_once same =
       let from = begun in
       let inside = scattered.inside in
-      let before : (get_or rows (scattered.place - 1) no_time).trip.0 ≡ here.trip.0 = rw same at last_own in
+      let before : (get_or rows (scattered.place - 1) no_time).trip.0 ≡ here.trip.0 = rw same at last in
       falls (get_or rows (scattered.place - 1) no_time) here before (up (scattered.place - 1) scattered.place no_time (omega arith) inside) (scattered.apart.apart no_time same)
 
   later : s.to < scattered.place → ⊥
@@ -305,7 +440,9 @@ module _ (rows : List StopTimeRow) (trips : ℕ) (up : AllPairs IsInOrder rows) 
       next_own lt =
           let from = begun in
           let inside = scattered.inside in
-          between (get_or rows (s.to - 1) no_time) (get_or rows s.to no_time) here last_own (up (s.to - 1) s.to no_time (omega arith) (omega arith)) (up s.to scattered.place no_time lt inside)
+          let first = up (s.to - 1) s.to no_time (omega arith) (omega arith) in
+          let second = up s.to scattered.place no_time lt inside in
+          between (get_or rows (s.to - 1) no_time) (get_or rows s.to no_time) here last first second
 
   pub sorted_together : ⊥
   sorted_together = let ends = is_stretch.ends in ⊎_elim later (λ ge. at_once (omega arith)) (cases_lt s.to scattered.place)

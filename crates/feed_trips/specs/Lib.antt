@@ -2,3 +2,4 @@ pub mod Runs
 pub mod Tables
 pub mod Trips
 pub mod Stretches
+pub mod Gaps

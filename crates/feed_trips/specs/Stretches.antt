@@ -27,6 +27,25 @@ pub record AreStretches (rows : List StopTimeRow) (n trips : ℕ) (stretches : L
   pub count : length stretches ≡ trips
   pub each : (t : ℕ) → t < trips → IsStretch rows n t (slice_index_or stretches t no_stretch)
 
+-- the row at a place is of the trip of the row before it, and its sequence isn't less
+pub record GoesOn (rows : List StopTimeRow) (place : ℕ) : Type 0 where
+  pub own : (d : StopTimeRow) → (slice_index_or rows place d).trip.0 ≡ (slice_index_or rows (place - 1) d).trip.0
+  pub rise : (d : StopTimeRow) → (slice_index_or rows (place - 1) d).sequence ≤ (slice_index_or rows place d).sequence
+
+-- where it is of that trip, its sequence is less
+abbrev pub IsAnew : List StopTimeRow → ℕ → Type 0
+IsAnew rows place =
+    (d : StopTimeRow) → (slice_index_or rows place d).trip.0 ≡ (slice_index_or rows (place - 1) d).trip.0
+    → (slice_index_or rows place d).sequence < (slice_index_or rows (place - 1) d).sequence
+
+-- there are rows from a place and up to another; each of them but the first goes on with the one before it, and the
+-- first doesn't, where there is one before it
+pub record IsPiece (rows : List StopTimeRow) (from to : ℕ) : Type 0 where
+  pub some : from < to
+  pub ends : to ≤ length rows
+  pub anew : 0 < from → IsAnew rows from
+  pub goes_on : (k : ℕ) → from < k → k < to → GoesOn rows k
+
 -- the trip of the row at a place has a stretch before it that the row doesn't lengthen: where the stretch ends just before
 -- the place, the row's sequence is below that of the row before
 pub record IsApart (rows : List StopTimeRow) (place : ℕ) (stretches : List Stretch) : Type 0 where

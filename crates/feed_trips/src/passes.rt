@@ -1,8 +1,9 @@
 //! The calls of a trip's rows, in one pass that fills in the times.
-ghost use Rattle.std.specs.Prelude.{◌≡◌, ◌<◌, ◌≤◌, ◌^◌, ◌++◌, length, OnOk};
+ghost use Rattle.std.specs.Prelude.{◌≡◌, ◌<◌, ◌≤◌, ◌^◌, ◌++◌, false, length, OnOk};
 ghost use Rattle.feed_rows.specs.Calls.{time_between};
-ghost use Rattle.feed_rows.specs.CallPass.{pass};
-ghost use Rattle.feed_rows.specs.TimedTrips.{HasTimedEnds, DoTimesRise};
+ghost use Rattle.feed_rows.specs.CallPass.{gap_at, pass};
+ghost use Rattle.feed_rows.specs.TimedTrips.{HasTimedEnds, DoTimesRise, is_timed_at};
+ghost use Rattle.feed_trips.specs.Gaps.{gap_of, IsCarried};
 
 use crate::scan::{first_time_at, next_position};
 use feed_rows::{Call, StopTimeRow};
@@ -21,6 +22,36 @@ fn filled_time(before: usize, position: usize, after: usize, left: u32, reached:
     left + ((position - before) as u64 * span / (after - before) as u64) as u32
 }
 
+// Two timed positions with none between: the one is left and the other reached at these seconds of the service day. The
+// other is looked for once a row without a time follows the one.
+#[derive(Clone, Copy)]
+struct Gap {
+    from: usize,
+    left: u32,
+    to: usize,
+    reached: u32,
+}
+
+// The gap with its end, at a position in it that has no time. Where it isn't the first such position, the end is known.
+fn with_end(rows: &[StopTimeRow], position: usize, gap: Gap) -> Gap
+    requires ends { HasTimedEnds rows.now }
+    requires inside { position < length rows.now }
+    requires untimed { is_timed_at rows.now position ≡ false }
+    requires carried { IsCarried rows.now position gap }
+    ensures { gap_of result ≡ gap_at rows.now position }
+{
+    if gap.from + 1 < position {
+        return gap;
+    }
+    let to = next_position(rows, gap.from);
+    Gap {
+        from: gap.from,
+        left: gap.left,
+        to,
+        reached: first_time_at(rows, to),
+    }
+}
+
 // Appends the calls of a trip's rows, which are in order of their sequence.
 pub fn push_calls(calls: &mut Vec<Call>, rows: &[StopTimeRow]) -> Result<(), AllocError>
     requires ends { HasTimedEnds rows.now }
@@ -28,14 +59,16 @@ pub fn push_calls(calls: &mut Vec<Call>, rows: &[StopTimeRow]) -> Result<(), All
     requires few { length rows.now < 2 ^ 32 }
     ensures { OnOk result (calls.new.items ≡ calls.old.items ++ pass rows.now) }
 {
-    let mut from = 0;
-    let mut left = 0;
-    let mut to = 0;
-    let mut reached = 0;
+    let mut gap = Gap {
+        from: 0,
+        left: 0,
+        to: 0,
+        reached: 0,
+    };
     for m in 0..rows.len() {
         let row = rows[m];
         if is_timed(row) {
-            left = last_time(row).unwrap_or(0);
+            let left = last_time(row).unwrap_or(0);
             calls.push(Call {
                 stop: row.stop,
                 sequence: row.sequence,
@@ -44,11 +77,15 @@ pub fn push_calls(calls: &mut Vec<Call>, rows: &[StopTimeRow]) -> Result<(), All
                 pickup: row.pickup,
                 drop_off: row.drop_off,
             })?;
-            from = m;
-            to = next_position(rows, m);
-            reached = first_time_at(rows, to);
+            gap = Gap {
+                from: m,
+                left,
+                to: m,
+                reached: 0,
+            };
         } else {
-            let time = filled_time(from, m, to, left, reached);
+            gap = with_end(rows, m, gap);
+            let time = filled_time(gap.from, m, gap.to, gap.left, gap.reached);
             calls.push(Call {
                 stop: row.stop,
                 sequence: row.sequence,

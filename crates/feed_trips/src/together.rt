@@ -1,11 +1,11 @@
 //! Trips whose stop times stand together in the file and in order, as they mostly do: their calls are made where the rows
 //! stand.
-ghost use Rattle.std.specs.Prelude.{◌≡◌, ℕ, ◌+◌, ◌<◌, ◌≤◌, ◌^◌, ◌++◌, length, All, IfOk, OnOk, IfNone, IfSome};
+ghost use Rattle.std.specs.Prelude.{◌≡◌, ◌<◌, ◌^◌, ◌++◌, length, All, IfOk, OnOk, IfNone, IfSome};
 ghost use Rattle.std.specs.Bool.{OnFalse, OnTrue};
 ghost use Rattle.feed_rows.specs.declared.rows.StopTimeRow.{StopTimeRow};
 ghost use Rattle.feed_rows.specs.CallPass.{pass};
 ghost use Rattle.plain_laws.specs.Plain.{list_below};
-ghost use Rattle.feed_trips.specs.Stretches.{AreStretches, AreTimed, IsApart, IsScattered, rows_at};
+ghost use Rattle.feed_trips.specs.Stretches.{AreStretches, AreTimed, GoesOn, IsAnew, IsApart, IsPiece, IsScattered, rows_at};
 
 use crate::passes::push_calls;
 use feed_rows::{Call, StopTimeRow};
@@ -19,34 +19,42 @@ pub struct Stretch {
     pub to: usize,
 }
 
-// Lengthens the stretch of the trip of the row at a place by that row, or begins it there. False where other rows or a
-// later sequence lie between.
-fn put_row(stretches: &mut Vec<Stretch>, rows: &[StopTimeRow], place: usize, trips: usize) -> bool
-    requires within { All (λ (r : StopTimeRow). r.trip.0 < trips) rows.now }
-    requires inside { place < length rows.now }
-    requires before { AreStretches rows.now place trips stretches.old.items }
-    ensures put { OnTrue result (AreStretches rows.now (place + 1) trips stretches.new.items) }
-    ensures apart { OnFalse result (IsApart rows.now place stretches.old.items) }
+// Whether the row at a place goes on with the row before it: it is of the same trip, and its sequence isn't less. The
+// first row does.
+fn goes_on(rows: &[StopTimeRow], place: usize) -> bool
+    requires { place < length rows.now }
+    ensures on { OnTrue result (GoesOn rows.now place) }
+    ensures anew { OnFalse result (IsAnew rows.now place) }
 {
-    let row = rows[place];
-    let stretch = stretches[row.trip.0 as usize];
-    if stretch.from == stretch.to {
-        stretches[row.trip.0 as usize] = Stretch {
-            from: place,
-            to: place + 1,
-        };
+    if place == 0 {
         return true;
     }
-    if stretch.to != place {
+    let before = rows[place - 1];
+    let row = rows[place];
+    before.trip.0 == row.trip.0 && before.sequence <= row.sequence
+}
+
+// Puts a piece of rows, from a place and up to another, as the stretch of their trip. False where the trip has rows
+// before.
+fn put_piece(
+    stretches: &mut Vec<Stretch>,
+    rows: &[StopTimeRow],
+    from: usize,
+    to: usize,
+    trips: usize,
+) -> bool
+    requires within { All (λ (r : StopTimeRow). r.trip.0 < trips) rows.now }
+    requires piece { IsPiece rows.now from to }
+    requires before { AreStretches rows.now from trips stretches.old.items }
+    ensures put { OnTrue result (AreStretches rows.now to trips stretches.new.items) }
+    ensures apart { OnFalse result (IsApart rows.now from stretches.old.items) }
+{
+    let trip = rows[from].trip.0 as usize;
+    let stretch = stretches[trip];
+    if stretch.from != stretch.to {
         return false;
     }
-    if rows[place - 1].sequence > row.sequence {
-        return false;
-    }
-    stretches[row.trip.0 as usize] = Stretch {
-        from: stretch.from,
-        to: place + 1,
-    };
+    stretches[trip] = Stretch { from, to };
     true
 }
 
@@ -65,10 +73,17 @@ pub fn stretches_of(
     ensures scattered { IfOk result (λ found. IfNone found (IsScattered rows.now trips)) }
 {
     let mut stretches = vec![in alloc; Stretch { from: 0, to: 0 }; trips]?;
+    let mut from = 0;
     for place in 0..rows.len() {
-        if !put_row(&mut stretches, rows, place, trips) {
-            return Ok(None);
+        if !goes_on(rows, place) {
+            if !put_piece(&mut stretches, rows, from, place, trips) {
+                return Ok(None);
+            }
+            from = place;
         }
+    }
+    if from < rows.len() && !put_piece(&mut stretches, rows, from, rows.len(), trips) {
+        return Ok(None);
     }
     Ok(Some(stretches))
 }

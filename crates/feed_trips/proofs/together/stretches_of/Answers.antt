@@ -1,23 +1,23 @@
-use Rattle.std.proofs.Common.{◌≡◌, subst, length, arith}
-use Rattle.feed_trips.specs.Stretches.{AreStretches}
+use Rattle.std.proofs.Common.{arith}
+use Rattle.feed_trips.proofs.StretchLaws.{anew_later, piece_alone, piece_on}
 use Rattle.feed_trips.proofs.together.stretches_of.Goals as goal
+use Rattle.feed_trips.proofs.together.stretches_of.Goals.{then-not-goes_on+else-not-put_piece, else-not-goes_on}
 
-pub put_row-requires-clause-before : goal.put_row-requires-clause-before
-put_row-requires-clause-before c = c.loop-place.invariant
-
-pub returns-then-not-put_row-clause-scattered : goal.returns-then-not-put_row-clause-scattered
-returns-then-not-put_row-clause-scattered c = record {
-  place = c.loop-place.place;
-  inside = c.loop-place-test.true;
-  stretches = c.loop-place.stretches.items;
-  before = c.loop-place.invariant;
-  apart = c.if-not-put_row.ensures.apart;
-}
+pub put_piece-requires-clause-piece : goal.put_piece-requires-clause-piece
+put_piece-requires-clause-piece c = c.loop-place.invariant.piece (anew_later _ _ c.if-not-goes_on.ensures.anew)
 
 pub loop-place-preserved : goal.loop-place-preserved
-loop-place-preserved c = c.if-not-put_row.ensures.put
-
-pub returns-clause-together : goal.returns-clause-together
-returns-clause-together c =
-    let at_end : c.loop-place.place ≡ length c.args.rows.now = omega (arith, c.loop-place-test.false, c.loop-place.auto.place-end) in
-    subst (λ n. AreStretches c.args.rows.now n c.args.trips c.loop-place.stretches.items) at_end c.loop-place.invariant
+loop-place-preserved c =
+    let before = c.loop-place.invariant in
+    elim c.if-not-goes_on.branch [
+      | then-not-goes_on+else-not-put_piece w ↦ rw (w.stretches-is, w.from-is) (record {
+        before = w.if-not-put_piece.ensures.put;
+        piece = λ lt. piece_alone _ _ c.loop-place-test.true (λ some. w.if-not-goes_on.ensures.anew);
+        start = λ none. absurd (omega arith);
+      })
+      | else-not-goes_on w ↦ rw (w.stretches-is, w.from-is) (record {
+        before = before.before;
+        piece = λ lt. piece_on _ _ _ before.piece before.start c.loop-place-test.true w.if-not-goes_on.ensures.on;
+        start = λ none. absurd (omega arith);
+      })
+    ]
