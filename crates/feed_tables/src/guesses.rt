@@ -1,4 +1,5 @@
-//! Guesses where an id stands among rows that are in the order of their ids: one row for each slot of a table that is hashed.
+//! Guesses where an id stands among rows that are in the order of their ids: one row for each slot of a table that is
+//! hashed. An id has two slots, one after the other.
 ghost use Rattle.std.specs.Prelude.{◌≤◌, ◌<◌, All, AllPairs, length, IfOk};
 ghost use Rattle.std.specs.Bool.{OnTrue};
 ghost use Rattle.feed_tables.specs.OrderedRows.{IsNotAfter, IsPrefixed};
@@ -32,6 +33,26 @@ fn slot_of(prefix: u64, id: &[u8], slots: usize) -> usize
     ensures { result < slots }
 {
     hash_of(prefix, id) as usize & (slots - 1)
+}
+
+// The slot after a slot among so many; the first after the last.
+#[inline(always)]
+fn slot_after(slot: usize, slots: usize) -> usize
+    requires { slot < slots }
+    ensures { result < slots }
+{
+    if slot + 1 < slots { slot + 1 } else { 0 }
+}
+
+// The slot, where it holds no guess but the first, or else the one after it.
+fn free_slot(guesses: &[u32], slot: usize) -> usize
+    requires { slot < length guesses.now }
+    ensures { result < length guesses.now }
+{
+    if guesses[slot] == 0 {
+        return slot;
+    }
+    slot_after(slot, guesses.len())
 }
 
 // How many slots so many rows have: a power of two, and twice as many or more.
@@ -74,13 +95,14 @@ pub fn guesses_of(alloc: Global, rows: &[IdRow]) -> Result<Vec<u32>, AllocError>
     for place in 0..rows.len().min(u32::MAX as usize) {
         if is_first(rows, place) {
             let slot = slot_of(rows[place].prefix, rows[place].id, guesses.len());
-            guesses[slot] = place as u32;
+            let free = free_slot(&guesses, slot);
+            guesses[free] = place as u32;
         }
     }
     Ok(guesses)
 }
 
-/// The first row with an id: by the guess for it, or else by a binary search.
+/// The first row with an id: by one of the two guesses for it, or else by a binary search.
 pub fn found_row(rows: &[IdRow], guesses: &[u32], id: &[u8]) -> Option<u32>
     requires sorted { AllPairs IsNotAfter rows.now }
     requires prefixed { All IsPrefixed rows.now }
@@ -88,8 +110,12 @@ pub fn found_row(rows: &[IdRow], guesses: &[u32], id: &[u8]) -> Option<u32>
     ensures { IsFound rows.now id.now result }
 {
     let prefix = prefix_of(id);
-    let guess = guesses[slot_of(prefix, id, guesses.len())];
-    if let Some(row) = row_at(rows, guess as usize, prefix, id) {
+    let slot = slot_of(prefix, id, guesses.len());
+    if let Some(row) = row_at(rows, guesses[slot] as usize, prefix, id) {
+        return Some(row);
+    }
+    let after = slot_after(slot, guesses.len());
+    if let Some(row) = row_at(rows, guesses[after] as usize, prefix, id) {
         return Some(row);
     }
     row_at(rows, place_of(rows, prefix, id), prefix, id)

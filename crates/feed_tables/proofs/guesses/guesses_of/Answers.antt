@@ -18,8 +18,10 @@ loop-place-preserved c =
     let before = c.loop-place.invariant in
     elim c.if-is_first.branch [
       | then-is_first w ↦ rw w.guesses-is (record {
-        some = rw (length-set c.loop-place.guesses.items w.slot_of-slot.result c.loop-place.place) before.some;
-        are = All-set (IsGuess c.args.rows.now) c.loop-place.guesses.items w.slot_of-slot.result c.loop-place.place (OnTrue_at w.if-is_first.true c.is_first.ensures) before.are;
+        some = rw (length-set c.loop-place.guesses.items w.free_slot-free.result c.loop-place.place) before.some;
+        are =
+            All-set (IsGuess c.args.rows.now) c.loop-place.guesses.items w.free_slot-free.result c.loop-place.place
+            (OnTrue_at w.if-is_first.true c.is_first.ensures) before.are;
       })
       | else-is_first w ↦ rw w.guesses-is before
     ]
