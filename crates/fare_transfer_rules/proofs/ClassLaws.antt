@@ -13,10 +13,10 @@ use Rattle.transit_base.specs.declared.numbers.LegGroupId.{LegGroupId}
 use Rattle.feed_rows.specs.declared.rows.TransferRuleRow.{TransferRuleRow}
 use Rattle.feed_rows.specs.FeedRows.{FeedRows}
 use Rattle.feed_rows.specs.SoundFares.{AreSoundTransferRules}
-use Rattle.feed_rows.specs.TransferRules.{is_listed_group}
+use Rattle.feed_rows.specs.TransferRules.{is_listed_group, group_matches}
 use Rattle.plain_laws.specs.declared.groups.Grouped.{Grouped}
 use Rattle.plain_laws.specs.Plain.{filled_and, at_and, list_below, picks_below, ids_where, group_of, groups_below}
-use Rattle.plain_laws.proofs.Laws.{All-slice_get, filter-filter, filter-map, filter_part, group_of-append, group_rises, groups_below-at, groups_below-past, picks_below-none, list_any-place}
+use Rattle.plain_laws.proofs.Laws.{same_test, All-slice_get, filter-filter, filter-map, filter_part, group_of-append, group_rises, groups_below-at, groups_below-past, picks_below-none, list_any-place}
 use Rattle.fare_transfer_rules.specs.declared.groups.ClassedRow.{ClassedRow}
 use Rattle.fare_transfer_rules.specs.Marks.{is_marked}
 use Rattle.fare_transfer_rules.specs.Classes.{field_class, class_of, is_of, row_to, member_at, leads_to, rows_at, IsPutByTo, AreByClasses}
@@ -149,3 +149,32 @@ class_fits feed column named marks i row at group fits = by (column row) refl (i
         let names : filled_and (column row) (λ g. g.0 == group.0) ≡ true = rw is same in
         let listed = list_any-place (λ r. filled_and (column r) (λ g. g.0 == group.0)) feed.transfer_rules i row at names in
         absurd (let bad : false ≡ true = sym marked ∙ marks group ∙ listed in cc)
+
+-- the marks tell which groups a row without a name in the column matches
+pub group_is : (feed : FeedRows) (column : TransferRuleRow → Option LegGroupId) (named : List Bool) →
+    ((group : LegGroupId) → is_marked named group.0 ≡ is_listed_group feed column group)
+    → (o : Option LegGroupId) (group : LegGroupId) → group_fits named o group ≡ group_matches feed column o group
+unfolding group_matches
+group_is feed column named marks (Some own) group = refl
+group_is feed column named marks None group = ap not (marks group)
+
+-- a row of the class of a group matches it
+fits_class : (named : List Bool) (o : Option LegGroupId) (group : LegGroupId)
+    → (field_class o == class_of named group.0) ≡ true → group_fits named o group ≡ true
+fits_class named o group e = by o (is_marked named group.0) refl e
+  where
+    by : (o : Option LegGroupId) (b : Bool) → is_marked named group.0 ≡ b →
+        (field_class o == (if b then group.0 + 1 else 0)) ≡ true → group_fits named o group ≡ true
+    by None true marked e = absurd (let no : (0 == group.0 + 1) ≡ true = e in grind (arith, nat_tests, no))
+    by None false marked e = rw marked refl
+    by (Some own) true marked e = let same : (own.0 + 1 == group.0 + 1) ≡ true = e in grind (arith, nat_tests, same)
+    by (Some own) false marked e = absurd (let no : (own.0 + 1 == 0) ≡ true = e in grind (arith, nat_tests, no))
+
+-- so the class of a row of the feed says which groups it matches
+pub class_is : (feed : FeedRows) (column : TransferRuleRow → Option LegGroupId) (named : List Bool) →
+    ((group : LegGroupId) → is_marked named group.0 ≡ is_listed_group feed column group)
+    → (i : ℕ) (row : TransferRuleRow) → slice_get feed.transfer_rules i ≡ Some row → (group : LegGroupId)
+    → (field_class (column row) == class_of named group.0) ≡ group_matches feed column (column row) group
+class_is feed column named marks i row at group =
+    same_test _ _ (fits_class named (column row) group) (class_fits feed column named marks i row at group)
+    ∙ group_is feed column named marks (column row) group

@@ -2,3 +2,4 @@ pub mod MarkLaws
 pub mod ClassLaws
 pub mod CountLaws
 pub mod RowLaws
+pub mod PairLaws

@@ -24,7 +24,7 @@ use Rattle.fare_transfer_rules.specs.Counts.{is_within}
 use Rattle.fare_transfer_rules.specs.Fits.{group_fits, fits, fits_at, not_above, not_above_at, is_chosen, is_chosen_at, chosen_among, rows_for, AreLeast}
 use Rattle.fare_transfer_rules.specs.BuiltTransferRules.{AreXferRulesOf}
 use Rattle.fare_transfer_rules.proofs.MarkLaws.{marked_names}
-use Rattle.fare_transfer_rules.proofs.ClassLaws.{rows_of, class_fits}
+use Rattle.fare_transfer_rules.proofs.ClassLaws.{rows_of, class_fits, group_is}
 
 -- what passes a second test of what passes a first one
 filter_picks : {X Y : Type 0} (p : X → Bool) (g : X → Y) (n : ℕ) (test : ℕ → Bool) (f : ℕ → X)
@@ -41,17 +41,10 @@ filter_picks {X} {Y} p g (suc n) test f =
     last false c is = refl
 
 module _ (feed : FeedRows) (rules : XferRules) (are : AreXferRulesOf feed rules) (change : TransferFacts) where
-  group_is : (column : TransferRuleRow → Option LegGroupId) (named : List Bool)
-      → ((group : LegGroupId) → is_marked named group.0 ≡ is_listed_group feed column group)
-      → (o : Option LegGroupId) (group : LegGroupId) → group_fits named o group ≡ group_matches feed column o group
-  unfolding group_matches
-  group_is column named marks (Some own) group = refl
-  group_is column named marks None group = ap not (marks group)
-
   fits_is : (row : TransferRuleRow) → fits rules change row ≡ suffices feed (asked_change change) row
   unfolding fits suffices is_candidate
   fits_is row =
-      rw (group_is (λ r. r.from) rules.froms.items are.froms row.from change.from, group_is (λ r. r.to) rules.tos.items are.tos row.to change.to)
+      rw (group_is feed (λ r. r.from) rules.froms.items are.froms row.from change.from, group_is feed (λ r. r.to) rules.tos.items are.tos row.to change.to)
       (turned (group_matches feed (λ r. r.from) row.from change.from) (group_matches feed (λ r. r.to) row.to change.to) _ _)
     where
       turned : (a b c d : Bool) → (a && b && c && d) ≡ ((a && b && c) && d)

@@ -53,10 +53,13 @@ abbrev pub chosen_among : XferRules → TransferFacts → Option (Option ℕ) �
 chosen_among rules change least among =
     map (λ (r : ClassedRow). r.row) (filter (λ (r : ClassedRow). is_chosen_at rules change least r.row) among)
 
--- the rows of the classes of the two legs' groups
+-- the rows of the classes of the two leg groups
+abbrev pub pair_rows : XferRules → LegGroupId → LegGroupId → List ClassedRow
+pair_rows rules from to =
+    filter (leads_to (class_of rules.tos.items to.0)) (rows_at rules.by_from (class_of rules.froms.items from.0))
+
 abbrev pub rows_for : XferRules → TransferFacts → List ClassedRow
-rows_for rules change =
-    filter (leads_to (class_of rules.tos.items change.to.0)) (rows_at rules.by_from (class_of rules.froms.items change.from.0))
+rows_for rules change = pair_rows rules change.from change.to
 
 -- the least count among these rows: no count is above it that none of these rows that fit is below, and there is one
 -- exactly where one of them fits

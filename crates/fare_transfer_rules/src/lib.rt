@@ -3,18 +3,19 @@
 
 ghost use Rattle.std.specs.Prelude.{◌≡◌, Option, ℕ, ◌&&◌, ◌||◌, ◌++◌, is_some, IfOk, OnOk};
 ghost use Rattle.feed_rows.specs.FeedRows.{FeedRows};
-ghost use Rattle.feed_rows.specs.TransferRules.{is_selected_transfer, is_arranged, selected_transfers, limit_holds, elapsed, counted_from, counted_to};
+ghost use Rattle.feed_rows.specs.TransferRules.{group_matches, is_selected_transfer, is_arranged, selected_transfers, limit_holds, elapsed, counted_from, counted_to};
 ghost use Rattle.plain_laws.specs.Plain.{at_and, empty_or};
-ghost use Rattle.fare_transfer_rules.specs.BuiltTransferRules.{AreXferRulesOf};
+ghost use Rattle.fare_transfer_rules.specs.BuiltTransferRules.{AreXferRulesOf, AreRowsBetween, AreRowsFrom};
 ghost use Rattle.fare_transfer_rules.specs.Counts.{is_within};
-ghost use Rattle.fare_transfer_rules.specs.Fits.{group_fits, count_fits, fits, fits_at, not_above_at, is_chosen_at, chosen_among, rows_for, AreLeast};
+ghost use Rattle.fare_transfer_rules.specs.Fits.{group_fits, count_fits, fits, fits_at, not_above_at, is_chosen_at, chosen_among, pair_rows, rows_for, AreLeast};
 
 mod counts;
 mod groups;
 mod marks;
 
-use crate::counts::{is_within, lesser};
-use crate::groups::{ClassedRow, class_of, rows_by_from, rows_to};
+pub use crate::counts::{is_within, lesser};
+pub use crate::groups::ClassedRow;
+use crate::groups::{class_of, rows_by_from, rows_to};
 use crate::marks::{Column, is_marked, marked};
 use feed_rows::{Feed, Limit, TransferFacts, TransferRuleRow, XferList};
 use plain_laws::Groups;
@@ -110,13 +111,49 @@ impl XferRules {
         self.least_count(change, self.rows_for(change)).is_some()
     }
 
+    /// The rows for changes from the one leg group to the other, in file order. They are found by two searches.
+    pub fn rows_between(&self, from: LegGroupId, to: LegGroupId) -> &[ClassedRow]
+        ensures { (feed : FeedRows) → AreXferRulesOf feed self.now → AreRowsBetween feed from to result.now }
+    {
+        self.pair_rows(from, to)
+    }
+
+    /// The rows for changes from the leg group, whatever they lead to.
+    pub fn rows_from(&self, group: LegGroupId) -> &[ClassedRow]
+        ensures { (feed : FeedRows) → AreXferRulesOf feed self.now → AreRowsFrom feed group result.now }
+    {
+        let class = class_of(&self.froms, group.0);
+        self.by_from.get(class as usize)
+    }
+
+    /// Whether a row with this in the column `from_leg_group_id` is for changes from the leg group.
+    pub fn matches_from(&self, field: Option<LegGroupId>, group: LegGroupId) -> bool
+        ensures { (feed : FeedRows) → AreXferRulesOf feed self.now → result ≡ group_matches feed (λ r. r.from) field group }
+    {
+        group_fits(&self.froms, field, group)
+    }
+
+    /// Whether a row with this in the column `to_leg_group_id` is for changes to the leg group.
+    pub fn matches_to(&self, field: Option<LegGroupId>, group: LegGroupId) -> bool
+        ensures { (feed : FeedRows) → AreXferRulesOf feed self.now → result ≡ group_matches feed (λ r. r.to) field group }
+    {
+        group_fits(&self.tos, field, group)
+    }
+
     /// The rows that may match both legs of the change, in file order.
     fn rows_for(&self, change: &TransferFacts) -> &[ClassedRow]
         ensures { (feed : FeedRows) → AreXferRulesOf feed self.now → result.now ≡ rows_for self.now change.now }
     {
-        let from = class_of(&self.froms, change.from.0);
-        let to = class_of(&self.tos, change.to.0);
-        rows_to(self.by_from.get(from as usize), to)
+        self.pair_rows(change.from, change.to)
+    }
+
+    /// The rows of the classes of the two leg groups, in file order.
+    fn pair_rows(&self, from: LegGroupId, to: LegGroupId) -> &[ClassedRow]
+        ensures { (feed : FeedRows) → AreXferRulesOf feed self.now → result.now ≡ pair_rows self.now from to }
+    {
+        let from_class = class_of(&self.froms, from.0);
+        let to_class = class_of(&self.tos, to.0);
+        rows_to(self.by_from.get(from_class as usize), to_class)
     }
 
     /// Of the rows among these that are candidates and whose count is at least the change's, the least count; none where
