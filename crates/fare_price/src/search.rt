@@ -10,11 +10,12 @@ ghost use Rattle.fare_price.specs.Ways.{is_as_good, first_way, next_way, ways_by
 
 use crate::Priced;
 use crate::fares::{Fares, RiderFares};
-use crate::known::{KeptOffers, KnownOffers, offers_at};
+use crate::known::{KnownOffers, offers_at};
 use crate::offers::{ChangeOffer, LegOffer};
 use crate::stands::Stand;
 use crate::ways::{Way, Ways};
 use feed_rows::{ChangeChoices, Choice, LegChoices, LegFacts};
+use leg_kinds::KindTable;
 use std::alloc::{AllocError, Global};
 use transit_base::{Money, RiderId, XferId};
 
@@ -64,7 +65,7 @@ impl<'s, 'f> RiderFares<'s, 'f> {
         alloc: Global,
         legs: &[LegFacts],
         numbers: &[usize],
-        kept: &[KeptOffers],
+        kept: &KindTable<LegOffer>,
     ) -> Result<Option<Priced>, AllocError>
         requires few { length legs.now ≤ 12 }
         requires kept { AreKept (known_of self.now kept.now) legs.now numbers.now }
@@ -93,7 +94,7 @@ impl<'s, 'f> RiderFares<'s, 'f> {
         alloc: Global,
         legs: &[LegFacts],
         numbers: &[usize],
-        kept: &[KeptOffers],
+        kept: &KindTable<LegOffer>,
         steps: &mut Vec<Way>,
     ) -> Result<Ways, AllocError>
         requires some { 0 < length legs.now }

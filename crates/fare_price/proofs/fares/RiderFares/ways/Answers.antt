@@ -5,7 +5,7 @@ use Rattle.fare_price.specs.declared.offers.LegOffer.{LegOffer}
 use Rattle.fare_price.specs.Known.{known_of}
 use Rattle.fare_price.specs.Stands.{IsLow}
 use Rattle.fare_price.specs.Ways.{AreWaysOf}
-use Rattle.fare_price.proofs.KnownLaws.{offers_kept, kept_within}
+use Rattle.fare_price.proofs.KnownLaws.{offers_kept}
 use Rattle.fare_price.proofs.LayerLaws.{first_layer-take, first_ways_of, next_layer-take, ways_bounded}
 use Rattle.fare_price.proofs.OfferLaws.{leg_offers-low}
 use Rattle.fare_price.proofs.fares.RiderFares.ways.Goals as goal
@@ -20,15 +20,6 @@ loop-number-init c =
     (slice_get_read c.args.legs.now (length c.args.legs.now) 0 c.index-legs-0.result refl c.requires.some c.index-legs-0.is)
     c.offers_at.ensures)
     c.in_ok-ways.ensures)
-
-pub offers_at-requires-clause-number : goal.offers_at-requires-clause-number
-offers_at-requires-clause-number c =
-    kept_within c.args.self.now c.args.kept.now c.args.legs.now c.args.numbers.now 0 c.index-legs-0.result c.requires.kept c.requires.some
-
-pub offers_at-offers-requires-clause-number : goal.offers_at-offers-requires-clause-number
-offers_at-offers-requires-clause-number c =
-    kept_within c.args.self.now c.args.kept.now c.args.legs.now c.args.numbers.now (c.loop-number.number + 1) c.index-legs-0.result c.requires.kept
-    (omega arith)
 
 pub next_ways-requires-clause-offers : goal.next_ways-requires-clause-offers
 next_ways-requires-clause-offers c =
