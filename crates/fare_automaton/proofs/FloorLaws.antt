@@ -1,6 +1,6 @@
 -- The least of amounts, row by row, and its bounds.
 use Rattle.std.proofs.Common.{◌≡◌, refl, sym, ◌∙◌, ap, ℕ, suc, ◌+◌, ◌<◌, ◌≤◌, ◌^◌, Bool, true, false, List, [], ◌∷◌, ◌++◌, take, get_or, length, arith, cond}
-use Rattle.std.specs.Prelude.{if◌then◌else◌, ℤ, pos, ◌+ℤ◌, nat_abs, int_lt, slice_get, map, fold, All, Option, Some}
+use Rattle.std.specs.Prelude.{if◌then◌else◌, ℤ, pos, ◌+ℤ◌, nat_abs, int_lt, slice_get, map, fold, Option, Some}
 use Rattle.std.specs.Int.{int_min}
 use Rattle.std.proofs.lemmas.Int.{ints}
 use Rattle.std.proofs.Math.Seq.{take-suc}
@@ -15,7 +15,7 @@ use Rattle.feed_rows.specs.FareChoices.{is_open}
 use Rattle.plain_laws.specs.Plain.{filled_and}
 use Rattle.feed_rows.specs.FeedRows.{FeedRows}
 use Rattle.feed_rows.specs.SoundFares.{AreSoundProducts}
-use Rattle.feed_rows.specs.FareFloor.{least_amount, is_for_legs, is_for_changes, fare_floor}
+use Rattle.feed_rows.specs.FareFloor.{least_amount, is_for_legs, fare_floor}
 use Rattle.plain_laws.proofs.Laws.{All-slice_get}
 
 -- the least of the first rows, with one more

@@ -1,5 +1,5 @@
 -- What is judged of a leg part by part.
-use Rattle.std.proofs.Common.{◌≡◌, refl, ◌∙◌, sym, Bool, ◌&&◌}
+use Rattle.std.proofs.Common.{◌≡◌, refl, Bool, ◌&&◌}
 use Rattle.std.specs.Prelude.{Option, Some, None, slice_get}
 use Rattle.transit_base.specs.declared.numbers.RiderId.{RiderId}
 use Rattle.feed_rows.specs.declared.fares.LegChoice.{LegChoice}

@@ -1,29 +1,30 @@
 -- What can be paid for a leg, and what may fill the place of a change: the lists that are made row by row are exactly that.
 use Rattle.std.proofs.Common.{◌≡◌, ◌≢◌, refl, sym, ◌∙◌, ap, subst, ℕ, zero, suc, ◌+◌, ◌<◌, Bool, true, false, not, ◌&&◌, List, [], ◌∷◌, ◌++◌, length, append_assoc, arith}
-use Rattle.std.specs.Prelude.{if◌then◌else◌, Option, Some, None, option_map, slice_get, slice_index_or, All, AllPairs, Contains}
+use Rattle.std.specs.Prelude.{if◌then◌else◌, Option, Some, None, option_map, slice_get, slice_index_or, map, flat_map, AllPairs, Contains}
 use Rattle.std.specs.Option.{option_map_or}
-use Rattle.std.specs.List.{list_any}
 use Rattle.std.proofs.lemmas.Bool.{and_parts}
-use Rattle.std.proofs.lemmas.Option.{same_Some, none-some, slice_get_within}
+use Rattle.std.proofs.lemmas.Option.{slice_get_within}
 use Rattle.std.proofs.lemmas.List.{append-nil}
 use Rattle.transit_base.specs.declared.numbers.ProductId.{ProductId}
 use Rattle.transit_base.specs.declared.numbers.ProductRowId.{ProductRowId}
 use Rattle.transit_base.specs.declared.numbers.RiderId.{RiderId}
+use Rattle.transit_base.specs.declared.numbers.RuleId.{RuleId}
+use Rattle.transit_base.specs.declared.numbers.XferId.{XferId}
 use Rattle.feed_rows.specs.declared.fares.ChangeChoice.{ChangeChoice}
 use Rattle.feed_rows.specs.declared.fares.LegChoice.{LegChoice}
 use Rattle.feed_rows.specs.declared.journeys.LegFacts.{LegFacts}
 use Rattle.feed_rows.specs.declared.rows.LegRuleRow.{LegRuleRow}
-use Rattle.feed_rows.specs.declared.rows.ProductRow.{ProductRow}
 use Rattle.feed_rows.specs.declared.rows.TransferRuleRow.{TransferRuleRow}
 use Rattle.feed_rows.specs.FeedRows.{FeedRows}
-use Rattle.feed_rows.specs.LegRules.{is_selected_rule}
+use Rattle.feed_rows.specs.LegRules.{is_selected_rule, selected_rules}
 use Rattle.feed_rows.specs.TransferRules.{AskedChange, is_selected}
-use Rattle.feed_rows.specs.FareChoices.{is_open, is_leg_choice, is_change_product}
+use Rattle.feed_rows.specs.FareChoices.{is_open, open_rows, is_leg_choice, is_change_product}
 use Rattle.feed_rows.specs.FareSteps.{is_arranged_after, is_row_after, is_place_after}
 use Rattle.plain_laws.specs.Plain.{at_and, filled_and, joined_below}
-use Rattle.plain_laws.proofs.Laws.{Contains-joined_below, joined_below-tells, AllPairs-joined_below, All-from, filled_and-true, list_any-place}
-use Rattle.fare_automaton.specs.Options.{ArePicks, pick_of, is_row_of, pick_if, rule_picks, picks_if, ArePlaces, place_of, place_if, product_places, row_places, place_list}
+use Rattle.plain_laws.proofs.Laws.{Contains-joined_below, joined_below-tells, AllPairs-joined_below, joined_below-same, joined_below-none, joined_below-picks, All-from, filled_and-true, list_any-place}
+use Rattle.fare_automaton.specs.Options.{ArePicks, pick_of, is_row_of, pick_if, rule_picks, picks_if, ArePlaces, place_of, place_if, product_places, row_places, chosen_places, place_list}
 use Rattle.fare_automaton.proofs.JudgeLaws.{leg_choice_parts}
+use Rattle.fare_automaton.proofs.PickedLaws.{flat_map-picks, map-picks}
 
 -- ---- lists
 
@@ -279,11 +280,6 @@ module _ (feed : FeedRows) (rider : Option RiderId) (change : AskedChange) where
       by None = λ i j d lt lt'. absurd (omega (arith, lt'))
       by (Some row) = pairs_if (λ (a b : Option ChangeChoice). a ≢ b) (is_selected feed change row) (product_places feed rider rule row.product) (product_once rule row.product)
 
-  -- past the rows there is none
-  pub row_places-past : (rule : ℕ) (before : List (Option ChangeChoice)) → slice_get feed.transfer_rules rule ≡ None →
-      before ≡ before ++ row_places feed rider change rule
-  row_places-past rule before none = rw none (sym (append-nil before))
-
   -- the places that are listed are exactly those of an arranged change
   pub places_arranged : (places : List (Option ChangeChoice)) → true ≡ is_arranged_after feed change →
       places ≡ joined_below (length feed.transfer_rules) (row_places feed rider change) → ArePlaces feed rider (Some change) places
@@ -309,6 +305,49 @@ module _ (feed : FeedRows) (rider : Option RiderId) (change : AskedChange) where
       has None holds = absurd (let no : not true ≡ true = ap not arranged ∙ holds in cc)
       has (Some pick) holds =
           Contains-joined_below (length feed.transfer_rules) (row_places feed rider change) pick.rule.0 (Some pick) (within pick holds) (row_has pick holds)
+
+-- ---- lists that are made row by row
+
+-- the rules that a leg selects give what can be paid for it
+pub picks_are : (feed : FeedRows) (rider : Option RiderId) (leg : LegFacts) →
+    flat_map (λ (rule : RuleId). rule_picks feed rider rule.0) (selected_rules feed leg) ≡ joined_below (length feed.leg_rules) (picks_if feed rider leg)
+picks_are feed rider leg =
+    flat_map-picks (length feed.leg_rules) (λ i. at_and feed.leg_rules i (is_selected_rule feed leg)) (λ i. record { 0 = i })
+    (λ (rule : RuleId). rule_picks feed rider rule.0) (picks_if feed rider leg) (λ i. refl)
+
+-- the open rows of a rule's product give its choices
+pub rule_picks-rows : (feed : FeedRows) (rider : Option RiderId) (rule : RuleId) (row : LegRuleRow) → slice_get feed.leg_rules rule.0 ≡ Some row →
+    map (λ (priced : ProductRowId). pick_of rule.0 priced.0) (open_rows feed row.product rider) ≡ rule_picks feed rider rule.0
+unfolding rule_picks
+rule_picks-rows feed rider rule row is =
+    map-picks (length feed.products) (λ i. at_and feed.products i (is_open row.product rider)) (λ i. record { 0 = i }) (λ (priced : ProductRowId). pick_of rule.0 priced.0)
+    ∙ sym (joined_below-picks (length feed.products) (λ i. at_and feed.products i (is_open row.product rider)) (pick_of rule.0))
+    ∙ joined_below-same (length feed.products) _ (pick_if feed rider rule.0) (λ i lt. by i (slice_get feed.leg_rules rule.0) is)
+  where
+    by : (i : ℕ) (o : Option LegRuleRow) → o ≡ Some row →
+        (if at_and feed.products i (is_open row.product rider) then pick_of rule.0 i ∷ [] else [])
+        ≡ (if filled_and o (λ r. at_and feed.products i (is_open r.product rider)) then pick_of rule.0 i ∷ [] else [])
+    by i o e = rw e refl
+
+-- past the rules there is nothing to add
+pub rule_picks-past : (feed : FeedRows) (rider : Option RiderId) (rule : RuleId) (before : List LegChoice) → slice_get feed.leg_rules rule.0 ≡ None →
+    before ≡ before ++ rule_picks feed rider rule.0
+unfolding rule_picks
+rule_picks-past feed rider rule before none =
+    sym (ap (λ xs. before ++ xs) (joined_below-none (length feed.products) (pick_if feed rider rule.0) (λ i lt. rw none refl)) ∙ append-nil before)
+
+pub chosen_places-past : (feed : FeedRows) (rider : Option RiderId) (change : AskedChange) (least : Option (Option ℕ)) (rule : XferId)
+    (before : List (Option ChangeChoice)) → slice_get feed.transfer_rules rule.0 ≡ None → before ≡ before ++ chosen_places feed rider change least rule
+chosen_places-past feed rider change least rule before none = rw none (sym (append-nil before))
+
+-- the open rows of a product give the places by a transfer row with it
+pub product_places-rows : (feed : FeedRows) (rider : Option RiderId) (rule : XferId) (product : ProductId) →
+    map (λ (priced : ProductRowId). place_of rule.0 (Some priced.0)) (open_rows feed product rider) ≡ product_places feed rider rule.0 (Some product)
+unfolding product_places
+product_places-rows feed rider rule product =
+    map-picks (length feed.products) (λ i. at_and feed.products i (is_open product rider)) (λ i. record { 0 = i })
+    (λ (priced : ProductRowId). place_of rule.0 (Some priced.0))
+    ∙ sym (joined_below-picks (length feed.products) (λ i. at_and feed.products i (is_open product rider)) (λ i. place_of rule.0 (Some i)))
 
 -- ---- the list of places
 

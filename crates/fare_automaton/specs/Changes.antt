@@ -2,7 +2,6 @@
 use Rattle.std.specs.Prelude.{Bool, ◌&&◌, if◌then◌else◌, ℕ, ◌≤◌, ◌^◌, ℤ, pos, nat_abs}
 use Rattle.std.specs.Option.{is_some, unwrap_or}
 use Rattle.feed_rows.specs.declared.fares.TransferFacts.{TransferFacts}
-use Rattle.feed_rows.specs.declared.rows.Limit.{Limit}
 use Rattle.feed_rows.specs.TransferRules.{FareLeg, AskedChange, limit_holds}
 use Rattle.feed_rows.specs.FareStates.{counts_from_departure}
 use Rattle.fare_automaton.specs.declared.changes.Change.{Change}

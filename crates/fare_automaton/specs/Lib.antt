@@ -2,3 +2,5 @@ pub mod Terms
 pub mod Changes
 pub mod Options
 pub mod Steps
+pub mod Compiled
+pub mod Known

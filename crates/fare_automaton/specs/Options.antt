@@ -1,12 +1,12 @@
 -- What can be paid for a leg, and what may fill the place of a change: all that there is, in the order of the rows.
-use Rattle.std.specs.Prelude.{◌≡◌, ◌≢◌, ℕ, Bool, true, false, if◌then◌else◌, List, [], ◌∷◌, length, map, slice_get, All, AllPairs, Contains, Option, Some, None, ℤ}
+use Rattle.std.specs.Prelude.{◌≡◌, ◌≢◌, ℕ, Bool, true, if◌then◌else◌, List, [], ◌∷◌, length, map, slice_get, All, AllPairs, Contains, Option, Some, None, ℤ}
 use Rattle.std.specs.Option.{option_map_or}
 use Rattle.transit_base.specs.declared.numbers.ProductId.{ProductId}
 use Rattle.transit_base.specs.declared.numbers.RiderId.{RiderId}
+use Rattle.transit_base.specs.declared.numbers.XferId.{XferId}
 use Rattle.feed_rows.specs.declared.fares.ChangeChoice.{ChangeChoice}
 use Rattle.feed_rows.specs.declared.fares.LegChoice.{LegChoice}
 use Rattle.feed_rows.specs.declared.journeys.LegFacts.{LegFacts}
-use Rattle.feed_rows.specs.declared.rows.TransferRuleRow.{TransferRuleRow}
 use Rattle.feed_rows.specs.declared.states.FareState.{FareState}
 use Rattle.feed_rows.specs.declared.states.Move.{Move}
 use Rattle.feed_rows.specs.FeedRows.{FeedRows}
@@ -16,6 +16,7 @@ use Rattle.feed_rows.specs.FareChoices.{is_open, chosen_leg, is_leg_choice}
 use Rattle.feed_rows.specs.FareSteps.{asked_after, is_arranged_after, is_place_after, first_move, next_move}
 use Rattle.plain_laws.specs.Plain.{at_and, joined_below}
 use Rattle.fare_laws.specs.BareMoves.{bare}
+use Rattle.fare_automaton.specs.Compiled.{is_chosen}
 
 -- ---- legs
 
@@ -72,6 +73,12 @@ abbrev pub row_places : FeedRows → Option RiderId → AskedChange → ℕ → 
 row_places feed rider change rule =
     option_map_or (λ row. if is_selected feed change row then product_places feed rider rule row.product else [])
     (slice_get feed.transfer_rules rule) []
+
+-- the places by the transfer row with this number, where it suits and has the least count
+abbrev pub chosen_places : FeedRows → Option RiderId → AskedChange → Option (Option ℕ) → XferId → List (Option ChangeChoice)
+chosen_places feed rider change least rule =
+    option_map_or (λ row. if is_chosen change least row then product_places feed rider rule.0 row.product else [])
+    (slice_get feed.transfer_rules rule.0) []
 
 -- what may fill the place of a change: where it isn't arranged, or there is none, nothing
 unfoldable pub place_list : FeedRows → Option RiderId → Option AskedChange → List (Option ChangeChoice)

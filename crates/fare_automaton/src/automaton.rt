@@ -1,23 +1,32 @@
 //! The automaton of a feed and a rider.
 ghost use Rattle.std.specs.Prelude.{◌≡◌, ◌<◌, ◌^◌, length, IfOk};
+ghost use Rattle.feed_rows.specs.FareChoices.{open_rows};
 ghost use Rattle.feed_rows.specs.FareFloor.{fare_floor};
 ghost use Rattle.feed_rows.specs.SoundFeed.{IsSoundFeed};
+ghost use Rattle.fare_automaton.specs.Compiled.{reads_of};
 ghost use Rattle.fare_automaton.specs.Terms.{terms};
 
 use crate::floor::floor_of;
+use crate::opened::open_rows;
+use crate::reads::{GroupReads, reads_of, reads_of_groups};
 use fare_leg_rules::LegRules;
-use fare_products::Products;
+use fare_transfer_rules::XferRules;
 use feed_rows::{Feed, LegRuleRow, ProductRow, TransferRuleRow};
+use plain_laws::Groups;
 use std::alloc::{AllocError, Global};
 use std::marker::Model;
-use transit_base::{Money, RiderId};
+use transit_base::{LegGroupId, Money, ProductId, ProductRowId, RiderId};
 
 /// The fare rules of a feed for one rider, as moves from fare state to fare state. Contracts see it as the feed and the rider.
 pub struct Automaton<'f> {
     feed: &'f Feed,
     pub(crate) rider: Option<RiderId>,
     pub(crate) leg_rules: LegRules,
-    pub(crate) products: Products,
+    pub(crate) transfer_rules: XferRules,
+    /// What transfer rows read of changes from each leg group.
+    reads: Vec<GroupReads>,
+    /// The rows of each product that are open to the rider, in file order.
+    opened: Groups<ProductRowId>,
     floor: Money,
 }
 
@@ -28,16 +37,19 @@ impl<'f> Drop for Automaton<'f> {
             feed: _,
             rider: _,
             leg_rules: _,
-            products: _,
+            transfer_rules: _,
+            reads: _,
+            opened: _,
             floor: _,
         } = self;
     }
 }
 
 impl<'f> Model for Automaton<'f> {
+    ghost use Rattle.fare_automaton.specs.Compiled.{AreOpenRows, AreReads};
     ghost use Rattle.fare_automaton.specs.Terms.{FareTerms, terms};
-    ghost use Rattle.fare_products.specs.BuiltProducts.{AreProductsOf};
     ghost use Rattle.fare_leg_rules.specs.BuiltLegRules.{AreLegRulesOf};
+    ghost use Rattle.fare_transfer_rules.specs.BuiltTransferRules.{AreXferRulesOf};
     ghost use Rattle.std.specs.Prelude.{◌≡◌};
     ghost use Rattle.feed_rows.specs.FareFloor.{fare_floor};
 
@@ -45,7 +57,7 @@ impl<'f> Model for Automaton<'f> {
 
     ghost view = { λ s. terms s.feed.now s.rider };
 
-    ghost invariant = { λ s. AreLegRulesOf s.feed.now s.leg_rules × AreProductsOf s.feed.now s.products × (s.floor.0 ≡ fare_floor s.feed.now s.rider) };
+    ghost invariant = { λ s. AreLegRulesOf s.feed.now s.leg_rules × AreXferRulesOf s.feed.now s.transfer_rules × AreReads s.feed.now s.reads.items × AreOpenRows s.feed.now s.rider s.opened × (s.floor.0 ≡ fare_floor s.feed.now s.rider) };
 }
 
 impl<'f> Automaton<'f> {
@@ -61,13 +73,17 @@ impl<'f> Automaton<'f> {
         ensures { IfOk result (λ automaton. automaton ≡ terms feed.now rider) }
     {
         let leg_rules = LegRules::build(alloc, feed)?;
-        let products = Products::build(alloc, feed)?;
+        let transfer_rules = XferRules::build(alloc, feed)?;
+        let reads = reads_of_groups(alloc, feed, &transfer_rules)?;
+        let opened = open_rows(alloc, feed, rider)?;
         let floor = floor_of(feed, rider);
         Ok(Automaton {
             feed,
             rider,
             leg_rules,
-            products,
+            transfer_rules,
+            reads,
+            opened,
             floor,
         })
     }
@@ -125,5 +141,22 @@ impl<'f> Automaton<'f> {
         // A sound feed has few rows.
         let _sound = self.feed();
         self.feed().products.items()
+    }
+
+    /// The rows of the product that are open to the rider, in file order.
+    pub(crate) fn open_rows(&self, product: ProductId) -> &[ProductRowId]
+        ensures { result.now ≡ open_rows self.now.feed product self.now.rider }
+    {
+        self.opened.get(product.0 as usize)
+    }
+
+    /// What transfer rows read of changes from the leg group.
+    pub(crate) fn reads(&self, group: LegGroupId) -> GroupReads
+        ensures { result ≡ reads_of self.now.feed group }
+    {
+        match self.reads.get(group.0 as usize) {
+            Some(reads) => *reads,
+            None => reads_of(self.feed, &self.transfer_rules, group),
+        }
     }
 }

@@ -1,5 +1,5 @@
 //! The moves from a fare state, and what follows of each.
-ghost use Rattle.std.specs.Prelude.{◌≡◌, ◌≤◌, ◌^◌, ◌+◌, ◌&&◌, nat_abs, option_map, is_none, pos, min, Some};
+ghost use Rattle.std.specs.Prelude.{◌≡◌, ◌<◌, ◌≤◌, ◌^◌, ◌+◌, ◌&&◌, nat_abs, option_map, is_none, pos, min, Some};
 ghost use Rattle.std.specs.Option.{is_some};
 ghost use Rattle.plain_laws.specs.Plain.{filled_and, when};
 ghost use Rattle.feed_rows.specs.TransferRules.{same_group};
@@ -168,12 +168,22 @@ impl<'f> Automaton<'f> {
         self.greatest_count(group).min(count) + 1
     }
 
+    /// The greatest number of changes within the group that a row counts; 0 where none does.
+    fn greatest_count(&self, group: LegGroupId) -> u32
+        ensures value { result ≡ greatest_count self.now.feed group }
+        ensures low { result < 2 ^ 31 }
+    {
+        // The counts of a sound feed are below 2 ^ 31.
+        let _feed = self.feed();
+        self.reads(group).greatest_count
+    }
+
     /// The departure of a run's first leg, where a row from its group reads it.
     fn departure_read(&self, leg: &GroupedLeg) -> Option<Moment>
         ensures { result ≡ when (filled_and leg.now.group (is_clock_read self.now.feed counts_from_departure)) leg.now.departure }
     {
         match leg.group {
-            Some(group) if self.reads_departure(group) => Some(leg.departure),
+            Some(group) if self.reads(group).departure => Some(leg.departure),
             _ => None,
         }
     }
@@ -183,7 +193,7 @@ impl<'f> Automaton<'f> {
         ensures { result ≡ when (filled_and leg.now.group (is_clock_read self.now.feed counts_from_arrival)) leg.now.arrival }
     {
         match leg.group {
-            Some(group) if self.reads_arrival(group) => Some(leg.arrival),
+            Some(group) if self.reads(group).arrival => Some(leg.arrival),
             _ => None,
         }
     }

@@ -1,13 +1,18 @@
 //! What can be paid for a leg, and what may fill the place of a change.
-ghost use Rattle.std.specs.Prelude.{◌≡◌, ◌++◌, [], if◌then◌else◌, length, option_map, IfOk, OnOk, Some};
-ghost use Rattle.plain_laws.specs.Plain.{joined_below};
-ghost use Rattle.feed_rows.specs.TransferRules.{is_selected};
+ghost use Rattle.std.specs.Prelude.{◌≡◌, ◌++◌, [], if◌then◌else◌, flat_map, map, option_map, IfOk, OnOk, Some};
+ghost use Rattle.transit_base.specs.declared.numbers.ProductRowId.{ProductRowId};
+ghost use Rattle.transit_base.specs.declared.numbers.RuleId.{RuleId};
+ghost use Rattle.fare_transfer_rules.specs.declared.groups.ClassedRow.{ClassedRow};
+ghost use Rattle.feed_rows.specs.LegRules.{selected_rules};
 ghost use Rattle.fare_automaton.specs.Changes.{asked_of};
-ghost use Rattle.fare_automaton.specs.Options.{ArePicks, pick_if, picks_if, rule_picks, place_if, product_places, row_places, place_list};
+ghost use Rattle.fare_automaton.specs.Compiled.{is_chosen};
+ghost use Rattle.fare_automaton.specs.Options.{ArePicks, pick_of, rule_picks, place_of, product_places, chosen_places, place_list};
 
 use crate::automaton::Automaton;
 use crate::changes::Change;
-use feed_rows::{ChangeChoice, LegChoice, LegFacts, TransferRuleRow};
+use crate::rows::is_chosen;
+use fare_transfer_rules::ClassedRow;
+use feed_rows::{ChangeChoice, LegChoice, LegFacts, RuleList, TransferRuleRow};
 use std::alloc::{AllocError, Global};
 use transit_base::{ProductId, ProductRowId, RuleId, XferId};
 
@@ -20,60 +25,37 @@ impl<'f> Automaton<'f> {
     pub fn options(&self, alloc: Global, leg: &LegFacts) -> Result<Vec<LegChoice>, AllocError>
         ensures { IfOk result (λ picks. ArePicks self.now.feed self.now.rider leg.now picks.items) }
     {
+        let rules = self.selected_rules(alloc, leg)?;
         let mut picks = Vec::new(alloc);
-        self.push_picks(leg, &mut picks)?;
+        self.push_picks(rules.items(), &mut picks)?;
         Ok(picks)
     }
 
-    /// Adds the same.
-    fn push_picks(&self, leg: &LegFacts, picks: &mut Vec<LegChoice>) -> Result<(), AllocError>
-        ensures { OnOk result (picks.new.items ≡ picks.old.items ++ joined_below (length self.now.feed.leg_rules) (picks_if self.now.feed self.now.rider leg.now)) }
+    /// The rules that the leg selects, in file order.
+    fn selected_rules(&self, alloc: Global, leg: &LegFacts) -> Result<RuleList, AllocError>
+        ensures { IfOk result (λ rules. rules ≡ selected_rules self.now.feed leg.now) }
     {
-        for rule in 0..self.leg_rows().len() {
-            self.push_picks_of(leg, RuleId(rule as u32), picks)?;
-        }
-        Ok(())
+        self.leg_rules.selected(alloc, leg)
     }
 
-    /// Adds what can be paid for the leg by the rule.
-    fn push_picks_of(
-        &self,
-        leg: &LegFacts,
-        rule: RuleId,
-        picks: &mut Vec<LegChoice>,
-    ) -> Result<(), AllocError>
-        ensures { OnOk result (picks.new.items ≡ picks.old.items ++ picks_if self.now.feed self.now.rider leg.now rule.0) }
+    /// Adds each of the rules with each open row of its product.
+    fn push_picks(&self, rules: &[RuleId], picks: &mut Vec<LegChoice>) -> Result<(), AllocError>
+        ensures { OnOk result (picks.new.items ≡ picks.old.items ++ flat_map (λ (rule : RuleId). rule_picks self.now.feed self.now.rider rule.0) rules.now) }
     {
-        if self.selects_rule(leg, rule) {
-            self.push_rows(rule, picks)?;
+        for rule in rules {
+            self.push_rule(*rule, picks)?;
         }
         Ok(())
     }
 
     /// Adds the rule with each open row of its product.
-    #[tactic(auto, unfolding(crate::specs::Options::rule_picks))]
-    fn push_rows(&self, rule: RuleId, picks: &mut Vec<LegChoice>) -> Result<(), AllocError>
+    fn push_rule(&self, rule: RuleId, picks: &mut Vec<LegChoice>) -> Result<(), AllocError>
         ensures { OnOk result (picks.new.items ≡ picks.old.items ++ rule_picks self.now.feed self.now.rider rule.0) }
     {
-        for row in 0..self.product_rows().len() {
-            self.push_row(rule, ProductRowId(row as u32), picks)?;
+        match self.leg_rows().get(rule.0 as usize) {
+            Some(own) => push_rows(rule, self.open_rows(own.product), picks),
+            None => Ok(()),
         }
-        Ok(())
-    }
-
-    /// Adds the rule with the row, where that is an open row of its product.
-    fn push_row(
-        &self,
-        rule: RuleId,
-        row: ProductRowId,
-        picks: &mut Vec<LegChoice>,
-    ) -> Result<(), AllocError>
-        ensures { OnOk result (picks.new.items ≡ picks.old.items ++ pick_if self.now.feed self.now.rider rule.0 row.0) }
-    {
-        if self.is_row_of_rule(rule, row) {
-            picks.push(LegChoice { rule, product: row })?;
-        }
-        Ok(())
     }
 
     /// Replaces what `places` holds by what may fill the place of the change: each selected row with each open row of its
@@ -100,7 +82,6 @@ impl<'f> Automaton<'f> {
     }
 
     /// Adds what may fill the place of the change.
-    #[tactic(auto, unfolding(crate::specs::Options::place_list))]
     fn add_places(
         &self,
         change: &Change,
@@ -108,54 +89,60 @@ impl<'f> Automaton<'f> {
     ) -> Result<(), AllocError>
         ensures { OnOk result (places.new.items ≡ places.old.items ++ place_list self.now.feed self.now.rider (Some (asked_of change.now))) }
     {
-        if self.is_arranged(change) {
-            self.push_places(change, places)
+        let among = self.rows_between(change);
+        let least = self.least_count(change, among);
+        if least.is_some() {
+            self.push_places(change, least, among, places)
         } else {
             places.push(None)?;
             Ok(())
         }
     }
 
-    /// Adds each row that is selected for the change, with each open row of its product.
+    /// Adds those of the rows that are chosen where this is the least count, each with each open row of its product.
     fn push_places(
         &self,
         change: &Change,
+        least: Option<Option<u32>>,
+        among: &[ClassedRow],
         places: &mut Vec<Option<ChangeChoice>>,
     ) -> Result<(), AllocError>
-        ensures { OnOk result (places.new.items ≡ places.old.items ++ joined_below (length self.now.feed.transfer_rules) (row_places self.now.feed self.now.rider (asked_of change.now))) }
+        ensures { OnOk result (places.new.items ≡ places.old.items ++ flat_map (λ (r : ClassedRow). chosen_places self.now.feed self.now.rider (asked_of change.now) least r.row) among.now) }
     {
-        for rule in 0..self.transfer_rows().len() {
-            self.push_places_of(change, XferId(rule as u32), places)?;
+        for classed in among {
+            self.push_chosen(change, least, classed.row, places)?;
         }
         Ok(())
     }
 
-    /// Adds the row with each open row of its product, where it is selected.
-    fn push_places_of(
+    /// Adds the row with each open row of its product, where it is chosen.
+    fn push_chosen(
         &self,
         change: &Change,
+        least: Option<Option<u32>>,
         rule: XferId,
         places: &mut Vec<Option<ChangeChoice>>,
     ) -> Result<(), AllocError>
-        ensures { OnOk result (places.new.items ≡ places.old.items ++ row_places self.now.feed self.now.rider (asked_of change.now) rule.0) }
+        ensures { OnOk result (places.new.items ≡ places.old.items ++ chosen_places self.now.feed self.now.rider (asked_of change.now) least rule) }
     {
         match self.transfer_rows().get(rule.0 as usize) {
-            Some(row) => self.push_selected(change, rule, row, places),
+            Some(row) => self.push_row(change, least, rule, row, places),
             None => Ok(()),
         }
     }
 
-    /// Adds the row with each open row of its product, where it is selected.
-    fn push_selected(
+    /// Adds the row with this number with each open row of its product, where it is chosen.
+    fn push_row(
         &self,
         change: &Change,
+        least: Option<Option<u32>>,
         rule: XferId,
         row: &TransferRuleRow,
         places: &mut Vec<Option<ChangeChoice>>,
     ) -> Result<(), AllocError>
-        ensures { OnOk result (places.new.items ≡ places.old.items ++ (if is_selected self.now.feed (asked_of change.now) row.now then product_places self.now.feed self.now.rider rule.0 row.now.product else [])) }
+        ensures { OnOk result (places.new.items ≡ places.old.items ++ (if is_chosen (asked_of change.now) least row.now then product_places self.now.feed self.now.rider rule.0 row.now.product else [])) }
     {
-        if self.selects(change, row) {
+        if is_chosen(change, least, row) {
             self.push_product(rule, row.product, places)
         } else {
             Ok(())
@@ -173,7 +160,7 @@ impl<'f> Automaton<'f> {
         ensures { OnOk result (places.new.items ≡ places.old.items ++ product_places self.now.feed self.now.rider rule.0 product) }
     {
         match product {
-            Some(own) => self.push_product_rows(rule, own, places),
+            Some(own) => push_product_rows(rule, self.open_rows(own), places),
             None => {
                 places.push(Some(ChangeChoice {
                     rule,
@@ -183,38 +170,38 @@ impl<'f> Automaton<'f> {
             }
         }
     }
+}
 
-    /// Adds the row with each open row of the product.
-    fn push_product_rows(
-        &self,
-        rule: XferId,
-        product: ProductId,
-        places: &mut Vec<Option<ChangeChoice>>,
-    ) -> Result<(), AllocError>
-        ensures { OnOk result (places.new.items ≡ places.old.items ++ joined_below (length self.now.feed.products) (place_if self.now.feed self.now.rider rule.0 product)) }
-    {
-        for row in 0..self.product_rows().len() {
-            self.push_product_row(rule, product, ProductRowId(row as u32), places)?;
-        }
-        Ok(())
+/// Adds the rule with each of the rows.
+fn push_rows(
+    rule: RuleId,
+    rows: &[ProductRowId],
+    picks: &mut Vec<LegChoice>,
+) -> Result<(), AllocError>
+    ensures { OnOk result (picks.new.items ≡ picks.old.items ++ map (λ (row : ProductRowId). pick_of rule.0 row.0) rows.now) }
+{
+    for row in rows {
+        picks.push(LegChoice {
+            rule,
+            product: *row,
+        })?;
     }
+    Ok(())
+}
 
-    /// Adds the row with the product row, where that is an open row of the product.
-    fn push_product_row(
-        &self,
-        rule: XferId,
-        product: ProductId,
-        row: ProductRowId,
-        places: &mut Vec<Option<ChangeChoice>>,
-    ) -> Result<(), AllocError>
-        ensures { OnOk result (places.new.items ≡ places.old.items ++ place_if self.now.feed self.now.rider rule.0 product row.0) }
-    {
-        if self.is_open_row(product, row) {
-            places.push(Some(ChangeChoice {
-                rule,
-                product: Some(row),
-            }))?;
-        }
-        Ok(())
+/// Adds the transfer row with each of the rows.
+fn push_product_rows(
+    rule: XferId,
+    rows: &[ProductRowId],
+    places: &mut Vec<Option<ChangeChoice>>,
+) -> Result<(), AllocError>
+    ensures { OnOk result (places.new.items ≡ places.old.items ++ map (λ (row : ProductRowId). place_of rule.0 (Some row.0)) rows.now) }
+{
+    for row in rows {
+        places.push(Some(ChangeChoice {
+            rule,
+            product: Some(*row),
+        }))?;
     }
+    Ok(())
 }

@@ -1,5 +1,5 @@
 -- The sum of both parts, whose amounts are those of a sound feed.
-use Rattle.std.proofs.Common.{◌≡◌, arith}
+use Rattle.std.proofs.Common.{arith}
 use Rattle.std.specs.Prelude.{◌+ℤ◌}
 use Rattle.std.proofs.lemmas.Int.{ints}
 use Rattle.fare_laws.proofs.MoveLaws.{with_sum}

@@ -1,5 +1,4 @@
 -- One row more.
-use Rattle.std.proofs.Common.{◌≡◌}
 use Rattle.std.specs.List.{list_any}
 use Rattle.feed_rows.specs.FareChoices.{is_open}
 use Rattle.fare_automaton.proofs.FloorLaws.{least_row}

@@ -1,10 +1,12 @@
 -- The greatest count of a sound feed is low.
-use Rattle.std.proofs.Common.{◌≡◌, ◌<◌, ◌≤◌, arith}
+use Rattle.std.proofs.Common.{◌≡◌, ap, arith}
+use Rattle.feed_rows.specs.FareStates.{greatest_count}
+use Rattle.fare_automaton.specs.declared.reads.GroupReads.{GroupReads}
 use Rattle.fare_laws.proofs.MoveLaws.{greatest_count-low}
 use Rattle.fare_automaton.proofs.automaton.Automaton.greatest_count.Goals as goal
 
 pub returns-clause-low : goal.returns-clause-low
 returns-clause-low c =
     let known = greatest_count-low c.args.self.now.feed c.args.group c.feed-feed.ensures.sound.transfer_rules in
-    let is = c.greatest_of_rows.ensures in
+    let is : c.reads.result.greatest_count ≡ greatest_count c.args.self.now.feed c.args.group = ap (λ (r : GroupReads). r.greatest_count) c.reads.ensures in
     omega (arith, known, is)

@@ -1,5 +1,5 @@
 -- The choice for a leg, by its two parts.
-use Rattle.std.proofs.Common.{◌≡◌, ◌∙◌, refl, true, false}
+use Rattle.std.proofs.Common.{◌∙◌, refl, true, false}
 use Rattle.feed_rows.specs.FareSteps.{leg_taken}
 use Rattle.fare_automaton.proofs.JudgeLaws.{leg_choice_parts}
 use Rattle.fare_automaton.proofs.automaton.Automaton.is_leg_choice.Goals as goal

@@ -1,13 +1,18 @@
 -- The rules and rows, one after another, are exactly what can be paid.
-use Rattle.std.proofs.Common.{◌≡◌, ◌∙◌, ap, List, ◌++◌, length}
+use Rattle.std.proofs.Common.{◌∙◌, ap, List, ◌++◌}
+use Rattle.std.specs.Prelude.{flat_map}
+use Rattle.transit_base.specs.declared.numbers.RuleId.{RuleId}
 use Rattle.feed_rows.specs.declared.fares.LegChoice.{LegChoice}
-use Rattle.plain_laws.specs.Plain.{joined_below}
-use Rattle.fare_automaton.specs.Options.{picks_if}
-use Rattle.fare_automaton.proofs.OptionLaws.{are_picks}
+use Rattle.fare_automaton.specs.Options.{rule_picks}
+use Rattle.fare_automaton.proofs.OptionLaws.{are_picks, picks_are}
 use Rattle.fare_automaton.proofs.automaton.Automaton.options.Goals as goal
 
 pub returns : goal.returns
 returns c =
-    are_picks c.args.self.now.feed c.args.self.now.rider c.args.leg.now c.push_picks.new.picks.items
+    let feed = c.args.self.now.feed in
+    let rider = c.args.self.now.rider in
+    let of_rules = flat_map (λ (rule : RuleId). rule_picks feed rider rule.0) in
+    are_picks feed rider c.args.leg.now c.push_picks.new.picks.items
     (c.in_ok-push_picks.ensures
-    ∙ ap (λ (xs : List LegChoice). xs ++ joined_below (length c.args.self.now.feed.leg_rules) (picks_if c.args.self.now.feed c.args.self.now.rider c.args.leg.now)) c.new-picks.ensures.items)
+    ∙ ap (λ (xs : List LegChoice). xs ++ of_rules c.items.result.now) c.new-picks.ensures.items
+    ∙ ap of_rules (c.items.ensures.value ∙ c.in_ok-rules.ensures) ∙ picks_are feed rider c.args.leg.now)

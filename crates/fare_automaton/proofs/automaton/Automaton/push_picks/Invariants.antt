@@ -1,8 +1,10 @@
 -- What is added so far.
-use Rattle.std.proofs.Common.{◌≡◌, ◌++◌}
-use Rattle.plain_laws.specs.Plain.{joined_below}
-use Rattle.fare_automaton.specs.Options.{picks_if}
+use Rattle.std.proofs.Common.{◌≡◌, ◌++◌, take}
+use Rattle.std.specs.Prelude.{flat_map}
+use Rattle.transit_base.specs.declared.numbers.RuleId.{RuleId}
+use Rattle.fare_automaton.specs.Options.{rule_picks}
 use Rattle.fare_automaton.proofs.automaton.Automaton.push_picks.Given as goal
 
 abbrev pub invariant-loop-rule : goal.invariant-loop-rule
-invariant-loop-rule l = l.picks.items ≡ l.fn.picks.items ++ joined_below l.rule (picks_if l.self.feed l.self.rider l.leg)
+invariant-loop-rule l =
+    l.picks.items ≡ l.fn.picks.items ++ flat_map (λ (rule : RuleId). rule_picks l.self.feed l.self.rider rule.0) (take l.rule-index l.rules)

@@ -1,5 +1,5 @@
 -- The moves of one option more.
-use Rattle.std.proofs.Common.{◌≡◌, arith}
+use Rattle.std.proofs.Common.{arith}
 use Rattle.fare_automaton.specs.Options.{next_made}
 use Rattle.fare_automaton.proofs.MadeLaws.{added_made}
 use Rattle.fare_automaton.proofs.automaton.Automaton.push_steps.Goals as goal

@@ -1,5 +1,5 @@
 -- The moves of all options are all that there are.
-use Rattle.std.proofs.Common.{◌≡◌, ◌∙◌, ap, List, ◌++◌, length}
+use Rattle.std.proofs.Common.{◌∙◌, ap, List, ◌++◌, length}
 use Rattle.std.proofs.lemmas.Result.{on_ok_weaker}
 use Rattle.plain_laws.specs.Plain.{joined_below}
 use Rattle.feed_rows.specs.declared.states.Move.{Move}

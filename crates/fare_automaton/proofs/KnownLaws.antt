@@ -1,0 +1,69 @@
+-- What can be paid for a leg is decided by all but its moments.
+use Rattle.std.proofs.Common.{◌≡◌, refl, sym, ◌∙◌, ap, subst, ℕ, ◌<◌, List, [], ◌∷◌, ◌++◌, length, All, Option, Some, None}
+use Rattle.std.specs.Prelude.{slice_get, option_map}
+use Rattle.std.specs.Option.{option_map_or}
+use Rattle.std.proofs.lemmas.Option.{same_Some, slice_get_within}
+use Rattle.transit_base.specs.declared.numbers.RiderId.{RiderId}
+use Rattle.feed_rows.specs.declared.fares.LegChoice.{LegChoice}
+use Rattle.feed_rows.specs.declared.journeys.LegFacts.{LegFacts}
+use Rattle.feed_rows.specs.FeedRows.{FeedRows}
+use Rattle.feed_rows.specs.FareChoices.{is_leg_choice}
+use Rattle.feed_rows.specs.LegRules.{rule_matches, is_top_priority, is_selected_rule}
+use Rattle.plain_laws.proofs.Laws.{All-slice_get, slice_get-push_before, slice_get-push_last}
+use Rattle.leg_kinds.specs.Kinds.{timeless, KindList, kept_for, items_at, IsOfKind}
+use Rattle.fare_automaton.specs.Options.{ArePicks}
+use Rattle.fare_automaton.specs.Terms.{FareTerms}
+use Rattle.fare_automaton.specs.Known.{HasPicks}
+
+-- moments decide nothing
+timeless_choice : (feed : FeedRows) (rider : Option RiderId) (leg : LegFacts) (pick : LegChoice) →
+    is_leg_choice feed rider (timeless leg) pick ≡ is_leg_choice feed rider leg pick
+unfolding is_leg_choice is_selected_rule rule_matches is_top_priority
+timeless_choice feed rider leg pick = refl
+
+pub with_moments : (feed : FeedRows) (rider : Option RiderId) (leg : LegFacts) (picks : List LegChoice) →
+    ArePicks feed rider (timeless leg) picks → ArePicks feed rider leg picks
+with_moments feed rider leg picks are = record {
+  right = λ k d lt. sym (timeless_choice feed rider leg _) ∙ are.right k d lt;
+  all = λ pick holds. are.all pick (timeless_choice feed rider leg pick ∙ holds);
+  once = are.once;
+}
+
+pub without_moments : (feed : FeedRows) (rider : Option RiderId) (leg : LegFacts) (picks : List LegChoice) →
+    ArePicks feed rider leg picks → ArePicks feed rider (timeless leg) picks
+without_moments feed rider leg picks are = record {
+  right = λ k d lt. timeless_choice feed rider leg _ ∙ are.right k d lt;
+  all = λ pick holds. are.all pick (sym (timeless_choice feed rider leg pick) ∙ holds);
+  once = are.once;
+}
+
+-- what is kept for legs of a kind is what can be paid for each of them
+pub picks_kept : (terms : FareTerms) (lists : List (KindList LegChoice)) (leg : LegFacts) (number : ℕ) → All (HasPicks terms) lists → IsOfKind lists leg number
+    → ArePicks terms.feed terms.rider leg (items_at lists number)
+picks_kept terms lists leg number all kind = by (slice_get lists number) refl kind
+  where
+    by : (o : Option (KindList LegChoice)) → slice_get lists number ≡ o → option_map (λ (l : KindList LegChoice). l.kind) o ≡ Some (timeless leg)
+        → ArePicks terms.feed terms.rider leg (option_map_or (λ (l : KindList LegChoice). l.items) o [])
+    by None at e = absurd (cc)
+    by (Some own) at e =
+        with_moments terms.feed terms.rider leg own.items
+        (subst (λ (k : LegFacts). ArePicks terms.feed terms.rider k own.items) (same_Some own.kind (timeless leg) e)
+        (All-slice_get (HasPicks terms) lists number own at all))
+
+-- a list that is kept last is of its kind, and the others stay so
+pub kind_last : (lists more : List (KindList LegChoice)) (leg : LegFacts) (picks : List LegChoice) (number : ℕ) → more ≡ lists ++ kept_for leg picks ∷ []
+    → number ≡ length lists → IsOfKind more leg number
+kind_last lists more leg picks number is last =
+    ap (λ (ls : List (KindList LegChoice)). option_map (λ (l : KindList LegChoice). l.kind) (slice_get ls number)) is
+    ∙ ap (option_map (λ (l : KindList LegChoice). l.kind)) (slice_get-push_last lists (kept_for leg picks) number last)
+
+pub kind_still : (lists more : List (KindList LegChoice)) (own : KindList LegChoice) (leg : LegFacts) (number : ℕ) → more ≡ lists ++ own ∷ []
+    → IsOfKind lists leg number → IsOfKind more leg number
+kind_still lists more own leg number is before =
+    ap (λ (ls : List (KindList LegChoice)). option_map (λ (l : KindList LegChoice). l.kind) (slice_get ls number)) is
+    ∙ ap (option_map (λ (l : KindList LegChoice). l.kind)) (slice_get-push_before lists own number (within (slice_get lists number) refl before)) ∙ before
+  where
+    within : (o : Option (KindList LegChoice)) → slice_get lists number ≡ o → option_map (λ (l : KindList LegChoice). l.kind) o ≡ Some (timeless leg)
+        → number < length lists
+    within None at e = absurd (cc)
+    within (Some o) at e = slice_get_within lists number o at

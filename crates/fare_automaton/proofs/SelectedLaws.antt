@@ -1,0 +1,106 @@
+-- The rows for changes between two leg groups are all that may be selected for a change, and those of the least count are.
+use Rattle.std.proofs.Common.{◌≡◌, refl, sym, ◌∙◌, ap, ℕ, Bool, true, false, not, ◌&&◌, ◌||◌, List, [], length, Option, Some, None}
+use Rattle.std.specs.Prelude.{if◌then◌else◌, slice_get, is_some, nat_le, flat_map}
+use Rattle.std.specs.Option.{option_map_or}
+use Rattle.std.specs.List.{list_any, list_all}
+use Rattle.std.proofs.lemmas.List.Folds.{list_all_more, list_any_more}
+use Rattle.std.proofs.Common.{◌+◌, ◌<◌, take, get_or}
+use Rattle.transit_base.specs.declared.numbers.RiderId.{RiderId}
+use Rattle.feed_rows.specs.declared.rows.TransferRuleRow.{TransferRuleRow}
+use Rattle.feed_rows.specs.FeedRows.{FeedRows}
+use Rattle.feed_rows.specs.TransferRules.{AskedChange, group_matches, is_candidate, suffices, count_le, is_least_count, is_selected}
+use Rattle.feed_rows.specs.FareSteps.{is_arranged_after}
+use Rattle.feed_laws.proofs.SelectionLaws.{is_selected-some}
+use Rattle.plain_laws.specs.Plain.{at_and, empty_or, filled_and, joined_below}
+use Rattle.fare_transfer_rules.specs.declared.groups.ClassedRow.{ClassedRow}
+use Rattle.fare_transfer_rules.specs.BuiltTransferRules.{is_between, AreRowsBetween}
+use Rattle.fare_transfer_rules.specs.Classes.{row_to}
+use Rattle.fare_transfer_rules.specs.Counts.{is_within}
+use Rattle.fare_automaton.specs.Compiled.{suits, suits_at, not_above, not_above_at, is_chosen, AreLeast}
+use Rattle.fare_automaton.specs.Options.{product_places, row_places, chosen_places}
+use Rattle.fare_automaton.proofs.PickedLaws.{picked_all, picked_any, flat_map-picks}
+
+-- the least count among one row more
+pub least_more : (feed : FeedRows) (change : AskedChange) (among : List ClassedRow) (i : ℕ) (d : ClassedRow) (least new : Option (Option ℕ)) → i < length among
+    → AreLeast feed change (take i among) least
+    → ((count : Option ℕ) → is_within new count ≡ (is_within least count && not_above_at feed change count (get_or among i d).row))
+    → is_some new ≡ (is_some least || suits_at feed change (get_or among i d).row) →
+    AreLeast feed change (take (i + 1) among) new
+least_more feed change among i d least new lt before within some =
+    record {
+      within = λ count.
+          within count ∙ ap (λ b. b && not_above_at feed change count (get_or among i d).row) (before.within count)
+          ∙ sym (list_all_more (λ (r : ClassedRow). not_above_at feed change count r.row) among i d lt);
+      some =
+          some ∙ ap (λ b. b || suits_at feed change (get_or among i d).row) before.some
+          ∙ sym (list_any_more (λ (r : ClassedRow). suits_at feed change r.row) among i d lt);
+    }
+
+module _ (feed : FeedRows) (change : AskedChange) (among : List ClassedRow) (are : AreRowsBetween feed change.from change.to among)
+    (least : Option (Option ℕ)) (is_least : AreLeast feed change among least) where
+  -- a row suffices where it is for changes between the groups, and suits
+  suffices_is : (row : TransferRuleRow) → suffices feed change row ≡ (is_between feed change.from change.to row && suits change row)
+  unfolding suffices is_candidate
+  suffices_is row =
+      turned (group_matches feed (λ r. r.from) row.from change.from) (group_matches feed (λ r. r.to) row.to change.to) (empty_or row.limit change.holds)
+      (empty_or row.count (nat_le change.count))
+    where
+      turned : (a b c d : Bool) → ((a && b && c) && d) ≡ ((a && b) && (c && d))
+      turned true true c d = refl
+      turned true false c d = refl
+      turned false b c d = refl
+
+  inside : (row : TransferRuleRow) → is_between feed change.from change.to row ≡ true → suffices feed change row ≡ suits change row
+  inside row holds = suffices_is row ∙ ap (λ b. b && suits change row) holds
+
+  outside : (row : TransferRuleRow) → is_between feed change.from change.to row ≡ false → suffices feed change row ≡ false
+  outside row fails = suffices_is row ∙ ap (λ b. b && suits change row) fails
+
+  -- no row that suffices has a lesser count exactly where none of these rows does
+  within_is : (count : Option ℕ) → is_within least count ≡ is_least_count feed change count
+  unfolding is_least_count
+  within_is count =
+      is_least.within count ∙ ap (list_all (λ (r : ClassedRow). not_above_at feed change count r.row)) are.are
+      ∙ picked_all feed.transfer_rules (is_between feed change.from change.to) (row_to are.to_class) (λ (r : ClassedRow). not_above_at feed change count r.row)
+      (λ row. not (suffices feed change row) || count_le count row.count)
+      (λ i row at holds. ap (λ o. empty_or o (not_above change count)) at ∙ ap (λ b. not b || count_le count row.count) (sym (inside row holds)))
+      (λ row fails. ap (λ b. not b || count_le count row.count) (outside row fails))
+
+  -- there is a least count exactly where the change is arranged
+  pub some_is : is_some least ≡ is_arranged_after feed change
+  unfolding is_arranged_after
+  some_is =
+      is_least.some ∙ ap (list_any (λ (r : ClassedRow). suits_at feed change r.row)) are.are
+      ∙ picked_any feed.transfer_rules (is_between feed change.from change.to) (row_to are.to_class) (λ (r : ClassedRow). suits_at feed change r.row)
+      (suffices feed change)
+      (λ i row at holds. ap (λ o. filled_and o (suits change)) at ∙ sym (inside row holds))
+      (λ row fails. outside row fails)
+      ∙ sym (is_selected-some feed change)
+
+  -- a row that suffices is selected exactly where it has the least count
+  pub selected_is : (row : TransferRuleRow) → (suffices feed change row && is_within least row.count) ≡ is_selected feed change row
+  selected_is row = ap (λ b. suffices feed change row && b) (within_is row.count)
+
+  -- the rows that are chosen give the places of those that are selected
+  pub places_are : (rider : Option RiderId) → flat_map (λ (r : ClassedRow). chosen_places feed rider change least r.row) among
+      ≡ joined_below (length feed.transfer_rules) (row_places feed rider change)
+  places_are rider =
+      ap (flat_map (λ (r : ClassedRow). chosen_places feed rider change least r.row)) are.are
+      ∙ flat_map-picks (length feed.transfer_rules) (λ i. at_and feed.transfer_rules i (is_between feed change.from change.to)) (row_to are.to_class)
+      (λ (r : ClassedRow). chosen_places feed rider change least r.row) (row_places feed rider change)
+      (λ i. by i (slice_get feed.transfer_rules i))
+    where
+      by_row : (i : ℕ) (row : TransferRuleRow) (b : Bool) → is_between feed change.from change.to row ≡ b
+          → (if b then (if is_chosen change least row then product_places feed rider i row.product else []) else [])
+          ≡ (if is_selected feed change row then product_places feed rider i row.product else [])
+      by_row i row true holds =
+          ap (λ c. if c then product_places feed rider i row.product else [])
+          (ap (λ c. c && is_within least row.count) (sym (inside row holds)) ∙ selected_is row)
+      by_row i row false fails =
+          sym (ap (λ c. if c && is_least_count feed change row.count then product_places feed rider i row.product else []) (outside row fails))
+
+      by : (i : ℕ) (o : Option TransferRuleRow)
+          → (if filled_and o (is_between feed change.from change.to) then option_map_or (λ row. if is_chosen change least row then product_places feed rider i row.product else []) o [] else [])
+          ≡ option_map_or (λ row. if is_selected feed change row then product_places feed rider i row.product else []) o []
+      by i None = refl
+      by i (Some row) = by_row i row (is_between feed change.from change.to row) refl

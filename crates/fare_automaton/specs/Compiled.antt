@@ -1,0 +1,78 @@
+-- What an automaton has at hand: what rows read of each leg group, and the open rows of each product.
+use Rattle.std.specs.Prelude.{◌≡◌, ℕ, Bool, ◌&&◌, ◌||◌, not, nat_le, is_some, List, [], length, slice_get, unwrap_or, Option}
+use Rattle.std.specs.Option.{option_map_or}
+use Rattle.std.specs.List.{list_any, list_all}
+use Rattle.transit_base.specs.declared.numbers.LegGroupId.{LegGroupId}
+use Rattle.transit_base.specs.declared.numbers.ProductId.{ProductId}
+use Rattle.transit_base.specs.declared.numbers.ProductRowId.{ProductRowId}
+use Rattle.transit_base.specs.declared.numbers.RiderId.{RiderId}
+use Rattle.transit_base.specs.declared.numbers.XferId.{XferId}
+use Rattle.feed_rows.specs.declared.rows.TransferRuleRow.{TransferRuleRow}
+use Rattle.feed_rows.specs.FeedRows.{FeedRows}
+use Rattle.feed_rows.specs.FareChoices.{open_rows}
+use Rattle.feed_rows.specs.FareStates.{greatest_count, is_clock_read, counts_from_departure, counts_from_arrival}
+use Rattle.feed_rows.specs.TransferRules.{AskedChange, count_le}
+use Rattle.plain_laws.specs.Plain.{at_and, empty_or, filled_and, list_below}
+use Rattle.fare_transfer_rules.specs.declared.groups.ClassedRow.{ClassedRow}
+use Rattle.fare_transfer_rules.specs.Counts.{is_within}
+use Rattle.fare_automaton.specs.declared.reads.GroupReads.{GroupReads}
+
+-- ---- leg groups
+
+-- what rows read of changes from the group
+abbrev pub reads_of : FeedRows → LegGroupId → GroupReads
+reads_of feed group =
+    record {
+      greatest_count = greatest_count feed group;
+      departure = is_clock_read feed counts_from_departure group;
+      arrival = is_clock_read feed counts_from_arrival group;
+    }
+
+-- the table has this of each leg group
+abbrev pub AreReads : FeedRows → List GroupReads → Type 0
+AreReads feed reads = reads ≡ list_below (length feed.group_names) (λ group. reads_of feed (record { 0 = group }))
+
+-- the count of the row with this number, where it is a number; else 0
+abbrev pub count_at : List TransferRuleRow → XferId → ℕ
+count_at rows row = option_map_or (λ (r : TransferRuleRow). unwrap_or r.count 0) (slice_get rows row.0) 0
+
+-- the row has a limit of such a type
+abbrev pub has_limit : (ℕ → Bool) → TransferRuleRow → Bool
+has_limit counts row = filled_and row.limit (λ limit. counts limit.kind)
+
+-- one of these rows has such a limit
+abbrev pub some_limit : (ℕ → Bool) → List TransferRuleRow → List ClassedRow → Bool
+some_limit counts rows among = list_any (λ (r : ClassedRow). at_and rows r.row.0 (has_limit counts)) among
+
+-- ---- products
+
+-- the table has the open rows of each product
+abbrev pub AreOpenRows : FeedRows → Option RiderId → List (List ProductRowId) → Type 0
+AreOpenRows feed rider opened = (product : ProductId) → unwrap_or (slice_get opened product.0) [] ≡ open_rows feed product rider
+
+-- ---- rows for a change
+
+-- the limit of the row is empty or holds, and its count is at least the change's
+abbrev pub suits : AskedChange → TransferRuleRow → Bool
+suits change row = empty_or row.limit change.holds && empty_or row.count (nat_le change.count)
+
+abbrev pub suits_at : FeedRows → AskedChange → XferId → Bool
+suits_at feed change row = at_and feed.transfer_rules row.0 (suits change)
+
+-- where the row suits, this count is at most its own
+abbrev pub not_above : AskedChange → Option ℕ → TransferRuleRow → Bool
+not_above change count row = not (suits change row) || count_le count row.count
+
+abbrev pub not_above_at : FeedRows → AskedChange → Option ℕ → XferId → Bool
+not_above_at feed change count row = empty_or (slice_get feed.transfer_rules row.0) (not_above change count)
+
+-- the least count of those among these rows that suit: no count is above it that none of these is below, and there is one
+-- exactly where one of them suits
+pub record AreLeast (feed : FeedRows) (change : AskedChange) (among : List ClassedRow) (least : Option (Option ℕ)) : Type 0 where
+  pub within : (count : Option ℕ) →
+      is_within least count ≡ list_all (λ (r : ClassedRow). not_above_at feed change count r.row) among
+  pub some : is_some least ≡ list_any (λ (r : ClassedRow). suits_at feed change r.row) among
+
+-- the row suits, with the least count
+abbrev pub is_chosen : AskedChange → Option (Option ℕ) → TransferRuleRow → Bool
+is_chosen change least row = suits change row && is_within least row.count

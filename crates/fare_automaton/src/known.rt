@@ -1,0 +1,77 @@
+//! What can be paid for legs, kept by the kind of a leg.
+ghost use Rattle.std.specs.Prelude.{◌≡◌, ℕ, [], IfOk};
+ghost use Rattle.feed_rows.specs.declared.journeys.LegFacts.{LegFacts};
+ghost use Rattle.leg_kinds.specs.Kinds.{IsOfKind};
+ghost use Rattle.fare_automaton.specs.Options.{ArePicks};
+ghost use Rattle.fare_automaton.specs.Known.{known_of};
+
+use crate::automaton::Automaton;
+use feed_rows::{LegChoice, LegFacts};
+use leg_kinds::KindTable;
+use std::alloc::{AllocError, Global};
+use std::marker::Model;
+
+/// What can be paid for legs, which is asked once for all legs that differ in their moments at most. Contracts see the feed and
+/// the rider, and the lists that are kept.
+pub struct KnownOptions<'a, 'f> {
+    automaton: &'a Automaton<'f>,
+    table: KindTable<LegChoice>,
+}
+
+// Written out, so that what holds one needn't look into it to let go of it.
+impl<'a, 'f> Drop for KnownOptions<'a, 'f> {
+    fn drop(self) {
+        let KnownOptions {
+            automaton: _,
+            table: _,
+        } = self;
+    }
+}
+
+impl<'a, 'f> Model for KnownOptions<'a, 'f> {
+    ghost use Rattle.std.specs.Prelude.{All};
+    ghost use Rattle.fare_automaton.specs.Known.{KnownPicks, known_of, HasPicks};
+
+    ghost Value = { KnownPicks };
+
+    ghost view = { λ s. known_of s.automaton.now s.table };
+
+    ghost invariant = { λ s. All (HasPicks s.automaton.now) s.table };
+}
+
+impl<'a, 'f> KnownOptions<'a, 'f> {
+    /// Nothing is kept yet.
+    pub fn of(alloc: Global, automaton: &'a Automaton<'f>) -> KnownOptions<'a, 'f>
+        ensures { result ≡ known_of automaton.now [] }
+    {
+        KnownOptions {
+            automaton,
+            table: KindTable::empty(alloc),
+        }
+    }
+
+    /// The number under which is kept what can be paid for the leg. It is asked where no leg was that differs from this one in
+    /// its moments at most. What was kept before stays as it is, after a refusal too.
+    ///
+    /// # Errors
+    /// Want of memory.
+    pub fn know(&mut self, alloc: Global, leg: &LegFacts) -> Result<usize, AllocError>
+        ensures known { IfOk result (IsOfKind self.new.lists leg.now) }
+        ensures terms { self.new.terms ≡ self.old.terms }
+        ensures still { (other : LegFacts) (number : ℕ) → IsOfKind self.old.lists other number → IsOfKind self.new.lists other number }
+    {
+        if let Some(number) = self.table.find(leg) {
+            return Ok(number);
+        }
+        let picks = self.automaton.options(alloc, leg)?;
+        let number = self.table.keep(alloc, leg, picks)?;
+        Ok(number)
+    }
+
+    /// What is kept under the number, which is what can be paid for each leg of its kind.
+    pub fn options(&self, number: usize) -> &[LegChoice]
+        ensures { (leg : LegFacts) → IsOfKind self.now.lists leg number → ArePicks self.now.terms.feed self.now.terms.rider leg result.now }
+    {
+        self.table.list(number)
+    }
+}
