@@ -90,7 +90,7 @@ fn files_of(alloc: Global, transfer_rules: &[u8]) -> Result<Files, AllocError>
 }
 
 // The feed with these transfer rules.
-fn feed_of(alloc: Global, transfer_rules: &[u8]) -> Result<Feed, TextError> {
+pub fn feed_of(alloc: Global, transfer_rules: &[u8]) -> Result<Feed, TextError> {
     let mut folder = MemFolder::new(alloc, files_of(alloc, transfer_rules)?, &[], &[])?;
     match load(alloc, &mut folder) {
         Ok(feed) => Ok(feed),
@@ -100,7 +100,7 @@ fn feed_of(alloc: Global, transfer_rules: &[u8]) -> Result<Feed, TextError> {
 }
 
 // A leg without network, areas and timeframes.
-fn leg(alloc: Global, departure: i64, arrival: i64) -> LegFacts {
+pub fn leg(alloc: Global, departure: i64, arrival: i64) -> LegFacts {
     LegFacts {
         network: None,
         from_areas: AreaList::empty(alloc),
@@ -195,7 +195,7 @@ fn compare(
 }
 
 // Three legs, the first two of ten minutes at eight and twenty past, the third between these moments.
-fn three_legs(alloc: Global, departure: i64, arrival: i64) -> [LegFacts; 3] {
+pub fn three_legs(alloc: Global, departure: i64, arrival: i64) -> [LegFacts; 3] {
     [
         leg(alloc, 28_800, 29_400),
         leg(alloc, 30_000, 30_600),

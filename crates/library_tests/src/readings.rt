@@ -70,7 +70,7 @@ fn files(alloc: Global) -> Result<Files, AllocError>
 }
 
 // The feed.
-fn feed(alloc: Global) -> Result<Feed, TextError> {
+pub fn feed(alloc: Global) -> Result<Feed, TextError> {
     let mut folder = MemFolder::new(alloc, files(alloc)?, &[], &[])?;
     match load(alloc, &mut folder) {
         Ok(feed) => Ok(feed),
