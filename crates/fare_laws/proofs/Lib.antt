@@ -3,3 +3,4 @@ pub mod MoveLaws
 pub mod ExtensionLaws
 pub mod StartLaws
 pub mod LongerLaws
+pub mod FloorLaws

@@ -1,25 +1,29 @@
 -- What such labels end in is the exact answer.
-use Rattle.std.proofs.Common.{◌≡◌, refl, sym, ◌∙◌, ap, subst, ℕ, ◌<◌, true, false, List, length, take, get_or, arith}
+use Rattle.std.proofs.Common.{◌≡◌, refl, sym, ◌∙◌, ap, subst, ℕ, ◌<◌, ⊎_elim, Bool, true, false, List, length, take, get_or, arith}
 use Rattle.std.specs.Prelude.{Option, Some, slice_get, All, AllPairs, Any, IsTrue, option_and_then}
 use Rattle.std.proofs.lemmas.Option.{same_Some, slice_get_within, slice_get-get_or}
+use Rattle.transit_base.specs.declared.numbers.StopId.{StopId}
 use Rattle.feed_rows.specs.declared.fares.Entry.{Entry}
 use Rattle.feed_rows.specs.declared.fares.Triple.{Triple}
 use Rattle.feed_rows.specs.declared.journeys.Query.{Query}
 use Rattle.feed_rows.specs.FeedRows.{FeedRows}
 use Rattle.feed_rows.specs.JourneyEntries.{IsEntry, IsExactAnswer, CoversOffers}
 use Rattle.feed_rows.specs.ParetoTriples.{at_most, is_before}
-use Rattle.feed_rows.specs.PartialJourneys.{journey_to}
+use Rattle.feed_rows.specs.PartialJourneys.{LabelFacts, journey_to}
 use Rattle.feed_rows.specs.RoundTables.{Final, RoundTable, traced, entry_of_final, entries_of}
 use Rattle.feed_rows.specs.SoundFeed.{IsSoundFeed}
 use Rattle.feed_rows.specs.SoundTable.{EndsExactly}
 use Rattle.plain_laws.proofs.Laws.{All-slice_get, Contains-slice_get, list_any-place, collect_below_some, collect_below_tells, IsCollected}
 use Rattle.feed_laws.proofs.ExactLaws.{is_covered, exact_of_front, covers_offers}
 use Rattle.feed_laws.proofs.ParetoLaws.{at_most-trans}
-use Rattle.round_laws.specs.LinkedTables.{AreLinked, CoversStarts, AreClosed, IsFinal, AreFinals}
+use Rattle.round_laws.specs.Futility.{MayLack}
+use Rattle.round_laws.specs.LabelSteps.{IsStated, IsLabelEnd}
+use Rattle.round_laws.specs.LinkedTables.{AreLinked, IsCoveredBy, CoversStarts, AreClosed, IsFound, IsFinal, AreFinals}
 use Rattle.round_laws.proofs.CoverLaws.{ends_no_worse}
+use Rattle.round_laws.proofs.FutilityLaws.{IsUpward}
 use Rattle.round_laws.proofs.EndLaws.{entry_of_end, part_of_entry, end_of_entry}
 use Rattle.round_laws.proofs.PartLaws.{item_at, stated_of_part}
-use Rattle.round_laws.proofs.TableLaws.{linked_stated, is_traced, coverer, all_covered}
+use Rattle.round_laws.proofs.TableLaws.{linked_stated, is_traced, coverer, all_served}
 
 -- the entry by which a final ends
 record IsFinalEntry (feed : FeedRows) (query : Query) (table : RoundTable) (final : Final) : Type 0 where
@@ -106,23 +110,33 @@ module _ (feed : FeedRows) (query : Query) (table : RoundTable) (linked : AreLin
         list_any-place (λ (entry : Entry). at_most entry.triple triple) entries some.0 e.0 e.1
         (subst (λ (t : Triple). at_most t triple ≡ true) (sym e.3) some.4)
 
-module _ (feed : FeedRows) (query : Query) (table : RoundTable) (sound : IsSoundFeed feed)
+-- where some final is at most a triple, some is at most each that this is at most
+pub found_upward : (finals : List Final) → IsUpward (IsFound finals)
+found_upward finals a b below some = (some.0, some.1, some.2, some.3, at_most-trans some.1.triple a b some.4 below)
+
+module _ (feed : FeedRows) (query : Query) (whole : Bool) (table : RoundTable) (sound : IsSoundFeed feed)
     (linked : AreLinked feed query table.labels) (starts : CoversStarts feed query table.labels)
-    (closed : AreClosed feed query table.labels) (finals : AreFinals feed query table.labels table.finals) where
+    (closed : AreClosed feed query (MayLack feed query whole (IsFound table.finals)) table.labels)
+    (finals : AreFinals feed query table.labels table.finals) where
+  -- an end of facts that are covered is found
+  covered_found : (a : LabelFacts) (last : StopId) (triple : Triple) → IsStated a → IsCoveredBy table.labels a →
+      IsLabelEnd feed query a last triple → IsFound table.finals triple
+  covered_found a last triple stated' some end =
+      let c = coverer table.labels a some in
+      let stated = linked_stated feed query (take c.number table.labels) c.label (linked c.number c.label c.is) in
+      let b = ends_no_worse feed query c.label.facts a last triple stated stated' c.covers end in
+      let is_label = Contains-slice_get table.labels c.number c.label c.is in
+      found_upward table.finals b.triple triple b.below (finals.all c.label last b.triple is_label b.end)
+
   -- some final is at most each entry of the query
-  each_bettered : (entry : Entry) → IsEntry feed query entry →
-      Any (λ (final : Final). IsTrue (at_most final.triple entry.triple)) table.finals
+  each_bettered : (entry : Entry) → IsEntry feed query entry → IsFound table.finals entry.triple
   each_bettered entry is =
       let n = end_of_entry feed query entry sound is in
       let part = part_of_entry entry in
-      let c = coverer table.labels n.a (all_covered feed query table.labels linked starts closed part n.a n.has) in
-      let stated = linked_stated feed query (take c.number table.labels) c.label (linked c.number c.label c.is) in
-      let b =
-      ends_no_worse feed query c.label.facts n.a entry.journey.last entry.triple stated
-      (stated_of_part feed query part n.a n.has) c.covers n.end in
-      let is_label = Contains-slice_get table.labels c.number c.label c.is in
-      let some = finals.all c.label entry.journey.last b.triple is_label b.end in
-      (some.0, some.1, some.2, some.3, at_most-trans some.1.triple b.triple entry.triple some.4 b.below)
+      ⊎_elim (λ some. covered_found n.a entry.journey.last entry.triple (stated_of_part feed query part n.a n.has) some n.end)
+      (λ lack. lack.1 0 entry.triple (entry.journey.last, n.end))
+      (all_served feed query (IsFound table.finals) (found_upward table.finals) whole table.labels linked starts closed part
+      n.a n.has)
 
   -- the entries by which the finals end are the exact answer, and cover whatever is offered
   pub exact_entries : (entries : List Entry) → entries_of table ≡ Some entries →

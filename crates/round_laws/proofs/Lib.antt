@@ -6,5 +6,7 @@ pub mod LastRideLaws
 pub mod CoverLaws
 pub mod TimeLaws
 pub mod EndLaws
+pub mod FutilityLaws
+pub mod BoundLaws
 pub mod TableLaws
 pub mod AnswerLaws

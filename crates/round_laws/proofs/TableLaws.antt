@@ -1,7 +1,8 @@
 -- Labels that go on from one another and are closed under steps: they are real, and cover each partial journey.
-use Rattle.std.proofs.Common.{◌≡◌, refl, sym, ◌∙◌, ap, subst, ℕ, zero, suc, ◌+◌, ◌<◌, inl, inr, List, take, drop, take-append-drop, length-take, arith, add-one}
+use Rattle.std.proofs.Common.{◌≡◌, refl, sym, ◌∙◌, ap, subst, ℕ, zero, suc, ◌+◌, ◌<◌, ◌⊎◌, inl, inr, ⊎_elim, Bool, true, List, take, drop, take-append-drop, length-take, arith, add-one}
 use Rattle.std.specs.Prelude.{Some, slice_get}
 use Rattle.std.proofs.lemmas.Option.{slice_get_within, slice_get-get_or}
+use Rattle.feed_rows.specs.declared.fares.Triple.{Triple}
 use Rattle.feed_rows.specs.declared.journeys.Query.{Query}
 use Rattle.feed_rows.specs.declared.journeys.Ride.{Ride}
 use Rattle.feed_rows.specs.declared.states.Move.{Move}
@@ -11,9 +12,11 @@ use Rattle.feed_rows.specs.PartialJourneys.{PartialJourney, LabelFacts}
 use Rattle.feed_rows.specs.RoundTables.{Label, RoundTable, start_at, with_ride, traced}
 use Rattle.feed_rows.specs.SoundTable.{IsReal, CoversJourneys}
 use Rattle.plain_laws.proofs.Laws.{All-slice_get, slice_get-append_left}
+use Rattle.round_laws.specs.Futility.{MayLack}
 use Rattle.round_laws.specs.LabelSteps.{HasFacts, IsStated, IsLabelStep}
 use Rattle.round_laws.specs.LinkedTables.{IsStart, IsNext, IsLinked, AreLinked, IsCoveredBy, CoversStarts, CoversSteps, AreClosed}
 use Rattle.round_laws.proofs.CoverLaws.{covers-trans, follow}
+use Rattle.round_laws.proofs.FutilityLaws.{IsUpward, futile_after, futile_below}
 use Rattle.round_laws.proofs.PartLaws.{stated_of_part, stated_of_start, stated_of_step}
 use Rattle.round_laws.proofs.StartLaws.{start_has_facts, start_of_facts}
 use Rattle.round_laws.proofs.GoingOnLaws.{extend}
@@ -122,37 +125,57 @@ coverer labels facts some = record {
 covered_more : (labels : List Label) (a b : LabelFacts) → IsCoveredBy labels a → Covers a b → IsCoveredBy labels b
 covered_more labels a b some covers = (some.0, some.1, some.2, some.3, covers-trans some.1.facts a b some.4 covers)
 
-module _ (feed : FeedRows) (query : Query) (labels : List Label) (linked : AreLinked feed query labels)
-    (starts : CoversStarts feed query labels) (closed : AreClosed feed query labels) where
-  -- whatever goes on from covered facts is covered
-  step_covered : (a b : LabelFacts) (ride : Ride) (move : Move) → IsCoveredBy labels a → IsStated a →
-      IsLabelStep feed query a ride move b → IsCoveredBy labels b
-  step_covered a b ride move some stated s =
-      let c = coverer labels a some in
-      let stated' = linked_stated feed query (take c.number labels) c.label (linked c.number c.label c.is) in
-      let f = follow feed query c.label.facts a ride move b stated' stated c.covers s in
+module _ (feed : FeedRows) (query : Query) (Found : Triple → Type 0) (upward : IsUpward Found) (whole : Bool)
+    (labels : List Label) (linked : AreLinked feed query labels) (starts : CoversStarts feed query labels)
+    (closed : AreClosed feed query (MayLack feed query whole Found) labels) where
+  -- such facts are covered, or may be lacking
+  abbrev pub IsServed : LabelFacts → Type 0
+  IsServed a = IsCoveredBy labels a ⊎ MayLack feed query whole Found a
+
+  -- so are those where a step leads from a label that covers where it begins
+  step_of_label : (c : Label) (number : ℕ) → slice_get labels number ≡ Some c → (a b : LabelFacts) (ride : Ride) (move : Move) →
+      Covers c.facts a → IsStated a → IsLabelStep feed query a ride move b → IsServed b
+  step_of_label c number is a b ride move covers stated s =
+      let stated' = linked_stated feed query (take number labels) c (linked number c is) in
+      let f = follow feed query c.facts a ride move b stated' stated covers s in
       let on =
-      All-slice_get (λ (label : Label). CoversSteps feed query label.facts labels) labels c.number c.label c.is closed in
-      covered_more labels f.b b (on ride f.move f.b f.step) f.covers
+      All-slice_get (λ (label : Label). CoversSteps feed query (MayLack feed query whole Found) label.facts labels) labels
+      number c is closed in
+      ⊎_elim (λ some. inl (covered_more labels f.b b some f.covers))
+      (λ lack. inr (
+        lack.0,
+        futile_below feed query Found upward f.b b
+            (stated_of_step feed query c.facts ride f.move f.b f.step) (stated_of_step feed query a ride move b s) f.covers lack.1,
+      ))
+      (on ride f.move f.b f.step)
+
+  -- whatever goes on from such facts is such
+  step_served : (a b : LabelFacts) (ride : Ride) (move : Move) → IsServed a → IsStated a →
+      IsLabelStep feed query a ride move b → IsServed b
+  step_served a b ride move (inl some) stated s =
+      let c = coverer labels a some in
+      step_of_label c.label c.number c.is a b ride move c.covers stated s
+  step_served a b ride move (inr lack) stated s = inr (lack.0, futile_after feed query Found a b ride move s lack.1)
 
   -- so are the facts after each number of rides
-  covered_after : (n : ℕ) (part : PartialJourney) (a : LabelFacts) → HasFacts feed query part a → a.rides ≡ n →
-      IsCoveredBy labels a
-  covered_after zero part a h none =
+  served_after : (n : ℕ) (part : PartialJourney) (a : LabelFacts) → HasFacts feed query part a → a.rides ≡ n → IsServed a
+  served_after zero part a h none =
       let s = start_of_facts feed query part a h none in
-      subst (IsCoveredBy labels) (sym s.facts) (starts part.first s.starts)
-  covered_after (suc n) part a h some =
+      inl (subst (IsCoveredBy labels) (sym s.facts) (starts part.first s.starts))
+  served_after (suc n) part a h some =
       let w = went_on feed query part a n h some in
-      step_covered w.a a w.ride w.move (covered_after n w.before w.a w.has w.rides)
+      step_served w.a a w.ride w.move (served_after n w.before w.a w.has w.rides)
       (stated_of_part feed query w.before w.a w.has) w.step
 
-  -- so those of each partial journey are
-  pub all_covered : (part : PartialJourney) (a : LabelFacts) → HasFacts feed query part a → IsCoveredBy labels a
-  all_covered part a h = covered_after a.rides part a h refl
+  -- so are those of each partial journey
+  pub all_served : (part : PartialJourney) (a : LabelFacts) → HasFacts feed query part a → IsServed a
+  all_served part a h = served_after a.rides part a h refl
 
--- a table of such labels covers the partial journeys
-pub covers_journeys : (feed : FeedRows) (query : Query) (table : RoundTable) → AreLinked feed query table.labels →
-    CoversStarts feed query table.labels → AreClosed feed query table.labels → CoversJourneys feed query table
-covers_journeys feed query table linked starts closed part facts partial has =
-    inl (all_covered feed query table.labels linked starts closed part facts
+-- a whole table of such labels covers the partial journeys
+pub covers_journeys : (feed : FeedRows) (query : Query) (Found : Triple → Type 0) (table : RoundTable) → IsUpward Found →
+    AreLinked feed query table.labels → CoversStarts feed query table.labels →
+    AreClosed feed query (MayLack feed query true Found) table.labels → CoversJourneys feed query table
+covers_journeys feed query Found table upward linked starts closed part facts partial has =
+    ⊎_elim inl (λ lack. absurd (let no = lack.0 in cc))
+    (all_served feed query Found upward true table.labels linked starts closed part facts
     (record { partial = partial; facts = has }))

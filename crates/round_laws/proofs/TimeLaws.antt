@@ -58,7 +58,7 @@ module _ (feed : FeedRows) (query : Query) (first : StopId) (rides : List Ride) 
       by rest (inr below) = rest below
 
 -- nor on the way out
-later_end : (feed : FeedRows) (query : Query) (stand : Stand) (last : StopId) (arrival : ℤ) →
+pub later_end : (feed : FeedRows) (query : Query) (stand : Stand) (last : StopId) (arrival : ℤ) →
     end_arrival feed query stand last ≡ Some arrival → stand.at ≤ℤ arrival
 unfolding end_arrival
 later_end feed query stand last arrival e = by (way_out feed query stand last) e

@@ -1,2 +1,3 @@
 pub mod LabelSteps
+pub mod Futility
 pub mod LinkedTables

@@ -56,16 +56,20 @@ abbrev pub CoversStarts : FeedRows → Query → List Label → Type 0
 CoversStarts feed query labels =
     (stop : StopId) → IsTrue (stands_for feed query.from stop) → IsCoveredBy labels (start_facts query stop)
 
--- each step from these facts is covered
-abbrev pub CoversSteps : FeedRows → Query → LabelFacts → List Label → Type 0
-CoversSteps feed query a labels =
-    (ride : Ride) (move : Move) (b : LabelFacts) → IsLabelStep feed query a ride move b → IsCoveredBy labels b
+-- each step from these facts is covered, or leads to facts that may be lacking
+abbrev pub CoversSteps : FeedRows → Query → (LabelFacts → Type 0) → LabelFacts → List Label → Type 0
+CoversSteps feed query Lacking a labels =
+    (ride : Ride) (move : Move) (b : LabelFacts) → IsLabelStep feed query a ride move b → IsCoveredBy labels b ⊎ Lacking b
 
 -- so is each step of each label
-abbrev pub AreClosed : FeedRows → Query → List Label → Type 0
-AreClosed feed query labels = All (λ label. CoversSteps feed query label.facts labels) labels
+abbrev pub AreClosed : FeedRows → Query → (LabelFacts → Type 0) → List Label → Type 0
+AreClosed feed query Lacking labels = All (λ label. CoversSteps feed query Lacking label.facts labels) labels
 
 -- ---- what labels end in
+
+-- some final is at most the triple
+abbrev pub IsFound : List Final → Triple → Type 0
+IsFound finals triple = Any (λ final. IsTrue (at_most final.triple triple)) finals
 
 -- the final is an end of its label
 pub record IsFinal (feed : FeedRows) (query : Query) (labels : List Label) (final : Final) : Type 0 where
@@ -78,6 +82,6 @@ pub record IsFinal (feed : FeedRows) (query : Query) (labels : List Label) (fina
 pub record AreFinals (feed : FeedRows) (query : Query) (labels : List Label) (finals : List Final) : Type 0 where
   pub right : All (IsFinal feed query labels) finals
   pub all : (label : Label) (last : StopId) (triple : Triple) → Contains labels label
-      → IsLabelEnd feed query label.facts last triple → Any (λ final. IsTrue (at_most final.triple triple)) finals
+      → IsLabelEnd feed query label.facts last triple → IsFound finals triple
   pub apart : AllPairs (λ a b. at_most a.triple b.triple ≡ false) finals
   pub in_order : AllPairs (λ a b. IsTrue (is_before a.triple b.triple)) finals

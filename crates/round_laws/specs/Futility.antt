@@ -1,0 +1,48 @@
+-- What more rides lead to, and when a search needn't go on, since all that is found already.
+use Rattle.std.specs.Prelude.{◌≡◌, ℕ, zero, suc, ◌-◌, Bool, false, ◌&&◌, ◌||◌, ◌==◌, if◌then◌else◌, nat_le, int_le, is_none, ℤ, pos, ◌+ℤ◌, ◌*ℤ◌}
+use Rattle.std.specs.List.{list_any}
+use Rattle.transit_base.specs.declared.numbers.StopId.{StopId}
+use Rattle.feed_rows.specs.declared.fares.Triple.{Triple}
+use Rattle.feed_rows.specs.declared.journeys.Query.{Query}
+use Rattle.feed_rows.specs.declared.journeys.Ride.{Ride}
+use Rattle.feed_rows.specs.declared.states.Move.{Move}
+use Rattle.feed_rows.specs.Codes.{change_alone}
+use Rattle.feed_rows.specs.FareFloor.{fare_floor, least_so_far}
+use Rattle.feed_rows.specs.FeedRows.{FeedRows}
+use Rattle.feed_rows.specs.LabelCover.{price_so_far}
+use Rattle.feed_rows.specs.PartialJourneys.{LabelFacts}
+use Rattle.round_laws.specs.LabelSteps.{IsLabelStep, IsLabelEnd}
+
+-- ---- what more rides lead to
+
+-- from such facts so many more rides lead to a journey's end with this triple
+abbrev pub LeadsBy : FeedRows → Query → ℕ → LabelFacts → Triple → Type 0
+LeadsBy feed query zero a triple = (last : StopId) × IsLabelEnd feed query a last triple
+LeadsBy feed query (suc n) a triple =
+    (ride : Ride) × (move : Move) × (b : LabelFacts) × IsLabelStep feed query a ride move b × LeadsBy feed query n b triple
+
+-- whatever they lead to is found
+abbrev pub IsFutile : FeedRows → Query → (Triple → Type 0) → LabelFacts → Type 0
+IsFutile feed query Found a = (n : ℕ) (triple : Triple) → LeadsBy feed query n a triple → Found triple
+
+-- a search that isn't to be whole may lack what is futile
+abbrev pub MayLack : FeedRows → Query → Bool → (Triple → Type 0) → LabelFacts → Type 0
+MayLack feed query whole Found a = (whole ≡ false) × IsFutile feed query Found a
+
+-- ---- how little it can cost
+
+-- some change takes back what a leg before it cost
+unfoldable pub some_takes_back : FeedRows → Bool
+some_takes_back feed = list_any (λ row. row.kind == change_alone) feed.transfer_rules
+
+-- the least price that a continuation can start from: what is held counts where nothing takes it back
+abbrev pub least_price : FeedRows → LabelFacts → ℤ
+least_price feed a = if some_takes_back feed || is_none a.state then least_so_far a else price_so_far a
+
+-- the least price at a journey's end
+unfoldable pub least_end : FeedRows → Query → LabelFacts → ℤ
+least_end feed query a = least_price feed a +ℤ (fare_floor feed query.rider *ℤ pos (query.rides - a.rides))
+
+-- the triple arrives no later than this moment, with no more rides than so many, and costs no more than this
+abbrev pub is_within : ℤ → ℕ → ℤ → Triple → Bool
+is_within at rides price triple = int_le triple.arrival.0 at && nat_le triple.rides rides && int_le triple.price.0 price
