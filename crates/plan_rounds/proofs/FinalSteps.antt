@@ -1,12 +1,12 @@
 -- What offers of ends to the finals gain, one after another.
-use Rattle.std.proofs.Common.{◌≡◌, sym, ◌∙◌, ap, subst, ℕ, ◌+◌, ◌<◌, ◌≤◌, ◌⊎◌, inl, inr, ⊎_elim, Bool, true, false, List, [], ◌∷◌, length, get_or, arith, ℤ, pos, ◌+ℤ◌, ◌≤ℤ◌}
+use Rattle.std.proofs.Common.{◌≡◌, sym, ◌∙◌, ap, subst, ℕ, ◌+◌, ◌<◌, ◌≤◌, ◌⊎◌, inl, inr, ⊎_elim, Bool, true, false, List, [], ◌∷◌, ◌++◌, length, get_or, arith, ℤ, pos, ◌+ℤ◌, ◌≤ℤ◌}
 use Rattle.std.specs.Prelude.{All, AllPairs, Contains, Option, Some, None, Result, Ok, Err, OnOk, IsTrue, option_map, slice_get, int_le, nat_le}
 use Rattle.std.proofs.lemmas.Bool.{cases_lt, and_from}
 use Rattle.std.proofs.lemmas.Bool.Decides.{nat_tests}
 use Rattle.std.proofs.lemmas.Int.{ints}
 use Rattle.std.proofs.lemmas.List.Elements.{All-contains, All-weaker, All-map}
 use Rattle.std.proofs.lemmas.List.Folds.{Any-from_list_any}
-use Rattle.std.proofs.lemmas.List.{length-map, get_or-map}
+use Rattle.std.proofs.lemmas.List.{length-map, map-append, get_or-map}
 use Rattle.std.proofs.lemmas.Option.{same_Some, none-some, slice_get-map, slice_get_within}
 use Rattle.transit_base.specs.declared.moments.Moment.{Moment}
 use Rattle.transit_base.specs.declared.numbers.StopId.{StopId}
@@ -20,7 +20,7 @@ use Rattle.feed_rows.specs.RoundTables.{Label as Kept, Final as KeptFinal}
 use Rattle.feed_rows.specs.StopLinks.{stop_set}
 use Rattle.feed_laws.proofs.ParetoLaws.{at_most-trans}
 use Rattle.pareto_front.specs.Fronts.{has_as_good, CoversAll, IsFront}
-use Rattle.plain_laws.proofs.Laws.{slice_get-Contains, list_any-map, map-tells}
+use Rattle.plain_laws.proofs.Laws.{All-slice_get, slice_get-Contains, slice_get-append_left, list_any-map, map-tells}
 use Rattle.plan_rides.specs.Asked.{arrival_in_time}
 use Rattle.plan_rides.proofs.ArrivalLaws.{arrives_in_time, in_time_arrives}
 use Rattle.plan_rides.proofs.MarkLaws.{member_of_stands_for}
@@ -30,15 +30,16 @@ use Rattle.plan_rounds.specs.declared.finals.Final.{Final}
 use Rattle.plan_rounds.specs.declared.label.Label.{Label}
 use Rattle.plan_rounds.specs.declared.search.Source.{Source}
 use Rattle.plan_rounds.specs.Finals.{final_of, finals_of, is_bettered, EndsAmong, EndsIn, EndsBelow, AddsEnds}
-use Rattle.plan_rounds.specs.Labels.{facts_of, label_of, labels_of, stand_of_label}
-use Rattle.plan_rounds.specs.Sources.{IsEnding}
+use Rattle.plan_rounds.specs.Labels.{IsBounded, facts_of, label_of, labels_of, stand_of_label}
+use Rattle.plan_rides.specs.InTime.{IsWithinWindow}
+use Rattle.plan_rounds.specs.Sources.{AreEnding, IsEnding}
 
 -- finals by their triples
-abbrev as_good : Final → Final → Bool
+abbrev pub as_good : Final → Final → Bool
 as_good a b = at_most a.triple b.triple
 
 -- what betters a triple betters each that it is at most
-bettered_up : (finals : List Final) (s t : Triple) → is_bettered finals s → at_most s t ≡ true → is_bettered finals t
+pub bettered_up : (finals : List Final) (s t : Triple) → is_bettered finals s → at_most s t ≡ true → is_bettered finals t
 bettered_up [] s t h le = h
 bettered_up (x ∷ xs) s t h le =
     let rest = bettered_up xs s t in
@@ -154,6 +155,17 @@ module _ (feed : FeedRows) (query : Query) (source : Source) (is : IsEnding quer
 
 -- ---- all labels
 
+-- one of labels that lie within their bounds does
+pub ending_is : (query : Query) (labels : List Label) (source : Source) → AreEnding query labels → source.labels.now ≡ labels →
+    slice_get labels source.number ≡ Some source.label.now → IsEnding query source
+ending_is query labels source are same at = record {
+  is = ap (λ ls. slice_get ls source.number) same ∙ at;
+  usual = are.usual;
+  few = All-slice_get (λ x. x.rides ≤ query.rides) labels source.number source.label.now at are.few;
+  bounded = All-slice_get IsBounded labels source.number source.label.now at are.bounded;
+  within = All-slice_get (λ x. IsWithinWindow query x.arrival.0) labels source.number source.label.now at are.within;
+}
+
 -- what holds between the triples of finals holds between those that tables have
 pairs_of : (R : Triple → Triple → Type 0) (finals : List Final) → AllPairs (λ (a b : Final). R a.triple b.triple) finals →
     AllPairs (λ a b. R a.triple b.triple) (finals_of finals)
@@ -181,6 +193,41 @@ module _ (feed : FeedRows) (query : Query) (labels : List Label) where
       (λ upper. let same : ends.0 ≡ n = omega (arith, below, upper) in
       inr (subst (λ (l : Label). EndsIn feed query l t) (same_Some _ _ (sym ends.3 ∙ ap (slice_get labels) same ∙ at)) ends.4))
       (cases_lt ends.0 n)
+
+  -- each end of a label is one of the labels below any number past the last
+  pub below_all : (n : ℕ) (t : Triple) → length labels ≤ n → EndsBelow feed query labels (length labels) t → EndsBelow feed query labels n t
+  below_all n t all ends = let below = ends.1 in (ends.0, omega (arith, below, all), ends.2, ends.3, ends.4)
+
+  -- no label ends in anything
+  pub ends_start : (finals : List Final) → labels ≡ [] → finals ≡ [] →
+      AddsEnds feed query labels (EndsBelow feed query labels (length labels)) [] finals
+  ends_start finals none empty =
+      subst (AddsEnds feed query labels (EndsBelow feed query labels (length labels)) []) (sym empty)
+      (ends_none feed query labels _ [] (λ t ends.
+      let lt = ends.1 in
+      let short = ap length none in
+      omega (arith, lt, short)))
+
+  -- what was found of labels is so where more follow them
+  pub ends_longer : (more : List Label) (finals : List Final) → AddsEnds feed query labels (EndsBelow feed query labels (length labels)) [] finals →
+      AddsEnds feed query (labels ++ more) (EndsBelow feed query (labels ++ more) (length labels)) [] finals
+  ends_longer more finals adds = record {
+    still = adds.still;
+    right = λ none. All-weaker (λ (f : Final). IsFinal feed query (labels_of labels) (final_of f))
+        (λ f. IsFinal feed query (labels_of (labels ++ more)) (final_of f)) (λ f is. record {
+          label = is.label;
+          is = ap (λ ls. slice_get ls f.label) (map-append label_of labels more)
+              ∙ slice_get-append_left (labels_of labels) (labels_of more) f.label (slice_get_within (labels_of labels) f.label is.label is.is) ∙ is.is;
+          end = is.end;
+        }) finals (adds.right (λ k d lt. absurd (omega (arith, lt))));
+    all = λ t ends. adds.all t (
+      ends.0,
+      ends.1,
+      ends.2,
+      sym (slice_get-append_left labels more ends.0 ends.1) ∙ ends.3,
+      ends.4,
+    );
+  }
 
   -- all finals
   pub are_finals : (n : ℕ) (finals : List Final) → length labels ≤ n → AddsEnds feed query labels (EndsBelow feed query labels n) [] finals →

@@ -1,6 +1,8 @@
 pub mod BagLaws
+pub mod EndMarks
 pub mod EntryLaws
 pub mod FinalSteps
+pub mod FutileLaws
 pub mod MoveBounds
 pub mod MoveLaws
 pub mod RideSteps

@@ -50,7 +50,7 @@ cover_there members y h = list_any_tells (λ m. covers m y) members h
 covers_itself : (members : List Label) (y : Label) → Contains members y → has_cover covers members y ≡ true
 covers_itself members y at = list_any-from_Any (λ m. covers m y) members (at.0, y, at.1, at.2, cover_laws.reflexive y)
 
-module _ (feed : FeedRows) (query : Query) (labels : List Label) (rides : ℕ) (old : List (List Label)) (x : Label)
+module _ (feed : FeedRows) (query : Query) (Lacking : LabelFacts → Type 0) (labels : List Label) (rides : ℕ) (old : List (List Label)) (x : Label)
     (new : List (List Label)) (takes : Takes old x new) (fresh : IsFresh feed query labels rides x.stop.0 x) where
   -- at the label's own stop
   still_own : (b : LabelFacts) → b.stop.0 ≡ x.stop.0 → IsHeldBelow old b → IsHeldBelow new b
@@ -93,7 +93,7 @@ module _ (feed : FeedRows) (query : Query) (labels : List Label) (rides : ℕ) (
       subst (IsHeldBelow new) (sym is) (some.0, some.1, covers-tells some.0 x some.2)
 
   -- the label gains what it covers
-  pub spreads_one : Spreads feed query labels rides (λ b. b ≡ facts_of x) old new
+  pub spreads_one : Spreads feed query Lacking labels rides (λ b. b ≡ facts_of x) old new
   spreads_one = record {
     many = takes.many;
     still = λ b h. ⊎_elim (λ same. still_own b same h) (λ other. still_other b other h) (cases_eq b.stop.0 x.stop.0);
@@ -101,39 +101,40 @@ module _ (feed : FeedRows) (query : Query) (labels : List Label) (rides : ℕ) (
         ⊎_elim (λ same. kept_own stop y same at few)
         (λ other. subst (λ ms. Contains ms y) (sym (takes.others stop other)) at) (cases_eq stop x.stop.0);
     right = λ stop y at. ⊎_elim (λ same. right_own stop y same at) (λ other. right_other stop y other at) (cases_eq stop x.stop.0);
-    all = taken_itself;
+    all = λ b is. inl (taken_itself b is);
   }
 
 -- ---- many
 
-module _ (feed : FeedRows) (query : Query) (labels : List Label) (rides : ℕ) where
-  -- nothing was offered
-  pub spreads_none : (Part : LabelFacts → Type 0) (bags : List (List Label)) → ((b : LabelFacts) → Part b → ⊥) →
-      Spreads feed query labels rides Part bags bags
+module _ (feed : FeedRows) (query : Query) (Lacking : LabelFacts → Type 0) (labels : List Label) (rides : ℕ) where
+  -- nothing was offered of what may be lacking
+  pub spreads_none : (Part : LabelFacts → Type 0) (bags : List (List Label)) → ((b : LabelFacts) → Part b → Lacking b) →
+      Spreads feed query Lacking labels rides Part bags bags
   spreads_none Part bags none = record {
     many = refl;
     still = λ b h. h;
     kept = λ stop x at few. at;
     right = λ stop x at. inl at;
-    all = λ b part. absurd (none b part);
+    all = λ b part. inr (none b part);
   }
 
   -- one part after another
   pub spreads_more : (Part More Whole : LabelFacts → Type 0) (old mid new : List (List Label)) →
-      Spreads feed query labels rides Part old mid → Spreads feed query labels rides More mid new →
-      ((b : LabelFacts) → Whole b → Part b ⊎ More b) → Spreads feed query labels rides Whole old new
+      Spreads feed query Lacking labels rides Part old mid → Spreads feed query Lacking labels rides More mid new →
+      ((b : LabelFacts) → Whole b → Part b ⊎ More b) → Spreads feed query Lacking labels rides Whole old new
   spreads_more Part More Whole old mid new one two whole = record {
     many = two.many ∙ one.many;
     still = λ b h. two.still b (one.still b h);
     kept = λ stop x at few. two.kept stop x (one.kept stop x at few) few;
     right = λ stop x at. ⊎_elim (one.right stop x) inr (two.right stop x at);
-    all = λ b w. ⊎_elim (λ part. two.still b (one.all b part)) (two.all b) (whole b w);
+    all = λ b w.
+        ⊎_elim (λ part. ⊎_elim (λ held. inl (two.still b held)) inr (one.all b part)) (two.all b) (whole b w);
   }
 
   -- a part said otherwise
   pub spreads_same : (Part Whole : LabelFacts → Type 0) (old new : List (List Label)) →
-      Spreads feed query labels rides Part old new → ((b : LabelFacts) → Whole b → Part b) →
-      Spreads feed query labels rides Whole old new
+      Spreads feed query Lacking labels rides Part old new → ((b : LabelFacts) → Whole b → Part b) →
+      Spreads feed query Lacking labels rides Whole old new
   spreads_same Part Whole old new one whole = record {
     many = one.many;
     still = one.still;
@@ -145,12 +146,12 @@ module _ (feed : FeedRows) (query : Query) (labels : List Label) (rides : ℕ) w
   -- an offer that was taken in
   pub spreads_taken : {E : Type 0} (result : Result (Unit {0}) E) (old new : List (List Label)) (x y : Label) →
       OnOk result (Takes old x new) → x ≡ y → IsFresh feed query labels rides y.stop.0 y →
-      OnOk result (Spreads feed query labels rides (λ b. b ≡ facts_of y) old new)
+      OnOk result (Spreads feed query Lacking labels rides (λ b. b ≡ facts_of y) old new)
   spreads_taken (Err e) old new x y takes same fresh = takes
   spreads_taken (Ok u) old new x y takes same fresh =
-      spreads_one feed query labels rides old y new (subst (λ z. Takes old z new) same takes) fresh
+      spreads_one feed query Lacking labels rides old y new (subst (λ z. Takes old z new) same takes) fresh
 
 -- the number of rides said otherwise
-pub spreads_at : (feed : FeedRows) (query : Query) (labels : List Label) (m n : ℕ) (Part : LabelFacts → Type 0) (old new : List (List Label)) →
-    m ≡ n → Spreads feed query labels (m + 1) Part old new → Spreads feed query labels (n + 1) Part old new
-spreads_at feed query labels m n Part old new same spreads = subst (λ k. Spreads feed query labels (k + 1) Part old new) same spreads
+pub spreads_at : (feed : FeedRows) (query : Query) (Lacking : LabelFacts → Type 0) (labels : List Label) (m n : ℕ) (Part : LabelFacts → Type 0) (old new : List (List Label)) →
+    m ≡ n → Spreads feed query Lacking labels (m + 1) Part old new → Spreads feed query Lacking labels (n + 1) Part old new
+spreads_at feed query Lacking labels m n Part old new same spreads = subst (λ k. Spreads feed query Lacking labels (k + 1) Part old new) same spreads

@@ -14,13 +14,14 @@ use Rattle.feed_rows.specs.PartialJourneys.{LabelFacts}
 use Rattle.feed_rows.specs.RoundTables.{Label as Kept}
 use Rattle.label_bag.specs.Bags.{Apart, AreApart}
 use Rattle.plain_laws.proofs.Laws.{Contains-map, map-tells, Contains-filter, Contains-filter_passes, Contains-joined_below, joined_below-tells, AllPairs-joined_below, AllPairs-append, All-from, All-slice_get, slice_get-append_left}
-use Rattle.plan_rides.specs.InTime.{IsWithinWindow}
+use Rattle.plan_rides.specs.InTime.{IsUsualQuery, IsWithinWindow}
 use Rattle.round_laws.specs.LabelSteps.{start_facts}
 use Rattle.round_laws.specs.LinkedTables.{IsLinked, AreLinked, IsCoveredBy, CoversStarts, CoversSteps}
 use Rattle.plan_rounds.specs.declared.label.Label.{Label}
 use Rattle.plan_rounds.specs.Labels.{facts_of, label_of, labels_of, covers, IsBounded}
 use Rattle.plan_rounds.specs.CoverLaws.{cover_laws, covers-tells}
-use Rattle.plan_rounds.specs.Stores.{at_stop, has_rides, gathered, AreApartByStop, IsHeldBelow, IsFresh, Spreads, StepsFrom, IsStartOf, AreStored, AreClosedTo, AreWhole}
+use Rattle.plan_rounds.specs.Sources.{AreEnding}
+use Rattle.plan_rounds.specs.Stores.{at_stop, has_rides, gathered, AreApartByStop, IsHeldBelow, IsFresh, Spreads, StepsFrom, IsStartOf, AreStored, AreClosedTo, AreWhole, IsNever}
 
 -- ---- what is gathered
 
@@ -173,9 +174,9 @@ module _ (feed : FeedRows) (query : Query) where
 
   -- ---- one round more
 
-  module _ (rides : ℕ) (labels : List Label) (Part : LabelFacts → Type 0) (old new : List (List Label))
-      (stored : AreStored feed query rides labels old) (spreads : Spreads feed query labels rides Part old new)
-      (apart : AreApartByStop new) where
+  module _ (Lacking : LabelFacts → Type 0) (rides : ℕ) (labels : List Label) (Part : LabelFacts → Type 0)
+      (old new : List (List Label)) (stored : AreStored feed query rides labels old)
+      (spreads : Spreads feed query Lacking labels rides Part old new) where
     abbrev more : List Label
     more = labels ++ gathered rides new
 
@@ -216,8 +217,19 @@ module _ (feed : FeedRows) (query : Query) where
     all_more P before after =
         All-append P labels (gathered rides new) before (All-from P (gathered rides new) (λ x at. after x (fresh_of x at)))
 
-    pub stored_more : AreStored feed query (rides + 1) more new
-    stored_more = record {
+    -- they lie within their bounds
+    pub ending_more : IsUsualQuery query → rides ≤ query.rides → AreEnding query more
+    ending_more usual within = record {
+      usual = usual;
+      few = all_more (λ x. x.rides ≤ query.rides)
+          (All-weaker (λ x. x.rides < rides) (λ x. x.rides ≤ query.rides) (λ x lt. omega (arith, lt, within)) labels stored.few)
+          (λ x fresh. let same = fresh.counts in omega (arith, same, within));
+      bounded = all_more IsBounded stored.bounded (λ x fresh. fresh.bounded);
+      within = all_more (λ x. IsWithinWindow query x.arrival.0) stored.within (λ x fresh. fresh.within);
+    }
+
+    pub stored_more : AreApartByStop new → AreStored feed query (rides + 1) more new
+    stored_more apart = record {
       stands = stands;
       listed = listed;
       held = held;
@@ -243,23 +255,35 @@ module _ (feed : FeedRows) (query : Query) where
     covered_by : (b : LabelFacts) → IsHeldBelow new b → IsCoveredBy (labels_of more) b
     covered_by b h = cover_of more h.0 b (listed b.stop.0 h.0 h.1) h.2
 
-    -- each step from labels with fewer rides is covered, where the part has those from the labels of the last round
-    pub closed_more : (last : ℕ) → rides ≡ last + 1 → AreClosedTo feed query last labels →
-        ((b : LabelFacts) → StepsFrom feed query labels last b → Part b) → AreClosedTo feed query rides more
+    -- each step from labels with fewer rides is covered or may be lacking, where the part has those from the labels of the
+    -- last round
+    pub closed_more : (last : ℕ) → rides ≡ last + 1 → AreClosedTo feed query Lacking last labels →
+        ((b : LabelFacts) → StepsFrom feed query labels last b → Part b) → AreClosedTo feed query Lacking rides more
     closed_more last follows closed has x at few ride move b step =
         ⊎_elim before after (Contains-append_cases labels (gathered rides new) x at)
       where
-        before : Contains labels x → IsCoveredBy (labels_of more) b
+        before : Contains labels x → IsCoveredBy (labels_of more) b ⊎ Lacking b
         before there = ⊎_elim earlier now (cases_lt x.rides last)
           where
-            earlier : x.rides < last → IsCoveredBy (labels_of more) b
-            earlier lt = covered_more labels (gathered rides new) b (closed x there lt ride move b step)
+            earlier : x.rides < last → IsCoveredBy (labels_of more) b ⊎ Lacking b
+            earlier lt =
+                ⊎_elim (λ some. inl (covered_more labels (gathered rides new) b some)) inr
+                (closed x there lt ride move b step)
 
-            now : last ≤ x.rides → IsCoveredBy (labels_of more) b
-            now le = covered_by b (spreads.all b (has b (x, there, omega (arith, le, few, follows), (ride, move, step))))
+            now : last ≤ x.rides → IsCoveredBy (labels_of more) b ⊎ Lacking b
+            now le =
+                ⊎_elim (λ held. inl (covered_by b held)) inr
+                (spreads.all b (has b (x, there, omega (arith, le, few, follows), (ride, move, step))))
 
-        after : Contains (gathered rides new) x → IsCoveredBy (labels_of more) b
+        after : Contains (gathered rides new) x → IsCoveredBy (labels_of more) b ⊎ Lacking b
         after there = let same = (fresh_of x there).counts in absurd (omega (arith, same, few))
+
+  -- what may be lacking may still be where more may
+  pub closed_weaker : (Lacking More : LabelFacts → Type 0) (rides : ℕ) (labels : List Label) →
+      ((b : LabelFacts) → Lacking b → More b) → AreClosedTo feed query Lacking rides labels →
+      AreClosedTo feed query More rides labels
+  closed_weaker Lacking More rides labels more closed x at few ride move b step =
+      ⊎_elim inl (λ lack. inr (more b lack)) (closed x at few ride move b step)
 
   -- starts stay covered
   pub starts_more : (labels new : List Label) → CoversStarts feed query (labels_of labels) → CoversStarts feed query (labels_of (labels ++ new))
@@ -283,10 +307,11 @@ module _ (feed : FeedRows) (query : Query) where
 
   -- the starts are covered once they were offered
   pub starts_covered : (rides : ℕ) (labels : List Label) (bags : List (List Label)) → AreStored feed query rides labels bags →
-      ((b : LabelFacts) → IsStartOf feed query b → IsHeldBelow bags b) → CoversStarts feed query (labels_of labels)
+      ((b : LabelFacts) → IsStartOf feed query b → IsHeldBelow bags b ⊎ IsNever b) → CoversStarts feed query (labels_of labels)
   starts_covered rides labels bags stored all stop stands =
-      let some = all (start_facts query stop) (stop, stands, refl) in
-      cover_of labels some.0 (start_facts query stop) (stored.listed stop.0 some.0 some.1) some.2
+      ⊎_elim
+      (λ some. cover_of labels some.0 (start_facts query stop) (stored.listed stop.0 some.0 some.1) some.2)
+      (λ never. absurd never) (all (start_facts query stop) (stop, stands, refl))
 
   -- two different members are apart
   apart_in : (members : List Label) (x y : Label) → AreApart covers members → Contains members x → Contains members y → x ≢ y → Apart covers x y
@@ -327,14 +352,15 @@ module _ (feed : FeedRows) (query : Query) where
       }
 
   -- the labels of all rounds
-  pub whole_of : (limit : ℕ) (labels : List Label) (bags : List (List Label)) → limit ≡ query.rides → length bags ≡ length feed.stops →
-      AreStored feed query (limit + 1) labels bags → AreApartByStop bags → AreClosedTo feed query limit labels →
-      CoversStarts feed query (labels_of labels) → AreWhole feed query labels
-  whole_of limit labels bags all many stored apart closed starts = record {
+  pub whole_of : (Lacking : LabelFacts → Type 0) (limit : ℕ) (labels : List Label) (bags : List (List Label)) →
+      limit ≡ query.rides → length bags ≡ length feed.stops → AreStored feed query (limit + 1) labels bags →
+      AreApartByStop bags → AreClosedTo feed query Lacking limit labels → CoversStarts feed query (labels_of labels) →
+      AreWhole feed query Lacking labels
+  whole_of Lacking limit labels bags all many stored apart closed starts = record {
     linked = stored.linked;
     starts = starts;
-    closed = All-map (λ label. CoversSteps feed query label.facts (labels_of labels)) label_of labels
-        (All-from (λ x. CoversSteps feed query (facts_of x) (labels_of labels)) labels steps);
+    closed = All-map (λ label. CoversSteps feed query Lacking label.facts (labels_of labels)) label_of labels
+        (All-from (λ x. CoversSteps feed query Lacking (facts_of x) (labels_of labels)) labels steps);
     apart = labels_apart (limit + 1) labels bags stored apart;
     few = All-weaker (λ x. x.rides < limit + 1) (λ x. x.rides ≤ query.rides) (λ x lt. omega (arith, lt, all)) labels stored.few;
     inside = All-from (λ x. x.stop.0 < length feed.stops) labels
@@ -343,7 +369,7 @@ module _ (feed : FeedRows) (query : Query) where
     bounded = stored.bounded;
   }
     where
-      steps : (x : Label) → Contains labels x → CoversSteps feed query (facts_of x) (labels_of labels)
+      steps : (x : Label) → Contains labels x → CoversSteps feed query Lacking (facts_of x) (labels_of labels)
       steps x at ride move b step = closed x at (few step.rides.few) ride move b step
         where
           few : x.rides < query.rides → x.rides < limit

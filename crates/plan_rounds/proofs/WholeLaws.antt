@@ -1,27 +1,57 @@
 -- The table of all rounds is whole.
-use Rattle.std.proofs.Common.{◌≡◌, sym, ◌∙◌, subst, ℕ, ◌+◌, ◌*◌, ◌<◌, ◌≤◌, ◌⊎◌, inl, inr, true, false, List, length, get_or, All}
+use Rattle.std.proofs.Common.{◌≡◌, sym, ◌∙◌, subst, ℕ, ◌+◌, ◌*◌, ◌<◌, ◌≤◌, ◌⊎◌, inl, inr, ⊎_elim, Bool, true, false, List, length, get_or, All}
 use Rattle.std.specs.Prelude.{◌≢◌, Some, slice_get}
 use Rattle.std.proofs.lemmas.Bool.{both_ways, cases_order}
+use Rattle.std.proofs.lemmas.List.Elements.{All-weaker}
+use Rattle.std.proofs.lemmas.List.Folds.{Any-from_list_any}
+use Rattle.plain_laws.proofs.Laws.{list_any-map}
 use Rattle.std.proofs.lemmas.Option.{slice_get-map, slice_get_within, get_or_from_slice_get}
 use Rattle.feed_rows.specs.declared.journeys.Query.{Query}
 use Rattle.feed_rows.specs.FeedRows.{FeedRows}
+use Rattle.feed_rows.specs.declared.fares.Triple.{Triple}
 use Rattle.feed_rows.specs.LabelCover.{Covers}
+use Rattle.feed_rows.specs.ParetoTriples.{at_most}
+use Rattle.feed_rows.specs.PartialJourneys.{LabelFacts}
 use Rattle.feed_rows.specs.RoundTables.{Label as Kept, RoundTable}
 use Rattle.feed_rows.specs.SoundFeed.{IsSoundFeed}
-use Rattle.feed_rows.specs.SoundTable.{IsWithoutExcess}
+use Rattle.feed_rows.specs.SoundTable.{IsWithoutExcess, CoversJourneys}
 use Rattle.label_bag.specs.Bags.{AreApart}
 use Rattle.plain_laws.specs.Plain.{list_below, groups_below}
-use Rattle.round_laws.specs.LinkedTables.{AreFinals}
-use Rattle.round_laws.proofs.AnswerLaws.{exact_entries, ends_exactly}
+use Rattle.round_laws.specs.Futility.{MayLack}
+use Rattle.round_laws.specs.LinkedTables.{CoversSteps, AreFinals, IsFound}
+use Rattle.round_laws.proofs.AnswerLaws.{exact_entries, ends_exactly, found_upward}
 use Rattle.round_laws.proofs.TableLaws.{are_real, covers_journeys}
 use Rattle.plan_rounds.specs.declared.finals.Final.{Final}
 use Rattle.plan_rounds.specs.declared.label.Label.{Label}
 use Rattle.plan_rounds.specs.CoverLaws.{covers-holds}
-use Rattle.plan_rounds.specs.Finals.{finals_of}
+use Rattle.plan_rounds.specs.Finals.{final_of, finals_of, is_bettered}
 use Rattle.plan_rounds.specs.Labels.{facts_of, label_of, labels_of, covers}
 use Rattle.plan_rounds.specs.Stores.{AreWhole}
-use Rattle.plan_rounds.specs.Tables.{numbered, table_in, IsWholeTable}
+use Rattle.plan_rounds.specs.Tables.{numbered, table_in, IsExactTable}
 use Rattle.plan_rounds.proofs.TableLaws.{are_bags, option_map-tells}
+
+-- what is bettered is found
+pub found_of : (finals : List Final) (t : Triple) → is_bettered finals t → IsFound (finals_of finals) t
+found_of finals t h =
+    Any-from_list_any (λ final. at_most final.triple t) (finals_of finals)
+    (list_any-map (λ final. at_most final.triple t) final_of finals ∙ h)
+
+-- what may be lacking may still be where more may
+pub whole_weaker : (feed : FeedRows) (query : Query) (Lacking More : LabelFacts → Type 0) (labels : List Label) →
+    ((b : LabelFacts) → Lacking b → More b) → AreWhole feed query Lacking labels → AreWhole feed query More labels
+whole_weaker feed query Lacking More labels more are = record {
+  linked = are.linked;
+  starts = are.starts;
+  closed = All-weaker (λ label. CoversSteps feed query Lacking label.facts (labels_of labels))
+      (λ label. CoversSteps feed query More label.facts (labels_of labels))
+      (λ label covers ride move b step. ⊎_elim inl (λ lack. inr (more b lack)) (covers ride move b step)) (labels_of labels)
+      are.closed;
+  apart = are.apart;
+  few = are.few;
+  inside = are.inside;
+  within = are.within;
+  bounded = are.bounded;
+}
 
 module _ (feed : FeedRows) (query : Query) (labels : List Label) (stops limit : ℕ) (finals : List Final) where
   abbrev groups : List (List ℕ)
@@ -56,15 +86,21 @@ module _ (feed : FeedRows) (query : Query) (labels : List Label) (stops limit : 
       apart_at apart m n x.0 y.0 x.1 y.1 differ
       (subst (λ (l : Kept). Covers l.facts (facts_of y.0)) (sym x.2) (subst (λ (l : Kept). Covers a.facts l.facts) (sym y.2) below))
 
-  pub whole_table : IsSoundFeed feed → AreWhole feed query labels → AreFinals feed query (labels_of labels) (finals_of finals) →
-      stops ≡ length feed.stops → limit ≡ query.rides → IsWholeTable feed query table
-  whole_table sound whole are all_stops all_rides = record {
-    real = λ number label is. are_real feed query table number label whole.linked is;
+  pub exact_table : IsSoundFeed feed → (whole : Bool) →
+      AreWhole feed query (MayLack feed query whole (IsFound (finals_of finals))) labels →
+      AreFinals feed query (labels_of labels) (finals_of finals) → stops ≡ length feed.stops → limit ≡ query.rides →
+      IsExactTable feed query table
+  exact_table sound whole are ends all_stops all_rides = record {
+    real = λ number label is. are_real feed query table number label are.linked is;
     bags = are_bags labels stops limit
-        (subst (λ (n : ℕ). All (λ x. x.rides ≤ n) labels) (sym all_rides) whole.few)
-        (subst (λ (n : ℕ). All (λ x. x.stop.0 < n) labels) (sym all_stops) whole.inside) finals;
-    no_excess = no_excess whole.apart;
-    covers = covers_journeys feed query table whole.linked whole.starts whole.closed;
-    exact = ends_exactly feed query table sound whole.linked whole.starts whole.closed are;
-    offers = λ entries is. (exact_entries feed query table sound whole.linked whole.starts whole.closed are entries is).1;
+        (subst (λ (n : ℕ). All (λ x. x.rides ≤ n) labels) (sym all_rides) are.few)
+        (subst (λ (n : ℕ). All (λ x. x.stop.0 < n) labels) (sym all_stops) are.inside) finals;
+    no_excess = no_excess are.apart;
+    exact = ends_exactly feed query whole table sound are.linked are.starts are.closed ends;
+    offers = λ entries is. (exact_entries feed query whole table sound are.linked are.starts are.closed ends entries is).1;
   }
+
+  -- a search that is to be whole lacks no partial journey
+  pub covers_all : AreWhole feed query (MayLack feed query true (IsFound (finals_of finals))) labels → CoversJourneys feed query table
+  covers_all are =
+      covers_journeys feed query (IsFound (finals_of finals)) table (found_upward (finals_of finals)) are.linked are.starts are.closed

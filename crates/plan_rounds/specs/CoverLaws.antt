@@ -60,7 +60,7 @@ state_equal : (g h : Option LegGroupId) (c k : ℕ) (d e a b : Option Moment) (f
     state_of g c d a f ≡ state_of h k e b l
 state_equal g h c k d e a b f l p q r s t = rw (p, q, r, s, t) refl
 
-same_parts-equal : (a b : FareState) → same_parts a b ≡ true → a ≡ b
+pub same_parts-equal : (a b : FareState) → same_parts a b ≡ true → a ≡ b
 unfolding same_parts state_of
 same_parts-equal a b same =
     let four = and_parts _ (same_flag a.first b.first) same in

@@ -1,9 +1,11 @@
 pub mod CoverLaws
+pub mod Ends
 pub mod Entries
 pub mod FinalLaws
 pub mod Finals
 pub mod Labels
 pub mod Moves
+pub mod Searched
 pub mod Sources
 pub mod Stores
 pub mod Tables

@@ -1,14 +1,35 @@
 -- The moves of a leg after a label.
-use Rattle.std.specs.Prelude.{List, All}
+use Rattle.std.specs.Prelude.{◌≡◌, ℕ, ◌<◌, Bool, ◌&&◌, int_le, ◌+ℤ◌, List, slice_get, All, Some, IsTrue}
 use Rattle.feed_rows.specs.declared.journeys.LegFacts.{LegFacts}
 use Rattle.feed_rows.specs.declared.journeys.Query.{Query}
 use Rattle.feed_rows.specs.declared.states.Move.{Move}
 use Rattle.feed_rows.specs.FareSteps.{AreMovesAfter}
 use Rattle.feed_rows.specs.FeedRows.{FeedRows}
+use Rattle.fare_automaton.specs.Terms.{terms}
 use Rattle.plan_rounds.specs.declared.label.Label.{Label}
-use Rattle.plan_rounds.specs.Labels.{IsSmall}
+use Rattle.plan_rounds.specs.declared.search.Found.{Found}
+use Rattle.plan_rounds.specs.Searched.{Searched}
+use Rattle.plan_rounds.specs.Labels.{IsSmall, same_parts}
 
 -- all that there are, each once, with amounts that one ride can cost
 pub record AreMovesOf (feed : FeedRows) (query : Query) (label : Label) (leg : LegFacts) (moves : List Move) : Type 0 where
   pub exact : AreMovesAfter feed query.rider label.state label.held.0 leg moves
   pub small : All IsSmall moves
+
+-- what is kept of options is for the rider of what is asked
+abbrev pub HasFares : Searched → Found → Type 0
+HasFares task found = found.known.terms ≡ terms task.feed task.query.rider
+
+-- the one leads to the same state of fares as the other, and neither pays more nor costs more
+unfoldable pub betters : Move → Move → Bool
+betters a b = int_le a.paid.0 b.paid.0 && int_le (a.paid.0 +ℤ a.held.0) (b.paid.0 +ℤ b.held.0) && same_parts a.state b.state
+
+-- a move before the one with this number is as good as it
+pub record HasBetter (moves : List Move) (number : ℕ) : Type 0 where
+  pub earlier : ℕ
+  pub before : earlier < number
+  pub better : Move
+  pub is : slice_get moves earlier ≡ Some better
+  pub other : Move
+  pub at : slice_get moves number ≡ Some other
+  pub betters : IsTrue (betters better other)

@@ -1,5 +1,5 @@
 -- Labels from which a round goes on.
-use Rattle.std.specs.Prelude.{◌≡◌, ℕ, ◌+◌, ◌<◌, ◌≤◌, List, slice_get, Some}
+use Rattle.std.specs.Prelude.{◌≡◌, ℕ, ◌+◌, ◌<◌, ◌≤◌, List, slice_get, All, Some}
 use Rattle.feed_rows.specs.declared.journeys.Query.{Query}
 use Rattle.feed_rows.specs.FeedRows.{FeedRows}
 use Rattle.feed_rows.specs.PartialJourneys.{LabelFacts}
@@ -8,9 +8,11 @@ use Rattle.plan_rides.specs.Boarding.{MayRide}
 use Rattle.plan_rides.specs.InTime.{IsUsualQuery, IsWithinWindow}
 use Rattle.plan_rides.specs.declared.caught.CaughtRide.{CaughtRide}
 use Rattle.round_laws.specs.LabelSteps.{facts_after}
+use Rattle.plan_rounds.specs.declared.finals.Final.{Final}
 use Rattle.plan_rounds.specs.declared.label.Label.{Label}
 use Rattle.plan_rounds.specs.declared.search.Source.{Source}
 use Rattle.plan_rounds.specs.Labels.{IsBounded, facts_of, stand_of_label}
+use Rattle.plan_rounds.specs.Searched.{Searched, Lacks}
 use Rattle.plan_rounds.specs.Stores.{Spreads, StepsBy}
 
 -- the label has the number among the labels, lies within its bounds, and one more ride is within the query's limit
@@ -30,10 +32,17 @@ pub record IsEnding (query : Query) (source : Source) : Type 0 where
   pub bounded : IsBounded source.label.now
   pub within : IsWithinWindow query source.label.now.arrival.0
 
--- the labels with one ride more than the source's gain those that cover this part
-abbrev pub SpreadsFrom : FeedRows → Query → Source → (LabelFacts → Type 0) → List (List Label) → List (List Label) → Type 0
-SpreadsFrom feed query source Part old new =
-    Spreads feed query source.labels.now (source.label.now.rides + 1) Part old new
+-- so do all of these, but that any number counts
+pub record AreEnding (query : Query) (labels : List Label) : Type 0 where
+  pub usual : IsUsualQuery query
+  pub few : All (λ x. x.rides ≤ query.rides) labels
+  pub bounded : All IsBounded labels
+  pub within : All (λ x. IsWithinWindow query x.arrival.0) labels
+
+-- the labels with one ride more than the source's gain those that cover this part, but for what the search may lack
+abbrev pub SpreadsFrom : Searched → List Final → Source → (LabelFacts → Type 0) → List (List Label) → List (List Label) → Type 0
+SpreadsFrom task finals source Part old new =
+    Spreads task.feed task.query (Lacks task finals) source.labels.now (source.label.now.rides + 1) Part old new
 
 -- the source leads there by one of the first k of these rides
 abbrev pub StepsByFirst : FeedRows → Query → Source → List CaughtRide → ℕ → LabelFacts → Type 0

@@ -43,6 +43,10 @@ gathered rides bags = joined_below (length bags) (λ stop. filter (has_rides rid
 
 -- ---- one round
 
+-- no facts
+abbrev pub IsNever : LabelFacts → Type 0
+IsNever b = ⊥
+
 -- one of the labels covers such facts
 abbrev pub IsHeldBelow : List (List Label) → LabelFacts → Type 0
 IsHeldBelow bags b = (x : Label) × Contains (at_stop bags b.stop.0) x × Covers (facts_of x) b
@@ -55,15 +59,16 @@ pub record IsFresh (feed : FeedRows) (query : Query) (labels : List Label) (ride
   pub within : IsWithinWindow query x.arrival.0
   pub linked : IsLinked feed query (labels_of labels) (label_of x)
 
--- what was covered still is, and so are all facts of this part; labels with fewer rides stayed, and new ones have so many
-pub record Spreads (feed : FeedRows) (query : Query) (labels : List Label) (rides : ℕ) (Part : LabelFacts → Type 0)
-    (old new : List (List Label)) : Type 0 where
+-- what was covered still is, and so are all facts of this part that may not be lacking; labels with fewer rides stayed, and
+-- new ones have so many
+pub record Spreads (feed : FeedRows) (query : Query) (Lacking : LabelFacts → Type 0) (labels : List Label) (rides : ℕ)
+    (Part : LabelFacts → Type 0) (old new : List (List Label)) : Type 0 where
   pub many : length new ≡ length old
   pub still : (b : LabelFacts) → IsHeldBelow old b → IsHeldBelow new b
   pub kept : (stop : ℕ) (x : Label) → Contains (at_stop old stop) x → x.rides < rides → Contains (at_stop new stop) x
   pub right : (stop : ℕ) (x : Label) → Contains (at_stop new stop) x →
       Contains (at_stop old stop) x ⊎ IsFresh feed query labels rides stop x
-  pub all : (b : LabelFacts) → Part b → IsHeldBelow new b
+  pub all : (b : LabelFacts) → Part b → IsHeldBelow new b ⊎ Lacking b
 
 -- one step leads from the one to the other: by any ride and move, or by this ride
 abbrev pub StepsTo : FeedRows → Query → LabelFacts → LabelFacts → Type 0
@@ -94,16 +99,16 @@ pub record AreStored (feed : FeedRows) (query : Query) (rides : ℕ) (labels : L
   pub linked : AreLinked feed query (labels_of labels)
   pub once : AllPairs (λ a b. a ≢ b) labels
 
--- each step from a label with fewer rides than so many is covered
-abbrev pub AreClosedTo : FeedRows → Query → ℕ → List Label → Type 0
-AreClosedTo feed query rides labels =
-    (x : Label) → Contains labels x → x.rides < rides → CoversSteps feed query (facts_of x) (labels_of labels)
+-- each step from a label with fewer rides than so many is covered, or leads to facts that may be lacking
+abbrev pub AreClosedTo : FeedRows → Query → (LabelFacts → Type 0) → ℕ → List Label → Type 0
+AreClosedTo feed query Lacking rides labels =
+    (x : Label) → Contains labels x → x.rides < rides → CoversSteps feed query Lacking (facts_of x) (labels_of labels)
 
--- the labels of all rounds: they cover the starts and each step from each of them
-pub record AreWhole (feed : FeedRows) (query : Query) (labels : List Label) : Type 0 where
+-- the labels of all rounds: they cover the starts, and each step from each of them that may not be lacking
+pub record AreWhole (feed : FeedRows) (query : Query) (Lacking : LabelFacts → Type 0) (labels : List Label) : Type 0 where
   pub linked : AreLinked feed query (labels_of labels)
   pub starts : CoversStarts feed query (labels_of labels)
-  pub closed : AreClosed feed query (labels_of labels)
+  pub closed : AreClosed feed query Lacking (labels_of labels)
   pub apart : AreApart covers labels
   pub few : All (λ x. x.rides ≤ query.rides) labels
   pub inside : All (λ x. x.stop.0 < length feed.stops) labels

@@ -1,5 +1,5 @@
 -- Tables of labels as the program keeps them, and what they must hold.
-use Rattle.std.specs.Prelude.{◌≡◌, ℕ, ◌+◌, ◌*◌, nat_lt, if◌then◌else◌, List, [], slice_get, unwrap_or, Some}
+use Rattle.std.specs.Prelude.{◌≡◌, true, ℕ, ◌+◌, ◌*◌, nat_lt, if◌then◌else◌, List, [], slice_get, unwrap_or, Some}
 use Rattle.std.specs.Option.{option_map_or}
 use Rattle.transit_base.specs.declared.numbers.StopId.{StopId}
 use Rattle.feed_rows.specs.declared.journeys.Query.{Query}
@@ -13,6 +13,7 @@ use Rattle.plan_rounds.specs.declared.finals.Final.{Final}
 use Rattle.plan_rounds.specs.declared.label.Label.{Label}
 use Rattle.plan_rounds.specs.Finals.{finals_of}
 use Rattle.plan_rounds.specs.Labels.{labels_of}
+use Rattle.plan_rounds.specs.Searched.{Searched}
 
 -- where labels with so many rides stand that are at the stop, among groups for each number of rides and each of so many
 -- stops
@@ -49,12 +50,20 @@ pub record TableParts : Type 0 where
 abbrev pub table_by : TableParts → RoundTable
 table_by parts = table_in parts.labels parts.stops parts.numbers parts.finals
 
--- the labels are real, the bags have them, none is in excess, they cover all partial journeys of the query, and the finals
--- are the exact answer, and cover whatever is offered
-pub record IsWholeTable (feed : FeedRows) (query : Query) (table : RoundTable) : Type 0 where
+-- the labels are real, the bags have them, none is in excess, and the finals are the exact answer, and cover whatever is offered
+pub record IsExactTable (feed : FeedRows) (query : Query) (table : RoundTable) : Type 0 where
   pub real : AreReal feed query table
   pub bags : AreBags table
   pub no_excess : IsWithoutExcess table
-  pub covers : CoversJourneys feed query table
   pub exact : EndsExactly feed query table
   pub offers : (entries : List Entry) → entries_of table ≡ Some entries → CoversOffers feed query entries
+
+-- and they cover all partial journeys of the query
+pub record IsWholeTable (feed : FeedRows) (query : Query) (table : RoundTable) : Type 0 where
+  pub exact : IsExactTable feed query table
+  pub covers : CoversJourneys feed query table
+
+-- the table of a search: where that is to be whole, it covers all partial journeys
+pub record IsTableOf (task : Searched) (table : RoundTable) : Type 0 where
+  pub exact : IsExactTable task.feed task.query table
+  pub covers : task.whole ≡ true → CoversJourneys task.feed task.query table

@@ -1,12 +1,11 @@
 //! What the labels of a search end in.
-ghost use Rattle.std.specs.Prelude.{◌≡◌, ◌<◌, ◌^◌, length, IfOk, IsTrue, OnOk};
+ghost use Rattle.std.specs.Prelude.{◌≡◌, ◌<◌, ◌^◌, [], length, IsTrue, OnOk};
 ghost use Rattle.feed_rows.specs.Journeys.{stands_for};
-ghost use Rattle.plan_rounds.specs.Finals.{AddsEnds, EndsIn, finals_of};
-ghost use Rattle.plan_rounds.specs.Labels.{facts_of, labels_of};
-ghost use Rattle.plan_rounds.specs.Sources.{IsEnding};
-ghost use Rattle.plan_rounds.specs.Stores.{AreWhole};
+ghost use Rattle.feed_rows.specs.declared.fares.Triple.{Triple};
+ghost use Rattle.plan_rounds.specs.Finals.{AddsEnds, EndsBelow, EndsIn, is_bettered};
+ghost use Rattle.plan_rounds.specs.Labels.{facts_of};
+ghost use Rattle.plan_rounds.specs.Sources.{AreEnding, IsEnding};
 ghost use Rattle.round_laws.specs.LabelSteps.{IsLabelEnd};
-ghost use Rattle.round_laws.specs.LinkedTables.{AreFinals};
 
 use crate::label::Label;
 use crate::search::{Search, Source};
@@ -45,26 +44,32 @@ impl Ranked for Final {
 }
 
 impl<'s, 'f> Search<'s, 'f> {
-    /// The best that the labels end in, in order.
+    /// Adds what the labels from this number on end in, where what those before it end in is there.
     ///
     /// # Errors
     /// Want of memory.
-    pub fn finals(&self, alloc: Global, labels: &[Label]) -> Result<Vec<Final>, AllocError>
-        requires whole { AreWhole self.now.feed self.now.query labels.now }
+    pub(crate) fn add_ends(
+        &self,
+        labels: &[Label],
+        begin: usize,
+        front: &mut Front<Final>,
+    ) -> Result<(), AllocError>
+        requires ending { AreEnding self.now.query labels.now }
         requires numbers { length labels.now < 2 ^ 32 }
-        ensures { IfOk result (λ finals. AreFinals self.now.feed self.now.query (labels_of labels.now) (finals_of finals.items)) }
+        requires before { AddsEnds self.now.feed self.now.query labels.now (EndsBelow self.now.feed self.now.query labels.now begin) [] front.old }
+        ensures all { OnOk result (AddsEnds self.now.feed self.now.query labels.now (EndsBelow self.now.feed self.now.query labels.now (length labels.now)) [] front.new) }
+        ensures still { OnOk result ((triple : Triple) → is_bettered front.old triple → is_bettered front.new triple) }
     {
         let _limit = self.limit();
-        let mut front = Front::empty(alloc);
-        for number in 0..labels.len() {
+        for number in begin..labels.len() {
             let source = Source {
                 labels,
                 number: number as u32,
                 label: &labels[number],
             };
-            self.offer_ends(&source, &mut front)?;
+            self.offer_ends(&source, front)?;
         }
-        Ok(front.into_items())
+        Ok(())
     }
 
     /// Offers what the label ends in.

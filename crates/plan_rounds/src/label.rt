@@ -1,5 +1,5 @@
 //! What a search by rounds keeps of a partial journey.
-ghost use Rattle.std.specs.Prelude.{◌≡◌, ◌+◌, ◌+ℤ◌, ◌<◌, Some, pos};
+ghost use Rattle.std.specs.Prelude.{◌≡◌, ◌+◌, ◌+ℤ◌, ◌<◌, ◌≤◌, ◌^◌, Some, pos, nat_abs};
 ghost use Rattle.std.specs.Cmp.{partial_equiv_from_equiv};
 ghost use Rattle.feed_timetable.specs.Standings.{stand_of};
 ghost use Rattle.plan_rounds.specs.Labels.{IsBounded, IsSmall, costs_no_more, covers, is_no_later, same_flag, same_group, same_moment, same_parts, same_state, stand_of_label, started, went_on};
@@ -84,8 +84,9 @@ impl Label {
     }
 
     /// The price so far, with what is held.
-    fn price(&self) -> i128
-        ensures { result ≡ self.now.paid.0 +ℤ self.now.held.0 }
+    pub(crate) fn price(&self) -> i128
+        ensures value { result ≡ self.now.paid.0 +ℤ self.now.held.0 }
+        ensures low { nat_abs result ≤ 2 ^ 64 }
     {
         i128::from(self.paid.0) + i128::from(self.held.0)
     }
@@ -193,7 +194,7 @@ fn same_state(a: &Option<FareState>, b: &Option<FareState>) -> bool
 
 /// Whether each part of the states is the same.
 #[tactic(auto, unfolding(crate::specs::Labels::same_parts))]
-fn same_parts(a: &FareState, b: &FareState) -> bool
+pub(crate) fn same_parts(a: &FareState, b: &FareState) -> bool
     ensures { result ≡ same_parts a.now b.now }
 {
     same_group(a.group, b.group)

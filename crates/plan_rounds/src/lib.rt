@@ -2,9 +2,12 @@
 //! no other is as good as.
 #![tactic(auto)]
 
+mod bounds;
+mod ends;
 mod entries;
 mod finals;
 mod label;
+mod moves;
 mod plan;
 mod search;
 mod stop_bags;

@@ -2,7 +2,7 @@
 ghost use Rattle.std.specs.Prelude.{IfOk};
 ghost use Rattle.feed_rows.specs.JourneyEntries.{CoversOffers, IsExactAnswer};
 ghost use Rattle.plan_rides.specs.InTime.{IsUsualQuery};
-ghost use Rattle.plan_rounds.specs.Tables.{IsWholeTable, table_by};
+ghost use Rattle.plan_rounds.specs.Tables.{IsTableOf, IsWholeTable, table_by};
 
 use crate::search::Search;
 use crate::table::RoundTable;
@@ -13,16 +13,12 @@ use std::alloc::{AllocError, Global};
 impl<'s, 'f> Search<'s, 'f> {
     /// The table of all rounds.
     fn table(&self, alloc: Global) -> Result<RoundTable, AllocError>
-        ensures { IfOk result (λ table. IsWholeTable self.now.feed self.now.query (table_by table)) }
+        ensures { IfOk result (λ table. IsTableOf self.now (table_by table)) }
     {
         let limit = self.limit();
         let stops = self.stops();
-        let labels = self.labels(alloc)?;
-        if labels.len() >= 1 << 32 {
-            return Err(AllocError);
-        }
-        let finals = self.finals(alloc, &labels)?;
-        RoundTable::of(alloc, labels, finals, stops as u32, limit)
+        let (labels, front) = self.labels()?;
+        RoundTable::of(alloc, labels, front.into_items(), stops as u32, limit)
     }
 }
 
@@ -35,10 +31,10 @@ pub fn rounds(alloc: Global, timetable: &Timetable, query: &Query) -> Result<Rou
     requires usual { IsUsualQuery query.now }
     ensures { IfOk result (λ table. IsWholeTable timetable.now query.now (table_by table)) }
 {
-    Search::new(alloc, timetable, query)?.table(alloc)
+    Search::new(alloc, timetable, query, true)?.table(alloc)
 }
 
-/// The exact answer to a query, found by rounds.
+/// The exact answer to a query, found by rounds: of the labels, those alone are kept that matter for it.
 ///
 /// # Errors
 /// Want of memory; so counts that there would be 2^32 labels or more.
@@ -51,5 +47,7 @@ pub fn round_entries(
     ensures exact { IfOk result (λ entries. IsExactAnswer timetable.now query.now entries.items) }
     ensures covers { IfOk result (λ entries. CoversOffers timetable.now query.now entries.items) }
 {
-    rounds(alloc, timetable, query)?.entries(alloc)
+    Search::new(alloc, timetable, query, false)?
+        .table(alloc)?
+        .entries(alloc)
 }

@@ -1,5 +1,5 @@
 //! The search: each round goes on by one more ride from the labels of the round before.
-ghost use Rattle.std.specs.Prelude.{◌≡◌, ◌+◌, ◌<◌, ◌≤◌, ◌^◌, [], length, IfOk, IsTrue, OnOk, Some};
+ghost use Rattle.std.specs.Prelude.{◌≡◌, ◌+◌, ◌<◌, ◌≤◌, ◌^◌, ◌++◌, [], length, IfOk, IsTrue, OnOk, Some};
 ghost use Rattle.feed_rows.specs.FareSteps.{move_after};
 ghost use Rattle.feed_rows.specs.Journeys.{stands_for};
 ghost use Rattle.feed_rows.specs.Legs.{leg_facts};
@@ -9,36 +9,54 @@ ghost use Rattle.feed_rows.specs.StopLinks.{stop_set};
 ghost use Rattle.plan_rides.specs.Asked.{asked};
 ghost use Rattle.plan_rides.specs.InTime.{IsRight, IsUsualQuery};
 ghost use Rattle.plan_rounds.specs.Labels.{IsBounded, IsSmall, facts_of, stand_of_label};
-ghost use Rattle.plan_rounds.specs.Moves.{AreMovesOf};
-ghost use Rattle.plan_rounds.specs.Sources.{IsSource, SpreadsFrom};
-ghost use Rattle.plan_rounds.specs.Stores.{AreStored, AreWhole, IsStartOf, Spreads, StepsBy, StepsFrom, StepsTo};
+ghost use Rattle.plan_rounds.specs.Moves.{AreMovesOf, HasFares};
+ghost use Rattle.feed_rows.specs.declared.fares.Triple.{Triple};
+ghost use Rattle.plan_rounds.specs.Finals.{AddsEnds, EndsBelow, is_bettered};
+ghost use Rattle.plan_rounds.specs.Searched.{Lacks, searched};
+ghost use Rattle.plan_rounds.specs.Sources.{AreEnding, IsSource, SpreadsFrom};
+ghost use Rattle.plan_rounds.specs.Stores.{AreApartByStop, AreStored, AreWhole, IsNever, gathered, IsStartOf, Spreads, StepsBy, StepsFrom, StepsTo};
 
+use crate::bounds::takes_back;
+use crate::ends::Ends;
+use crate::finals::Final;
 use crate::label::Label;
+use crate::moves::is_bettered;
 use crate::stop_bags::StopBags;
-use fare_automaton::Automaton;
+use fare_automaton::{Automaton, KnownOptions};
 use fare_timeframes::Timeframes;
 use feed_rows::{ChangeChoice, Feed, LegFacts, Move, Query};
 use feed_timetable::Timetable;
+use pareto_front::Front;
 use plan_rides::{CaughtRide, Rides};
 use std::alloc::{AllocError, Global};
 use std::marker::Model;
 use transit_base::StopId;
 
-/// A query over a timetable, with what is computed once for it. Contracts see it as the feed and the query.
+/// A query over a timetable, with what is computed once for it. Contracts see the feed, the query, and whether the labels are to
+/// cover all partial journeys or those alone that matter for the answer.
 pub struct Search<'s, 'f> {
+    alloc: Global,
     rides: Rides<'s, 'f>,
     timeframes: Timeframes,
     /// The fares for the query's rider.
-    automaton: Automaton<'f>,
+    pub(crate) automaton: Automaton<'f>,
+    pub(crate) ends: Ends,
+    /// Whether some change takes back what a leg before it cost.
+    pub(crate) takes_back: bool,
+    pub(crate) whole: bool,
 }
 
 // Written out, so that what holds one needn't look into it to let go of it.
 impl<'s, 'f> Drop for Search<'s, 'f> {
     fn drop(self) {
         let Search {
+            alloc: _,
             rides: _,
             timeframes: _,
             automaton: _,
+            ends: _,
+            takes_back: _,
+            whole: _,
         } = self;
     }
 }
@@ -47,13 +65,15 @@ impl<'s, 'f> Model for Search<'s, 'f> {
     ghost use Rattle.std.specs.Prelude.{◌≡◌};
     ghost use Rattle.fare_automaton.specs.Terms.{terms};
     ghost use Rattle.fare_timeframes.specs.BuiltTimeframes.{AreTimeframesOf};
-    ghost use Rattle.plan_rides.specs.Asked.{Asked};
+    ghost use Rattle.plan_rounds.specs.Ends.{AreEnds};
+    ghost use Rattle.plan_rounds.specs.Searched.{Searched, searched};
+    ghost use Rattle.round_laws.specs.Futility.{some_takes_back};
 
-    ghost Value = { Asked };
+    ghost Value = { Searched };
 
-    ghost view = { λ s. s.rides };
+    ghost view = { λ s. searched s.rides s.whole };
 
-    ghost invariant = { λ s. AreTimeframesOf s.rides.feed s.timeframes × (s.automaton ≡ terms s.rides.feed s.rides.query.rider) };
+    ghost invariant = { λ s. AreTimeframesOf s.rides.feed s.timeframes × (s.automaton ≡ terms s.rides.feed s.rides.query.rider) × (s.takes_back ≡ some_takes_back s.rides.feed) × AreEnds s.rides.feed s.rides.query s.ends.marks.items };
 }
 
 /// A label with its number among those so far, from which a round goes on.
@@ -74,15 +94,27 @@ impl<'l> Drop for Source<'l> {
     }
 }
 
-/// What is found for one label after another, kept for its memory.
-#[derive(Drop)]
-pub struct Found {
+/// What can be paid for legs, kept by their kinds, and what is found for one ride after another, kept for its memory.
+pub struct Found<'a, 'f> {
+    pub(crate) known: KnownOptions<'a, 'f>,
     places: Vec<Option<ChangeChoice>>,
     moves: Vec<Move>,
 }
 
+// Written out, so that what holds one needn't look into it to let go of it.
+impl<'a, 'f> Drop for Found<'a, 'f> {
+    fn drop(self) {
+        let Found {
+            known: _,
+            places: _,
+            moves: _,
+        } = self;
+    }
+}
+
 impl<'s, 'f> Search<'s, 'f> {
-    /// The search for the query over the timetable.
+    /// The search for the query over the timetable: for labels that cover all partial journeys, where it is to be whole, and
+    /// else for those that matter for the answer.
     ///
     /// # Errors
     /// Want of memory.
@@ -90,9 +122,10 @@ impl<'s, 'f> Search<'s, 'f> {
         alloc: Global,
         timetable: &'s Timetable<'f>,
         query: &'s Query,
+        whole: bool,
     ) -> Result<Search<'s, 'f>, AllocError>
         requires { IsUsualQuery query.now }
-        ensures { IfOk result (λ search. search ≡ asked timetable.now query.now) }
+        ensures { IfOk result (λ search. search ≡ searched (asked timetable.now query.now) whole) }
     {
         let rides = Rides::of(alloc, timetable, query)?;
         let timeframes = Timeframes::between(
@@ -102,16 +135,21 @@ impl<'s, 'f> Search<'s, 'f> {
             rides.deadline(),
         )?;
         let automaton = Automaton::compile(alloc, timetable.feed(), query.rider)?;
+        let ends = Ends::of(alloc, timetable, query)?;
         Ok(Search {
+            alloc,
             rides,
             timeframes,
             automaton,
+            ends,
+            takes_back: takes_back(timetable.feed()),
+            whole,
         })
     }
 
     /// The rides of the query.
     pub(crate) fn rides(&self) -> &Rides<'s, 'f>
-        ensures { result.now ≡ self.now }
+        ensures { result.now ≡ asked self.now.feed self.now.query }
     {
         &self.rides
     }
@@ -161,7 +199,7 @@ impl<'s, 'f> Search<'s, 'f> {
     fn offer_start(&self, first: StopId, bags: &mut StopBags) -> Result<(), AllocError>
         requires stops { length bags.old ≡ length self.now.feed.stops }
         requires starts { IsTrue (stands_for self.now.feed self.now.query.from first) }
-        ensures { OnOk result (Spreads self.now.feed self.now.query [] 0 (λ b. b ≡ start_facts self.now.query first) bags.old bags.new) }
+        ensures { OnOk result (Spreads self.now.feed self.now.query IsNever [] 0 (λ b. b ≡ start_facts self.now.query first) bags.old bags.new) }
     {
         bags.offer(Label::start(self.rides.query(), first))
     }
@@ -169,7 +207,7 @@ impl<'s, 'f> Search<'s, 'f> {
     /// Offers the labels without rides.
     fn offer_starts(&self, bags: &mut StopBags) -> Result<(), AllocError>
         requires { length bags.old ≡ length self.now.feed.stops }
-        ensures { OnOk result (Spreads self.now.feed self.now.query [] 0 (IsStartOf self.now.feed self.now.query) bags.old bags.new) }
+        ensures { OnOk result (Spreads self.now.feed self.now.query IsNever [] 0 (IsStartOf self.now.feed self.now.query) bags.old bags.new) }
     {
         let firsts = self.firsts();
         for k in 0..firsts.len() {
@@ -179,25 +217,22 @@ impl<'s, 'f> Search<'s, 'f> {
     }
 
     /// Replaces what is found of moves by those of the leg after the label: all that there are, each once.
-    fn find_moves(
-        &self,
-        alloc: Global,
-        label: &Label,
-        leg: &LegFacts,
-        found: &mut Found,
-    ) -> Result<(), AllocError>
-        requires { IsBounded label.now }
-        ensures { OnOk result (AreMovesOf self.now.feed self.now.query label.now leg.now found.new.moves.items) }
+    fn find_moves(&self, label: &Label, leg: &LegFacts, found: &mut Found) -> Result<(), AllocError>
+        requires bounded { IsBounded label.now }
+        requires fares { HasFares self.now found.old }
+        ensures moves { OnOk result (AreMovesOf self.now.feed self.now.query label.now leg.now found.new.moves.items) }
+        ensures fares { HasFares self.now found.new }
     {
         let _feed = self.feed();
-        let options = self.automaton.options(alloc, leg)?;
+        let number = found.known.know(self.alloc, leg)?;
+        let options = found.known.options(number);
         match &label.state {
-            None => self.automaton.start_into(leg, &options, &mut found.moves),
+            None => self.automaton.start_into(leg, options, &mut found.moves),
             Some(state) => self.automaton.step_into(
                 state,
                 label.held,
                 leg,
-                &options,
+                options,
                 &mut found.places,
                 &mut found.moves,
             ),
@@ -207,21 +242,28 @@ impl<'s, 'f> Search<'s, 'f> {
     /// Offers what the ride leads to from the label.
     fn offer_ride(
         &self,
-        alloc: Global,
         source: &Source,
+        finals: &[Final],
         caught: &CaughtRide,
-        found: &mut Found,
+        found: &mut Found<'_, 'f>,
         bags: &mut StopBags,
     ) -> Result<(), AllocError>
         requires stops { length bags.old ≡ length self.now.feed.stops }
         requires source { IsSource self.now.feed self.now.query source.now }
         requires right { IsRight self.now.feed self.now.query (stand_of_label source.now.label.now) caught.now }
-        ensures { OnOk result (SpreadsFrom self.now.feed self.now.query source.now (StepsBy self.now.feed self.now.query (facts_of source.now.label.now) caught.now.ride) bags.old bags.new) }
+        requires fares { HasFares self.now found.old }
+        ensures fares { HasFares self.now found.new }
+        ensures spreads { OnOk result (SpreadsFrom self.now finals.now source.now (StepsBy self.now.feed self.now.query (facts_of source.now.label.now) caught.now.ride) bags.old bags.new) }
     {
-        let leg = self.timeframes.leg_facts(alloc, &caught.facts)?;
-        self.find_moves(alloc, source.label, &leg, found)?;
+        if self.is_futile(source, finals, caught) {
+            return Ok(());
+        }
+        let leg = self.timeframes.leg_facts(self.alloc, &caught.facts)?;
+        self.find_moves(source.label, &leg, found)?;
         for k in 0..found.moves.len() {
-            self.offer_move(source, caught, &found.moves[k], bags)?;
+            if !is_bettered(&found.moves, k) {
+                self.offer_move(source, finals, caught, &found.moves[k], bags)?;
+            }
         }
         Ok(())
     }
@@ -230,6 +272,7 @@ impl<'s, 'f> Search<'s, 'f> {
     fn offer_move(
         &self,
         source: &Source,
+        finals: &[Final],
         caught: &CaughtRide,
         taken: &Move,
         bags: &mut StopBags,
@@ -239,28 +282,34 @@ impl<'s, 'f> Search<'s, 'f> {
         requires right { IsRight self.now.feed self.now.query (stand_of_label source.now.label.now) caught.now }
         requires small { IsSmall taken.now }
         requires pays { move_after self.now.feed self.now.query.rider source.now.label.now.state source.now.label.now.held.0 (leg_facts self.now.feed caught.now.facts) taken.now ≡ Some taken.now }
-        ensures { OnOk result (SpreadsFrom self.now.feed self.now.query source.now (λ b. b ≡ facts_after (facts_of source.now.label.now) caught.now.facts taken.now) bags.old bags.new) }
+        ensures { OnOk result (SpreadsFrom self.now finals.now source.now (λ b. b ≡ facts_after (facts_of source.now.label.now) caught.now.facts taken.now) bags.old bags.new) }
     {
         let _feed = self.feed();
-        bags.offer(source.label.after(source.number, caught, taken))
+        let label = source.label.after(source.number, caught, taken);
+        if self.is_overtaken(&label, finals) {
+            return Ok(());
+        }
+        bags.offer(label)
     }
 
     /// Offers what one more ride leads to from the label. What `rides` holds is lost.
     fn offer_rides(
         &self,
-        alloc: Global,
         source: &Source,
+        finals: &[Final],
         rides: &mut Vec<CaughtRide>,
-        found: &mut Found,
+        found: &mut Found<'_, 'f>,
         bags: &mut StopBags,
     ) -> Result<(), AllocError>
         requires stops { length bags.old ≡ length self.now.feed.stops }
         requires source { IsSource self.now.feed self.now.query source.now }
-        ensures { OnOk result (SpreadsFrom self.now.feed self.now.query source.now (StepsTo self.now.feed self.now.query (facts_of source.now.label.now)) bags.old bags.new) }
+        requires fares { HasFares self.now found.old }
+        ensures fares { HasFares self.now found.new }
+        ensures spreads { OnOk result (SpreadsFrom self.now finals.now source.now (StepsTo self.now.feed self.now.query (facts_of source.now.label.now)) bags.old bags.new) }
     {
         self.rides.next_into(source.label.standing(), rides)?;
         for k in 0..rides.len() {
-            self.offer_ride(alloc, source, &rides[k], found, bags)?;
+            self.offer_ride(source, finals, &rides[k], found, bags)?;
         }
         Ok(())
     }
@@ -268,18 +317,20 @@ impl<'s, 'f> Search<'s, 'f> {
     /// Offers what one more ride leads to from the labels with so many rides. What `rides` holds is lost.
     fn spread(
         &self,
-        alloc: Global,
         labels: &[Label],
         count: u8,
+        finals: &[Final],
         rides: &mut Vec<CaughtRide>,
-        found: &mut Found,
+        found: &mut Found<'_, 'f>,
         bags: &mut StopBags,
     ) -> Result<(), AllocError>
         requires stops { length bags.old ≡ length self.now.feed.stops }
         requires few { count < self.now.query.rides }
         requires numbers { length labels.now < 2 ^ 32 }
         requires stored { AreStored self.now.feed self.now.query (count + 1) labels.now bags.old }
-        ensures { OnOk result (Spreads self.now.feed self.now.query labels.now (count + 1) (StepsFrom self.now.feed self.now.query labels.now count) bags.old bags.new) }
+        requires fares { HasFares self.now found.old }
+        ensures fares { HasFares self.now found.new }
+        ensures spreads { OnOk result (Spreads self.now.feed self.now.query (Lacks self.now finals.now) labels.now (count + 1) (StepsFrom self.now.feed self.now.query labels.now count) bags.old bags.new) }
     {
         let _limit = self.limit();
         for number in 0..labels.len() {
@@ -290,35 +341,71 @@ impl<'s, 'f> Search<'s, 'f> {
                     number: number as u32,
                     label,
                 };
-                self.offer_rides(alloc, &source, rides, found, bags)?;
+                self.offer_rides(&source, finals, rides, found, bags)?;
             }
         }
         Ok(())
     }
 
-    /// The labels of all rounds.
+    /// Adds the labels that have so many rides, and what they end in.
     ///
     /// # Errors
     /// Want of memory; so counts that there would be 2^32 labels or more.
-    pub fn labels(&self, alloc: Global) -> Result<Vec<Label>, AllocError>
-        ensures { IfOk result (λ labels. AreWhole self.now.feed self.now.query labels.items) }
+    fn gather(
+        &self,
+        rides: u8,
+        bags: &StopBags,
+        labels: &mut Vec<Label>,
+        front: &mut Front<Final>,
+    ) -> Result<(), AllocError>
+        requires ending { AreEnding self.now.query (labels.old.items ++ gathered rides bags.now) }
+        requires ended { AddsEnds self.now.feed self.now.query labels.old.items (EndsBelow self.now.feed self.now.query labels.old.items (length labels.old.items)) [] front.old }
+        ensures value { OnOk result (labels.new.items ≡ labels.old.items ++ gathered rides bags.now) }
+        ensures numbers { OnOk result (length labels.new.items < 2 ^ 32) }
+        ensures ended { OnOk result (AddsEnds self.now.feed self.now.query labels.new.items (EndsBelow self.now.feed self.now.query labels.new.items (length labels.new.items)) [] front.new) }
+        ensures still { OnOk result ((triple : Triple) → is_bettered front.old triple → is_bettered front.new triple) }
+        ensures apart { AreApartByStop bags.now }
     {
-        let mut bags = StopBags::empty(alloc, self.stops())?;
-        self.offer_starts(&mut bags)?;
-        let mut labels = Vec::new(alloc);
-        bags.gather(0, &mut labels)?;
-        let mut rides = Vec::new(alloc);
-        let mut found = Found {
-            places: Vec::new(alloc),
-            moves: Vec::new(alloc),
-        };
-        for count in 0..self.limit() {
-            if labels.len() >= 1 << 32 {
-                return Err(AllocError);
-            }
-            self.spread(alloc, &labels, count, &mut rides, &mut found, &mut bags)?;
-            bags.gather(count + 1, &mut labels)?;
+        let begin = labels.len();
+        bags.gather(rides, labels)?;
+        if labels.len() >= 1 << 32 {
+            return Err(AllocError);
         }
-        Ok(labels)
+        self.add_ends(labels, begin, front)
+    }
+
+    /// The labels of all rounds, and the best that they end in.
+    ///
+    /// # Errors
+    /// Want of memory; so counts that there would be 2^32 labels or more.
+    pub fn labels(&self) -> Result<(Vec<Label>, Front<Final>), AllocError>
+        ensures whole { IfOk result (λ all. AreWhole self.now.feed self.now.query (Lacks self.now all.1) all.0.items) }
+        ensures numbers { IfOk result (λ all. length all.0.items < 2 ^ 32) }
+        ensures ended { IfOk result (λ all. AddsEnds self.now.feed self.now.query all.0.items (EndsBelow self.now.feed self.now.query all.0.items (length all.0.items)) [] all.1) }
+    {
+        let limit = self.limit();
+        let mut bags = StopBags::empty(self.alloc, self.stops())?;
+        self.offer_starts(&mut bags)?;
+        let mut labels = Vec::new(self.alloc);
+        let mut front = Front::empty(self.alloc);
+        self.gather(0, &bags, &mut labels, &mut front)?;
+        let mut rides = Vec::new(self.alloc);
+        let mut found = Found {
+            known: KnownOptions::of(self.alloc, &self.automaton),
+            places: Vec::new(self.alloc),
+            moves: Vec::new(self.alloc),
+        };
+        for count in 0..limit {
+            self.spread(
+                &labels,
+                count,
+                front.items(),
+                &mut rides,
+                &mut found,
+                &mut bags,
+            )?;
+            self.gather(count + 1, &bags, &mut labels, &mut front)?;
+        }
+        Ok((labels, front))
     }
 }

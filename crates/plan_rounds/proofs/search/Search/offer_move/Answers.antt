@@ -1,23 +1,34 @@
-use Rattle.std.proofs.Common.{sym, subst, ◌<◌, length}
+use Rattle.std.proofs.Common.{◌≡◌, ◌∙◌, true, sym, subst, ◌<◌, length}
 use Rattle.plan_rides.proofs.DepartureLaws.{ride_end}
 use Rattle.plan_rounds.specs.declared.label.Label.{Label}
 use Rattle.plan_rounds.specs.Labels.{IsBounded, went_on}
+use Rattle.plan_rounds.specs.Searched.{Lacks, is_overtaken_by}
+use Rattle.plan_rounds.proofs.FutileLaws.{overtaken}
 use Rattle.plan_rounds.proofs.RideSteps.{fresh_after}
-use Rattle.plan_rounds.proofs.SpreadLaws.{spreads_taken}
+use Rattle.plan_rounds.proofs.SpreadLaws.{spreads_none, spreads_taken}
 use Rattle.plan_rounds.proofs.search.Search.offer_move.Goals as goal
 
 pub offer-requires : goal.offer-requires
 offer-requires c =
-    subst (λ (x : Label). x.stop.0 < length c.args.bags.now) (sym c.after.ensures.value)
+    subst (λ (x : Label). x.stop.0 < length c.args.bags.now) (sym c.after-label.ensures.value)
     (subst (λ n. c.args.caught.now.facts.to.0 < n) (sym c.requires.stops)
     (ride_end c.args.self.now.feed c.args.caught.now.ride c.args.caught.now.facts c.feed-feed.ensures.sound c.requires.right.facts))
+
+pub returns-then-is_overtaken : goal.returns-then-is_overtaken
+returns-then-is_overtaken c =
+    spreads_none c.args.self.now.feed c.args.self.now.query (Lacks c.args.self.now c.args.finals.now) c.args.source.now.labels.now _ _
+    c.args.bags.now (λ b same.
+    overtaken c.args.self.now c.args.finals.now (went_on c.args.source.now.label.now c.args.source.now.number c.args.caught.now c.args.taken.now)
+    b c.feed-feed.ensures.sound same
+    (subst (λ (x : Label). is_overtaken_by c.args.self.now c.args.finals.now x ≡ true) c.after-label.ensures.value
+    (sym c.is_overtaken.ensures ∙ c.if-is_overtaken.true)))
 
 pub returns : goal.returns
 returns c =
     let source = c.args.source.now in
     let caught = c.args.caught.now in
     let taken = c.args.taken.now in
-    spreads_taken c.args.self.now.feed c.args.self.now.query source.labels.now _ c.offer.result c.args.bags.now c.offer.new.self c.after.result
-    (went_on source.label.now source.number caught taken) c.offer.ensures c.after.ensures.value
+    spreads_taken c.args.self.now.feed c.args.self.now.query (Lacks c.args.self.now c.args.finals.now) source.labels.now _ c.offer.result c.args.bags.now c.offer.new.self c.after-label.result
+    (went_on source.label.now source.number caught taken) c.offer.ensures c.after-label.ensures.value
     (fresh_after c.args.self.now.feed c.args.self.now.query source c.requires.source caught c.requires.right taken c.feed-feed.ensures.sound
-    c.requires.pays (subst IsBounded c.after.ensures.value c.after.ensures.bounded))
+    c.requires.pays (subst IsBounded c.after-label.ensures.value c.after-label.ensures.bounded))

@@ -1,11 +1,14 @@
 use Rattle.std.proofs.Common.{refl, subst, arith, length, ◌<◌}
 use Rattle.std.proofs.lemmas.Option.{slice_get_read}
 use Rattle.fare_timeframes.specs.BuiltTimeframes.{AreTimeframesOf}
-use Rattle.plan_rides.specs.Asked.{Asked}
+use Rattle.plan_rounds.specs.Searched.{Searched, Lacks}
 use Rattle.plan_rounds.specs.Moves.{AreMovesOf}
 use Rattle.plan_rounds.proofs.RideSteps.{leads_more, leads_by}
-use Rattle.plan_rounds.proofs.SpreadLaws.{spreads_more, spreads_same}
+use Rattle.plan_rounds.proofs.SpreadLaws.{spreads_none, spreads_more, spreads_same}
+use Rattle.plan_rounds.specs.Moves.{HasBetter}
+use Rattle.plan_rounds.proofs.FutileLaws.{leads_without}
 use Rattle.plan_rounds.proofs.search.Search.offer_ride.Goals as goal
+use Rattle.plan_rounds.proofs.search.Search.offer_ride.Goals.{then-not-is_bettered+in_ok-offer_move, else-not-is_bettered}
 
 pub loop-k-preserved : goal.loop-k-preserved
 loop-k-preserved c =
@@ -14,18 +17,29 @@ loop-k-preserved c =
     let source = c.args.source.now in
     let moves = c.find_moves.new.found.moves in
     let lt : c.loop-k.k < length moves.items = omega (arith, c.loop-k-test.true, c.len-k-end.ensures, moves.ok.0) in
-    let at = slice_get_read moves.items (length moves.items) c.loop-k.k c.index.result.now refl lt c.index.ensures in
-    spreads_more feed query source.labels.now _ _ _ _ _ _ _ c.loop-k.invariant c.in_ok-offer_move.ensures
-    (λ b. leads_more feed query source c.requires.source c.args.caught.now c.requires.right moves.items c.loop-k.k c.index.result.now b at)
+    elim c.if-not-is_bettered.branch [
+      | then-not-is_bettered+in_ok-offer_move w ↦
+          let at = slice_get_read moves.items (length moves.items) c.loop-k.k w.index.result.now refl lt w.index.ensures in
+          rw w.bags-is (spreads_more feed query (Lacks c.args.self.now c.args.finals.now) source.labels.now _ _ _ _ _ _ _ c.loop-k.invariant w.in_ok-offer_move.ensures
+          (λ b. leads_more feed query source c.requires.source c.args.caught.now c.requires.right moves.items c.loop-k.k w.index.result.now b at))
+      | else-not-is_bettered w ↦
+          rw w.bags-is (leads_without c.args.self.now c.args.finals.now source c.args.caught.now moves.items c.loop-k.k _ _
+          (subst (λ ms. HasBetter ms c.loop-k.k) c.deref.ensures.value (c.is_bettered.ensures w.if-not-is_bettered.false)) c.loop-k.invariant)
+    ]
 
-pub returns : goal.returns
-returns c =
+pub returns-then-is_futile-clause-spreads : goal.returns-then-is_futile-clause-spreads
+returns-then-is_futile-clause-spreads c =
+    spreads_none c.args.self.now.feed c.args.self.now.query (Lacks c.args.self.now c.args.finals.now) c.args.source.now.labels.now _ _
+    c.args.bags.now (c.is_futile.ensures c.if-is_futile.true)
+
+pub returns-clause-spreads : goal.returns-clause-spreads
+returns-clause-spreads c =
     let feed = c.args.self.now.feed in
     let query = c.args.self.now.query in
     let source = c.args.source.now in
     let moves = c.find_moves.new.found.moves in
-    let frames = subst (λ (a : Asked). AreTimeframesOf a.feed c.self.inside.timeframes) c.self.view_is c.self.invariant.0 in
-    let are = subst (λ leg. AreMovesOf feed query source.label.now leg moves.items) (c.in_ok-leg.ensures feed frames) c.in_ok-find_moves.ensures in
-    spreads_same feed query source.labels.now _ _ _ _ _ c.loop-k.invariant
+    let frames = subst (λ (a : Searched). AreTimeframesOf a.feed c.self.inside.timeframes) c.self.view_is c.self.invariant.0 in
+    let are = subst (λ leg. AreMovesOf feed query source.label.now leg moves.items) (c.in_ok-leg.ensures feed frames) c.in_ok-find_moves.ensures.moves in
+    spreads_same feed query (Lacks c.args.self.now c.args.finals.now) source.labels.now _ _ _ _ _ c.loop-k.invariant
     (λ b. leads_by feed query source c.requires.source c.args.caught.now c.requires.right moves.items c.loop-k.k b are
     (omega (arith, c.loop-k-test.false, c.len-k-end.ensures, moves.ok.0)))

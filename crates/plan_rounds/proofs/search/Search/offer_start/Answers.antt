@@ -1,6 +1,7 @@
 use Rattle.std.proofs.Common.{◌∙◌, sym, subst, ap, ◌<◌, length}
 use Rattle.feed_rows.specs.declared.journeys.Query.{Query}
-use Rattle.plan_rides.specs.Asked.{Asked}
+use Rattle.plan_rounds.specs.Searched.{Searched}
+use Rattle.plan_rounds.specs.Stores.{IsNever}
 use Rattle.plan_rounds.specs.declared.label.Label.{Label}
 use Rattle.plan_rounds.specs.Labels.{started}
 use Rattle.plan_rounds.proofs.RideSteps.{fresh_start}
@@ -15,6 +16,6 @@ offer-requires c =
 
 pub returns : goal.returns
 returns c =
-    spreads_taken c.args.self.now.feed c.args.self.now.query _ 0 c.offer.result c.args.bags.now c.offer.new.self c.start.result
-    (started c.args.self.now.query c.args.first) c.offer.ensures (c.start.ensures ∙ ap (λ (q : Query). started q c.args.first) (c.query.ensures.is ∙ ap (λ (a : Asked). a.query) c.self.view_is))
+    spreads_taken c.args.self.now.feed c.args.self.now.query IsNever _ 0 c.offer.result c.args.bags.now c.offer.new.self c.start.result
+    (started c.args.self.now.query c.args.first) c.offer.ensures (c.start.ensures ∙ ap (λ (q : Query). started q c.args.first) (c.query.ensures.is ∙ ap (λ (a : Searched). a.query) c.self.view_is))
     (fresh_start c.args.self.now.feed c.args.self.now.query c.args.first c.requires.starts)

@@ -1,0 +1,36 @@
+-- What is asked of a search by rounds, and which labels it may lack.
+use Rattle.std.specs.Prelude.{ℕ, Bool, ◌&&◌, not, List, ℤ}
+use Rattle.feed_rows.specs.declared.journeys.Query.{Query}
+use Rattle.feed_rows.specs.FeedRows.{FeedRows}
+use Rattle.feed_rows.specs.PartialJourneys.{LabelFacts}
+use Rattle.std.specs.List.{list_any}
+use Rattle.plan_rides.specs.Asked.{Asked}
+use Rattle.round_laws.specs.Futility.{MayLack, is_within, least_end}
+use Rattle.plan_rounds.specs.declared.finals.Final.{Final}
+use Rattle.plan_rounds.specs.declared.label.Label.{Label}
+use Rattle.plan_rounds.specs.Finals.{is_bettered}
+use Rattle.plan_rounds.specs.Labels.{facts_of}
+
+-- a feed and a query over it, and whether the labels are to cover all partial journeys or those alone that matter for the
+-- answer
+pub record Searched : Type 0 where
+  pub feed : FeedRows
+  pub query : Query
+  pub whole : Bool
+
+abbrev pub searched : Asked → Bool → Searched
+searched asked whole = record { feed = asked.feed; query = asked.query; whole = whole }
+
+-- the search may lack labels with such facts, where these finals are found
+abbrev pub Lacks : Searched → List Final → LabelFacts → Type 0
+Lacks task finals = MayLack task.feed task.query task.whole (is_bettered finals)
+
+-- some final arrives no later than this moment, with no more rides than so many, and costs no more than this
+abbrev pub has_ahead : List Final → ℤ → ℕ → ℤ → Bool
+has_ahead finals at rides price = list_any (λ final. is_within at rides price final.triple) finals
+
+-- the search may lack the label, and some final arrives no later, with no more rides, and costs no more than can follow
+abbrev pub is_overtaken_by : Searched → List Final → Label → Bool
+is_overtaken_by task finals label =
+    not task.whole
+    && has_ahead finals label.arrival.0 label.rides (least_end task.feed task.query (facts_of label))
