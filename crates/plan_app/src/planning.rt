@@ -17,7 +17,7 @@ use crate::status::Status;
 use feed_maker::stop_id;
 use feed_rows::{Feed, USUAL_WINDOW};
 use feed_timetable::Timetable;
-use plan_plain::plain_entries;
+use plan_rounds::round_entries;
 use plan_words::{Asked, GenWords, PlanWords, PriceWords};
 use ride_prices::{PriceQuery, PriceQueryError, price_of, price_query_of};
 use std::alloc::{AllocError, Global};
@@ -42,7 +42,7 @@ fn plan_outcome(alloc: Global, feed: &Feed, plan: &PlanWords) -> Result<Outcome,
         Ok(query) => query,
         Err(fault) => return refused(alloc, Refusal::Usage(fault)),
     };
-    let entries = plain_entries(alloc, &timetable, &query)?;
+    let entries = round_entries(alloc, &timetable, &query)?;
     let text = lines_of(alloc, &timetable, &entries)?;
     Ok(answered(text))
 }
@@ -101,7 +101,7 @@ fn gen_outcome(alloc: Global, feed: &Feed, words: &GenWords) -> Result<Outcome, 
         Ok(query) => query,
         Err(fault) => return refused(alloc, Refusal::Usage(fault)),
     };
-    let found = plain_entries(alloc, &timetable, &query)?;
+    let found = round_entries(alloc, &timetable, &query)?;
     let text = gen_lines_of(alloc, feed, &found)?;
     Ok(answered(text))
 }
