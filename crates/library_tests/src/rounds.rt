@@ -44,7 +44,7 @@ fn is_found_by_both(alloc: Global, seed: u32) -> Result<bool, TextError>
 #[test]
 fn rounds_and_all_journeys(rt: HostRuntime) -> Result<(), TextError> {
     let alloc = rt.alloc();
-    for seed in 1..40 {
+    for seed in 1..301 {
         assert!(rt; is_found_by_both(alloc, seed)?);
     }
     Ok(())
