@@ -1,11 +1,11 @@
 #!/usr/bin/env python3
 """Times plans beside checks of the same feeds, and prints the ratios.
 
-  several_rides.py FOLDER PROGRAM [LARGE [SMALL]]
+  several_rides.py FOLDER PROGRAM [STOP_TIMES ..]
 
-It makes two feeds in FOLDER as whole_feed.py does, but with leg rules for all areas: one of LARGE stop times (1,000,000)
-and one of SMALL (10,000). Over the large one it times `check` and plans of no and one ride, over the small one plans of up
-to three rides with a window of two hours. Each command runs three times, and the least time counts.
+For each number of stop times (10,000, 100,000 and 1,000,000, where none is named) it makes a feed in FOLDER as whole_feed.py
+does, but with leg rules for all areas, and times `check`, plans of no and of one ride, and plans of up to four rides with a
+window of two hours. Each command runs three times, and the least time counts; it is ended after five minutes.
 """
 import subprocess
 import sys
@@ -28,7 +28,7 @@ def seconds_of(program, folder, words):
     times = []
     for _ in range(3):
         start = time.perf_counter()
-        ended = subprocess.run([program, folder, *words], stdout=subprocess.PIPE, check=False)
+        ended = subprocess.run([program, folder, *words], stdout=subprocess.PIPE, check=False, timeout=300)
         times.append(time.perf_counter() - start)
         if ended.returncode != 0:
             sys.exit(f"{' '.join(words)} ended with {ended.returncode}: {ended.stdout.decode()[:200]}")
@@ -37,17 +37,14 @@ def seconds_of(program, folder, words):
 
 def main():
     folder, program = sys.argv[1], sys.argv[2]
-    large, small = int((sys.argv[3:] or [1_000_000])[0]), int((sys.argv[4:] or [10_000])[0])
-    make(f"{folder}/large", large)
-    make(f"{folder}/small", small)
-    checked, _ = seconds_of(program, f"{folder}/large", ["check"])
-    print(f"{large}\tcheck\t{checked:.2f} s")
-    for rides in (0, 1):
-        took, journeys = seconds_of(program, f"{folder}/large", [*PLAN, "--rides", str(rides)])
-        print(f"{large}\t--rides {rides}\t{took:.2f} s\t{took / checked:.2f} times check\t{journeys} journeys")
-    for rides in (1, 2, 3):
-        took, journeys = seconds_of(program, f"{folder}/small", [*PLAN, "--rides", str(rides), "--within", "7200"])
-        print(f"{small}\t--rides {rides} --within 7200\t{took:.2f} s\t{journeys} journeys")
+    for rows in [int(word) for word in sys.argv[3:]] or [10_000, 100_000, 1_000_000]:
+        feed = f"{folder}/{rows}"
+        make(feed, rows)
+        checked, _ = seconds_of(program, feed, ["check"])
+        print(f"{rows}\tcheck\t{checked:.2f} s")
+        for words in (["--rides", "0"], ["--rides", "1"], *(["--rides", str(n), "--within", "7200"] for n in (2, 3, 4))):
+            took, journeys = seconds_of(program, feed, [*PLAN, *words])
+            print(f"{rows}\t{' '.join(words)}\t{took:.2f} s\t{took / checked:.2f} times check\t{journeys} journeys")
 
 
 if __name__ == "__main__":
