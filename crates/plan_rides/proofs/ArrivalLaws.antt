@@ -1,5 +1,5 @@
 -- Arrivals within a query's window.
-use Rattle.std.proofs.Common.{◌≡◌, refl, sym, ◌∙◌, ap, subst, true, arith, ℤ, ◌≤ℤ◌}
+use Rattle.std.proofs.Common.{◌≡◌, refl, ◌∙◌, ap, subst, true, arith, ℤ, ◌≤ℤ◌}
 use Rattle.std.specs.Prelude.{Some, int_le}
 use Rattle.std.proofs.lemmas.Int.{ints}
 use Rattle.std.proofs.lemmas.Option.{cond_some}

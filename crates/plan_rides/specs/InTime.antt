@@ -1,5 +1,5 @@
 -- Rides that are caught and end within a query's window.
-use Rattle.std.specs.Prelude.{◌≡◌, ℕ, ◌<◌, ◌≤◌, Option, Some, All, Contains, List, slice_index_or, ℤ, pos, negsuc, ◌+ℤ◌, ◌-ℤ◌, ◌≤ℤ◌, ◌<ℤ◌, int_le, option_and_then}
+use Rattle.std.specs.Prelude.{◌≡◌, ℕ, ◌<◌, ◌≤◌, Bool, true, Option, Some, All, Contains, List, slice_index_or, ℤ, pos, negsuc, ◌+ℤ◌, ◌-ℤ◌, ◌≤ℤ◌, ◌<ℤ◌, int_le, option_and_then}
 use Rattle.transit_base.specs.Moments.{moment_at, civil_day}
 use Rattle.transit_base.specs.declared.numbers.TripId.{TripId}
 use Rattle.feed_rows.specs.declared.journeys.Call.{Call}
@@ -10,6 +10,7 @@ use Rattle.feed_rows.specs.Limits.{most_window}
 use Rattle.feed_rows.specs.JourneyStands.{Stand, stand_at_end, next_stand}
 use Rattle.feed_rows.specs.Rides.{ride_facts}
 use Rattle.plain_laws.specs.Plain.{when}
+use Rattle.plan_rides.specs.Boarding.{is_marked}
 use Rattle.plan_rides.specs.Runs.{RunOf}
 use Rattle.plan_rides.specs.declared.caught.CaughtRide.{CaughtRide}
 
@@ -54,10 +55,13 @@ pub record IsRight (feed : FeedRows) (query : Query) (stand : Stand) (caught : C
 abbrev pub HasRide : List CaughtRide → Ride → Type 0
 HasRide rides ride = (caught : CaughtRide) × Contains rides caught × (caught.ride ≡ ride)
 
--- the list has what it had, and each ride of this part that is caught from here in time, and stays right
-pub record AddsCaught (feed : FeedRows) (query : Query) (stand : Stand) (Part : Ride → Type 0) (old new : List CaughtRide) : Type 0 where
+-- the list has what it had, and each ride of this part that is caught from here in time and alights at a marked stop, and
+-- stays right
+pub record AddsCaught (feed : FeedRows) (query : Query) (marks : List Bool) (stand : Stand) (Part : Ride → Type 0)
+    (old new : List CaughtRide) : Type 0 where
   pub still : (ride : Ride) → HasRide old ride → HasRide new ride
-  pub all : (ride : Ride) (next : Stand) → next_in_time feed query stand ride ≡ Some next → Part ride → HasRide new ride
+  pub all : (ride : Ride) (next : Stand) → next_in_time feed query stand ride ≡ Some next → is_marked marks next.stop.0 ≡ true
+      → Part ride → HasRide new ride
   pub right : All (IsRight feed query stand) old → All (IsRight feed query stand) new
 
 -- the ride is of this run
@@ -104,3 +108,8 @@ day_after query = civil_day (deadline query) +ℤ pos 1
 -- the list has each ride that is caught from here in time
 abbrev pub HasCaught : FeedRows → Query → Stand → List CaughtRide → Type 0
 HasCaught feed query stand rides = (ride : Ride) (next : Stand) → next_in_time feed query stand ride ≡ Some next → HasRide rides ride
+
+-- the list has each of them that alights at a marked stop
+abbrev pub HasCaughtAmong : FeedRows → Query → List Bool → Stand → List CaughtRide → Type 0
+HasCaughtAmong feed query marks stand rides =
+    (ride : Ride) (next : Stand) → next_in_time feed query stand ride ≡ Some next → is_marked marks next.stop.0 ≡ true → HasRide rides ride

@@ -5,7 +5,7 @@ ghost use Rattle.feed_rows.specs.SoundFeed.{IsSoundFeed};
 ghost use Rattle.feed_timetable.specs.Standings.{stand_of};
 ghost use Rattle.plan_rides.specs.Asked.{asked, arrival_in_time};
 ghost use Rattle.plan_rides.specs.Boarding.{MayRide};
-ghost use Rattle.plan_rides.specs.InTime.{IsUsualQuery, IsDeadline, IsWithinWindow, HasCaught, IsRight};
+ghost use Rattle.plan_rides.specs.InTime.{IsUsualQuery, IsDeadline, IsWithinWindow, HasCaught, HasCaughtAmong, IsRight};
 
 use crate::caught::{CaughtRide, Traveller};
 use crate::departures::{Departure, deadline, departures_of};
@@ -127,6 +127,34 @@ impl<'s, 'f> Rides<'s, 'f> {
         Some(arrival)
     }
 
+    /// Replaces what `rides` holds by the rides that are caught from where one stands, end within the window and alight at a
+    /// marked stop; a stop past the end of the marks counts as marked.
+    ///
+    /// # Errors
+    /// Want of memory.
+    pub fn next_among(
+        &self,
+        marks: &[bool],
+        standing: Standing,
+        rides: &mut Vec<CaughtRide>,
+    ) -> Result<(), AllocError>
+        requires within { IsWithinWindow self.now.query standing.at.0 }
+        requires may { MayRide self.now.feed self.now.query (stand_of standing) }
+        ensures all { OnOk result (HasCaughtAmong self.now.feed self.now.query marks.now (stand_of standing) rides.new.items) }
+        ensures right { OnOk result (All (IsRight self.now.feed self.now.query (stand_of standing)) rides.new.items) }
+        ensures sound { IsSoundFeed self.now.feed }
+    {
+        let _feed = self.timetable.feed();
+        Traveller::new(
+            self.timetable,
+            &self.sought,
+            &self.departures,
+            marks,
+            standing,
+        )
+        .rides_into(rides)
+    }
+
     /// Replaces what `rides` holds by the rides that are caught from where one stands and end within the window.
     ///
     /// # Errors
@@ -142,8 +170,7 @@ impl<'s, 'f> Rides<'s, 'f> {
         ensures right { OnOk result (All (IsRight self.now.feed self.now.query (stand_of standing)) rides.new.items) }
         ensures sound { IsSoundFeed self.now.feed }
     {
-        let _feed = self.timetable.feed();
-        Traveller::new(self.timetable, &self.sought, &self.departures, standing).rides_into(rides)
+        self.next_among(&[], standing, rides)
     }
 
     /// The same rides in a list of their own.

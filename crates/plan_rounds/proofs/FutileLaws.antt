@@ -1,5 +1,5 @@
 -- What a search needn't look at: whatever it leads to is found already.
-use Rattle.std.proofs.Common.{◌≡◌, subst, ◌≤◌, ◌+◌, sym, List, arith, ℕ, ap, true, ◌∙◌, ◌⊎◌, inl, inr, ⊎_elim, ℤ, ◌+ℤ◌, ◌≤ℤ◌, ◌<◌, refl, Some}
+use Rattle.std.proofs.Common.{◌≡◌, subst, ◌≤◌, ◌+◌, sym, List, arith, ℕ, ap, true, ◌∙◌, ◌⊎◌, inl, inr, ⊎_elim, ℤ, ◌+ℤ◌, ◌≤ℤ◌, ◌<◌, refl, Some, []}
 use Rattle.std.specs.Prelude.{Contains, not, int_le, slice_get}
 use Rattle.std.proofs.lemmas.Int.{ints}
 use Rattle.std.proofs.lemmas.Bool.{cases_lt, and_parts, ne_eqb, not-true}
@@ -28,7 +28,7 @@ use Rattle.plan_rounds.specs.Ends.{IsNoEnd}
 use Rattle.plan_rounds.specs.Finals.{is_bettered}
 use Rattle.plan_rounds.specs.Labels.{facts_of, stand_of_label}
 use Rattle.plan_rounds.specs.Searched.{Searched, Lacks, has_ahead, is_overtaken_by}
-use Rattle.plan_rounds.specs.Stores.{at_stop, IsHeldBelow, StepsBy}
+use Rattle.plan_rounds.specs.Stores.{at_stop, IsHeldBelow, StepsBy, StepsTo}
 use Rattle.plan_rounds.specs.declared.search.Source.{Source}
 use Rattle.plan_rounds.specs.Moves.{betters, HasBetter}
 use Rattle.plan_rounds.specs.CoverLaws.{same_parts-equal}
@@ -36,7 +36,7 @@ use Rattle.plan_rounds.specs.Labels.{same_parts}
 use Rattle.plan_rounds.specs.Sources.{SpreadsFrom, LeadsByFirst}
 use Rattle.plan_rounds.proofs.FinalSteps.{bettered_up}
 use Rattle.round_laws.proofs.CoverLaws.{covers-trans}
-use Rattle.round_laws.proofs.FutilityLaws.{futile_below}
+use Rattle.round_laws.proofs.FutilityLaws.{futile_below, lack_more}
 use Rattle.round_laws.proofs.IntLaws.{as_much}
 
 -- a triple that one of the finals is at most is bettered
@@ -77,19 +77,24 @@ module _ (feed : FeedRows) (query : Query) (finals : List Final) (x : Label) (ca
       (subst (λ (f : RideFacts). is_within f.arrival.0 (x.rides + 1) (least_end feed query (facts_of x)) ahead.0.triple ≡ true) (sym same_ride) ahead.2) in
       bettered_by finals ahead.0 t ahead.1 (ahead_leads feed query sound ahead.0.triple n b t before leads)
 
-  -- where it is the last and no journey ends after it, nothing is
-  pub last_overdue : query.rides ≤ x.rides + 1 → IsNoEnd feed query caught.facts.to → IsFutile feed query (is_bettered finals) b
-  last_overdue few none =
-      ended_leads feed query (is_bettered finals) b
-      (subst (λ (n : ℕ). query.rides ≤ n) (sym (ap (λ (a : LabelFacts). a.rides) by.1.next)) few)
-      (λ last t end. absurd (none-some t.arrival.0 (sym (none last end.ends caught.facts.arrival.0)
-      ∙ ap (λ (s : Stand). end_arrival feed query s last) (sym stands) ∙ end.arrives)))
-    where
-      stands : stand_of_facts b ≡ stand_at_end caught.facts
-      stands =
-          ap stand_of_facts by.1.next
-          ∙ ap (λ (f : RideFacts). stand_of_facts (facts_after (facts_of x) f by.0)) same_ride
-          ∙ ap (λ fresh. record (stand_at_end caught.facts) { fresh = fresh }) (ne_eqb (x.rides + 1) 0 (λ e. omega (arith, e)))
+-- a last ride leads to nothing where no journey ends behind it
+pub last_overdue : (feed : FeedRows) (query : Query) (a b : LabelFacts) → query.rides ≤ a.rides + 1 → (to : StepsTo feed query a b) →
+    IsNoEnd feed query to.2.facts.to → IsFutile feed query (is_bettered []) b
+last_overdue feed query a b few to none =
+    ended_leads feed query (is_bettered []) b
+    (subst (λ (n : ℕ). query.rides ≤ n) (sym (ap (λ (x : LabelFacts). x.rides) to.2.next)) few)
+    (λ last t end. absurd (none-some t.arrival.0 (sym (none last end.ends to.2.facts.arrival.0)
+    ∙ ap (λ (s : Stand). end_arrival feed query s last) (sym stands) ∙ end.arrives)))
+  where
+    stands : stand_of_facts b ≡ stand_at_end to.2.facts
+    stands =
+        ap stand_of_facts to.2.next
+        ∙ ap (λ fresh. record (stand_at_end to.2.facts) { fresh = fresh }) (ne_eqb (a.rides + 1) 0 (λ e. omega (arith, e)))
+
+-- what is futile though nothing is found is so whatever is
+pub lacks_any : (task : Searched) (finals : List Final) (b : LabelFacts) → Lacks task [] b → Lacks task finals b
+lacks_any task finals b =
+    lack_more task.feed task.query task.whole (is_bettered []) (is_bettered finals) b (λ t none. absurd (cc))
 
 -- ---- moves of one ride
 

@@ -1,9 +1,10 @@
 -- The rides that are caught from a label, and the labels that they lead to.
-use Rattle.std.proofs.Common.{◌≡◌, refl, sym, ◌∙◌, ap, subst, ℕ, ◌+◌, ◌<◌, ◌≤◌, ◌⊎◌, inl, inr, ⊎_elim, true, List, [], length, arith}
-use Rattle.std.specs.Prelude.{IsTrue, Some, slice_get, option_map}
+use Rattle.std.proofs.Common.{◌≡◌, refl, sym, ◌∙◌, ap, subst, ℕ, ◌+◌, ◌<◌, ◌≤◌, ◌⊎◌, inl, inr, ⊎_elim, Bool, true, false, List, [], length, arith}
+use Rattle.std.specs.Prelude.{IsTrue, Result, OnOk, Option, Some, None, slice_get, unwrap_or, option_map}
 use Rattle.std.proofs.lemmas.Bool.{cases_lt}
 use Rattle.std.proofs.lemmas.Int.{ints}
-use Rattle.std.proofs.lemmas.Option.{same_Some, slice_get-map, slice_get_within}
+use Rattle.std.proofs.lemmas.Result.{on_ok_weaker}
+use Rattle.std.proofs.lemmas.Option.{same_Some, slice_get-map, slice_get_within, unwrap_or-slice_get}
 use Rattle.transit_base.specs.declared.numbers.StopId.{StopId}
 use Rattle.feed_rows.specs.Journeys.{stands_for}
 use Rattle.feed_rows.specs.declared.journeys.LegFacts.{LegFacts}
@@ -19,7 +20,12 @@ use Rattle.feed_rows.specs.Legs.{leg_facts}
 use Rattle.feed_rows.specs.PartialJourneys.{LabelFacts}
 use Rattle.feed_rows.specs.SoundFeed.{IsSoundFeed}
 use Rattle.plain_laws.proofs.Laws.{le-int_le, slice_get-Contains}
-use Rattle.plan_rides.specs.InTime.{IsRight, HasCaught, next_in_time}
+use Rattle.plan_rides.specs.InTime.{IsRight, HasCaught, HasCaughtAmong, next_in_time}
+use Rattle.plan_rides.specs.Boarding.{is_marked}
+use Rattle.round_laws.specs.Futility.{IsFutile}
+use Rattle.plan_rounds.specs.Ends.{AreEnds}
+use Rattle.plan_rounds.specs.Finals.{is_bettered}
+use Rattle.plan_rounds.proofs.FutileLaws.{last_overdue}
 use Rattle.plan_rides.specs.declared.caught.CaughtRide.{CaughtRide}
 use Rattle.feed_rows.specs.StopLinks.{stop_set}
 use Rattle.plan_rides.proofs.MarkLaws.{member_of_stands_for}
@@ -120,6 +126,14 @@ module _ (feed : FeedRows) (query : Query) (source : Source) (is : IsSource feed
 
 -- ---- all rides
 
+-- a mark that isn't set is there
+mark_of : (marks : List Bool) (stop : ℕ) → is_marked marks stop ≡ false → slice_get marks stop ≡ Some false
+mark_of marks stop is = by (slice_get marks stop) refl (unwrap_or-slice_get marks stop true ∙ is)
+  where
+    by : (o : Option Bool) → slice_get marks stop ≡ o → unwrap_or (slice_get marks stop) true ≡ false → slice_get marks stop ≡ Some false
+    by None at e = absurd (let no : true ≡ false = sym (ap (λ o. unwrap_or o true) at) ∙ e in cc)
+    by (Some m) at e = at ∙ ap Some (sym (ap (λ o. unwrap_or o true) at) ∙ e)
+
 module _ (feed : FeedRows) (query : Query) (source : Source) (rides : List CaughtRide) where
   -- one more of the rides
   pub rides_more : (k : ℕ) (caught : CaughtRide) (b : LabelFacts) → slice_get rides k ≡ Some caught →
@@ -141,6 +155,44 @@ module _ (feed : FeedRows) (query : Query) (source : Source) (rides : List Caugh
       let at = slice_get-Contains rides some.0 some.1 in
       let lt = slice_get_within rides at.0 some.0 at.1 in
       (at.0, omega (arith, lt, all), some.0, at.1, (to.1, subst (λ (r : Ride). IsLabelStep feed query (facts_of source.label.now) r to.1 b) (sym some.2) step))
+
+module _ (feed : FeedRows) (query : Query) (source : Source) (rides : List CaughtRide) (marks : List Bool)
+    (ends : AreEnds feed query marks) where
+  -- each last step is by one of the rides that alight at marked stops, or leads to nothing
+  pub last_steps_by : (n : ℕ) (b : LabelFacts) → HasCaughtAmong feed query marks (stand_of_label source.label.now) rides → length rides ≤ n →
+      query.rides ≤ source.label.now.rides + 1 → StepsTo feed query (facts_of source.label.now) b →
+      StepsByFirst feed query source rides n b ⊎ IsFutile feed query (is_bettered []) b
+  last_steps_by n b has all few to = by (is_marked marks to.2.facts.to.0) refl
+    where
+      by : (m : Bool) → is_marked marks to.2.facts.to.0 ≡ m → StepsByFirst feed query source rides n b ⊎ IsFutile feed query (is_bettered []) b
+      by true marked =
+          let step = to.2 in
+          let some = has to.0 (stand_at_end step.facts) (in_time_of feed query source.label.now to.0 step.facts step.rides) marked in
+          let at = slice_get-Contains rides some.0 some.1 in
+          let lt = slice_get_within rides at.0 some.0 at.1 in
+          inl (at.0, omega (arith, lt, all), some.0, at.1, (to.1, subst (λ (r : Ride). IsLabelStep feed query (facts_of source.label.now) r to.1 b) (sym some.2) step))
+      by false unmarked = inr (last_overdue feed query (facts_of source.label.now) b few to (ends to.2.facts.to (mark_of marks to.2.facts.to.0 unmarked)))
+
+  -- what is found for a last ride
+  pub find_last : {E : Type 0} (result : Result (Unit {0}) E) (whole : Bool) → whole ≡ false →
+      query.rides ≤ source.label.now.rides + 1 → OnOk result (HasCaughtAmong feed query marks (stand_of_label source.label.now) rides) →
+      OnOk result ((b : LabelFacts) → StepsTo feed query (facts_of source.label.now) b → StepsByFirst feed query source rides (length rides) b
+      ⊎ ((whole ≡ false) × IsFutile feed query (is_bettered []) b))
+  find_last result whole lean few =
+      on_ok_weaker result
+      (λ has b to. ⊎_elim inl (λ futile. inr (lean, futile)) (last_steps_by (length rides) b has (omega arith) few to))
+
+-- what is found for any
+pub find_any : {E : Type 0} (result : Result (Unit {0}) E) (feed : FeedRows) (query : Query) (source : Source) (rides : List CaughtRide)
+    (Lacking : LabelFacts → Type 0) → OnOk result (HasCaught feed query (stand_of_label source.label.now) rides) →
+    OnOk result ((b : LabelFacts) → StepsTo feed query (facts_of source.label.now) b → StepsByFirst feed query source rides (length rides) b ⊎ Lacking b)
+find_any result feed query source rides Lacking =
+    on_ok_weaker result (λ has b to. inl (steps_by feed query source rides (length rides) b has (omega arith) to))
+
+-- what is by one of the first rides is by one of more
+pub by_first : (feed : FeedRows) (query : Query) (source : Source) (rides : List CaughtRide) (m n : ℕ) (b : LabelFacts) → m ≤ n →
+    StepsByFirst feed query source rides m b → StepsByFirst feed query source rides n b
+by_first feed query source rides m n b le by = let lt = by.1 in (by.0, omega (arith, lt, le), by.2, by.3, by.4)
 
 -- ---- starts
 

@@ -143,6 +143,18 @@ module _ (feed : FeedRows) (query : Query) (Lacking : LabelFacts → Type 0) (la
     all = λ b w. one.all b (whole b w);
   }
 
+  -- a part but for what may be lacking
+  pub spreads_but : (Part Whole : LabelFacts → Type 0) (old new : List (List Label)) →
+      Spreads feed query Lacking labels rides Part old new → ((b : LabelFacts) → Whole b → Part b ⊎ Lacking b) →
+      Spreads feed query Lacking labels rides Whole old new
+  spreads_but Part Whole old new one whole = record {
+    many = one.many;
+    still = one.still;
+    kept = one.kept;
+    right = one.right;
+    all = λ b w. ⊎_elim (one.all b) inr (whole b w);
+  }
+
   -- an offer that was taken in
   pub spreads_taken : {E : Type 0} (result : Result (Unit {0}) E) (old new : List (List Label)) (x y : Label) →
       OnOk result (Takes old x new) → x ≡ y → IsFresh feed query labels rides y.stop.0 y →

@@ -1,5 +1,5 @@
 //! What a search needn't look at, since whatever it leads to is found already.
-ghost use Rattle.std.specs.Prelude.{◌≡◌, ◌+◌, ◌<◌, ◌≤◌, [], true, false, None, IsTrue, pos, ◌*ℤ◌, ◌*◌, ◌^◌, nat_abs};
+ghost use Rattle.std.specs.Prelude.{◌≡◌, ◌+◌, ◌<◌, ◌≤◌, true, false, None, IsTrue, pos, ◌*ℤ◌, ◌*◌, ◌^◌, nat_abs};
 ghost use Rattle.std.specs.List.{list_any};
 ghost use Rattle.feed_rows.specs.Codes.{change_alone};
 ghost use Rattle.feed_rows.specs.FareFloor.{fare_floor};
@@ -8,8 +8,7 @@ ghost use Rattle.feed_rows.specs.Journeys.{stands_for};
 ghost use Rattle.feed_rows.specs.PartialJourneys.{LabelFacts};
 ghost use Rattle.plan_rides.specs.Asked.{arrival_in_time};
 ghost use Rattle.plan_rides.specs.InTime.{IsRight, IsWithinWindow};
-ghost use Rattle.round_laws.specs.Futility.{IsFutile, is_within, least_end, least_price, some_takes_back};
-ghost use Rattle.plan_rounds.specs.Finals.{is_bettered};
+ghost use Rattle.round_laws.specs.Futility.{is_within, least_end, least_price, some_takes_back};
 ghost use Rattle.plan_rounds.specs.Labels.{facts_of, stand_of_label};
 ghost use Rattle.plan_rounds.specs.Searched.{Lacks, has_ahead, is_overtaken_by};
 ghost use Rattle.plan_rounds.specs.Sources.{IsSource};
@@ -118,20 +117,17 @@ impl<'s, 'f> Search<'s, 'f> {
         )
     }
 
-    /// Whether the ride from the label is the last of the limit, and no journey can end where it alights.
-    fn is_overdue(&self, source: &Source, caught: &CaughtRide) -> bool
-        requires source { IsSource self.now.feed self.now.query source.now }
-        requires right { IsRight self.now.feed self.now.query (stand_of_label source.now.label.now) caught.now }
-        ensures { result ≡ true → (b : LabelFacts) → StepsBy self.now.feed self.now.query (facts_of source.now.label.now) caught.now.ride b → IsFutile self.now.feed self.now.query (is_bettered []) b }
+    /// Whether one more ride from the label is the last of the limit, and the search may lack what leads nowhere.
+    pub(crate) fn ends_next(&self, label: &Label) -> bool
+        requires { label.now.rides < 8 }
+        ensures lean { result ≡ true → self.now.whole ≡ false }
+        ensures last { result ≡ true → self.now.query.rides ≤ label.now.rides + 1 }
     {
-        let _feed = self.feed();
-        source.label.rides + 1 >= self.limit() && self.ends.leads_nowhere(caught.facts.to)
+        !self.whole && label.rides + 1 >= self.limit()
     }
 
     /// Whether all that the ride leads to from the label is found already: a final arrives no later than the ride, with no more
-    /// rides, and costs no more than can follow; or it is the last ride of the limit, and no journey can end where it
-    /// alights.
-    /// A search that is to be whole doesn't ask.
+    /// rides, and costs no more than can follow. A search that is to be whole doesn't ask.
     pub(crate) fn is_futile(&self, source: &Source, finals: &[Final], caught: &CaughtRide) -> bool
         requires source { IsSource self.now.feed self.now.query source.now }
         requires right { IsRight self.now.feed self.now.query (stand_of_label source.now.label.now) caught.now }
@@ -140,9 +136,6 @@ impl<'s, 'f> Search<'s, 'f> {
         let _feed = self.feed();
         if self.whole {
             return false;
-        }
-        if self.is_overdue(source, caught) {
-            return true;
         }
         self.is_late(source.label, finals, caught)
     }

@@ -1,5 +1,5 @@
 //! The stops from which a journey can end.
-ghost use Rattle.std.specs.Prelude.{◌≡◌, true, false, slice_get, Some, IfOk};
+ghost use Rattle.std.specs.Prelude.{◌≡◌, false, IfOk};
 ghost use Rattle.plan_rides.specs.InTime.{IsUsualQuery};
 ghost use Rattle.plan_rounds.specs.Ends.{AreEnds, IsEndless, IsNoEnd};
 
@@ -31,14 +31,11 @@ impl Ends {
         Ok(Ends { marks })
     }
 
-    /// Whether no journey can end after a ride that alights at the stop; of a stop past the last it isn't told.
-    pub fn leads_nowhere(&self, stop: StopId) -> bool
-        ensures { result ≡ true → slice_get self.now.marks.items stop.0 ≡ Some false }
+    /// The marks, by stop.
+    pub fn marks(&self) -> &[bool]
+        ensures { result.now ≡ self.now.marks.items }
     {
-        match self.marks.get(stop.0 as usize) {
-            Some(ends) => !*ends,
-            None => false,
-        }
+        self.marks.as_slice()
     }
 }
 

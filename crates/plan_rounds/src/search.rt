@@ -1,5 +1,5 @@
 //! The search: each round goes on by one more ride from the labels of the round before.
-ghost use Rattle.std.specs.Prelude.{◌≡◌, ◌+◌, ◌<◌, ◌≤◌, ◌^◌, ◌++◌, [], length, IfOk, IsTrue, OnOk, Some};
+ghost use Rattle.std.specs.Prelude.{◌≡◌, ◌⊎◌, ◌+◌, ◌<◌, ◌≤◌, ◌^◌, ◌++◌, [], All, length, IfOk, IsTrue, OnOk, Some};
 ghost use Rattle.feed_rows.specs.FareSteps.{move_after};
 ghost use Rattle.feed_rows.specs.Journeys.{stands_for};
 ghost use Rattle.feed_rows.specs.Legs.{leg_facts};
@@ -13,7 +13,8 @@ ghost use Rattle.plan_rounds.specs.Moves.{AreMovesOf, HasFares};
 ghost use Rattle.feed_rows.specs.declared.fares.Triple.{Triple};
 ghost use Rattle.plan_rounds.specs.Finals.{AddsEnds, EndsBelow, is_bettered};
 ghost use Rattle.plan_rounds.specs.Searched.{Lacks, searched};
-ghost use Rattle.plan_rounds.specs.Sources.{AreEnding, IsSource, SpreadsFrom};
+ghost use Rattle.feed_rows.specs.PartialJourneys.{LabelFacts};
+ghost use Rattle.plan_rounds.specs.Sources.{AreEnding, IsSource, SpreadsFrom, StepsByFirst};
 ghost use Rattle.plan_rounds.specs.Stores.{AreApartByStop, AreStored, AreWhole, IsNever, gathered, IsStartOf, Spreads, StepsBy, StepsFrom, StepsTo};
 
 use crate::bounds::takes_back;
@@ -292,6 +293,22 @@ impl<'s, 'f> Search<'s, 'f> {
         bags.offer(label)
     }
 
+    /// Replaces what `rides` holds by the rides that are caught from the label, or as the last of the limit by those of them
+    /// behind which a journey can end.
+    fn find_rides(&self, source: &Source, rides: &mut Vec<CaughtRide>) -> Result<(), AllocError>
+        requires { IsSource self.now.feed self.now.query source.now }
+        ensures all { OnOk result ((b : LabelFacts) → StepsTo self.now.feed self.now.query (facts_of source.now.label.now) b → StepsByFirst self.now.feed self.now.query source.now rides.new.items (length rides.new.items) b ⊎ Lacks self.now [] b) }
+        ensures right { OnOk result (All (IsRight self.now.feed self.now.query (stand_of_label source.now.label.now)) rides.new.items) }
+    {
+        let _feed = self.feed();
+        let standing = source.label.standing();
+        if self.ends_next(source.label) {
+            self.rides.next_among(self.ends.marks(), standing, rides)
+        } else {
+            self.rides.next_into(standing, rides)
+        }
+    }
+
     /// Offers what one more ride leads to from the label. What `rides` holds is lost.
     fn offer_rides(
         &self,
@@ -307,7 +324,7 @@ impl<'s, 'f> Search<'s, 'f> {
         ensures fares { HasFares self.now found.new }
         ensures spreads { OnOk result (SpreadsFrom self.now finals.now source.now (StepsTo self.now.feed self.now.query (facts_of source.now.label.now)) bags.old bags.new) }
     {
-        self.rides.next_into(source.label.standing(), rides)?;
+        self.find_rides(source, rides)?;
         for k in 0..rides.len() {
             self.offer_ride(source, finals, &rides[k], found, bags)?;
         }

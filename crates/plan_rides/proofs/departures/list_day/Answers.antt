@@ -1,4 +1,4 @@
-use Rattle.std.proofs.Common.{◌≡◌, ℕ, ◌<◌, length, ap, sym, ◌∙◌, arith, false}
+use Rattle.std.proofs.Common.{◌≡◌, ℕ, ◌<◌, length, ap, sym, ◌∙◌, arith}
 use Rattle.plain_laws.proofs.Laws.{length-list_below}
 use Rattle.feed_rows.specs.Rides.{runs_on}
 use Rattle.plan_rides.proofs.DepartureLaws.{lists_no_trip, lists_none, lists_trip, lists_whole_day, runs_at}

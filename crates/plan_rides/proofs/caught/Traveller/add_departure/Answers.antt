@@ -3,10 +3,10 @@ use Rattle.plan_rides.proofs.CaughtLaws.{adds_call, adds_departure, adds_first}
 use Rattle.plan_rides.proofs.caught.Traveller.add_departure.Goals as goal
 
 pub loop-to-preserved : goal.loop-to-preserved
-loop-to-preserved c = record { later = omega (arith, c.loop-to.invariant.later); adds = adds_call _ _ _ _ _ _ _ _ c.loop-to.invariant.adds c.in_ok-add_ride.ensures }
+loop-to-preserved c = record { later = omega (arith, c.loop-to.invariant.later); adds = adds_call _ _ _ _ _ _ _ _ _ c.loop-to.invariant.adds c.in_ok-add_ride.ensures }
 
 pub loop-to-init : goal.loop-to-init
-loop-to-init c = record { later = omega arith; adds = adds_first _ _ _ _ _ _ (omega arith) }
+loop-to-init c = record { later = omega arith; adds = adds_first _ _ _ _ _ _ _ (omega arith) }
 
 pub returns : goal.returns
-returns c = let same = ap length c.calls_of-calls.ensures.value in adds_departure _ _ _ _ _ _ _ (omega arith) c.loop-to.invariant.adds
+returns c = let same = ap length c.calls_of-calls.ensures.value in adds_departure _ _ _ _ _ _ _ _ (omega arith) c.loop-to.invariant.adds

@@ -1,9 +1,14 @@
-use Rattle.std.proofs.Common.{sym}
-use Rattle.plan_rides.proofs.CaughtLaws.{adds_ride, adds_no_ride}
+use Rattle.std.proofs.Common.{sym, ◌∙◌}
+use Rattle.plan_rides.proofs.CaughtLaws.{adds_ride, adds_no_ride, adds_unwanted}
 use Rattle.plan_rides.proofs.caught.Traveller.add_ride.Goals as goal
 
 pub returns : goal.returns
-returns c = let all = c.requires in adds_ride _ _ _ _ _ _ _ _ _ _ all.reached all.later all.is (sym c.in-Some.ensures) c.ride_to.ensures c.in_ok-push.ensures.items
+returns c = let all = c.requires in adds_ride _ _ _ _ _ _ _ _ _ _ _ all.reached all.later all.is (sym c.in-Some.ensures) c.ride_to.ensures c.in_ok-push.ensures.items
 
 pub returns-in_default : goal.returns-in_default
-returns-in_default c = let all = c.requires in adds_no_ride _ _ _ _ _ _ _ all.reached all.later all.is (sym c.in_default.ensures)
+returns-in_default c = let all = c.requires in adds_no_ride _ _ _ _ _ _ _ _ all.reached all.later all.is (sym c.in_default.ensures)
+
+pub returns-then-not-is_wanted : goal.returns-then-not-is_wanted
+returns-then-not-is_wanted c =
+    let all = c.requires in
+    adds_unwanted _ _ _ _ _ _ _ _ all.reached all.later all.is (sym c.is_wanted.ensures ∙ c.if-not-is_wanted.true)

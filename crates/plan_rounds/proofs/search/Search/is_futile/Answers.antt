@@ -3,12 +3,6 @@ use Rattle.plan_rounds.specs.Searched.{Searched}
 use Rattle.plan_rounds.proofs.FutileLaws.{ride_overtaken}
 use Rattle.plan_rounds.proofs.search.Search.is_futile.Goals as goal
 
-pub returns-then-is_overdue : goal.returns-then-is_overdue
-returns-then-is_overdue c is b by = (
-  sym (ap (λ (a : Searched). a.whole) c.self.view_is) ∙ c.if-self.false,
-  λ n t leads. absurd (let none = c.is_overdue.ensures c.if-is_overdue.true b by n t leads in cc),
-)
-
 pub returns : goal.returns
 returns c is b by = (
   sym (ap (λ (a : Searched). a.whole) c.self.view_is) ∙ c.if-self.false,

@@ -1,26 +1,26 @@
-use Rattle.std.proofs.Common.{refl, sym, subst, arith, length, ◌<◌}
+use Rattle.std.proofs.Common.{refl, sym, subst, arith, length, ◌<◌, ◌≤◌, ⊎_elim, inl, inr}
 use Rattle.std.proofs.lemmas.Option.{slice_get_read}
-use Rattle.plan_rounds.specs.Searched.{Searched, Lacks}
-use Rattle.plan_rides.specs.InTime.{IsRight, HasCaught}
+use Rattle.plan_rounds.specs.Searched.{Lacks}
+use Rattle.plan_rides.specs.InTime.{IsRight}
 use Rattle.plan_rounds.specs.Labels.{stand_of_label}
-use Rattle.plan_rounds.proofs.RideSteps.{rides_more, steps_by}
-use Rattle.plan_rounds.proofs.SpreadLaws.{spreads_more, spreads_same}
+use Rattle.plan_rounds.proofs.RideSteps.{rides_more, by_first}
+use Rattle.plan_rounds.proofs.FutileLaws.{lacks_any}
+use Rattle.plan_rounds.proofs.SpreadLaws.{spreads_more, spreads_but}
 use Rattle.plan_rounds.proofs.search.Search.offer_rides.Goals as goal
 
 pub offer_ride-requires-clause-right : goal.offer_ride-requires-clause-right
 offer_ride-requires-clause-right c =
-    let rides = c.next_into.new.rides in
+    let rides = c.find_rides.new.rides in
     let lt : c.loop-k.k < length rides.items = omega (arith, c.loop-k-test.true, c.len-k-end.ensures, rides.ok.0) in
-    subst (λ (a : Searched). IsRight a.feed a.query (stand_of_label c.args.source.now.label.now) c.index.result.now) c.self.view_is
-    (subst (λ stand. IsRight c.self.inside.rides.feed c.self.inside.rides.query stand c.index.result.now) c.standing.ensures
-    (subst (IsRight c.self.inside.rides.feed c.self.inside.rides.query _) (sym c.index.ensures) (c.in_ok-next_into.ensures.right c.loop-k.k c.index.result.now lt)))
+    subst (IsRight c.args.self.now.feed c.args.self.now.query (stand_of_label c.args.source.now.label.now)) (sym c.index.ensures)
+    (c.in_ok-find_rides.ensures.right c.loop-k.k c.index.result.now lt)
 
 pub loop-k-preserved : goal.loop-k-preserved
 loop-k-preserved c =
     let feed = c.args.self.now.feed in
     let query = c.args.self.now.query in
     let source = c.args.source.now in
-    let rides = c.next_into.new.rides in
+    let rides = c.find_rides.new.rides in
     let lt : c.loop-k.k < length rides.items = omega (arith, c.loop-k-test.true, c.len-k-end.ensures, rides.ok.0) in
     let at = slice_get_read rides.items (length rides.items) c.loop-k.k c.index.result.now refl lt c.index.ensures in
     record {
@@ -34,8 +34,8 @@ returns-clause-spreads c =
     let feed = c.args.self.now.feed in
     let query = c.args.self.now.query in
     let source = c.args.source.now in
-    let rides = c.next_into.new.rides in
-    let has = subst (λ (a : Searched). HasCaught a.feed a.query (stand_of_label source.label.now) rides.items) c.self.view_is
-    (subst (λ stand. HasCaught c.self.inside.rides.feed c.self.inside.rides.query stand rides.items) c.standing.ensures c.in_ok-next_into.ensures.all) in
-    spreads_same feed query (Lacks c.args.self.now c.args.finals.now) source.labels.now _ _ _ _ _ c.loop-k.invariant.spreads
-    (λ b. steps_by feed query source rides.items c.loop-k.k b has (omega (arith, c.loop-k-test.false, c.len-k-end.ensures, rides.ok.0)))
+    let rides = c.find_rides.new.rides in
+    let all : length rides.items ≤ c.loop-k.k = omega (arith, c.loop-k-test.false, c.len-k-end.ensures, rides.ok.0) in
+    spreads_but feed query (Lacks c.args.self.now c.args.finals.now) source.labels.now _ _ _ _ _ c.loop-k.invariant.spreads
+    (λ b to. ⊎_elim (λ by. inl (by_first feed query source rides.items (length rides.items) c.loop-k.k b all by))
+    (λ lack. inr (lacks_any c.args.self.now c.args.finals.now b lack)) (c.in_ok-find_rides.ensures.all b to))

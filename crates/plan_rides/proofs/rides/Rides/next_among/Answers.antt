@@ -3,10 +3,10 @@ use Rattle.std.specs.Prelude.{All, OnOk}
 use Rattle.feed_timetable.specs.Standings.{stand_of}
 use Rattle.plan_rides.specs.Asked.{Asked}
 use Rattle.plan_rides.specs.Boarding.{MayRide}
-use Rattle.plan_rides.specs.InTime.{HasCaught, IsRight, IsUsualQuery, IsWithinWindow}
+use Rattle.plan_rides.specs.InTime.{HasCaughtAmong, IsRight, IsUsualQuery, IsWithinWindow}
 use Rattle.plan_rides.specs.Travelling.{Travelling, travelling}
 use Rattle.plan_rides.proofs.MarkLaws.{may_board}
-use Rattle.plan_rides.proofs.rides.Rides.next_into.Goals as goal
+use Rattle.plan_rides.proofs.rides.Rides.next_among.Goals as goal
 
 pub new-requires-clause-usual : goal.new-requires-clause-usual
 new-requires-clause-usual c = subst IsUsualQuery (sym c.self.invariant.3) c.self.invariant.0
@@ -24,12 +24,12 @@ new-requires-clause-boards c =
 
 pub returns-clause-all : goal.returns-clause-all
 returns-clause-all c =
-    subst (λ (t : Travelling). OnOk c.rides_into.result (HasCaught t.feed t.query t.stand c.rides_into.new.rides.items))
-    (c.new.ensures ∙ ap (λ q. travelling c.self.inside.timetable.now q (stand_of c.args.standing)) c.self.invariant.3
-    ∙ ap (λ (a : Asked). travelling a.feed a.query (stand_of c.args.standing)) c.self.view_is) c.rides_into.ensures.all
+    subst (λ (t : Travelling). OnOk c.rides_into.result (HasCaughtAmong t.feed t.query t.marks t.stand c.rides_into.new.rides.items))
+    (c.new.ensures ∙ ap (λ q. travelling c.self.inside.timetable.now q c.args.marks.now (stand_of c.args.standing)) c.self.invariant.3
+    ∙ ap (λ (a : Asked). travelling a.feed a.query c.args.marks.now (stand_of c.args.standing)) c.self.view_is) c.rides_into.ensures.all
 
 pub returns-clause-right : goal.returns-clause-right
 returns-clause-right c =
     subst (λ (t : Travelling). OnOk c.rides_into.result (All (IsRight t.feed t.query t.stand) c.rides_into.new.rides.items))
-    (c.new.ensures ∙ ap (λ q. travelling c.self.inside.timetable.now q (stand_of c.args.standing)) c.self.invariant.3
-    ∙ ap (λ (a : Asked). travelling a.feed a.query (stand_of c.args.standing)) c.self.view_is) c.rides_into.ensures.right
+    (c.new.ensures ∙ ap (λ q. travelling c.self.inside.timetable.now q c.args.marks.now (stand_of c.args.standing)) c.self.invariant.3
+    ∙ ap (λ (a : Asked). travelling a.feed a.query c.args.marks.now (stand_of c.args.standing)) c.self.view_is) c.rides_into.ensures.right
