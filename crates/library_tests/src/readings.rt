@@ -12,7 +12,7 @@ use feed_text::TextError;
 use feed_timetable::Timetable;
 use folder_io::{ByteText, FileBytes, Files, MemFolder};
 use std::alloc::{AllocError, Global};
-use ticket_explain::lines_of;
+use ticket_explain::text_of;
 use ticket_read::entries_of;
 use transit_base::{Day, Moment, Money, ProductRowId, RuleId, StopId, TripId, XferId};
 
@@ -216,7 +216,7 @@ fn entries_printed_and_read(rt: HostRuntime) -> Result<(), TextError> {
     let mut entries = Entries::empty(alloc);
     entries.push(two_rides(alloc)?)?;
     entries.push(walk(alloc))?;
-    let lines = lines_of(alloc, &timetable, entries.items())?;
+    let lines = text_of(alloc, &timetable, entries.items())?;
     let mut text = Vec::new(alloc);
     for number in 0..lines.lines() {
         text.extend_from_slice(lines.line(number))?;

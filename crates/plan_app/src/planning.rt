@@ -21,7 +21,7 @@ use plan_rounds::round_entries;
 use plan_words::{Asked, GenWords, PlanWords, PriceWords};
 use ride_prices::{PriceQuery, PriceQueryError, price_of, price_query_of};
 use std::alloc::{AllocError, Global};
-use ticket_explain::{Text, gen_lines_of, lines_of, price_lines_of, uncovered_lines_of};
+use ticket_explain::{Text, gen_lines_of, price_lines_of, text_of, uncovered_lines_of};
 use transit_base::{Day, Moment};
 
 // What a check answers.
@@ -43,7 +43,7 @@ fn plan_outcome(alloc: Global, feed: &Feed, plan: &PlanWords) -> Result<Outcome,
         Err(fault) => return refused(alloc, Refusal::Usage(fault)),
     };
     let entries = round_entries(alloc, &timetable, &query)?;
-    let text = lines_of(alloc, &timetable, &entries)?;
+    let text = text_of(alloc, &timetable, &entries)?;
     Ok(answered(text))
 }
 

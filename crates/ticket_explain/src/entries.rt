@@ -46,7 +46,7 @@ fn push_entry(
 ///
 /// # Errors
 /// Want of memory.
-pub fn lines_of(alloc: Global, timetable: &Timetable, entries: &[Entry]) -> Result<Text, AllocError>
+pub fn text_of(alloc: Global, timetable: &Timetable, entries: &[Entry]) -> Result<Text, AllocError>
     ensures { IfOk result (λ text. text ≡ lines_of_entries timetable.now entries.now) }
 {
     let mut text = Text::empty(alloc);

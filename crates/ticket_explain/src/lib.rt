@@ -11,7 +11,7 @@ mod text;
 mod tickets;
 mod travel;
 
-pub use entries::lines_of;
+pub use entries::text_of;
 pub use generated::gen_lines_of;
 pub use line::Line;
 pub use prices::{price_lines_of, uncovered_lines_of};

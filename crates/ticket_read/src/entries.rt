@@ -9,7 +9,7 @@ use crate::reader::Reader;
 use feed_rows::{Entries, Query};
 use feed_timetable::Timetable;
 use std::alloc::{AllocError, Global};
-use ticket_explain::{Text, lines_of};
+use ticket_explain::{Text, text_of};
 
 // The bytes of all lines.
 fn bytes_of(alloc: Global, lines: &Text) -> Result<Vec<u8>, AllocError>
@@ -42,7 +42,7 @@ pub fn entries_of(
     let Some(entries) = reader.read(alloc, text)? else {
         return Ok(None);
     };
-    let lines = lines_of(alloc, timetable, entries.items())?;
+    let lines = text_of(alloc, timetable, entries.items())?;
     let bytes = bytes_of(alloc, &lines)?;
     if bytes.as_slice() != text {
         return Ok(None);
