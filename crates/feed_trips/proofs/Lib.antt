@@ -6,3 +6,4 @@ pub mod StretchLaws
 pub mod TripLaws
 pub mod RideLaws
 pub mod GapLaws
+pub mod PlacedCalls

@@ -1,10 +1,10 @@
 -- Trips whose rows stand together in the file.
-use Rattle.std.proofs.Common.{◌≡◌, ◌≢◌, refl, sym, ◌∙◌, ap, subst, ℕ, zero, suc, ◌+◌, ◌-◌, ◌<◌, ◌≤◌, ◌⊎◌, inl, inr, Bool, ◌==◌, List, [], ◌∷◌, ◌++◌, length, get_or, take, drop, filter, arith, slice_set, get_or-set_other, get_or-set_same, ⊎_elim, All, AllPairs, IsPermutation, append_assoc, true, ◌^◌}
+use Rattle.std.proofs.Common.{◌≡◌, ◌≢◌, refl, sym, ◌∙◌, ap, subst, ℕ, zero, suc, ◌+◌, ◌-◌, ◌<◌, ◌≤◌, ◌⊎◌, inl, inr, Bool, ◌==◌, List, [], ◌∷◌, ◌++◌, length, get_or, take, drop, filter, arith, slice_set, get_or-set_other, get_or-set_same, ⊎_elim, All, AllPairs, IsPermutation, true, ◌^◌}
 use Rattle.std.specs.Prelude.{slice_range}
 use Rattle.std.proofs.lemmas.Bool.{cases_eq, eq-eqb, ne_eqb, le-leb, cases_lt, eqb-true}
 use Rattle.std.proofs.lemmas.List.{get_or-take, get_or-drop, length-take, length-drop, take_all, append-nil, get_or-replicate, length-replicate, get_or_default}
 use Rattle.std.proofs.lemmas.List.Elements.{filter-append, filter_passes}
-use Rattle.std.proofs.Math.Seq.{take-suc, drop-cons}
+use Rattle.std.proofs.Math.Seq.{take-suc}
 use Rattle.std.proofs.Math.ListN.{replicate, length-set}
 use Rattle.feed_rows.specs.declared.rows.StopTimeRow.{StopTimeRow}
 use Rattle.feed_rows.specs.FeedRows.{FeedRows}
@@ -13,7 +13,7 @@ use Rattle.feed_rows.specs.CallPass.{pass}
 use Rattle.feed_rows.specs.SoundFeed.{IsSoundFeed}
 use Rattle.feed_rows.specs.TimedTrips.{HasTimedEnds, DoTimesRise}
 use Rattle.plain_laws.specs.Plain.{list_below}
-use Rattle.plain_laws.proofs.Laws.{list_below-same, cut_further, passes_more}
+use Rattle.plain_laws.proofs.Laws.{list_below-same}
 use Rattle.feed_laws.proofs.CallLaws.{calls_of-pass}
 use Rattle.feed_laws.proofs.SoundTrips.{sound_ends, sound_rise, calls_apart}
 use Rattle.feed_trips.specs.declared.together.Stretch.{Stretch}
@@ -29,7 +29,7 @@ use Rattle.trip_order.specs.Order.{no_time}
 pub none_yet : (rows : List StopTimeRow) (trips : ℕ) → AreStretches rows 0 trips (replicate trips no_stretch)
 none_yet rows trips = record {
   count = length-replicate trips no_stretch;
-  each = λ t lt. subst (IsStretch rows 0 t) (sym (get_or-replicate trips t no_stretch no_stretch lt)) (record { forward = omega arith; ends = omega arith; are = refl; rise = λ k d low lt. absurd (omega arith) });
+  each = λ t lt. subst (IsStretch rows 0 t) (sym (get_or-replicate trips t no_stretch no_stretch lt)) (record { forward = omega arith; ends = omega arith; are = refl; has = λ k d lt own. absurd (omega arith); rise = λ k d low lt. absurd (omega arith) });
 }
 
 -- the first rows of a trip with one more, and where that is of another
@@ -53,13 +53,27 @@ range_more rows from to d forward lt =
     let at : from + (to - from) ≡ to = omega arith in
     rw (next, take-suc (drop from rows) (to - from) d (omega (arith, long)), get_or-drop from rows (to - from) d, at) refl
 
-range_none : (rows : List StopTimeRow) (at : ℕ) → slice_range rows at at ≡ []
+pub range_none : {X : Type 0} (rows : List X) (at : ℕ) → slice_range rows at at ≡ []
 range_none rows at = let none : at - at ≡ 0 = omega arith in rw none refl
 
 module _ (rows : List StopTimeRow) (n : ℕ) (d : StopTimeRow) (lt : n < length rows) where
+  -- the rows of a trip stand in its stretch, with one row more
+  has_more : (trip : ℕ) (s longer : Stretch)
+      → ((k : ℕ) → (s.from ≤ k) × (k < s.to) → (longer.from ≤ k) × (k < longer.to))
+      → ((get_or rows n d).trip.0 ≡ trip → (longer.from ≤ n) × (n < longer.to)) → IsStretch rows n trip s
+      → (k : ℕ) (e : StopTimeRow) → k < n + 1 → (get_or rows k e).trip.0 ≡ trip
+      → (longer.from ≤ k) × (k < longer.to)
+  has_more trip s longer keeps here is k e below own = step (cases_eq k n)
+    where
+      step : (k ≡ n) ⊎ (k ≡ n → ⊥) → (longer.from ≤ k) × (k < longer.to)
+      step (inl last) =
+          let same = ap (λ (r : StopTimeRow). r.trip.0) (get_or_default rows n d e lt) in
+          rw last (here (same ∙ rw last at own))
+      step (inr earlier) = keeps k (is.has k e (omega arith) own)
+
   -- the stretch of another trip stays
   other_stays : (trip : ℕ) (s : Stretch) → ((get_or rows n d).trip.0 ≡ trip → ⊥) → IsStretch rows n trip s → IsStretch rows (n + 1) trip s
-  other_stays trip s other is = record { forward = is.forward; ends = let le = is.ends in omega arith; are = is.are ∙ sym (filter_other rows n trip d lt other); rise = is.rise }
+  other_stays trip s other is = record { forward = is.forward; ends = let le = is.ends in omega arith; are = is.are ∙ sym (filter_other rows n trip d lt other); has = has_more trip s s (λ k at. at) (λ own. absurd (other own)) is; rise = is.rise }
 
   -- a stretch begins
   begins : (trip : ℕ) (s : Stretch) → (get_or rows n d).trip.0 ≡ trip → s.from ≡ s.to → IsStretch rows n trip s → IsStretch rows (n + 1) trip (record { from = n; to = n + 1 })
@@ -70,6 +84,7 @@ module _ (rows : List StopTimeRow) (n : ℕ) (d : StopTimeRow) (lt : n < length 
         forward = omega arith;
         ends = omega arith;
         are = range_more rows n n d le lt ∙ rw (range_none rows n) (sym (filter_here rows n trip d lt same ∙ rw none refl));
+        has = has_more trip s (record { from = n; to = n + 1 }) (λ k at. let low = at.0 in let high = at.1 in absurd (omega (arith, low, high, empty))) (λ own. (omega arith, omega arith)) is;
         rise = λ k e low below. absurd (omega arith);
       }
 
@@ -81,6 +96,7 @@ module _ (rows : List StopTimeRow) (n : ℕ) (d : StopTimeRow) (lt : n < length 
         forward = omega arith;
         ends = omega arith;
         are = range_more rows s.from n d forward lt ∙ ap (λ xs. xs ++ get_or rows n d ∷ []) (ap (slice_range rows s.from) (sym here) ∙ is.are) ∙ sym (filter_here rows n trip d lt same);
+        has = has_more trip s (record { from = s.from; to = n + 1 }) (λ k at. let high = at.1 in (at.0, omega (arith, high, here))) (λ own. (forward, omega arith)) is;
         rise = λ k e low below. rises k e low (omega arith) (cases_eq (k + 1) n);
       }
     where
@@ -247,6 +263,20 @@ in_order_already (x ∷ (y ∷ ys)) up =
 range_at : (rows : List StopTimeRow) (from to k : ℕ) (d : StopTimeRow) → from + k < to → get_or (slice_range rows from to) k d ≡ get_or rows (from + k) d
 range_at rows from to k d lt = get_or-take (to - from) (drop from rows) k d (omega arith) ∙ get_or-drop from rows k d
 
+-- the rows of a stretch are of its trip
+row_own : (rows : List StopTimeRow) (n trip : ℕ) (s : Stretch) → IsStretch rows n trip s → n ≤ length rows
+    → (k : ℕ) (d : StopTimeRow) → s.from ≤ k → k < s.to → (get_or rows k d).trip.0 ≡ trip
+row_own rows n trip s is within k d low high =
+    let test = λ (r : StopTimeRow). r.trip.0 == trip in
+    let own = subst (All (λ (r : StopTimeRow). test r ≡ true)) (sym is.are) (filter_passes test (take n rows)) in
+    let ends = is.ends in
+    let place : s.from + (k - s.from) ≡ k = omega arith in
+    let size = length-take (s.to - s.from) (drop s.from rows) in
+    let left = length-drop s.from rows in
+    let passes = own (k - s.from) d (omega arith) in
+    let moved = rw (range_at rows s.from s.to (k - s.from) d (omega arith)) at passes in
+    eqb-true (get_or rows k d).trip.0 trip (rw place at moved)
+
 -- the rows of each trip's stretch are its rows
 stretch_rows : (rows : List StopTimeRow) (trips t : ℕ) (stretches : List Stretch) → AreStretches rows (length rows) trips stretches → t < trips → rows_at rows stretches t ≡ filter (λ r. r.trip.0 == t) rows
 stretch_rows rows trips t stretches are lt = (are.each t lt).are ∙ ap (filter (λ r. r.trip.0 == t)) (take_all (length rows) rows (omega arith))
@@ -283,6 +313,7 @@ file_few feed rows sound same =
     rw same (omega arith)
 
 module _ (feed : FeedRows) (rows : List StopTimeRow) (stretches : List Stretch) (sound : IsSoundFeed feed) (are : AreStretches rows (length rows) (length feed.trips) stretches)
+    (few : All (λ (r : StopTimeRow). r.trip.0 < length feed.trips) rows)
     (own : (t : ℕ) → t < length feed.trips → rows_at rows stretches t ≡ trip_stop_times feed (record { 0 = t })) where
   within : (t : ℕ) → t < length stretches → t < length feed.trips
   within t lt = let count = are.count in omega arith
@@ -292,6 +323,9 @@ module _ (feed : FeedRows) (rows : List StopTimeRow) (stretches : List Stretch) 
   timed = record {
     forward = λ t lt. (are.each t (within t lt)).forward;
     ends = λ t lt. (are.each t (within t lt)).ends;
+    inside = λ k d lt. rw are.count (few k d lt);
+    around = λ k d lt. (are.each (get_or rows k d).trip.0 (few k d lt)).has k d lt refl;
+    own = λ t k d lt. row_own rows (length rows) t (get_or stretches t no_stretch) (are.each t (within t lt)) (omega arith) k d;
     timed = λ t lt. subst HasTimedEnds (sym (own t (within t lt))) (sound_ends feed (record { 0 = t }) sound.calls);
     rise = λ t lt. subst DoTimesRise (sym (own t (within t lt))) (sound_rise feed (record { 0 = t }) sound.calls);
   }
@@ -310,40 +344,26 @@ pub record AreTripStretches (feed : FeedRows) (rows : List StopTimeRow) (stretch
 pub file_stretches : (feed : FeedRows) (stretches : List Stretch) → IsSoundFeed feed → AreStretches feed.stop_times (length feed.stop_times) (length feed.trips) stretches → AreTripStretches feed feed.stop_times stretches
 file_stretches feed stretches sound are =
     let own = λ (t : ℕ) (lt : t < length feed.trips). rows_are feed (length feed.trips) t stretches are lt in
-    record { timed_rows = timed feed feed.stop_times stretches sound are own; calls = stretch_calls feed feed.stop_times stretches sound are own }
+    let few = sound.stop_times.trips in
+    record { timed_rows = timed feed feed.stop_times stretches sound are few own; calls = stretch_calls feed feed.stop_times stretches sound are few own }
+
+-- sorted rows are of the feed's trips
+pub sorted_within : (feed : FeedRows) (rows : List StopTimeRow) → IsSoundFeed feed → IsPermutation feed.stop_times rows → All (λ r. r.trip.0 < length feed.trips) rows
+sorted_within feed rows sound moved = All-permutation (λ (r : StopTimeRow). r.trip.0 < length feed.trips) feed.stop_times rows moved sound.stop_times.trips
 
 pub sorted_stretches : (feed : FeedRows) (rows : List StopTimeRow) (stretches : List Stretch) → IsSoundFeed feed → IsPermutation feed.stop_times rows → AllPairs IsInOrder rows → AreStretches rows (length rows) (length feed.trips) stretches
     → AreTripStretches feed rows stretches
 sorted_stretches feed rows stretches sound moved up are =
     let own = λ (t : ℕ) (lt : t < length feed.trips). sorted_are feed rows (length feed.trips) t stretches sound moved up are lt in
-    record { timed_rows = timed feed rows stretches sound are own; calls = stretch_calls feed rows stretches sound are own }
+    let few = sorted_within feed rows sound moved in
+    record { timed_rows = timed feed rows stretches sound are few own; calls = stretch_calls feed rows stretches sound are few own }
 
--- sorted rows are of the feed's trips, and few
-pub sorted_within : (feed : FeedRows) (rows : List StopTimeRow) → IsSoundFeed feed → IsPermutation feed.stop_times rows → All (λ r. r.trip.0 < length feed.trips) rows
-sorted_within feed rows sound moved = All-permutation (λ (r : StopTimeRow). r.trip.0 < length feed.trips) feed.stop_times rows moved sound.stop_times.trips
-
+-- and few
 pub sorted_few : (feed : FeedRows) (rows : List StopTimeRow) → IsSoundFeed feed → IsPermutation feed.stop_times rows → length rows < 2 ^ 32
 sorted_few feed rows sound moved =
     let long = length_permutation feed.stop_times rows moved in
     let few = sound.stop_times.few in
     omega arith
-
--- the rows of a stretch are of its trip
-own_trip : (rows : List StopTimeRow) (n trip : ℕ) (s : Stretch) → IsStretch rows n trip s → All (λ r. (r.trip.0 == trip) ≡ true) (rows_of_stretch rows s)
-own_trip rows n trip s is = subst (All (λ (r : StopTimeRow). (r.trip.0 == trip) ≡ true)) (sym is.are) (filter_passes (λ (r : StopTimeRow). r.trip.0 == trip) (take n rows))
-
--- so is the last of them
-last_own : (rows : List StopTimeRow) (n trip : ℕ) (s : Stretch) (d : StopTimeRow) → IsStretch rows n trip s
-    → n ≤ length rows → s.from < s.to → (get_or rows (s.to - 1) d).trip.0 ≡ trip
-last_own rows n trip s d is within begun =
-    let ends = is.ends in
-    let place : s.from + (s.to - 1 - s.from) ≡ s.to - 1 = omega arith in
-    let size = length-take (s.to - s.from) (drop s.from rows) in
-    let left = length-drop s.from rows in
-    let own = own_trip rows n trip s is (s.to - 1 - s.from) d (omega arith) in
-    let at_range = range_at rows s.from s.to (s.to - 1 - s.from) d (omega arith) in
-    let moved = rw at_range at own in
-    eqb-true (get_or rows (s.to - 1) d).trip.0 trip (rw place at moved)
 
 -- a piece of a trip whose stretch has begun lies apart from it
 pub lies_apart : (rows : List StopTimeRow) (from to trips : ℕ) (stretches : List Stretch) (d : StopTimeRow)
@@ -369,18 +389,11 @@ lies_apart rows from to trips stretches d s piece few are at some =
 
     falls : (e : StopTimeRow) → s.to ≡ from → (get_or rows from e).sequence < (get_or rows (from - 1) e).sequence
     falls e here =
-        let last = last_own rows from (get_or rows from d).trip.0 s e is (let le = lt in omega arith) begun in
+        let last = row_own rows from (get_or rows from d).trip.0 s is (let le = lt in omega arith) (s.to - 1) e (let low = begun in omega (arith, low)) (let low = begun in omega (arith, low)) in
         let before : (get_or rows (from - 1) e).trip.0 ≡ (get_or rows from d).trip.0 = rw here at last in
         let one = get_or_default rows from e d lt in
         let own : (get_or rows from e).trip.0 ≡ (get_or rows from d).trip.0 = ap (λ (r : StopTimeRow). r.trip.0) one in
         piece.anew (let low = begun in omega (arith, low, here)) e (own ∙ sym before)
-
--- a range that isn't empty begins with its first item
-range_first : (rows : List StopTimeRow) (from to : ℕ) (d : StopTimeRow) → from < to → from < length rows → slice_range rows from to ≡ get_or rows from d ∷ slice_range rows (from + 1) to
-range_first rows from to d lt inside =
-    let size : to - from ≡ suc (to - (from + 1)) = omega arith in
-    let next : from + 1 ≡ suc from = omega arith in
-    rw (size, drop-cons rows from d, next) refl
 
 -- where rows are sorted, none lies apart from those of its trip
 module _ (rows : List StopTimeRow) (trips : ℕ) (up : AllPairs IsInOrder rows) (few : All (λ (r : StopTimeRow). r.trip.0 < trips) rows) (scattered : IsScattered rows trips) where
@@ -401,7 +414,8 @@ module _ (rows : List StopTimeRow) (trips : ℕ) (up : AllPairs IsInOrder rows) 
   last : (get_or rows (s.to - 1) no_time).trip.0 ≡ here.trip.0
   last =
       let inside = scattered.inside in
-      last_own rows scattered.place here.trip.0 s no_time is_stretch (omega arith) begun
+      let low = begun in
+      row_own rows scattered.place here.trip.0 s is_stretch (omega arith) (s.to - 1) no_time (omega (arith, low)) (omega (arith, low))
 
   -- a row between it and its trip's is of the trip too
   between : (a b c : StopTimeRow) → a.trip.0 ≡ c.trip.0 → IsInOrder a b → IsInOrder b c → b.trip.0 ≡ c.trip.0
@@ -420,21 +434,7 @@ module _ (rows : List StopTimeRow) (trips : ℕ) (up : AllPairs IsInOrder rows) 
 
   later : s.to < scattered.place → ⊥
   unfolding here
-  later lt =
-      let from = begun in
-      let inside = scattered.inside in
-      let place = scattered.place in
-      let test = λ (r : StopTimeRow). r.trip.0 == here.trip.0 in
-      let next = get_or rows s.to no_time in
-      let same : next.trip.0 ≡ here.trip.0 = next_own lt in
-      let size = length-take (s.to - s.from) (drop s.from rows) in
-      let left = length-drop s.from rows in
-      let cut : take place rows ≡ take s.from rows ++ (slice_range rows s.from s.to ++ (next ∷ slice_range rows (s.to + 1) place)) =
-      cut_further rows s.to place (omega arith) ∙ rw (cut_further rows s.from s.to (omega arith), range_first rows s.to place no_time lt (omega arith), append_assoc) refl in
-      let more = passes_more test (take s.from rows) (slice_range rows s.from s.to) next (slice_range rows (s.to + 1) place) (own_trip rows place here.trip.0 s is_stretch) (eq-eqb next.trip.0 here.trip.0 same) in
-      let kept : length (slice_range rows s.from s.to) ≡ length (filter test (take place rows)) = ap length is_stretch.are in
-      let also = ap (λ rs. length (filter test rs)) cut in
-      omega (arith, more, kept, also)
+  later lt = let far = (is_stretch.has s.to no_time lt (next_own lt)).1 in omega (arith, far)
     where
       next_own : s.to < scattered.place → (get_or rows s.to no_time).trip.0 ≡ here.trip.0
       next_own lt =

@@ -1,5 +1,6 @@
 -- Trips whose rows stand together in the file: where those of each stand.
 use Rattle.std.specs.Prelude.{◌≡◌, ℕ, ◌+◌, ◌-◌, ◌<◌, ◌≤◌, ◌==◌, List, length, slice_index_or, slice_range, take, filter}
+use Rattle.feed_rows.specs.declared.journeys.Call.{Call}
 use Rattle.feed_rows.specs.declared.rows.StopTimeRow.{StopTimeRow}
 use Rattle.feed_rows.specs.TimedTrips.{HasTimedEnds, DoTimesRise}
 use Rattle.feed_trips.specs.declared.together.Stretch.{Stretch}
@@ -15,11 +16,26 @@ rows_of_stretch rows s = slice_range rows s.from s.to
 abbrev pub rows_at : List StopTimeRow → List Stretch → ℕ → List StopTimeRow
 rows_at rows stretches trip = rows_of_stretch rows (slice_index_or stretches trip no_stretch)
 
+-- the calls that stand at a trip's stretch
+abbrev pub calls_at : List Call → List Stretch → ℕ → List Call
+calls_at calls stretches trip =
+    let s = slice_index_or stretches trip no_stretch in slice_range calls s.from s.to
+
+-- the stretches lie within so many places
+pub record LieWithin (stretches : List Stretch) (size : ℕ) : Type 0 where
+  pub forward : (t : ℕ) → t < length stretches → (slice_index_or stretches t no_stretch).from ≤ (slice_index_or stretches t no_stretch).to
+  pub ends : (t : ℕ) → t < length stretches → (slice_index_or stretches t no_stretch).to ≤ size
+
+-- the stretch of the trip of the row at a place
+abbrev pub stretch_around : List StopTimeRow → List Stretch → ℕ → StopTimeRow → Stretch
+stretch_around rows stretches k d = slice_index_or stretches (slice_index_or rows k d).trip.0 no_stretch
+
 -- of the first n rows those of the trip are those of the stretch, and their sequences don't fall
 pub record IsStretch (rows : List StopTimeRow) (n trip : ℕ) (s : Stretch) : Type 0 where
   pub forward : s.from ≤ s.to
   pub ends : s.to ≤ n
   pub are : rows_of_stretch rows s ≡ filter (λ r. r.trip.0 == trip) (take n rows)
+  pub has : (k : ℕ) (d : StopTimeRow) → k < n → (slice_index_or rows k d).trip.0 ≡ trip → (s.from ≤ k) × (k < s.to)
   pub rise : (k : ℕ) (d : StopTimeRow) → s.from ≤ k → k + 1 < s.to → (slice_index_or rows k d).sequence ≤ (slice_index_or rows (k + 1) d).sequence
 
 -- the same of the trips with the numbers below trips, each with its stretch
@@ -60,9 +76,13 @@ pub record IsScattered (rows : List StopTimeRow) (trips : ℕ) : Type 0 where
   pub before : AreStretches rows place trips stretches
   pub apart : IsApart rows place stretches
 
--- each stretch lies within the rows, and its rows begin and end with times, which don't fall
+-- each stretch lies within the rows, each row stands in the stretch of its trip and no other, and the rows of a stretch
+-- begin and end with times, which don't fall
 pub record AreTimed (rows : List StopTimeRow) (stretches : List Stretch) : Type 0 where
   pub forward : (t : ℕ) → t < length stretches → (slice_index_or stretches t no_stretch).from ≤ (slice_index_or stretches t no_stretch).to
   pub ends : (t : ℕ) → t < length stretches → (slice_index_or stretches t no_stretch).to ≤ length rows
+  pub inside : (k : ℕ) (d : StopTimeRow) → k < length rows → (slice_index_or rows k d).trip.0 < length stretches
+  pub around : (k : ℕ) (d : StopTimeRow) → k < length rows → ((stretch_around rows stretches k d).from ≤ k) × (k < (stretch_around rows stretches k d).to)
+  pub own : (t k : ℕ) (d : StopTimeRow) → t < length stretches → (slice_index_or stretches t no_stretch).from ≤ k → k < (slice_index_or stretches t no_stretch).to → (slice_index_or rows k d).trip.0 ≡ t
   pub timed : (t : ℕ) → t < length stretches → HasTimedEnds (rows_at rows stretches t)
   pub rise : (t : ℕ) → t < length stretches → DoTimesRise (rows_at rows stretches t)

@@ -1,6 +1,7 @@
 //! The trips of a feed: their calls, their shifts and the rides that they offer.
 #![tactic(auto)]
 
+mod calls;
 mod ids;
 mod order;
 mod passes;

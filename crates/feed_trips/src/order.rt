@@ -4,8 +4,9 @@ ghost use Rattle.std.specs.List.Sorted.{IsPermutation};
 ghost use Rattle.feed_rows.specs.declared.rows.FrequencyRow.{FrequencyRow};
 ghost use Rattle.feed_trips.specs.Tables.{IsInOrder, trip_calls, trip_runs};
 
+use crate::calls::TripCalls;
 use crate::together::{calls_of_stretches, stretches_of};
-use feed_rows::{Call, Feed, FrequencyRow, StopTimeRow};
+use feed_rows::{Feed, FrequencyRow, StopTimeRow};
 use plain_laws::{Grouped, Groups};
 use std::alloc::{AllocError, Global};
 use trip_order::sorted_keys;
@@ -35,7 +36,7 @@ fn calls_of_sorted(
     alloc: Global,
     feed: &Feed,
     rows: &[StopTimeRow],
-) -> Result<Groups<Call>, AllocError>
+) -> Result<TripCalls, AllocError>
     requires moved { IsPermutation feed.now.stop_times rows.now }
     requires sorted { AllPairs IsInOrder rows.now }
     ensures { IfOk result (λ calls. calls ≡ trip_calls feed.now) }
@@ -44,7 +45,7 @@ fn calls_of_sorted(
     let Some(stretches) = stretches_of(alloc, rows, trips.len())? else {
         unreachable!();
     };
-    let calls = calls_of_stretches(alloc, rows, &stretches)?;
+    let calls = calls_of_stretches(alloc, rows, stretches)?;
     Ok(calls)
 }
 
@@ -52,13 +53,13 @@ fn calls_of_sorted(
 ///
 /// # Errors
 /// Want of memory.
-pub fn calls_by_trip(alloc: Global, feed: &Feed) -> Result<Groups<Call>, AllocError>
+pub fn calls_by_trip(alloc: Global, feed: &Feed) -> Result<TripCalls, AllocError>
     ensures { IfOk result (λ calls. calls ≡ trip_calls feed.now) }
 {
     let rows = feed.stop_times.items();
     let trips = feed.trips.items();
     if let Some(stretches) = stretches_of(alloc, rows, trips.len())? {
-        let calls = calls_of_stretches(alloc, rows, &stretches)?;
+        let calls = calls_of_stretches(alloc, rows, stretches)?;
         return Ok(calls);
     }
     let sorted = sorted_stop_times(alloc, rows)?;

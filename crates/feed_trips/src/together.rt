@@ -1,5 +1,5 @@
 //! Trips whose stop times stand together in the file and in order, as they mostly do: their calls are made where the rows
-//! stand.
+//! stand, in the order of the file.
 ghost use Rattle.std.specs.Prelude.{◌≡◌, ◌<◌, ◌^◌, ◌++◌, length, All, IfOk, OnOk, IfNone, IfSome};
 ghost use Rattle.std.specs.Bool.{OnFalse, OnTrue};
 ghost use Rattle.feed_rows.specs.declared.rows.StopTimeRow.{StopTimeRow};
@@ -7,9 +7,9 @@ ghost use Rattle.feed_rows.specs.CallPass.{pass};
 ghost use Rattle.plain_laws.specs.Plain.{list_below};
 ghost use Rattle.feed_trips.specs.Stretches.{AreStretches, AreTimed, GoesOn, IsAnew, IsApart, IsPiece, IsScattered, rows_at};
 
+use crate::calls::TripCalls;
 use crate::passes::push_calls;
 use feed_rows::{Call, StopTimeRow};
-use plain_laws::{Groups, push_end};
 use std::alloc::{AllocError, Global};
 
 /// Where the rows of a trip stand: from a place, and up to the place after the last.
@@ -104,24 +104,23 @@ fn push_stretch(
     push_calls(calls, &rows[stretch.from..stretch.to])
 }
 
-/// The calls of the rows at each of these stretches.
+/// The calls of the rows at each of these stretches, in the order of the rows.
 ///
 /// # Errors
 /// Want of memory.
 pub fn calls_of_stretches(
     alloc: Global,
     rows: &[StopTimeRow],
-    stretches: &[Stretch],
-) -> Result<Groups<Call>, AllocError>
-    requires timed { AreTimed rows.now stretches.now }
+    stretches: Vec<Stretch>,
+) -> Result<TripCalls, AllocError>
+    requires timed { AreTimed rows.now stretches.items }
     requires few { length rows.now < 2 ^ 32 }
-    ensures { IfOk result (λ calls. calls ≡ list_below (length stretches.now) (λ t. pass (rows_at rows.now stretches.now t))) }
+    ensures { IfOk result (λ calls. calls ≡ list_below (length stretches.items) (λ t. pass (rows_at rows.now stretches.items t))) }
 {
     let mut calls = Vec::with_capacity(alloc, rows.len())?;
-    let mut ends = Vec::with_capacity(alloc, stretches.len())?;
-    for trip in 0..stretches.len() {
-        push_stretch(&mut calls, rows, stretches, trip)?;
-        push_end(&mut ends, calls.len())?;
+    while calls.len() < rows.len() {
+        let trip = rows[calls.len()].trip.0 as usize;
+        push_stretch(&mut calls, rows, &stretches, trip)?;
     }
-    Ok(Groups::from_parts(ends, calls))
+    Ok(TripCalls::of(stretches, calls))
 }

@@ -10,6 +10,7 @@ ghost use Rattle.feed_rows.specs.Queries.{find_trip};
 ghost use Rattle.plain_laws.specs.Plain.{at_and};
 ghost use Rattle.feed_trips.specs.Runs.{AreRunsOf, IsSoundRun};
 
+use crate::calls::TripCalls;
 use crate::ids::trip_with;
 use crate::order::{calls_by_trip, runs_by_trip};
 use crate::runs::{has_run_at, shifts_of_runs};
@@ -23,7 +24,7 @@ use transit_base::{Moment, NetworkId, TripId};
 pub struct Trips<'f> {
     feed: &'f Feed,
     /// The calls of each trip.
-    calls: Groups<Call>,
+    calls: TripCalls,
     /// The frequency rows of each trip.
     frequencies: Groups<FrequencyRow>,
 }
@@ -82,7 +83,7 @@ impl<'f> Trips<'f> {
         ensures value { result.now ≡ calls_of self.now trip }
         ensures times { All (λ (c : Call). (c.arrival ≤ most_time) × (c.departure ≤ most_time)) result.now }
     {
-        self.calls.group(trip.0 as usize)
+        self.calls.of_trip(trip.0 as usize)
     }
 
     // The frequency rows of a trip.

@@ -4,7 +4,6 @@ use Rattle.feed_rows.specs.FeedRows.{FeedRows}
 use Rattle.feed_rows.specs.SoundFeed.{IsSoundFeed}
 use Rattle.feed_rows.specs.CallPass.{pass}
 use Rattle.plain_laws.specs.Plain.{list_below}
-use Rattle.feed_trips.specs.declared.together.Stretch.{Stretch}
 use Rattle.feed_trips.specs.Stretches.{AreStretches, AreTimed, rows_at}
 use Rattle.feed_trips.specs.Tables.{IsInOrder}
 use Rattle.feed_trips.proofs.StretchLaws.{file_within, file_few, file_stretches}
@@ -29,10 +28,10 @@ sorted_stop_times-requires c =
 pub calls_of_sorted-requires-clause-moved : goal.calls_of_sorted-requires-clause-moved
 calls_of_sorted-requires-clause-moved c =
     let rows : c.items-rows.result.now ≡ c.args.feed.now.stop_times = c.items-rows.ensures.value ∙ ap (λ (f : FeedRows). f.stop_times) c.feed.view_is in
-    rw c.deref-2.ensures.value (subst (λ (rs : List StopTimeRow). IsPermutation rs c.in_ok-sorted.sorted.items) rows c.in_ok-sorted.ensures.moved)
+    rw c.deref.ensures.value (subst (λ (rs : List StopTimeRow). IsPermutation rs c.in_ok-sorted.sorted.items) rows c.in_ok-sorted.ensures.moved)
 
 pub calls_of_sorted-requires-clause-sorted : goal.calls_of_sorted-requires-clause-sorted
-calls_of_sorted-requires-clause-sorted c = subst (AllPairs IsInOrder) (sym c.deref-2.ensures.value) c.in_ok-sorted.ensures.sorted
+calls_of_sorted-requires-clause-sorted c = subst (AllPairs IsInOrder) (sym c.deref.ensures.value) c.in_ok-sorted.ensures.sorted
 
 pub returns : goal.returns
 returns c = c.in_ok-calls-2.ensures
@@ -44,7 +43,7 @@ calls_of_stretches-requires-clause-timed c =
     let found = rw c.in-Some.is at c.in_ok-stretches.ensures.together in
     let of_trips = subst (λ n. AreStretches c.items-rows.result.now (length c.items-rows.result.now) n c.in-Some.stretches.items) trips found in
     let are = subst (λ (rs : List StopTimeRow). AreStretches rs (length rs) (length c.args.feed.now.trips) c.in-Some.stretches.items) rows of_trips in
-    rw c.deref.ensures.value (subst (λ (rs : List StopTimeRow). AreTimed rs c.in-Some.stretches.items) (sym rows) (file_stretches c.args.feed.now c.in-Some.stretches.items (subst IsSoundFeed c.feed.view_is c.feed.invariant) are).timed_rows)
+    subst (λ (rs : List StopTimeRow). AreTimed rs c.in-Some.stretches.items) (sym rows) (file_stretches c.args.feed.now c.in-Some.stretches.items (subst IsSoundFeed c.feed.view_is c.feed.invariant) are).timed_rows
 
 pub returns-in-Some : goal.returns-in-Some
 returns-in-Some c =
@@ -53,6 +52,6 @@ returns-in-Some c =
     let found = rw c.in-Some.is at c.in_ok-stretches.ensures.together in
     let of_trips = subst (λ n. AreStretches c.items-rows.result.now (length c.items-rows.result.now) n c.in-Some.stretches.items) trips found in
     let are = subst (λ (rs : List StopTimeRow). AreStretches rs (length rs) (length c.args.feed.now.trips) c.in-Some.stretches.items) rows of_trips in
-    c.in_ok-calls.ensures ∙ ap (λ (ss : List Stretch). list_below (length ss) (λ t. pass (rows_at c.items-rows.result.now ss t))) c.deref.ensures.value
+    c.in_ok-calls.ensures
     ∙ ap (λ (rs : List StopTimeRow). list_below (length c.in-Some.stretches.items) (λ t. pass (rows_at rs c.in-Some.stretches.items t))) rows
     ∙ (file_stretches c.args.feed.now c.in-Some.stretches.items (subst IsSoundFeed c.feed.view_is c.feed.invariant) are).calls

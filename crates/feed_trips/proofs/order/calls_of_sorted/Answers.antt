@@ -1,11 +1,8 @@
-use Rattle.std.proofs.Common.{◌≡◌, ◌<◌, ◌∙◌, sym, ap, subst, List, length, All}
+use Rattle.std.proofs.Common.{◌≡◌, ◌<◌, ◌∙◌, sym, ap, subst, length, All}
 use Rattle.feed_rows.specs.declared.rows.StopTimeRow.{StopTimeRow}
 use Rattle.feed_rows.specs.FeedRows.{FeedRows}
 use Rattle.feed_rows.specs.SoundFeed.{IsSoundFeed}
-use Rattle.feed_rows.specs.CallPass.{pass}
-use Rattle.plain_laws.specs.Plain.{list_below}
-use Rattle.feed_trips.specs.declared.together.Stretch.{Stretch}
-use Rattle.feed_trips.specs.Stretches.{AreStretches, rows_at}
+use Rattle.feed_trips.specs.Stretches.{AreStretches}
 use Rattle.feed_trips.proofs.StretchLaws.{sorted_stretches, sorted_within, sorted_few, sorted_together}
 use Rattle.feed_trips.proofs.order.calls_of_sorted.Goals as goal
 
@@ -25,7 +22,7 @@ calls_of_stretches-requires-clause-timed c =
     let trips : length c.items-trips.result.now ≡ length c.args.feed.now.trips = ap length (c.items-trips.ensures.value ∙ ap (λ (f : FeedRows). f.trips) c.feed.view_is) in
     let found = rw c.in-Some.is at c.in_ok-stretches.ensures.together in
     let are = subst (λ n. AreStretches c.args.rows.now (length c.args.rows.now) n c.in-Some.stretches.items) trips found in
-    rw c.deref.ensures.value (sorted_stretches c.args.feed.now c.args.rows.now c.in-Some.stretches.items (subst IsSoundFeed c.feed.view_is c.feed.invariant) c.requires.moved c.requires.sorted are).timed_rows
+    (sorted_stretches c.args.feed.now c.args.rows.now c.in-Some.stretches.items (subst IsSoundFeed c.feed.view_is c.feed.invariant) c.requires.moved c.requires.sorted are).timed_rows
 
 pub calls_of_stretches-requires-clause-few : goal.calls_of_stretches-requires-clause-few
 calls_of_stretches-requires-clause-few c = sorted_few c.args.feed.now c.args.rows.now (subst IsSoundFeed c.feed.view_is c.feed.invariant) c.requires.moved
@@ -35,5 +32,4 @@ returns c =
     let trips : length c.items-trips.result.now ≡ length c.args.feed.now.trips = ap length (c.items-trips.ensures.value ∙ ap (λ (f : FeedRows). f.trips) c.feed.view_is) in
     let found = rw c.in-Some.is at c.in_ok-stretches.ensures.together in
     let are = subst (λ n. AreStretches c.args.rows.now (length c.args.rows.now) n c.in-Some.stretches.items) trips found in
-    c.in_ok-calls.ensures ∙ ap (λ (ss : List Stretch). list_below (length ss) (λ t. pass (rows_at c.args.rows.now ss t))) c.deref.ensures.value
-    ∙ (sorted_stretches c.args.feed.now c.args.rows.now c.in-Some.stretches.items (subst IsSoundFeed c.feed.view_is c.feed.invariant) c.requires.moved c.requires.sorted are).calls
+    c.in_ok-calls.ensures ∙ (sorted_stretches c.args.feed.now c.args.rows.now c.in-Some.stretches.items (subst IsSoundFeed c.feed.view_is c.feed.invariant) c.requires.moved c.requires.sorted are).calls
