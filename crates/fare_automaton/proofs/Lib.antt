@@ -6,3 +6,5 @@ pub mod PickedLaws
 pub mod SelectedLaws
 pub mod ReadLaws
 pub mod KnownLaws
+pub mod PairLaws
+pub mod StateLaws

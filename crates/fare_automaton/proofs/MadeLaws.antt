@@ -10,6 +10,7 @@ use Rattle.transit_base.specs.declared.numbers.XferId.{XferId}
 use Rattle.feed_rows.specs.declared.fares.ChangeChoice.{ChangeChoice}
 use Rattle.feed_rows.specs.declared.fares.LegChoice.{LegChoice}
 use Rattle.feed_rows.specs.declared.journeys.LegFacts.{LegFacts}
+use Rattle.feed_rows.specs.declared.rows.LegRuleRow.{LegRuleRow}
 use Rattle.feed_rows.specs.declared.states.FareState.{FareState}
 use Rattle.feed_rows.specs.declared.states.Move.{Move}
 use Rattle.feed_rows.specs.FeedRows.{FeedRows}
@@ -18,7 +19,9 @@ use Rattle.feed_rows.specs.FareChoices.{chosen_leg, is_leg_choice}
 use Rattle.feed_rows.specs.FareSteps.{leg_taken, place_taken, is_whole, asked_after, is_place_after, first_move, next_move, move_of_first, move_of_next, AreMovesAfter}
 use Rattle.plain_laws.specs.Plain.{joined_below}
 use Rattle.plain_laws.proofs.Laws.{Contains-joined_below, joined_below-tells, AllPairs-joined_below, All-from, All-slice_get, slice_get-Contains, Contains-map, map-tells}
-use Rattle.fare_automaton.specs.Options.{ArePicks, place_list, first_made, next_made, made_at}
+use Rattle.fare_automaton.specs.declared.changes.GroupedLeg.{GroupedLeg}
+use Rattle.fare_automaton.specs.Changes.{leg_of}
+use Rattle.fare_automaton.specs.Options.{ArePicks, HasPlaces, place_list, first_made, next_made, made_at}
 use Rattle.fare_laws.specs.BareMoves.{bare}
 use Rattle.fare_laws.proofs.MoveLaws.{place_by, first_tells, first_is_bare, first_when, next_tells, next_when}
 use Rattle.fare_automaton.proofs.OptionLaws.{added_more, are_places}
@@ -243,3 +246,22 @@ module _ (feed : FeedRows) (rider : Option RiderId) (state : FareState) (held : 
       subst (AreMovesAfter feed rider (Some state) held leg) (sym is)
       (let all = all_made feed rider leg picks are (move_of_next feed rider state held leg) (next_made feed rider state held leg) next_of (λ move e. (next_tells feed rider state held leg move e).paid_leg) in
       record { right = all.right; all = all.all; once = all.once })
+
+  -- a leg that was chosen has its own moments
+  pub chosen_moments : (pick : LegChoice) (next : GroupedLeg) → Some (leg_of next) ≡ chosen_leg feed leg pick →
+      leg_of next ≡ record { group = next.group; departure = leg.departure; arrival = leg.arrival }
+  chosen_moments pick next is = by (slice_get feed.leg_rules pick.rule.0) is
+    where
+      by : (o : Option LegRuleRow) → Some (leg_of next) ≡ option_map (λ (rule : LegRuleRow). record { group = rule.group; departure = leg.departure; arrival = leg.arrival }) o →
+          leg_of next ≡ record { group = next.group; departure = leg.departure; arrival = leg.arrival }
+      by None e = absurd (cc)
+      by (Some rule) e =
+          let same : leg_of next ≡ record { group = rule.group; departure = leg.departure; arrival = leg.arrival } = same_Some _ _ e in
+          same ∙ ap (λ g. record { group = g; departure = leg.departure; arrival = leg.arrival }) (sym (ap (λ (l : FareLeg). l.group) same))
+
+  -- the moves by the places of the change to it
+  pub made_by_places : (pick : LegChoice) (next : GroupedLeg) (places : List (Option ChangeChoice)) → Some (leg_of next) ≡ chosen_leg feed leg pick →
+      HasPlaces feed rider state leg places next.group → map (full (leg_of next) pick) places ≡ next_made feed rider state held leg pick
+  made_by_places pick next places chosen has =
+      ap (map (full (leg_of next) pick)) (has ∙ ap (λ (l : FareLeg). place_list feed rider (asked_after state l)) (sym (chosen_moments pick next chosen)))
+      ∙ ap (λ (o : Option FareLeg). option_map_or (λ l. map (full l pick) (place_list feed rider (asked_after state l))) o []) chosen

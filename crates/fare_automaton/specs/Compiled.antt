@@ -1,5 +1,5 @@
 -- What an automaton has at hand: what rows read of each leg group, and the open rows of each product.
-use Rattle.std.specs.Prelude.{◌≡◌, ℕ, Bool, ◌&&◌, ◌||◌, not, nat_le, is_some, List, [], length, slice_get, unwrap_or, Option}
+use Rattle.std.specs.Prelude.{◌≡◌, ℕ, ◌+◌, ◌*◌, Bool, ◌&&◌, ◌||◌, not, nat_le, nat_lt, is_some, List, [], length, slice_get, unwrap_or, Option, Some}
 use Rattle.std.specs.Option.{option_map_or}
 use Rattle.std.specs.List.{list_any, list_all}
 use Rattle.transit_base.specs.declared.numbers.LegGroupId.{LegGroupId}
@@ -12,8 +12,9 @@ use Rattle.feed_rows.specs.FeedRows.{FeedRows}
 use Rattle.feed_rows.specs.FareChoices.{open_rows}
 use Rattle.feed_rows.specs.FareStates.{greatest_count, is_clock_read, counts_from_departure, counts_from_arrival}
 use Rattle.feed_rows.specs.TransferRules.{AskedChange, count_le}
-use Rattle.plain_laws.specs.Plain.{at_and, empty_or, filled_and, list_below}
+use Rattle.plain_laws.specs.Plain.{at_and, empty_or, filled_and, list_below, when}
 use Rattle.fare_transfer_rules.specs.declared.groups.ClassedRow.{ClassedRow}
+use Rattle.fare_transfer_rules.specs.BuiltTransferRules.{AreRowsBetween}
 use Rattle.fare_transfer_rules.specs.Counts.{is_within}
 use Rattle.fare_automaton.specs.declared.reads.GroupReads.{GroupReads}
 
@@ -43,6 +44,18 @@ has_limit counts row = filled_and row.limit (λ limit. counts limit.kind)
 -- one of these rows has such a limit
 abbrev pub some_limit : (ℕ → Bool) → List TransferRuleRow → List ClassedRow → Bool
 some_limit counts rows among = list_any (λ (r : ClassedRow). at_and rows r.row.0 (has_limit counts)) among
+
+-- ---- pairs of leg groups
+
+-- the place of the pair in a table of 64 places for each group before a change; none where the group after it is past those
+abbrev pub place_of : LegGroupId → LegGroupId → Option ℕ
+place_of from to = when (nat_lt to.0 64) (from.0 * 64 + to.0)
+
+-- the rows at the place of a pair are those for changes between its two groups
+abbrev pub ArePairRows : FeedRows → List (List ClassedRow) → Type 0
+ArePairRows feed pairs =
+    (from to : LegGroupId) (place : ℕ) (rows : List ClassedRow) → place_of from to ≡ Some place → slice_get pairs place ≡ Some rows
+    → AreRowsBetween feed from to rows
 
 -- ---- products
 

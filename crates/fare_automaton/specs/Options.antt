@@ -1,6 +1,7 @@
 -- What can be paid for a leg, and what may fill the place of a change: all that there is, in the order of the rows.
 use Rattle.std.specs.Prelude.{◌≡◌, ◌≢◌, ℕ, Bool, true, if◌then◌else◌, List, [], ◌∷◌, length, map, slice_get, All, AllPairs, Contains, Option, Some, None, ℤ}
 use Rattle.std.specs.Option.{option_map_or}
+use Rattle.transit_base.specs.declared.numbers.LegGroupId.{LegGroupId}
 use Rattle.transit_base.specs.declared.numbers.ProductId.{ProductId}
 use Rattle.transit_base.specs.declared.numbers.RiderId.{RiderId}
 use Rattle.transit_base.specs.declared.numbers.XferId.{XferId}
@@ -101,6 +102,11 @@ next_made feed rider state held leg pick =
     option_map_or
     (λ next. map (λ place. next_move feed state held next (bare pick place)) (place_list feed rider (asked_after state next)))
     (chosen_leg feed leg pick) []
+
+-- these are the places of the change from the state to the leg, where its rule is of this group
+abbrev pub HasPlaces : FeedRows → Option RiderId → FareState → LegFacts → List (Option ChangeChoice) → Option LegGroupId → Type 0
+HasPlaces feed rider state leg places group =
+    places ≡ place_list feed rider (asked_after state (record { group = group; departure = leg.departure; arrival = leg.arrival }))
 
 -- the lists of all choices, one after another
 abbrev pub made_at : (LegChoice → List Move) → List LegChoice → ℕ → List Move

@@ -3,14 +3,16 @@ ghost use Rattle.std.specs.Prelude.{◌≡◌, ◌<◌, ◌^◌, length, IfOk};
 ghost use Rattle.feed_rows.specs.FareChoices.{open_rows};
 ghost use Rattle.feed_rows.specs.FareFloor.{fare_floor};
 ghost use Rattle.feed_rows.specs.SoundFeed.{IsSoundFeed};
+ghost use Rattle.fare_transfer_rules.specs.BuiltTransferRules.{AreRowsBetween};
 ghost use Rattle.fare_automaton.specs.Compiled.{reads_of};
 ghost use Rattle.fare_automaton.specs.Terms.{terms};
 
 use crate::floor::floor_of;
 use crate::opened::open_rows;
+use crate::pairs::{place_of, rows_of_pairs};
 use crate::reads::{GroupReads, reads_of, reads_of_groups};
 use fare_leg_rules::LegRules;
-use fare_transfer_rules::XferRules;
+use fare_transfer_rules::{ClassedRow, XferRules};
 use feed_rows::{Feed, LegRuleRow, ProductRow, TransferRuleRow};
 use plain_laws::Groups;
 use std::alloc::{AllocError, Global};
@@ -25,6 +27,8 @@ pub struct Automaton<'f> {
     pub(crate) transfer_rules: XferRules,
     /// What transfer rows read of changes from each leg group.
     reads: Vec<GroupReads>,
+    /// The rows for changes between each two leg groups.
+    pairs: Groups<ClassedRow>,
     /// The rows of each product that are open to the rider, in file order.
     opened: Groups<ProductRowId>,
     floor: Money,
@@ -39,6 +43,7 @@ impl<'f> Drop for Automaton<'f> {
             leg_rules: _,
             transfer_rules: _,
             reads: _,
+            pairs: _,
             opened: _,
             floor: _,
         } = self;
@@ -46,7 +51,7 @@ impl<'f> Drop for Automaton<'f> {
 }
 
 impl<'f> Model for Automaton<'f> {
-    ghost use Rattle.fare_automaton.specs.Compiled.{AreOpenRows, AreReads};
+    ghost use Rattle.fare_automaton.specs.Compiled.{AreOpenRows, ArePairRows, AreReads};
     ghost use Rattle.fare_automaton.specs.Terms.{FareTerms, terms};
     ghost use Rattle.fare_leg_rules.specs.BuiltLegRules.{AreLegRulesOf};
     ghost use Rattle.fare_transfer_rules.specs.BuiltTransferRules.{AreXferRulesOf};
@@ -57,7 +62,7 @@ impl<'f> Model for Automaton<'f> {
 
     ghost view = { λ s. terms s.feed.now s.rider };
 
-    ghost invariant = { λ s. AreLegRulesOf s.feed.now s.leg_rules × AreXferRulesOf s.feed.now s.transfer_rules × AreReads s.feed.now s.reads.items × AreOpenRows s.feed.now s.rider s.opened × (s.floor.0 ≡ fare_floor s.feed.now s.rider) };
+    ghost invariant = { λ s. AreLegRulesOf s.feed.now s.leg_rules × AreXferRulesOf s.feed.now s.transfer_rules × AreReads s.feed.now s.reads.items × AreOpenRows s.feed.now s.rider s.opened × (s.floor.0 ≡ fare_floor s.feed.now s.rider) × ArePairRows s.feed.now s.pairs };
 }
 
 impl<'f> Automaton<'f> {
@@ -75,6 +80,7 @@ impl<'f> Automaton<'f> {
         let leg_rules = LegRules::build(alloc, feed)?;
         let transfer_rules = XferRules::build(alloc, feed)?;
         let reads = reads_of_groups(alloc, feed, &transfer_rules)?;
+        let pairs = rows_of_pairs(alloc, feed, &transfer_rules)?;
         let opened = open_rows(alloc, feed, rider)?;
         let floor = floor_of(feed, rider);
         Ok(Automaton {
@@ -83,6 +89,7 @@ impl<'f> Automaton<'f> {
             leg_rules,
             transfer_rules,
             reads,
+            pairs,
             opened,
             floor,
         })
@@ -157,6 +164,16 @@ impl<'f> Automaton<'f> {
         match self.reads.get(group.0 as usize) {
             Some(reads) => *reads,
             None => reads_of(self.feed, &self.transfer_rules, group),
+        }
+    }
+
+    /// The rows for changes from the one leg group to the other, in file order.
+    pub(crate) fn rows_between(&self, from: LegGroupId, to: LegGroupId) -> &[ClassedRow]
+        ensures { AreRowsBetween self.now.feed from to result.now }
+    {
+        match place_of(from, to) {
+            Some(place) if place < self.pairs.count() => self.pairs.group(place),
+            _ => self.transfer_rules.rows_between(from, to),
         }
     }
 }

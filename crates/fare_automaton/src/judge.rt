@@ -8,16 +8,16 @@ ghost use Rattle.fare_automaton.specs.Changes.{leg_of, asked_of};
 
 use crate::automaton::Automaton;
 use crate::changes::{Change, GroupedLeg};
-use feed_rows::{ChangeChoice, LegFacts, Move, ProductRow};
+use feed_rows::{ChangeChoice, LegChoice, LegFacts, Move, ProductRow};
 use transit_base::{ProductId, ProductRowId, RiderId, RuleId};
 
 impl<'f> Automaton<'f> {
     /// The leg as changes see it, with the leg group of the rule; none where there is no such rule.
-    pub(crate) fn chosen_leg(&self, leg: &LegFacts, taken: &Move) -> Option<GroupedLeg>
-        ensures { option_map leg_of result ≡ chosen_leg self.now.feed leg.now (leg_taken taken.now) }
+    pub(crate) fn chosen_leg(&self, leg: &LegFacts, pick: &LegChoice) -> Option<GroupedLeg>
+        ensures { option_map leg_of result ≡ chosen_leg self.now.feed leg.now pick.now }
     {
         let rows = self.leg_rows();
-        let rule = rows.get(taken.rule.0 as usize)?;
+        let rule = rows.get(pick.rule.0 as usize)?;
         Some(GroupedLeg {
             group: rule.group,
             departure: leg.departure,
@@ -94,6 +94,16 @@ impl<'f> Automaton<'f> {
             (None, Some(_)) => false,
             (None, None) => true,
         }
+    }
+}
+
+/// What pays the leg.
+pub fn leg_taken(taken: &Move) -> LegChoice
+    ensures { result ≡ leg_taken taken.now }
+{
+    LegChoice {
+        rule: taken.rule,
+        product: taken.product,
     }
 }
 

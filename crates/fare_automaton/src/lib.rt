@@ -13,6 +13,7 @@ mod known;
 mod moves;
 mod opened;
 mod options;
+mod pairs;
 mod reads;
 mod rows;
 mod steps;

@@ -1,18 +1,19 @@
 //! The moves from a fare state, and what follows of each.
-ghost use Rattle.std.specs.Prelude.{◌≡◌, ◌<◌, ◌≤◌, ◌^◌, ◌+◌, ◌&&◌, nat_abs, option_map, is_none, pos, min, Some};
-ghost use Rattle.std.specs.Option.{is_some};
+ghost use Rattle.std.specs.Prelude.{◌≡◌, ◌<◌, ◌≤◌, ◌^◌, ◌+◌, ◌&&◌, if◌then◌else◌, nat_abs, option_map, is_none, pos, min, Some, true};
+ghost use Rattle.std.specs.Option.{is_some, option_map_or};
 ghost use Rattle.plain_laws.specs.Plain.{filled_and, when};
 ghost use Rattle.feed_rows.specs.TransferRules.{same_group};
 ghost use Rattle.feed_rows.specs.FareSums.{amount_of};
 ghost use Rattle.feed_rows.specs.FareStands.{place_kind, place_charge, next_paid, next_held};
-ghost use Rattle.feed_rows.specs.FareStates.{greatest_count, capped_count, is_clock_read, counts_from_departure, counts_from_arrival, state_of_run};
+ghost use Rattle.feed_rows.specs.FareStates.{greatest_count, is_clock_read, counts_from_departure, counts_from_arrival, state_of_run};
 ghost use Rattle.feed_rows.specs.FareSteps.{leg_taken, place_taken, is_whole, asked_after, is_place_after, next_state, first_move, next_move, move_of_first, move_of_next, move_after};
 ghost use Rattle.feed_rows.specs.FareChoices.{is_leg_choice};
 ghost use Rattle.fare_automaton.specs.Changes.{leg_of, IsLow};
 
 use crate::automaton::Automaton;
 use crate::changes::{GroupedLeg, change_after};
-use crate::judge::{is_whole, place_taken};
+use crate::judge::{is_whole, leg_taken, place_taken};
+use crate::reads::GroupReads;
 use feed_rows::{ChangeChoice, FareState, LegFacts, Move};
 use transit_base::{LegGroupId, Moment, Money, ProductRowId};
 
@@ -39,7 +40,7 @@ impl<'f> Automaton<'f> {
     fn move_of_first(&self, leg: &LegFacts, taken: &Move) -> Option<Move>
         ensures { result ≡ move_of_first self.now.feed self.now.rider leg.now taken.now }
     {
-        let Some(first) = self.chosen_leg(leg, taken) else {
+        let Some(first) = self.chosen_leg(leg, &leg_taken(taken)) else {
             return None;
         };
         if !self.is_first(leg, taken) {
@@ -66,7 +67,7 @@ impl<'f> Automaton<'f> {
         requires held { nat_abs held.0 ≤ 10 ^ 16 }
         ensures { result ≡ move_of_next self.now.feed self.now.rider state.now held.0 leg.now taken.now }
     {
-        let Some(next) = self.chosen_leg(leg, taken) else {
+        let Some(next) = self.chosen_leg(leg, &leg_taken(taken)) else {
             return None;
         };
         if !self.is_next(state, &next, leg, taken) {
@@ -89,7 +90,7 @@ impl<'f> Automaton<'f> {
         ensures { result ≡ first_move self.now.feed (leg_of first.now) taken.now }
     {
         Move {
-            state: self.fresh_state(first, true),
+            state: self.first_state(first),
             paid: Money(0),
             held: Money(self.amount_of(taken.product)),
             ..*taken
@@ -118,7 +119,7 @@ impl<'f> Automaton<'f> {
         }
     }
 
-    /// The state after the next leg.
+    /// The state after the next leg. It is put together at one place: what comes from one of two places is copied by way of memory.
     fn next_state(
         &self,
         state: &FareState,
@@ -127,74 +128,47 @@ impl<'f> Automaton<'f> {
     ) -> FareState
         ensures { result ≡ next_state self.now.feed state.now (leg_of next.now) place }
     {
-        if same_group(state.group, next.group) && place.is_some() {
-            FareState {
-                count: self.one_more(state.group, state.count),
-                first: false,
-                ..*state
-            }
-        } else {
-            self.fresh_state(next, place.is_none())
+        let goes_on = goes_on(state, next, place);
+        let reads = self.reads_in(next.group);
+        FareState {
+            group: next.group,
+            count: count_after(goes_on, state.count, reads.greatest_count),
+            departure: clock_after(goes_on, state.departure, next.departure, reads.departure),
+            arrival: clock_after(goes_on, state.arrival, next.arrival, reads.arrival),
+            first: place.is_none(),
         }
     }
 
-    /// The state after a leg with which a run starts.
-    fn fresh_state(&self, leg: &GroupedLeg, first: bool) -> FareState
-        ensures { result ≡ state_of_run self.now.feed leg.now.group 0 (leg_of leg.now) first }
+    /// The state after a first leg.
+    fn first_state(&self, leg: &GroupedLeg) -> FareState
+        ensures { result ≡ state_of_run self.now.feed leg.now.group 0 (leg_of leg.now) true }
     {
+        let reads = self.reads_in(leg.group);
         FareState {
             group: leg.group,
             count: 0,
-            departure: self.departure_read(leg),
-            arrival: self.arrival_read(leg),
-            first,
+            departure: clock_after(false, None, leg.departure, reads.departure),
+            arrival: clock_after(false, None, leg.arrival, reads.arrival),
+            first: true,
         }
     }
 
-    /// One change more than so many, where all numbers past the greatest count of the group are one.
-    fn one_more(&self, group: Option<LegGroupId>, count: u32) -> u32
-        ensures { result ≡ capped_count self.now.feed group (count + 1) }
-    {
-        match group {
-            Some(own) => self.capped(own, count),
-            None => 0,
-        }
-    }
-
-    /// The same for a leg with a group.
-    fn capped(&self, group: LegGroupId, count: u32) -> u32
-        ensures { result ≡ min (count + 1) (greatest_count self.now.feed group + 1) }
-    {
-        self.greatest_count(group).min(count) + 1
-    }
-
-    /// The greatest number of changes within the group that a row counts; 0 where none does.
-    fn greatest_count(&self, group: LegGroupId) -> u32
-        ensures value { result ≡ greatest_count self.now.feed group }
-        ensures low { result < 2 ^ 31 }
+    /// What rows read of changes from the group; nothing where there is none.
+    fn reads_in(&self, group: Option<LegGroupId>) -> GroupReads
+        ensures count { result.greatest_count ≡ option_map_or (greatest_count self.now.feed) group 0 }
+        ensures low { result.greatest_count < 2 ^ 31 }
+        ensures departure { result.departure ≡ filled_and group (is_clock_read self.now.feed counts_from_departure) }
+        ensures arrival { result.arrival ≡ filled_and group (is_clock_read self.now.feed counts_from_arrival) }
     {
         // The counts of a sound feed are below 2 ^ 31.
         let _feed = self.feed();
-        self.reads(group).greatest_count
-    }
-
-    /// The departure of a run's first leg, where a row from its group reads it.
-    fn departure_read(&self, leg: &GroupedLeg) -> Option<Moment>
-        ensures { result ≡ when (filled_and leg.now.group (is_clock_read self.now.feed counts_from_departure)) leg.now.departure }
-    {
-        match leg.group {
-            Some(group) if self.reads(group).departure => Some(leg.departure),
-            _ => None,
-        }
-    }
-
-    /// The arrival of a run's first leg, where a row from its group reads it.
-    fn arrival_read(&self, leg: &GroupedLeg) -> Option<Moment>
-        ensures { result ≡ when (filled_and leg.now.group (is_clock_read self.now.feed counts_from_arrival)) leg.now.arrival }
-    {
-        match leg.group {
-            Some(group) if self.reads(group).arrival => Some(leg.arrival),
-            _ => None,
+        match group {
+            Some(own) => self.reads(own),
+            None => GroupReads {
+                greatest_count: 0,
+                departure: false,
+                arrival: false,
+            },
         }
     }
 
@@ -232,6 +206,34 @@ impl<'f> Automaton<'f> {
             Some(priced) => priced.amount.0,
             None => 0,
         }
+    }
+}
+
+/// Whether the next leg goes on with the run.
+fn goes_on(state: &FareState, next: &GroupedLeg, place: Option<ChangeChoice>) -> bool
+    ensures { result ≡ (same_group state.now.group next.now.group && is_some place) }
+{
+    same_group(state.group, next.group) && place.is_some()
+}
+
+/// One change more where the leg goes on with the run, where all numbers past the greatest count of the group are one; else 0.
+fn count_after(goes_on: bool, count: u32, greatest: u32) -> u32
+    requires { greatest < 2 ^ 31 }
+    ensures { result ≡ (if goes_on then min greatest count + 1 else 0) }
+{
+    if goes_on { greatest.min(count) + 1 } else { 0 }
+}
+
+/// A clock of the run: it stays where the leg goes on with it, else it is the leg's, if it is read.
+fn clock_after(goes_on: bool, clock: Option<Moment>, next: Moment, is_read: bool) -> Option<Moment>
+    ensures { result ≡ (if goes_on then clock else when is_read next) }
+{
+    if goes_on {
+        clock
+    } else if is_read {
+        Some(next)
+    } else {
+        None
     }
 }
 

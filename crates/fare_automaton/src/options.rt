@@ -89,7 +89,7 @@ impl<'f> Automaton<'f> {
     ) -> Result<(), AllocError>
         ensures { OnOk result (places.new.items ≡ places.old.items ++ place_list self.now.feed self.now.rider (Some (asked_of change.now))) }
     {
-        let among = self.rows_between(change);
+        let among = self.rows_between(change.from, change.to);
         let least = self.least_count(change, among);
         if least.is_some() {
             self.push_places(change, least, among, places)

@@ -4,7 +4,6 @@ ghost use Rattle.std.specs.Prelude.{◌≡◌, ℕ, Option, ◌&&◌, ◌||◌, 
 ghost use Rattle.plain_laws.specs.Plain.{empty_or};
 ghost use Rattle.feed_rows.specs.TransferRules.{group_matches, is_candidate, suffices, is_selected};
 ghost use Rattle.feed_rows.specs.FareSteps.{is_arranged_after};
-ghost use Rattle.fare_transfer_rules.specs.BuiltTransferRules.{AreRowsBetween};
 ghost use Rattle.fare_transfer_rules.specs.Counts.{is_within};
 ghost use Rattle.fare_automaton.specs.Changes.{asked_of};
 ghost use Rattle.fare_automaton.specs.Compiled.{suits, suits_at, not_above_at, is_chosen, AreLeast};
@@ -16,13 +15,6 @@ use feed_rows::{Limit, TransferRuleRow};
 use transit_base::{LegGroupId, XferId};
 
 impl<'f> Automaton<'f> {
-    /// The rows for changes between the leg groups of the change, in file order.
-    pub(crate) fn rows_between(&self, change: &Change) -> &[ClassedRow]
-        ensures { AreRowsBetween self.now.feed change.now.from change.now.to result.now }
-    {
-        self.transfer_rules.rows_between(change.from, change.to)
-    }
-
     /// The least count of those among the rows that suit the change; none where none does.
     pub(crate) fn least_count(&self, change: &Change, among: &[ClassedRow]) -> Option<Option<u32>>
         ensures { AreLeast self.now.feed (asked_of change.now) among.now result }
@@ -54,7 +46,7 @@ impl<'f> Automaton<'f> {
     pub(crate) fn selects(&self, change: &Change, row: &TransferRuleRow) -> bool
         ensures { result ≡ is_selected self.now.feed (asked_of change.now) row.now }
     {
-        let least = self.least_count(change, self.rows_between(change));
+        let least = self.least_count(change, self.rows_between(change.from, change.to));
         self.suffices(change, row) && is_within(least, row.count)
     }
 
@@ -62,7 +54,7 @@ impl<'f> Automaton<'f> {
     pub(crate) fn is_arranged(&self, change: &Change) -> bool
         ensures { result ≡ is_arranged_after self.now.feed (asked_of change.now) }
     {
-        self.least_count(change, self.rows_between(change))
+        self.least_count(change, self.rows_between(change.from, change.to))
             .is_some()
     }
 

@@ -1,17 +1,18 @@
 //! All moves of a leg.
-ghost use Rattle.std.specs.Prelude.{◌≡◌, ◌≤◌, ◌^◌, ◌++◌, length, map, nat_abs, IfOk, OnOk};
+ghost use Rattle.std.specs.Prelude.{◌≡◌, ◌≤◌, ◌^◌, ◌++◌, length, map, nat_abs, IfOk, OnOk, IsTrue, Some};
+ghost use Rattle.std.specs.Option.{ForSome};
 ghost use Rattle.plain_laws.specs.Plain.{joined_below};
 ghost use Rattle.feed_rows.specs.FareSteps.{next_move};
 ghost use Rattle.fare_automaton.specs.Steps.{AreStarts, AreSteps};
 ghost use Rattle.fare_automaton.specs.Changes.{leg_of};
 ghost use Rattle.fare_laws.specs.BareMoves.{bare};
-ghost use Rattle.fare_automaton.specs.Options.{ArePicks, first_made, next_made, made_at};
+ghost use Rattle.fare_automaton.specs.Options.{ArePicks, HasPlaces, first_made, next_made, made_at};
 
 use crate::automaton::Automaton;
 use crate::changes::{GroupedLeg, change_after};
 use feed_rows::{ChangeChoice, FareState, LegChoice, LegFacts, Move, Moves};
 use std::alloc::{AllocError, Global};
-use transit_base::Money;
+use transit_base::{LegGroupId, Money};
 
 impl<'f> Automaton<'f> {
     /// The moves of a first leg: all that there are, each once. There are none exactly where nothing pays the leg.
@@ -90,10 +91,9 @@ impl<'f> Automaton<'f> {
     ) -> Result<(), AllocError>
         ensures { OnOk result (moves.new.items ≡ moves.old.items ++ first_made self.now.feed leg.now pick.now) }
     {
-        let taken = bare(pick, None);
-        match self.chosen_leg(leg, &taken) {
+        match self.chosen_leg(leg, pick) {
             Some(first) => {
-                moves.push(self.first_move(&first, &taken))?;
+                moves.push(self.first_move(&first, &bare(pick, None)))?;
                 Ok(())
             }
             None => Ok(()),
@@ -135,31 +135,57 @@ impl<'f> Automaton<'f> {
         requires held { nat_abs held.0 ≤ 10 ^ 16 }
         ensures { OnOk result (moves.new.items ≡ moves.old.items ++ joined_below (length options.now) (made_at (next_made self.now.feed self.now.rider state.now held.0 leg.now) options.now)) }
     {
+        let mut known = None;
         for number in 0..options.len() {
-            self.push_next(state, held, leg, &options[number], places, moves)?;
+            known = self.push_next(state, held, leg, &options[number], known, places, moves)?;
         }
         Ok(())
     }
 
-    /// Adds the moves of a leg after the state that is paid so.
+    /// Adds the moves of a leg after the state that is paid so. Where a leg group is known, `places` has the places of the change
+    /// to this leg where its rule is of that group, and so it has for the group that is answered.
     fn push_next(
         &self,
         state: &FareState,
         held: Money,
         leg: &LegFacts,
         pick: &LegChoice,
+        known: Option<Option<LegGroupId>>,
         places: &mut Vec<Option<ChangeChoice>>,
         moves: &mut Vec<Move>,
-    ) -> Result<(), AllocError>
+    ) -> Result<Option<Option<LegGroupId>>, AllocError>
         requires held { nat_abs held.0 ≤ 10 ^ 16 }
-        ensures { OnOk result (moves.new.items ≡ moves.old.items ++ next_made self.now.feed self.now.rider state.now held.0 leg.now pick.now) }
+        requires known { ForSome known (HasPlaces self.now.feed self.now.rider state.now leg.now places.old.items) }
+        ensures moves { OnOk result (moves.new.items ≡ moves.old.items ++ next_made self.now.feed self.now.rider state.now held.0 leg.now pick.now) }
+        ensures known { IfOk result (λ group. ForSome group (HasPlaces self.now.feed self.now.rider state.now leg.now places.new.items)) }
     {
-        match self.chosen_leg(leg, &bare(pick, None)) {
+        match self.chosen_leg(leg, pick) {
             Some(next) => {
-                self.places_into(change_after(state, &next), places)?;
-                self.push_moves(state, held, &next, pick, places, moves)
+                self.keep_places(state, leg, &next, known, places)?;
+                self.push_moves(state, held, &next, pick, places, moves)?;
+                Ok(Some(next.group))
             }
-            None => Ok(()),
+            None => Ok(known),
+        }
+    }
+
+    /// Replaces what `places` holds by the places of the change to the next leg, which it may hold already.
+    fn keep_places(
+        &self,
+        state: &FareState,
+        leg: &LegFacts,
+        next: &GroupedLeg,
+        known: Option<Option<LegGroupId>>,
+        places: &mut Vec<Option<ChangeChoice>>,
+    ) -> Result<(), AllocError>
+        requires known { ForSome known (HasPlaces self.now.feed self.now.rider state.now leg.now places.old.items) }
+        requires next { leg_of next.now ≡ record { group = next.now.group; departure = leg.now.departure; arrival = leg.now.arrival } }
+        ensures { OnOk result (HasPlaces self.now.feed self.now.rider state.now leg.now places.new.items next.now.group) }
+    {
+        if is_known(known, next.group) {
+            Ok(())
+        } else {
+            self.places_into(change_after(state, next), places)
         }
     }
 
@@ -180,6 +206,16 @@ impl<'f> Automaton<'f> {
             moves.push(self.next_move(state, held, next, &bare(pick, *place)))?;
         }
         Ok(())
+    }
+}
+
+/// Whether this leg group is known.
+fn is_known(known: Option<Option<LegGroupId>>, group: Option<LegGroupId>) -> bool
+    ensures { IsTrue result → known ≡ Some group }
+{
+    match (known, group) {
+        (Some(Some(own)), Some(other)) => own.0 == other.0,
+        _ => false,
     }
 }
 
