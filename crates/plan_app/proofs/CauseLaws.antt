@@ -1,87 +1,75 @@
 -- From the causes to what can be answered.
-use Rattle.std.proofs.Common.{◌≡◌, ℕ, List, Bool, true, false, Option, None, refl, sym, ap, ◌∙◌, subst, inl, inr}
-use Rattle.std.specs.Prelude.{Some, Result, Ok, Err, IfSome, IsTrue}
+use Rattle.std.proofs.Common.{◌≡◌, ℕ, List, Bool, true, false, Option, None, refl, ap, ◌∙◌, subst, ◌⊎◌, inl, inr}
+use Rattle.std.specs.Prelude.{Some, Result, Ok, Err, IfSome}
 use Rattle.feed_rows.specs.FaultCounts.{Rose}
 use Rattle.feed_rows.specs.HeldFiles.{HeldFile, held}
 use Rattle.feed_rows.specs.Requests.{Request}
 use Rattle.feed_rows.specs.declared.names.FileName.{FileName}
 use Rattle.feed_rows.specs.declared.usage.UsageFault.{UsageFault}
+use Rattle.folder_io.specs.FileReading.{Gives}
 use Rattle.folder_io.specs.FolderCalls.{Contents, FolderState}
 use Rattle.folder_io.specs.SinkCalls.{SinkState}
 use Rattle.plan_words.specs.Words.{asked_of}
-use Rattle.plan_app.specs.Due.{Task, task_for, due, refusal_answer, IsDue, IsDueOver}
+use Rattle.plan_app.specs.Due.{Task, task_for, due, IsDue}
 use Rattle.plan_app.specs.Run.{asks_folder, writes_nothing, WhereRead, Explains, AnswersAll}
 use Rattle.plan_app.specs.declared.refusal.Refusal.{Refusal}
 use Rattle.plan_app.specs.declared.refusal.Refusal.TheVariants as refusal
 use Rattle.plan_app.specs.declared.status.Status.{Status}
 use Rattle.plan_app.specs.declared.status.Status.TheVariants as status
 
--- a task that is due is answered
-answered : (folder : FolderState) (words : List (List ℕ)) (came : Status) (lines : List (List ℕ)) (files : FileName → HeldFile) (task : Task)
-    → (over : IsDueOver folder words came lines) → due over.files words ≡ due files words → due files words ≡ Ok task → came ≡ status.Answered
-answered folder words came lines files task over same can = (subst (λ task. IsDue task came lines) (same ∙ can) over.is_due).0
-
--- where nothing is asked of a folder, what is due is the same whatever files it has
-unasked_due : (files other : FileName → HeldFile) (asked : Result Request UsageFault) → asks_folder asked ≡ false
-    → task_for files asked ≡ task_for other asked
-unasked_due files other (Ok (Request.Plan request)) e = absurd (cc)
-unasked_due files other (Ok (Request.Price request)) e = absurd (cc)
-unasked_due files other (Ok Request.Check) e = absurd (cc)
-unasked_due files other (Ok (Request.Gen request)) e = refl
-unasked_due files other (Err fault) e = refl
-
--- the files of a folder that tells what it holds are those
-told_files : (folder : FolderState) (contents : Contents) (files : FileName → HeldFile) → folder.holds ≡ Some contents
-    → IfSome folder.holds (λ contents. files ≡ held contents) → files ≡ held contents
-told_files folder contents files told gives = subst (λ holds. IfSome holds (λ contents. files ≡ held contents)) told gives
-
 -- what is so of whatever contents a folder tells is so where it tells them
-where_told : (holds : Option Contents) (fact : Contents → Type 0) → ((contents : Contents) → holds ≡ Some contents → fact contents) → IfSome holds fact
+where_told : (holds : Option Contents) (fact : Contents → Type 0)
+    → ((contents : Contents) → holds ≡ Some contents → fact contents) → IfSome holds fact
 where_told None fact given = tt
 where_told (Some contents) fact given = given contents refl
 
--- what is so of the files that are asked about
+-- these may be the files that are asked about: where a folder is asked, no call of it failed, and it gives no others
+abbrev MayBeAsked : Bool → FolderState → FolderState → (FileName → HeldFile) → Type 0
+MayBeAsked asks folder later files =
+    asks ≡ true
+    → ¬ (Rose folder.faults later.faults) × ((other : FileName → HeldFile) → Gives folder other → other ≡ files)
+
+-- what is so of all such files is so where they are read
 where_read : (asks : Bool) (folder later : FolderState) (fact : (FileName → HeldFile) → Type 0)
-    → ((contents : Contents) → asks ≡ true → folder.holds ≡ Some contents → ¬ (Rose folder.faults later.faults) → fact (held contents))
-    → ((files : FileName → HeldFile) → asks ≡ false → fact files) → WhereRead asks folder later fact
-where_read true folder later fact told made =
+    → ((files : FileName → HeldFile) → MayBeAsked asks folder later files → fact files)
+    → WhereRead asks folder later fact
+where_read true folder later fact so =
     where_told folder.holds (λ contents. ¬ (Rose folder.faults later.faults) → fact (held contents))
-    (λ contents holds no_read. told contents refl holds no_read)
-where_read false folder later fact told made = λ files. made files refl
+    (λ contents told no_read. so (held contents) (λ asked. (no_read, λ other gives. rw told at gives)))
+where_read false folder later fact so = λ files. so files (λ asked. absurd cc)
 
--- so what can be answered is, where nothing fails outside
-pub all_answered : (words : List (List ℕ)) (folder later : FolderState) (sink after : SinkState) (came : Status)
-    → Explains words folder later sink after came → AnswersAll words folder later sink after came
-all_answered words folder later sink after came (Explains.Whole lines over reads writes) =
-    where_read (asks_folder (asked_of words)) folder later _
-    (λ contents asks told no_read task can no_write.
-    inl (answered folder words came lines (held contents) task over
-    (subst (λ files. due over.files words ≡ due files words) (told_files folder contents over.files told over.gives) refl) can))
-    (λ files unasked task can no_write.
-    inl (answered folder words came lines files task over (unasked_due over.files files (asked_of words) unasked) can))
-all_answered words folder later sink after came (Explains.Part due lines over reads writes is) =
-    where_read (asks_folder (asked_of words)) folder later _
-    (λ contents asks told no_read task can no_write. absurd (no_write writes.counts))
-    (λ files unasked task can no_write. absurd (no_write writes.counts))
-all_answered words folder later sink after came (Explains.Unread asked reads silent is) =
-    where_read (asks_folder (asked_of words)) folder later _
-    (λ contents asks told no_read task can no_write. absurd (no_read reads.counts))
-    (λ files unasked task can no_write. absurd (let no : true ≡ false = sym asked ∙ unasked in cc))
-all_answered words folder later sink after came (Explains.Unmade reads silent is) =
-    where_read (asks_folder (asked_of words)) folder later _
-    (λ contents asks told no_read task can no_write. inr is)
-    (λ files unasked task can no_write. inr is)
+-- over them the same is due as over those that the folder gave
+same_due : (folder later : FolderState) (files other : FileName → HeldFile) (asked : Result Request UsageFault)
+    → MayBeAsked (asks_folder asked) folder later files → Gives folder other
+    → task_for other asked ≡ task_for files asked
+same_due folder later files other (Ok (Request.Gen request)) may gives = refl
+same_due folder later files other (Err fault) may gives = refl
+same_due folder later files other (Ok (Request.Plan request)) may gives = rw ((may refl).1 other gives) refl
+same_due folder later files other (Ok (Request.Price request)) may gives = rw ((may refl).1 other gives) refl
+same_due folder later files other (Ok Request.Check) may gives = rw ((may refl).1 other gives) refl
 
--- a refusal has a line, and what is due is no answer that writes nothing
-refusal_writes : (refused : Refusal) → writes_nothing (refusal_answer refused) ≡ false
-refusal_writes (refusal.Usage fault) = refl
-refusal_writes (refusal.Feed fault) = refl
+module _ (words : List (List ℕ)) (folder later : FolderState) (sink after : SinkState) (came : Status) where
+  -- a task that is due over them is answered, or memory was wanting, where no write failed
+  answered : (files : FileName → HeldFile) (task : Task) → MayBeAsked (asks_folder (asked_of words)) folder later files
+      → due files words ≡ Ok task → ¬ (Rose sink.faults after.faults) → Explains words folder later sink after came
+      → (came ≡ status.Answered) ⊎ (came ≡ status.NoMemory)
+  answered files task may is no_write (Explains.Whole lines over reads writes) =
+      let same = same_due folder later files over.files (asked_of words) may over.gives in
+      inl (subst (λ task. IsDue task came lines) (same ∙ is) over.is_due).0
+  answered files task may is no_write (Explains.Part told lines over reads writes late) =
+      absurd (no_write writes.counts)
+  answered files task may is no_write (Explains.Unread asks reads silent late) = absurd ((may asks).0 reads.counts)
+  answered files task may is no_write (Explains.Unmade reads silent wanting) = inr wanting
 
-due_writes : (task : Result Task Refusal) (answer : Status) (lines : List (List ℕ)) → IsDue task answer lines → writes_nothing answer ≡ false
-due_writes (Ok task) answer lines is = ap writes_nothing is.0
-due_writes (Err refused) answer lines is = ap writes_nothing is.0 ∙ refusal_writes refused
+  -- so what can be answered is, where nothing fails outside
+  pub all_answered : Explains words folder later sink after came → AnswersAll words folder later sink after came
+  all_answered why =
+      where_read (asks_folder (asked_of words)) folder later _
+      (λ files may task is no_write. answered files task may is no_write why)
 
-pub due_is_written : {X : Type 0} (folder : FolderState) (words : List (List ℕ)) (answer : Status) (lines : List (List ℕ))
-    → IsDueOver folder words answer lines → writes_nothing answer ≡ true → X
-due_is_written folder words answer lines over silent =
-    absurd (let no : false ≡ true = sym (due_writes (due over.files words) answer lines over.is_due) ∙ silent in cc)
+-- what is due is no answer that writes nothing
+pub due_writes : (task : Result Task Refusal) (came : Status) (lines : List (List ℕ)) → IsDue task came lines
+    → writes_nothing came ≡ false
+due_writes (Ok task) came lines is = ap writes_nothing is.0
+due_writes (Err (refusal.Usage fault)) came lines is = ap writes_nothing is.0
+due_writes (Err (refusal.Feed fault)) came lines is = ap writes_nothing is.0

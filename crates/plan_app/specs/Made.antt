@@ -46,12 +46,6 @@ pub record IsFaultFor (folder : FolderState) (request : Request) (fault : FeedFa
   pub gives : Gives folder files
   pub is_first : first_fault (files_for files request) ≡ Some fault
 
--- why files that are made give no feed: the fault is their first, or want of memory
-abbrev pub IsMadeError : (FileName → HeldFile) → LoadError → Type 0
-IsMadeError files error.ReadFault = ⊥
-IsMadeError files (error.Fault fault) = first_fault files ≡ Some fault
-IsMadeError files error.NoMemory = Unit {0}
-
 -- why there is no feed: a call of the folder failed, or the files have a fault, or want of memory
 abbrev pub GivesNone : LoadError → Request → FolderState → FolderState → Type 0
 GivesNone error.ReadFault request folder later = IsTrue (asks_folder (Ok request)) × FailsReading folder later

@@ -3,7 +3,8 @@ ghost use Rattle.std.specs.Prelude.{◌≡◌, false, None, IfOk, IfErr, OnOk, O
 ghost use Rattle.feed_faults.specs.AcceptedFeed.{feed_of};
 ghost use Rattle.feed_faults.specs.FirstFault.{first_fault};
 ghost use Rattle.feed_rows.specs.GeneratedFeed.{generated};
-ghost use Rattle.plan_app.specs.Made.{IsFeedFor, IsMadeError, GivesNone, IsMade, Stops};
+ghost use Rattle.feed_text.specs.TextErrors.{IsErrorOf};
+ghost use Rattle.plan_app.specs.Made.{IsFeedFor, GivesNone, IsMade, Stops};
 ghost use Rattle.plan_app.specs.Run.{Reads, asks_folder};
 ghost use Rattle.plan_words.specs.Request.{asked_request, IsUsualGen, IsUsualRequest};
 ghost use Rattle.plan_words.specs.Words.{asked_of};
@@ -20,21 +21,14 @@ use plan_words::{Asked, GenWords, WordList, WordsError, asked_of};
 use std::alloc::Global;
 
 // The feed that is made by rule, or its first fault.
-fn made_feed(alloc: Global, words: &GenWords) -> Result<Feed, LoadError>
+fn made_feed(alloc: Global, words: &GenWords) -> Result<Feed, TextError>
     requires { IsUsualGen words.now }
-    ensures fault { IfErr result (IsMadeError (generated words.now.seed words.now.lines)) }
+    ensures fault { IfErr result (IsErrorOf (first_fault (generated words.now.seed words.now.lines))) }
     ensures sound { OnOk result (first_fault (generated words.now.seed words.now.lines) ≡ None) }
     ensures feed { IfOk result (λ feed. feed ≡ feed_of (generated words.now.seed words.now.lines)) }
 {
-    let files = match gen_files(alloc, words.seed, words.lines) {
-        Ok(files) => files,
-        Err(_) => return Err(LoadError::NoMemory),
-    };
-    match check(alloc, files) {
-        Ok(feed) => Ok(feed),
-        Err(TextError::Fault(fault)) => Err(LoadError::Fault(fault)),
-        Err(TextError::NoMemory) => Err(LoadError::NoMemory),
-    }
+    let files = gen_files(alloc, words.seed, words.lines)?;
+    check(alloc, files)
 }
 
 // The feed that a command is about: that of the folder, but for the command that makes its own.
@@ -46,7 +40,11 @@ fn feed_for<F: Folder>(alloc: Global, asked: &Asked, folder: &mut F) -> Result<F
     ensures untouched { asks_folder (Ok (asked_request asked.now)) ≡ false → folder.new ≡ folder.old }
 {
     match asked {
-        Asked::Gen(words) => made_feed(alloc, words),
+        Asked::Gen(words) => match made_feed(alloc, words) {
+            Ok(feed) => Ok(feed),
+            Err(TextError::Fault(fault)) => Err(LoadError::Fault(fault)),
+            Err(TextError::NoMemory) => Err(LoadError::NoMemory),
+        },
         Asked::Plan(_) | Asked::Price(_) | Asked::Check => load(alloc, folder),
     }
 }

@@ -1,11 +1,16 @@
-use Rattle.plan_words.specs.Request.{gen_request}
-use Rattle.plan_app.proofs.MadeLaws.{made_feed_for, made_none_for}
+use Rattle.std.proofs.Common.{refl, subst}
+use Rattle.feed_text.specs.TextErrors.{IsErrorOf}
+use Rattle.plan_app.proofs.MadeLaws.{some_files}
 use Rattle.plan_app.proofs.made.feed_for.Goals as goal
 
-pub returns-in-Gen-clause-feed : goal.returns-in-Gen-clause-feed
-returns-in-Gen-clause-feed g c =
-    rw c.in-Gen.is (made_feed_for _ (gen_request c.in-Gen.words) _ c.made_feed.ensures.sound c.made_feed.ensures.feed)
+pub returns-in-Ok-clause-feed : goal.returns-in-Ok-clause-feed
+returns-in-Ok-clause-feed g c =
+    let some = some_files (g.F.Folder.state c.args.folder.now).holds in
+    let made = c.in-Ok.ensures in
+    rw c.in-Gen.is (record { files = some.0; gives = some.1; accepted = made.sound; is_feed = made.feed })
 
-pub returns-in-Gen-clause-err : goal.returns-in-Gen-clause-err
-returns-in-Gen-clause-err g c =
-    rw c.in-Gen.is (made_none_for _ (gen_request c.in-Gen.words) _ c.made_feed.ensures.fault)
+pub returns-in-Err-Fault-clause-err : goal.returns-in-Err-Fault-clause-err
+returns-in-Err-Fault-clause-err g c =
+    let some = some_files (g.F.Folder.state c.args.folder.now).holds in
+    let first = subst (IsErrorOf _) c.in-Err-Fault.field-0-is c.in-Err-Fault.ensures.fault in
+    rw c.in-Gen.is (refl, record { files = some.0; gives = some.1; is_first = first })

@@ -1,19 +1,15 @@
 use Rattle.std.proofs.Common.{◌≡◌, subst}
-use Rattle.std.specs.Prelude.{None, Some}
+use Rattle.std.specs.Prelude.{None, IfOk, IfErr, OnOk}
 use Rattle.feed_faults.specs.AcceptedFeed.{feed_of}
 use Rattle.feed_faults.specs.FirstFault.{first_fault}
 use Rattle.feed_text.specs.TextErrors.{IsErrorOf}
 use Rattle.plan_app.proofs.made.made_feed.Goals as goal
 
-pub returns-in-Ok-check-clause-sound : goal.returns-in-Ok-check-clause-sound
-returns-in-Ok-check-clause-sound c =
-    subst (λ files. first_fault files ≡ None) c.in-Ok.ensures.files c.in-Ok-check.ensures.sound
-
-pub returns-in-Ok-check-clause-feed : goal.returns-in-Ok-check-clause-feed
-returns-in-Ok-check-clause-feed c =
-    subst (λ files. c.in-Ok-check.feed ≡ feed_of files) c.in-Ok.ensures.files c.in-Ok-check.ensures.feed
-
-pub returns-in-Err-Fault-clause-fault : goal.returns-in-Err-Fault-clause-fault
-returns-in-Err-Fault-clause-fault c =
-    subst (λ files. first_fault files ≡ Some c.in-Err-Fault.fault) c.in-Ok.ensures.files
-    (subst (IsErrorOf _) c.in-Err-Fault.field-0-is c.in-Err-Fault.ensures.fault)
+pub returns : goal.returns
+returns c =
+    let are = c.in_ok-files.ensures.files in
+    record {
+      fault = subst (λ files. IfErr c.check.result (IsErrorOf (first_fault files))) are c.check.ensures.fault;
+      sound = subst (λ files. OnOk c.check.result (first_fault files ≡ None)) are c.check.ensures.sound;
+      feed = subst (λ files. IfOk c.check.result (λ feed. feed ≡ feed_of files)) are c.check.ensures.feed;
+    }

@@ -14,4 +14,4 @@ returns c =
     c.in_ok-found.ensures.covers
     c.answered.ensures.told
     (c.answered.ensures.text ∙ c.in_ok-text.ensures.lines
-    ∙ ap (λ (entries : List Entry). gen_lines c.args.feed.now (map (λ entry. entry.triple) entries)) c.deref.ensures.value)
+    ∙ ap (λ (found : List Entry). gen_lines c.args.feed.now (map (λ entry. entry.triple) found)) c.deref.ensures.value)
