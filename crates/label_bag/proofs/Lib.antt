@@ -1,4 +1,5 @@
 pub mod BagLaws
+pub mod ClassLaws
 pub mod FlightLaws
 pub mod HeightLaws
 pub mod StairLaws

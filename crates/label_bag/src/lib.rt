@@ -3,10 +3,12 @@
 
 mod bag;
 mod flights;
+mod in_class;
 mod list_bag;
 mod search;
 mod stair_bag;
 
 pub use bag::{Bag, NoRoom, Offered, offer_all};
+pub use in_class::offer_in_class;
 pub use list_bag::ListBag;
 pub use stair_bag::StairBag;
