@@ -1,123 +1,394 @@
--- Bags by stop, of which one is changed at a time.
-use Rattle.std.proofs.Common.{◌≡◌, refl, sym, ◌∙◌, ap, subst, ℕ, zero, suc, ◌+◌, ◌<◌, ◌≤◌, ◌⊎◌, inl, inr, Bool, true, false, List, [], ◌∷◌, ◌++◌, length, take, get_or, append_assoc, arith, All}
-use Rattle.std.specs.Prelude.{◌≢◌, not, Contains, Option, Some, None, Result, Ok, Err, OnOk, filter, slice_get, slice_set, unwrap_or}
-use Rattle.std.proofs.lemmas.Bool.{cases_lt, cases_eq, not_from_false}
-use Rattle.std.proofs.lemmas.List.{length-set, take_more, append-nil}
-use Rattle.std.proofs.lemmas.List.Elements.{filter-append}
-use Rattle.std.proofs.lemmas.List.Sorted.{Contains-permutation}
-use Rattle.std.proofs.lemmas.Option.{slice_get_read, slice_get_within, get_or_from_slice_get}
-use Rattle.label_bag.specs.Bags.{Gathers, AreApart, not_above}
-use Rattle.label_bag.specs.Offers.{IfCovered, OnKept, IsCoveredBy, TakesIn}
-use Rattle.label_bag.specs.declared.bag.Offered.{Offered}
-use Rattle.label_bag.specs.declared.bag.Offered.TheVariants.{Kept, Covered}
+-- Bags of labels, of which one is changed at a time.
+use Rattle.std.proofs.Common.{◌≡◌, refl, sym, ◌∙◌, ap, subst, ℕ, zero, suc, ◌+◌, ◌<◌, ◌⊎◌, inl, inr, ⊎_elim, Bool, true, false, List, [], ◌∷◌, ◌++◌, length, take, get_or, append_assoc, arith, All}
+use Rattle.std.specs.Prelude.{◌≢◌, Contains, Option, Some, None, Result, Ok, Err, OnOk, cond, filter, slice_get, position, option_map, is_some}
+use Rattle.std.specs.Option.{option_map_or}
+use Rattle.std.specs.Map.{keys_of, lookup, values_of}
+use Rattle.std.proofs.lemmas.Bool.{cases_lt, cases_eq, false_from_ne_true, both_ways}
+use Rattle.std.proofs.lemmas.List.{take_more, append-nil, length-map}
+use Rattle.std.proofs.lemmas.List.Elements.{All-contains, All-weaker, All-cons, All-head, All-nil, All-tail, Contains-append_cases, Contains-append_left, Contains-append_right, filter-append}
+use Rattle.std.proofs.lemmas.List.Folds.{list_any-from_Any}
+use Rattle.std.proofs.lemmas.List.Quantifiers.{all_pairs_push, position-Some}
+use Rattle.std.proofs.lemmas.Option.{slice_get-map, slice_get_within, get_or_from_slice_get, same_Some}
+use Rattle.indexmap.specs.IndexMap.{insert_entry}
+use Rattle.indexmap.specs.Layout.{set_value_at, length-set_value_at}
+use Rattle.label_bag.specs.Bags.{Gathers, AreApart, Apart, covers as has_cover}
 use Rattle.plain_laws.specs.Plain.{joined_below}
-use Rattle.plain_laws.proofs.Laws.{Contains-filter, Contains-cons_later, All-slice_get, joined_more}
+use Rattle.plain_laws.proofs.Laws.{AllPairs-joined_below, All-from, Contains-cons_cases, Contains-cons_first, Contains-joined_below, joined_below-same, joined_below-tells, joined_more, list_any_tells, slice_get-append_left, slice_get-push_last}
 use Rattle.plan_rounds.specs.declared.label.Label.{Label}
-use Rattle.plan_rounds.specs.Labels.{covers}
-use Rattle.plan_rounds.specs.Stores.{at_stop, has_rides, Takes, AreApartByStop}
+use Rattle.plan_rounds.specs.declared.label_class.LabelClass.{LabelClass}
+use Rattle.plan_rounds.specs.CoverLaws.{cover_laws, class_equivalence, same_class-equal, stair_laws}
+use Rattle.plan_rounds.specs.Labels.{covers, class_of, same_class}
+use Rattle.plan_rounds.specs.Stores.{AreBagsOf, IsBagOf, Takes, bag_at, has_rides, in_bags}
 
--- what the label doesn't cover stays in the bag
-pub keeps_others : {E : Type 0} (result : Result Offered E) (answer : Offered) (old new : List Label) (label x : Label) → result ≡ Ok answer →
-    IfCovered result (λ i. IsCoveredBy covers old i label new) → OnKept result (TakesIn covers old label new) →
-    Contains old x → covers label x ≡ false → Contains new x
-keeps_others (Ok Kept) answer old new label x is covered kept at differs =
-    Contains-permutation (label ∷ not_above covers label old) new x kept.members
-    (Contains-cons_later label (not_above covers label old) x
-    (Contains-filter (λ m. not (covers label m)) old x at (not_from_false (covers label x) differs)))
-keeps_others (Ok (Covered i)) answer old new label x is covered kept at differs =
-    subst (λ ms. Contains ms x) (sym covered.unchanged) at
-keeps_others (Err e) answer old new label x is covered kept at differs = absurd (cc)
+abbrev Classed : Type 0
+Classed = LabelClass × List Label
 
--- the stop whose bag was changed, and another
-at_stop-set_own : (bags : List (List Label)) (stop : ℕ) (members : List Label) → stop < length bags →
-    at_stop (slice_set bags stop members) stop ≡ members
-at_stop-set_own [] stop members lt = absurd (omega (arith, lt))
-at_stop-set_own (b ∷ bags) zero members lt = refl
-at_stop-set_own (b ∷ bags) (suc stop) members lt = at_stop-set_own bags stop members (omega (arith, lt))
+-- ---- what is covered
 
-at_stop-set_other : (bags : List (List Label)) (stop other : ℕ) (members : List Label) → other ≢ stop →
-    at_stop (slice_set bags stop members) other ≡ at_stop bags other
-at_stop-set_other [] stop other members differ = refl
-at_stop-set_other (b ∷ bags) zero zero members differ = absurd (differ refl)
-at_stop-set_other (b ∷ bags) zero (suc other) members differ = refl
-at_stop-set_other (b ∷ bags) (suc stop) zero members differ = refl
-at_stop-set_other (b ∷ bags) (suc stop) (suc other) members differ =
-    at_stop-set_other bags stop other members (λ same. differ (ap suc same))
+-- a label that is covered has a cover there
+cover_in : (members : List Label) (y : Label) → has_cover covers members y ≡ true →
+    (z : Label) × Contains members z × (covers z y ≡ true)
+cover_in members y h = list_any_tells (λ m. covers m y) members h
 
-at_stop-set_past : (bags : List (List Label)) (stop other : ℕ) (members : List Label) → length bags ≤ stop →
-    at_stop (slice_set bags stop members) other ≡ at_stop bags other
-at_stop-set_past [] stop other members past = refl
-at_stop-set_past (b ∷ bags) zero other members past = absurd (omega (arith, past))
-at_stop-set_past (b ∷ bags) (suc stop) zero members past = refl
-at_stop-set_past (b ∷ bags) (suc stop) (suc other) members past = at_stop-set_past bags stop other members (omega (arith, past))
+covered_by : (members : List Label) (z y : Label) → Contains members z → covers z y ≡ true →
+    has_cover covers members y ≡ true
+covered_by members z y at below = list_any-from_Any (λ m. covers m y) members (at.0, z, at.1, at.2, below)
 
--- an offer to the bag of the label's stop takes it in
-pub takes_set : (bags : List (List Label)) (label : Label) (before members : List Label) → label.stop.0 < length bags →
-    at_stop bags label.stop.0 ≡ before → Gathers covers before (label ∷ []) members →
-    ((x : Label) → Contains before x → covers label x ≡ false → Contains members x) →
-    Takes bags label (slice_set bags label.stop.0 members)
-takes_set bags label before members lt is gathers keeps = record {
-  many = length-set bags label.stop.0 members;
-  others = λ stop differ. at_stop-set_other bags label.stop.0 stop members differ;
-  gathers = subst (λ new. Gathers covers (at_stop bags label.stop.0) (label ∷ []) new) (sym own)
-      (subst (λ old. Gathers covers old (label ∷ []) members) (sym is) gathers);
-  keeps = λ x at differs. subst (λ new. Contains new x) (sym own) (keeps x (subst (λ old. Contains old x) is at) differs);
+-- the only member of a list
+only_member : (x y : Label) → Contains (x ∷ []) y → y ≡ x
+only_member x y at = ⊎_elim sym (λ none. let lt = none.1 in absurd (omega (arith, lt))) (Contains-cons_cases x [] y at)
+
+-- ---- a label behind all
+
+one_apart : (x : Label) → AreApart covers (x ∷ [])
+one_apart x i j d lt within = absurd (omega (arith, lt, within))
+
+pub one_bag : (x : Label) → IsBagOf (class_of x) (x ∷ [])
+one_bag x = record {
+  flight = record {
+    classed = All-cons (λ y. same_class (class_of y) (class_of x) ≡ true) x [] (class_equivalence.refl (class_of x))
+        (All-nil (λ y. same_class (class_of y) (class_of x) ≡ true));
+    rising = λ i j d lt within. absurd (omega (arith, lt, within));
+  };
+  apart = one_apart x;
 }
+
+pub takes_push : (old : List Label) (x : Label) → Takes old x (old ++ x ∷ [])
+takes_push old x = record {
+  gathers = record {
+    still = λ y h. let some = cover_in old y h in covered_by (old ++ x ∷ []) some.0 y
+        (Contains-append_left old (x ∷ []) some.0 some.1) some.2;
+    each = All-cons (λ y. has_cover covers (old ++ x ∷ []) y ≡ true) x []
+        (covered_by (old ++ x ∷ []) x x (Contains-append_right old (x ∷ []) x (Contains-cons_first x []))
+        (cover_laws.reflexive x))
+        (All-nil (λ y. has_cover covers (old ++ x ∷ []) y ≡ true));
+    from = All-from (λ y. Contains old y ⊎ Contains (x ∷ []) y) (old ++ x ∷ []) (Contains-append_cases old (x ∷ []));
+  };
+  keeps = λ y at differs. Contains-append_left old (x ∷ []) y at;
+}
+
+-- ---- one bag of many
+
+-- the label was taken into the bag with this number, and the others stayed
+module _ (n number : ℕ) (f g : ℕ → List Label) (x : Label) (lt : number < n) (others : (i : ℕ) → i ≢ number → g i ≡ f i)
+    (takes : Takes (f number) x (g number)) where
+  to_new : (i : ℕ) (y : Label) → i < n → Contains (f i) y → (i ≡ number → Contains (g i) y) → Contains
+      (joined_below n g) y
+  to_new i y within at here =
+      ⊎_elim (λ same. Contains-joined_below n g i y within (here same))
+      (λ other. Contains-joined_below n g i y within (subst (λ ms. Contains ms y) (sym (others i other)) at))
+      (cases_eq i number)
+
+  -- a cover among the labels
+  cover_new : (y : Label) → has_cover covers (g number) y ≡ true → has_cover covers (joined_below n g) y ≡ true
+  cover_new y h =
+      let some = cover_in (g number) y h in
+      covered_by (joined_below n g) some.0 y (Contains-joined_below n g number some.0 lt some.1) some.2
+
+  still_new : (y : Label) → has_cover covers (joined_below n f) y ≡ true → has_cover covers (joined_below n g) y ≡ true
+  still_new y h =
+      let some = cover_in (joined_below n f) y h in
+      let there = joined_below-tells n f some.0 some.1 in
+      ⊎_elim
+      (λ same. cover_new y (takes.gathers.still y (covered_by (f number) some.0 y
+      (subst (λ i. Contains (f i) some.0) same there.2) some.2)))
+      (λ other. covered_by (joined_below n g) some.0 y (Contains-joined_below n g there.0 some.0 there.1
+      (subst (λ ms. Contains ms some.0) (sym (others there.0 other)) there.2)) some.2)
+      (cases_eq there.0 number)
+
+  from_old : (y : Label) → Contains (joined_below n g) y → Contains (joined_below n f) y ⊎ Contains (x ∷ []) y
+  from_old y at =
+      let there = joined_below-tells n g y at in
+      ⊎_elim
+      (λ same.
+      ⊎_elim (λ was. inl (Contains-joined_below n f number y lt was)) inr
+      (All-contains (λ z. Contains (f number) z ⊎ Contains (x ∷ []) z) (g number) y takes.gathers.from
+      (subst (λ i. Contains (g i) y) same there.2)))
+      (λ other. inl (Contains-joined_below n f there.0 y there.1
+      (subst (λ ms. Contains ms y) (others there.0 other) there.2)))
+      (cases_eq there.0 number)
+
+  pub takes_joined : Takes (joined_below n f) x (joined_below n g)
+  takes_joined = record {
+    gathers = record {
+      still = still_new;
+      each = All-weaker (λ y. has_cover covers (g number) y ≡ true)
+          (λ y. has_cover covers (joined_below n g) y ≡ true) cover_new (x ∷ []) takes.gathers.each;
+      from = All-from (λ y. Contains (joined_below n f) y ⊎ Contains (x ∷ []) y) (joined_below n g) from_old;
+    };
+    keeps = λ y at differs.
+        let there = joined_below-tells n f y at in
+        to_new there.0 y there.1 there.2 (λ same.
+        subst (λ i. Contains (g i) y) (sym same) (takes.keeps y (subst (λ i. Contains (f i) y) same there.2) differs));
+  }
+
+-- ---- bags by class
+
+-- the bag with this number, and its class
+pub bag_there : (bags : List Classed) (number : ℕ) (bag : Classed) → slice_get bags number ≡ Some bag →
+    bag_at bags number ≡ bag.1
+bag_there bags number bag is = ap (λ (o : Option Classed). option_map_or (λ (b : Classed). b.1) o []) is
+
+-- the bag that was changed, and another
+set_own : (bags : List Classed) (number : ℕ) (bag : Classed) (members : List Label) → slice_get bags number ≡ Some bag →
+    slice_get (set_value_at bags number members) number ≡ Some (bag.0, members)
+set_own [] number bag members is = absurd (cc)
+set_own (b ∷ bags) zero bag members is = ap (λ (c : Classed). Some (c.0, members)) (same_Some _ _ is)
+set_own (b ∷ bags) (suc number) bag members is = set_own bags number bag members is
+
+set_other : (bags : List Classed) (number other : ℕ) (members : List Label) → other ≢ number →
+    slice_get (set_value_at bags number members) other ≡ slice_get bags other
+set_other [] number other members differ = refl
+set_other (b ∷ bags) zero zero members differ = absurd (differ refl)
+set_other (b ∷ bags) zero (suc other) members differ = refl
+set_other (b ∷ bags) (suc number) zero members differ = refl
+set_other (b ∷ bags) (suc number) (suc other) members differ =
+    set_other bags number other members (λ same. differ (ap suc same))
+
+-- the classes stay
+set_keys : (bags : List Classed) (number : ℕ) (members : List Label) (k : ℕ) (d : Classed) →
+    (get_or (set_value_at bags number members) k d).0 ≡ (get_or bags k d).0
+set_keys [] number members k d = refl
+set_keys (b ∷ bags) zero members zero d = refl
+set_keys (b ∷ bags) zero members (suc k) d = refl
+set_keys (b ∷ bags) (suc number) members zero d = refl
+set_keys (b ∷ bags) (suc number) members (suc k) d = set_keys bags number members k d
+
+module _ (bags : List Classed) (number : ℕ) (bag : Classed) (members : List Label)
+    (is : slice_get bags number ≡ Some bag) where
+  abbrev changed : List Classed
+  changed = set_value_at bags number members
+
+  -- the label was taken into the bag
+  pub takes_set : (x : Label) → Takes bag.1 x members → Takes (in_bags bags) x (in_bags changed)
+  takes_set x takes =
+      subst (λ n. Takes (in_bags bags) x (joined_below n (bag_at changed)))
+      (sym (length-set_value_at bags number members))
+      (takes_joined (length bags) number (bag_at bags) (bag_at changed) x (slice_get_within bags number bag is)
+      (λ i differ. ap (λ (o : Option Classed). option_map_or (λ (b : Classed). b.1) o [])
+      (set_other bags number i members differ))
+      (subst (λ ms. Takes ms x (bag_at changed number)) (sym (bag_there bags number bag is))
+      (subst (Takes bag.1 x) (sym (bag_there changed number (bag.0, members)
+      (set_own bags number bag members is))) takes)))
+
+  -- they stay bags of their classes
+  pub bags_set : AreBagsOf bags → IsBagOf bag.0 members → AreBagsOf changed
+  bags_set are new = (
+    each,
+    λ i j d lt within.
+        subst (λ c. same_class c (get_or changed j d).0 ≡ false) (sym (set_keys bags number members i d))
+        (subst (λ c. same_class (get_or bags i d).0 c ≡ false) (sym (set_keys bags number members j d))
+        (are.1 i j d lt (subst (λ n. j < n) (length-set_value_at bags number members) within))),
+  )
+    where
+      each : (i : ℕ) (b : Classed) → slice_get changed i ≡ Some b → IsBagOf b.0 b.1
+      each i b at =
+          ⊎_elim
+          (λ same.
+          subst (λ (c : Classed). IsBagOf c.0 c.1)
+          (same_Some (bag.0, members) b (sym (set_own bags number bag members is) ∙ ap (slice_get changed) (sym same)
+          ∙ at)) new)
+          (λ differ. are.0 i b (sym (set_other bags number i members differ) ∙ at))
+          (cases_eq i number)
+
+-- one bag more
+module _ (bags : List Classed) (class : LabelClass) (members : List Label) where
+  abbrev longer : List Classed
+  longer = bags ++ (class, members) ∷ []
+
+  earlier : (i : ℕ) → i < length bags → bag_at longer i ≡ bag_at bags i
+  earlier i lt = ap (λ (o : Option Classed). option_map_or (λ (b : Classed). b.1) o [])
+      (slice_get-append_left bags ((class, members) ∷ []) i lt)
+
+  last : bag_at longer (length bags) ≡ members
+  last = bag_there longer (length bags) (class, members) (slice_get-push_last bags (class, members) (length bags) refl)
+
+  one_more : (xs : List Classed) (b : Classed) → length (xs ++ b ∷ []) ≡ suc (length xs)
+  one_more [] b = refl
+  one_more (x ∷ xs) b = ap suc (one_more xs b)
+
+  pub in_push : in_bags longer ≡ in_bags bags ++ members
+  in_push =
+      ap (λ n. joined_below n (bag_at longer)) (one_more bags (class, members))
+      ∙ ap (λ ms. joined_below (length bags) (bag_at longer) ++ ms) last
+      ∙ ap (λ ms. ms ++ members) (joined_below-same (length bags) (bag_at longer) (bag_at bags) earlier)
+
+  pub bags_push : AreBagsOf bags → IsBagOf class members → All (λ (b : Classed). same_class b.0 class ≡ false) bags →
+      AreBagsOf longer
+  bags_push are new lacks = (
+    each,
+    all_pairs_push (λ (a : Classed) (b : Classed). same_class a.0 b.0 ≡ false) bags
+        (class, members) are.1 lacks,
+  )
+    where
+      each : (i : ℕ) (b : Classed) → slice_get longer i ≡ Some b → IsBagOf b.0 b.1
+      each i b at =
+          ⊎_elim
+          (λ before. are.0 i b (sym (slice_get-append_left bags ((class, members) ∷ []) i before) ∙ at))
+          (λ past.
+          let within = slice_get_within longer i b at in
+          let long = one_more bags (class, members) in
+          let same : i ≡ length bags = omega (arith, past, within, long) in
+          subst (λ (c : Classed). IsBagOf c.0 c.1) (same_Some (class, members) b
+          (sym (slice_get-push_last bags (class, members) i same) ∙ at)) new)
+          (cases_lt i (length bags))
+
+-- ---- all bags
+
+-- labels of two classes are apart
+strangers : (a b : LabelClass) (x y : Label) → same_class a b ≡ false → same_class (class_of x) a ≡ true → same_class
+    (class_of y) b ≡ true →
+    covers x y ≡ false
+strangers a b x y differ of_x of_y =
+    false_from_ne_true (covers x y) (λ h.
+    let xy = stair_laws.class x y h in
+    let ab = sym (class_equivalence.congr (class_of x) a b of_x) ∙ class_equivalence.congr (class_of x)
+    (class_of y) b xy ∙ of_y in
+    both_ways (same_class a b) differ ab)
+
+-- the bag with a number
+some_bag : (bags : List Classed) (number : ℕ) → number < length bags →
+    (bag : Classed) × (slice_get bags number ≡ Some bag)
+some_bag [] number lt = absurd (omega (arith, lt))
+some_bag (b ∷ bags) zero lt = (b, refl)
+some_bag (b ∷ bags) (suc number) lt = some_bag bags number (omega (arith, lt))
+
+distinct_at : (bags : List Classed) (i j : ℕ) (a b : Classed) → AreBagsOf bags → i < j → slice_get bags i ≡ Some a →
+    slice_get bags j ≡ Some b →
+    same_class a.0 b.0 ≡ false
+distinct_at bags i j a b are lt at_i at_j =
+    subst (λ (c : Classed). same_class c.0 b.0 ≡ false) (get_or_from_slice_get bags i a a at_i)
+    (subst (λ (c : Classed). same_class (get_or bags i a).0 c.0 ≡ false) (get_or_from_slice_get bags j b a at_j)
+    (are.1 i j a lt (slice_get_within bags j b at_j)))
+
+-- no label in a bag covers another
+pub bags_apart : (bags : List Classed) → AreBagsOf bags → AreApart covers (in_bags bags)
+bags_apart bags are = AllPairs-joined_below (Apart covers) (length bags) (bag_at bags) within_one between
   where
-    own : at_stop (slice_set bags label.stop.0 members) label.stop.0 ≡ members
-    own = at_stop-set_own bags label.stop.0 members lt
+    within_one : (i : ℕ) → i < length bags → AreApart covers (bag_at bags i)
+    within_one i lt =
+        let some = some_bag bags i lt in
+        let bag = are.0 i some.0 some.1 in
+        subst (AreApart covers) (sym (bag_there bags i some.0 some.1)) bag.apart
 
--- what is at a stop
-pub at_stop-is : (bags : List (List Label)) (stop : ℕ) (members : List Label) → slice_get bags stop ≡ Some members → at_stop bags stop ≡ members
-at_stop-is bags stop members is = ap (λ (o : Option (List Label)). unwrap_or o []) is
+    classed : (i : ℕ) (bag : Classed) (x : Label) → slice_get bags i ≡ Some bag → Contains (bag_at bags i) x →
+        same_class (class_of x) bag.0 ≡ true
+    classed i bag x is at =
+        let flight = (are.0 i bag is).flight in
+        All-contains (λ z. same_class (class_of z) bag.0 ≡ true) bag.1 x flight.classed
+        (subst (λ ms. Contains ms x) (bag_there bags i bag is) at)
 
--- bags are apart where one was changed to one that is
-pub apart_set : (bags : List (List Label)) (stop : ℕ) (members : List Label) → AreApartByStop bags → AreApart covers members →
-    AreApartByStop (slice_set bags stop members)
-apart_set bags stop members apart new other = by (cases_eq other stop) (cases_lt stop (length bags))
+    between : (i j : ℕ) (x y : Label) → i < j → j < length bags → Contains (bag_at bags i) x → Contains
+        (bag_at bags j) y → Apart covers x y
+    between i j x y lt within at_x at_y =
+        let a = some_bag bags i (omega (arith, lt, within)) in
+        let b = some_bag bags j within in
+        let differ = distinct_at bags i j a.0 b.0 are lt a.1 b.1 in
+        let of_x = classed i a.0 x a.1 at_x in
+        let of_y = classed j b.0 y b.1 at_y in
+        record {
+          forth = strangers a.0.0 b.0.0 x y differ of_x of_y;
+          back = strangers b.0.0 a.0.0 y x (class_equivalence.symm b.0.0 a.0.0 ∙ differ) of_y of_x;
+        }
+
+-- ---- an offer
+
+-- the bag that was found is one of the class
+pub found_bag : (bags : List Classed) (class : LabelClass) (number : ℕ) (members : List Label) →
+    position (same_class class) (keys_of bags) ≡ Some number → slice_get (values_of bags) number ≡ Some members →
+    slice_get bags number ≡ Some (class, members)
+found_bag bags class number members found at =
+    let p = position-Some (same_class class) (keys_of bags) number class found in
+    let lt : number < length bags = subst (λ n. number < n) (length-map bags (λ (b : Classed). b.0)) p.0 in
+    let some = some_bag bags number lt in
+    let key = get_or_from_slice_get (keys_of bags) number some.0.0 class
+    (slice_get-map (λ (b : Classed). b.0) bags number ∙ ap (option_map (λ (b : Classed). b.0)) some.1) in
+    let same = same_class-equal class some.0.0 (subst (λ k. same_class class k ≡ true) key p.1) in
+    let value : some.0.1 ≡ members = same_Some _ _ (sym (slice_get-map (λ (b : Classed). b.1) bags number ∙ ap
+    (option_map (λ (b : Classed). b.1)) some.1) ∙ at) in
+    some.1 ∙ ap (λ (k : LabelClass). Some (k, some.0.1)) (sym same) ∙ ap (λ (ms : List Label). Some (class, ms)) value
+
+-- where none is found, none is of the class
+pub none_found : (class : LabelClass) (bags : List Classed) → is_some (lookup (same_class class) bags) ≡ false →
+    All (λ (b : Classed). same_class b.0 class ≡ false) bags
+none_found class [] none = All-nil (λ (b : Classed). same_class b.0 class ≡ false)
+none_found class (b ∷ bags) none = by (same_class class b.0) refl none (none_found class bags)
   where
-    by : (other ≡ stop) ⊎ (other ≢ stop) → (stop < length bags) ⊎ (length bags ≤ stop) → AreApart covers (at_stop (slice_set bags stop members) other)
-    by (inl same) (inl lt) =
-        subst (λ s. AreApart covers (at_stop (slice_set bags stop members) s)) (sym same)
-        (subst (AreApart covers) (sym (at_stop-set_own bags stop members lt)) new)
-    by (inl same) (inr past) = subst (AreApart covers) (sym (at_stop-set_past bags stop other members past)) (apart other)
-    by (inr differ) _ = subst (AreApart covers) (sym (at_stop-set_other bags stop other members differ)) (apart other)
+    by : (t : Bool) → same_class class b.0 ≡ t → is_some (cond (same_class class b.0) (Some b.1)
+        (lookup (same_class class) bags)) ≡ false →
+        (is_some (lookup (same_class class) bags) ≡ false → All (λ (c : Classed). same_class c.0 class ≡ false) bags) →
+        All (λ (c : Classed). same_class c.0 class ≡ false) (b ∷ bags)
+    by true is h rest = absurd (let no : true ≡ false = sym (ap
+        (λ t. is_some (cond t (Some b.1) (lookup (same_class class) bags))) is) ∙ h in cc)
+    by false is h rest =
+        All-cons (λ (c : Classed). same_class c.0 class ≡ false) b bags (class_equivalence.symm b.0 class ∙ is)
+        (rest (sym (ap (λ t. is_some (cond t (Some b.1) (lookup (same_class class) bags))) is) ∙ h))
 
--- the offer to the bag that stands at the stop
-pub takes_index : {E : Type 0} (result : Result (Unit {0}) E) (inside bags : List (List Label)) (label : Label) (before members : List Label) →
-    inside ≡ bags → label.stop.0 < length bags → before ≡ get_or inside label.stop.0 before →
-    OnOk result (Gathers covers before (label ∷ []) members) →
-    OnOk result ((x : Label) → Contains before x → covers label x ≡ false → Contains members x) →
-    OnOk result (Takes bags label (slice_set inside label.stop.0 members))
-takes_index (Ok u) inside bags label before members view lt at gathers keeps =
-    subst (λ bs. Takes bs label (slice_set inside label.stop.0 members)) view
-    (takes_set inside label before members within (at_stop-is inside label.stop.0 before (slice_get_read inside (length inside) label.stop.0 before refl within at)) gathers keeps)
+-- so what is inserted stands behind all
+pub inserted : (class : LabelClass) (members : List Label) (bags : List Classed) → All
+    (λ (b : Classed). same_class b.0 class ≡ false) bags →
+    insert_entry same_class bags class members ≡ bags ++ (class, members) ∷ []
+inserted class members [] lacks = refl
+inserted class members (b ∷ bags) lacks =
+    rw (class_equivalence.symm class b.0 ∙ All-head (λ (c : Classed). same_class c.0 class ≡ false) b bags lacks)
+    (ap (λ zs. b ∷ zs) (inserted class members bags (All-tail
+    (λ (c : Classed). same_class c.0 class ≡ false) b bags lacks)))
+
+-- the offer to the bag that was found
+pub takes_found : {E : Type 0} (result : Result (Unit {0}) E) (bags : List Classed) (number : ℕ) (bag : Classed)
+    (x : Label) (members : List Label) →
+    slice_get bags number ≡ Some bag → OnOk result (Gathers covers bag.1 (x ∷ []) members) →
+    OnOk result ((y : Label) → Contains bag.1 y → covers x y ≡ false → Contains members y) →
+    OnOk result (Takes (in_bags bags) x (in_bags (set_value_at bags number members)))
+takes_found (Ok u) bags number bag x members is gathers keeps =
+    takes_set bags number bag members is x (record { gathers = gathers; keeps = keeps })
+takes_found (Err e) bags number bag x members is gathers keeps = gathers
+
+-- ---- what is gathered
+
+-- the bag that stands at a number
+pub bag_value : (bags : List Classed) (number : ℕ) (members : List Label) → slice_get
+    (values_of bags) number ≡ Some members → bag_at bags number ≡ members
+bag_value bags number members is = by (slice_get bags number)
+    (sym (slice_get-map (λ (b : Classed). b.1) bags number) ∙ is)
   where
-    within : label.stop.0 < length inside
-    within = subst (λ bs. label.stop.0 < length bs) (sym view) lt
-takes_index (Err e) inside bags label before members view lt at gathers keeps = gathers
+    by : (o : Option Classed) → option_map (λ (b : Classed). b.1) o ≡ Some members → option_map_or
+        (λ (b : Classed). b.1) o [] ≡ members
+    by None none = absurd (cc)
+    by (Some b) some = same_Some _ _ some
 
--- the bag that stands at a stop
-pub at_index : (inside bags : List (List Label)) (k : ℕ) (members : List Label) → inside ≡ bags → k < length inside →
-    members ≡ get_or inside k members → at_stop bags k ≡ members
-at_index inside bags k members view lt at =
-    ap (λ bs. at_stop bs k) (sym view) ∙ at_stop-is inside k members (slice_get_read inside (length inside) k members refl lt at)
-
--- one stop more
-pub gathers_more : (rides : ℕ) (bags : List (List Label)) (k : ℕ) (old labels new members : List Label) →
-    labels ≡ old ++ joined_below k (λ s. filter (has_rides rides) (at_stop bags s)) → at_stop bags k ≡ members →
+-- one bag more
+pub gathers_more : (rides : ℕ) (bags : List Classed) (k : ℕ) (old labels new members : List Label) →
+    labels ≡ old ++ joined_below k (λ i. filter (has_rides rides) (bag_at bags i)) → bag_at bags k ≡ members →
     new ≡ labels ++ filter (has_rides rides) members →
-    new ≡ old ++ joined_below (k + 1) (λ s. filter (has_rides rides) (at_stop bags s))
+    new ≡ old ++ joined_below (k + 1) (λ i. filter (has_rides rides) (bag_at bags i))
 gathers_more rides bags k old labels new members before is now =
     now ∙ ap (λ ls. ls ++ filter (has_rides rides) members) before
     ∙ append_assoc old (joined_below k here) (filter (has_rides rides) members)
-    ∙ ap (λ ls. old ++ ls) (joined_more k here _ (filter (has_rides rides) members) _ refl (ap (filter (has_rides rides)) is) refl)
+    ∙ ap (λ ls. old ++ ls) (joined_more k here _ (filter (has_rides rides) members) _ refl
+    (ap (filter (has_rides rides)) is) refl)
   where
     here : ℕ → List Label
-    here s = filter (has_rides rides) (at_stop bags s)
+    here i = filter (has_rides rides) (bag_at bags i)
+
+-- what passes of many lists is what passes of each
+filter_joined : (p : Label → Bool) (n : ℕ) (f : ℕ → List Label) → joined_below n (λ i. filter p (f i)) ≡ filter p
+    (joined_below n f)
+filter_joined p zero f = refl
+filter_joined p (suc n) f = ap (λ ls. ls ++ filter p (f n)) (filter_joined p n f) ∙ sym
+    (filter-append p (joined_below n f) (f n))
+
+-- all bags
+pub gathers_all : (rides : ℕ) (bags : List Classed) (k : ℕ) (old new : List Label) → k ≡ length bags →
+    new ≡ old ++ joined_below k (λ i. filter (has_rides rides) (bag_at bags i)) → new ≡ old ++ filter
+    (has_rides rides) (in_bags bags)
+gathers_all rides bags k old new all is =
+    is ∙ ap (λ n. old ++ joined_below n (λ i. filter (has_rides rides) (bag_at bags i))) all
+    ∙ ap (λ ls. old ++ ls) (filter_joined (has_rides rides) (length bags) (bag_at bags))
 
 -- one label more, which passes the test or not
-module _ (p : Label → Bool) (xs : List Label) (n : ℕ) (x : Label) (old labels : List Label) (at : slice_get xs n ≡ Some x)
+module _ (p : Label → Bool) (xs : List Label) (n : ℕ) (x : Label) (old labels : List Label)
+    (at : slice_get xs n ≡ Some x)
     (before : labels ≡ old ++ filter p (take n xs)) where
   taken : take (n + 1) xs ≡ take n xs ++ x ∷ []
   taken =
@@ -135,11 +406,3 @@ module _ (p : Label → Bool) (xs : List Label) (n : ℕ) (x : Label) (old label
 
   pub pushes_none : p x ≡ false → labels ≡ old ++ filter p (take (n + 1) xs)
   pushes_none fails = sym (append-nil labels) ∙ passing [] (rw fails refl)
-
--- bags without members have none at any stop
-pub none_at_stop : (bags : List (List Label)) → All (λ bag. bag ≡ []) bags → (stop : ℕ) → at_stop bags stop ≡ []
-none_at_stop bags none stop = by (slice_get bags stop) refl
-  where
-    by : (o : Option (List Label)) → slice_get bags stop ≡ o → unwrap_or o [] ≡ []
-    by None is = refl
-    by (Some members) is = All-slice_get (λ bag. bag ≡ []) bags stop members is none

@@ -5,7 +5,6 @@ use Rattle.std.proofs.lemmas.Int.{ints}
 use Rattle.std.proofs.lemmas.Bool.{cases_lt, and_parts, ne_eqb, not-true}
 use Rattle.std.proofs.lemmas.List.Folds.{list_any-from_Any}
 use Rattle.std.proofs.lemmas.Option.{same_Some, none-some}
-use Rattle.transit_base.specs.declared.numbers.StopId.{StopId}
 use Rattle.feed_rows.specs.declared.fares.Triple.{Triple}
 use Rattle.feed_rows.specs.declared.journeys.Query.{Query}
 use Rattle.feed_rows.specs.declared.journeys.RideFacts.{RideFacts}
@@ -28,7 +27,7 @@ use Rattle.plan_rounds.specs.Ends.{IsNoEnd}
 use Rattle.plan_rounds.specs.Finals.{is_bettered}
 use Rattle.plan_rounds.specs.Labels.{facts_of, stand_of_label}
 use Rattle.plan_rounds.specs.Searched.{Searched, Lacks, has_ahead, is_overtaken_by}
-use Rattle.plan_rounds.specs.Stores.{at_stop, IsHeldBelow, StepsBy, StepsTo}
+use Rattle.plan_rounds.specs.Stores.{IsHeldBelow, StepsBy, StepsTo}
 use Rattle.plan_rounds.specs.declared.search.Source.{Source}
 use Rattle.plan_rounds.specs.Moves.{betters, HasBetter}
 use Rattle.plan_rounds.specs.CoverLaws.{same_parts-equal}
@@ -121,11 +120,10 @@ better_covers a facts m n is =
 
 -- a move that is bettered is no loss where those before it were offered
 pub leads_without : (task : Searched) (finals : List Final) (source : Source) (caught : CaughtRide) (moves : List Move) (k : ℕ)
-    (old new : List (List Label)) → HasBetter moves k →
+    (old new : List Label) → HasBetter moves k →
     SpreadsFrom task finals source (LeadsByFirst source caught moves k) old new →
     SpreadsFrom task finals source (LeadsByFirst source caught moves (k + 1)) old new
 leads_without task finals source caught moves k old new has spreads = record {
-  many = spreads.many;
   still = spreads.still;
   kept = spreads.kept;
   right = spreads.right;
@@ -139,7 +137,7 @@ leads_without task finals source caught moves k old new has spreads = record {
     by_better b is =
         let a = facts_after from caught.facts has.better in
         let covers = subst (Covers a) (sym is) (better_covers from caught.facts has.better has.other has.betters) in
-        ⊎_elim (λ held. inl (held.0, subst (λ (s : StopId). Contains (at_stop new s.0) held.0) covers.stop held.1, covers-trans (facts_of held.0) a b held.2 covers))
+        ⊎_elim (λ held. inl (held.0, held.1, covers-trans (facts_of held.0) a b held.2 covers))
         (λ lack. inr (
           lack.0,
           futile_below task.feed task.query (is_bettered finals) (λ s t below h. bettered_up finals s t h below) a b

@@ -28,6 +28,7 @@ use Rattle.plan_rounds.specs.Finals.{is_bettered}
 use Rattle.plan_rounds.proofs.FutileLaws.{last_overdue}
 use Rattle.plan_rides.specs.declared.caught.CaughtRide.{CaughtRide}
 use Rattle.feed_rows.specs.StopLinks.{stop_set}
+use Rattle.plan_rides.proofs.DepartureLaws.{ride_end}
 use Rattle.plan_rides.proofs.MarkLaws.{member_of_stands_for}
 use Rattle.plan_rides.proofs.CaughtLaws.{caught_ride, caught_within}
 use Rattle.round_laws.specs.LabelSteps.{IsCaughtRide, IsLabelStep, facts_after, start_facts}
@@ -37,6 +38,7 @@ use Rattle.plan_rounds.specs.Labels.{IsBounded, facts_of, label_of, stand_of_lab
 use Rattle.plan_rounds.specs.Moves.{AreMovesOf}
 use Rattle.plan_rounds.specs.Sources.{IsSource, StepsByFirst, LeadsByFirst}
 use Rattle.plan_rounds.specs.Stores.{IsFresh, StepsBy, StepsTo, IsStartOf, IsStartAmong}
+use Rattle.plan_rounds.proofs.StopLaws.{stands_inside}
 
 -- ---- rides
 
@@ -64,9 +66,9 @@ in_time_of feed query x ride facts c = rw (c.is, c.caught, le-int_le _ _ c.in_ti
 
 -- the label without rides at a first stop
 pub fresh_start : (feed : FeedRows) (query : Query) (first : StopId) → IsTrue (stands_for feed query.from first) →
-    IsFresh feed query [] 0 first.0 (started query first)
+    IsFresh feed query [] 0 (started query first)
 fresh_start feed query first stands = record {
-  stands = refl;
+  inside = stands_inside feed query.from first stands;
   counts = refl;
   bounded = record { paid = omega arith; held = omega arith };
   within = record { since = omega (arith, ints); until = omega (arith, ints) };
@@ -84,9 +86,9 @@ module _ (feed : FeedRows) (query : Query) (source : Source) (is : IsSource feed
 
   pub fresh_after : (taken : Move) → IsSoundFeed feed →
       move_after feed query.rider from.state from.held.0 leg taken ≡ Some taken → IsBounded (went_on from source.number caught taken) →
-      IsFresh feed query source.labels.now (from.rides + 1) caught.facts.to.0 (went_on from source.number caught taken)
+      IsFresh feed query source.labels.now (from.rides + 1) (went_on from source.number caught taken)
   fresh_after taken sound pays bounded = record {
-    stands = refl;
+    inside = ride_end feed caught.ride caught.facts sound right.facts;
     counts = refl;
     bounded = bounded;
     within = caught_within feed query (stand_of_label from) caught.ride (stand_at_end caught.facts) sound is.within right.next;

@@ -29,7 +29,7 @@ first_of feed query before x (inr next) none =
     absurd (omega (arith, more, none))
 
 -- a stored label that has fewer rides than the query's limit is a source
-pub source_is : (feed : FeedRows) (query : Query) (count : ℕ) (bags : List (List Label)) (source : Source) → IsUsualQuery query →
+pub source_is : (feed : FeedRows) (query : Query) (count : ℕ) (bags : List Label) (source : Source) → IsUsualQuery query →
     count < query.rides → AreStored feed query (count + 1) source.labels.now bags →
     slice_get source.labels.now source.number ≡ Some source.label.now → source.label.now.rides ≡ count → IsSource feed query source
 source_is feed query count bags source usual few stored at same = record {

@@ -1,7 +1,7 @@
--- What offers to the bags of stops gain, one after another.
-use Rattle.std.proofs.Common.{◌≡◌, refl, sym, ◌∙◌, subst, ℕ, ◌+◌, ◌<◌, ◌≤◌, ◌⊎◌, inl, inr, ⊎_elim, true, List, [], ◌∷◌, arith, ℤ, ◌≤ℤ◌}
+-- What offers to the bags gain, one after another.
+use Rattle.std.proofs.Common.{◌≡◌, sym, ◌∙◌, subst, ℕ, ◌+◌, ◌<◌, ◌≤◌, ◌⊎◌, inl, inr, ⊎_elim, true, List, [], ◌∷◌, arith, ℤ, ◌≤ℤ◌}
 use Rattle.std.specs.Prelude.{Result, Ok, Err, OnOk, Contains}
-use Rattle.std.proofs.lemmas.Bool.{false_from_ne_true, cases_eq}
+use Rattle.std.proofs.lemmas.Bool.{false_from_ne_true}
 use Rattle.std.proofs.lemmas.Int.{ints}
 use Rattle.std.proofs.lemmas.List.Elements.{All-contains}
 use Rattle.std.proofs.lemmas.List.Folds.{list_any-from_Any}
@@ -14,7 +14,7 @@ use Rattle.plain_laws.proofs.Laws.{list_any_tells, Contains-cons_cases, Contains
 use Rattle.plan_rounds.specs.declared.label.Label.{Label}
 use Rattle.plan_rounds.specs.Labels.{facts_of, covers}
 use Rattle.plan_rounds.specs.CoverLaws.{cover_laws, covers-tells}
-use Rattle.plan_rounds.specs.Stores.{at_stop, Takes, IsHeldBelow, IsFresh, Spreads}
+use Rattle.plan_rounds.specs.Stores.{Takes, IsHeldBelow, IsFresh, Spreads}
 
 -- ---- one offer
 
@@ -50,57 +50,38 @@ cover_there members y h = list_any_tells (λ m. covers m y) members h
 covers_itself : (members : List Label) (y : Label) → Contains members y → has_cover covers members y ≡ true
 covers_itself members y at = list_any-from_Any (λ m. covers m y) members (at.0, y, at.1, at.2, cover_laws.reflexive y)
 
-module _ (feed : FeedRows) (query : Query) (Lacking : LabelFacts → Type 0) (labels : List Label) (rides : ℕ) (old : List (List Label)) (x : Label)
-    (new : List (List Label)) (takes : Takes old x new) (fresh : IsFresh feed query labels rides x.stop.0 x) where
-  -- at the label's own stop
-  still_own : (b : LabelFacts) → b.stop.0 ≡ x.stop.0 → IsHeldBelow old b → IsHeldBelow new b
-  still_own b same h =
-      let at = subst (λ (n : ℕ). Contains (at_stop old n) h.0) same h.1 in
-      let some = cover_there (at_stop new x.stop.0) h.0 (takes.gathers.still h.0 (covers_itself (at_stop old x.stop.0) h.0 at)) in
-      (some.0, subst (λ (n : ℕ). Contains (at_stop new n) some.0) (sym same) some.1, below_both some.0 h.0 b some.2 h.2)
+module _ (feed : FeedRows) (query : Query) (Lacking : LabelFacts → Type 0) (labels : List Label) (rides : ℕ)
+    (old : List Label) (x : Label) (new : List Label) (takes : Takes old x new) (fresh : IsFresh feed query labels rides x) where
+  still_held : (b : LabelFacts) → IsHeldBelow old b → IsHeldBelow new b
+  still_held b h =
+      let some = cover_there new h.0 (takes.gathers.still h.0 (covers_itself old h.0 h.1)) in
+      (some.0, some.1, below_both some.0 h.0 b some.2 h.2)
 
-  still_other : (b : LabelFacts) → (b.stop.0 ≡ x.stop.0 → ⊥) → IsHeldBelow old b → IsHeldBelow new b
-  still_other b other h = (h.0, subst (λ ms. Contains ms h.0) (sym (takes.others b.stop.0 other)) h.1, h.2)
-
-  kept_own : (stop : ℕ) (y : Label) → stop ≡ x.stop.0 → Contains (at_stop old stop) y → y.rides < rides → Contains (at_stop new stop) y
-  kept_own stop y same at few =
-      subst (λ (n : ℕ). Contains (at_stop new n) y) (sym same)
-      (takes.keeps y (subst (λ (n : ℕ). Contains (at_stop old n) y) same at)
-      (false_from_ne_true (covers x y) (λ h. more (covers-tells x y h).rides few)))
+  kept_there : (y : Label) → Contains old y → y.rides < rides → Contains new y
+  kept_there y at few = takes.keeps y at (false_from_ne_true (covers x y) (λ h. more (covers-tells x y h).rides few))
     where
       more : x.rides ≤ y.rides → y.rides < rides → ⊥
       more le lt = omega (arith, fresh.counts)
 
-  right_own : (stop : ℕ) (y : Label) → stop ≡ x.stop.0 → Contains (at_stop new stop) y →
-      Contains (at_stop old stop) y ⊎ IsFresh feed query labels rides stop y
-  right_own stop y same at =
-      by (All-contains (λ z. Contains (at_stop old x.stop.0) z ⊎ Contains (x ∷ []) z) (at_stop new x.stop.0) y
-      takes.gathers.from (subst (λ (n : ℕ). Contains (at_stop new n) y) same at))
+  right_there : (y : Label) → Contains new y → Contains old y ⊎ IsFresh feed query labels rides y
+  right_there y at = by (All-contains (λ z. Contains old z ⊎ Contains (x ∷ []) z) new y takes.gathers.from at)
     where
-      by : Contains (at_stop old x.stop.0) y ⊎ Contains (x ∷ []) y → Contains (at_stop old stop) y ⊎ IsFresh feed query labels rides stop y
-      by (inl before) = inl (subst (λ (n : ℕ). Contains (at_stop old n) y) (sym same) before)
-      by (inr one) =
-          inr (subst (λ (n : ℕ). IsFresh feed query labels rides n y) (sym same)
-          (subst (IsFresh feed query labels rides x.stop.0) (sym (only_one x y one)) fresh))
-
-  right_other : (stop : ℕ) (y : Label) → (stop ≡ x.stop.0 → ⊥) → Contains (at_stop new stop) y →
-      Contains (at_stop old stop) y ⊎ IsFresh feed query labels rides stop y
-  right_other stop y other at = inl (subst (λ ms. Contains ms y) (takes.others stop other) at)
+      by : Contains old y ⊎ Contains (x ∷ []) y → Contains old y ⊎ IsFresh feed query labels rides y
+      by (inl before) = inl before
+      by (inr one) = inr (subst (IsFresh feed query labels rides) (sym (only_one x y one)) fresh)
 
   taken_itself : (b : LabelFacts) → b ≡ facts_of x → IsHeldBelow new b
   taken_itself b is =
-      let some = cover_there (at_stop new x.stop.0) x (All-contains (λ z. has_cover covers (at_stop new x.stop.0) z ≡ true) (x ∷ []) x takes.gathers.each (Contains-cons_first x [])) in
+      let itself = All-contains (λ z. has_cover covers new z ≡ true) (x ∷ []) x takes.gathers.each (Contains-cons_first x []) in
+      let some = cover_there new x itself in
       subst (IsHeldBelow new) (sym is) (some.0, some.1, covers-tells some.0 x some.2)
 
   -- the label gains what it covers
   pub spreads_one : Spreads feed query Lacking labels rides (λ b. b ≡ facts_of x) old new
   spreads_one = record {
-    many = takes.many;
-    still = λ b h. ⊎_elim (λ same. still_own b same h) (λ other. still_other b other h) (cases_eq b.stop.0 x.stop.0);
-    kept = λ stop y at few.
-        ⊎_elim (λ same. kept_own stop y same at few)
-        (λ other. subst (λ ms. Contains ms y) (sym (takes.others stop other)) at) (cases_eq stop x.stop.0);
-    right = λ stop y at. ⊎_elim (λ same. right_own stop y same at) (λ other. right_other stop y other at) (cases_eq stop x.stop.0);
+    still = still_held;
+    kept = kept_there;
+    right = right_there;
     all = λ b is. inl (taken_itself b is);
   }
 
@@ -108,35 +89,32 @@ module _ (feed : FeedRows) (query : Query) (Lacking : LabelFacts → Type 0) (la
 
 module _ (feed : FeedRows) (query : Query) (Lacking : LabelFacts → Type 0) (labels : List Label) (rides : ℕ) where
   -- nothing was offered of what may be lacking
-  pub spreads_none : (Part : LabelFacts → Type 0) (bags : List (List Label)) → ((b : LabelFacts) → Part b → Lacking b) →
+  pub spreads_none : (Part : LabelFacts → Type 0) (bags : List Label) → ((b : LabelFacts) → Part b → Lacking b) →
       Spreads feed query Lacking labels rides Part bags bags
   spreads_none Part bags none = record {
-    many = refl;
     still = λ b h. h;
-    kept = λ stop x at few. at;
-    right = λ stop x at. inl at;
+    kept = λ x at few. at;
+    right = λ x at. inl at;
     all = λ b part. inr (none b part);
   }
 
   -- one part after another
-  pub spreads_more : (Part More Whole : LabelFacts → Type 0) (old mid new : List (List Label)) →
+  pub spreads_more : (Part More Whole : LabelFacts → Type 0) (old mid new : List Label) →
       Spreads feed query Lacking labels rides Part old mid → Spreads feed query Lacking labels rides More mid new →
       ((b : LabelFacts) → Whole b → Part b ⊎ More b) → Spreads feed query Lacking labels rides Whole old new
   spreads_more Part More Whole old mid new one two whole = record {
-    many = two.many ∙ one.many;
     still = λ b h. two.still b (one.still b h);
-    kept = λ stop x at few. two.kept stop x (one.kept stop x at few) few;
-    right = λ stop x at. ⊎_elim (one.right stop x) inr (two.right stop x at);
+    kept = λ x at few. two.kept x (one.kept x at few) few;
+    right = λ x at. ⊎_elim (one.right x) inr (two.right x at);
     all = λ b w.
         ⊎_elim (λ part. ⊎_elim (λ held. inl (two.still b held)) inr (one.all b part)) (two.all b) (whole b w);
   }
 
   -- a part said otherwise
-  pub spreads_same : (Part Whole : LabelFacts → Type 0) (old new : List (List Label)) →
+  pub spreads_same : (Part Whole : LabelFacts → Type 0) (old new : List Label) →
       Spreads feed query Lacking labels rides Part old new → ((b : LabelFacts) → Whole b → Part b) →
       Spreads feed query Lacking labels rides Whole old new
   spreads_same Part Whole old new one whole = record {
-    many = one.many;
     still = one.still;
     kept = one.kept;
     right = one.right;
@@ -144,11 +122,10 @@ module _ (feed : FeedRows) (query : Query) (Lacking : LabelFacts → Type 0) (la
   }
 
   -- a part but for what may be lacking
-  pub spreads_but : (Part Whole : LabelFacts → Type 0) (old new : List (List Label)) →
+  pub spreads_but : (Part Whole : LabelFacts → Type 0) (old new : List Label) →
       Spreads feed query Lacking labels rides Part old new → ((b : LabelFacts) → Whole b → Part b ⊎ Lacking b) →
       Spreads feed query Lacking labels rides Whole old new
   spreads_but Part Whole old new one whole = record {
-    many = one.many;
     still = one.still;
     kept = one.kept;
     right = one.right;
@@ -156,14 +133,14 @@ module _ (feed : FeedRows) (query : Query) (Lacking : LabelFacts → Type 0) (la
   }
 
   -- an offer that was taken in
-  pub spreads_taken : {E : Type 0} (result : Result (Unit {0}) E) (old new : List (List Label)) (x y : Label) →
-      OnOk result (Takes old x new) → x ≡ y → IsFresh feed query labels rides y.stop.0 y →
+  pub spreads_taken : {E : Type 0} (result : Result (Unit {0}) E) (old new : List Label) (x y : Label) →
+      OnOk result (Takes old x new) → x ≡ y → IsFresh feed query labels rides y →
       OnOk result (Spreads feed query Lacking labels rides (λ b. b ≡ facts_of y) old new)
   spreads_taken (Err e) old new x y takes same fresh = takes
   spreads_taken (Ok u) old new x y takes same fresh =
       spreads_one feed query Lacking labels rides old y new (subst (λ z. Takes old z new) same takes) fresh
 
 -- the number of rides said otherwise
-pub spreads_at : (feed : FeedRows) (query : Query) (Lacking : LabelFacts → Type 0) (labels : List Label) (m n : ℕ) (Part : LabelFacts → Type 0) (old new : List (List Label)) →
+pub spreads_at : (feed : FeedRows) (query : Query) (Lacking : LabelFacts → Type 0) (labels : List Label) (m n : ℕ) (Part : LabelFacts → Type 0) (old new : List Label) →
     m ≡ n → Spreads feed query Lacking labels (m + 1) Part old new → Spreads feed query Lacking labels (n + 1) Part old new
 spreads_at feed query Lacking labels m n Part old new same spreads = subst (λ k. Spreads feed query Lacking labels (k + 1) Part old new) same spreads

@@ -1,27 +1,26 @@
 -- What a search by rounds keeps true of its labels, from round to round.
 use Rattle.std.proofs.Common.{◌≡◌, refl, sym, ◌∙◌, ap, subst, ℕ, zero, suc, ◌+◌, ◌-◌, ◌<◌, ◌≤◌, ◌⊎◌, inl, inr, ⊎_elim, Bool, false, List, [], ◌∷◌, ◌++◌, length, get_or, arith}
-use Rattle.std.specs.Prelude.{◌≢◌, All, Contains, Option, Some, None, filter, take, slice_get, unwrap_or}
-use Rattle.std.proofs.lemmas.Bool.{cases_lt, cases_eq, cases_order, eqb-true, eq-eqb, both_ways, false_from_ne_true}
+use Rattle.std.specs.Prelude.{◌≢◌, All, Contains, Some, filter, take, slice_get}
+use Rattle.std.proofs.lemmas.Bool.{cases_lt, cases_order, eqb-true, eq-eqb, both_ways}
 use Rattle.std.proofs.lemmas.List.{get_or_default, map-append}
 use Rattle.std.proofs.lemmas.List.Elements.{All-append, All-contains, All-weaker, All-map, Contains-get_or, All-filter, All-contains_itself, Contains-append_left, Contains-append_right, Contains-append_cases}
 use Rattle.std.proofs.lemmas.List.Kept.{AllPairs-filter}
 use Rattle.std.proofs.lemmas.Option.{slice_get_within}
-use Rattle.transit_base.specs.declared.numbers.StopId.{StopId}
 use Rattle.feed_rows.specs.declared.journeys.Query.{Query}
 use Rattle.feed_rows.specs.FeedRows.{FeedRows}
 use Rattle.feed_rows.specs.LabelCover.{Covers}
 use Rattle.feed_rows.specs.PartialJourneys.{LabelFacts}
 use Rattle.feed_rows.specs.RoundTables.{Label as Kept}
 use Rattle.label_bag.specs.Bags.{Apart, AreApart}
-use Rattle.plain_laws.proofs.Laws.{Contains-map, map-tells, Contains-filter, Contains-filter_passes, Contains-joined_below, joined_below-tells, AllPairs-joined_below, AllPairs-append, All-from, All-slice_get, slice_get-append_left}
+use Rattle.plain_laws.proofs.Laws.{Contains-map, map-tells, Contains-filter, Contains-filter_passes, AllPairs-append, All-from, All-slice_get, slice_get-append_left}
 use Rattle.plan_rides.specs.InTime.{IsUsualQuery, IsWithinWindow}
 use Rattle.round_laws.specs.LabelSteps.{start_facts}
 use Rattle.round_laws.specs.LinkedTables.{IsLinked, AreLinked, IsCoveredBy, CoversStarts, CoversSteps}
 use Rattle.plan_rounds.specs.declared.label.Label.{Label}
 use Rattle.plan_rounds.specs.Labels.{facts_of, label_of, labels_of, covers, IsBounded}
-use Rattle.plan_rounds.specs.CoverLaws.{cover_laws, covers-tells}
+use Rattle.plan_rounds.specs.CoverLaws.{cover_laws}
 use Rattle.plan_rounds.specs.Sources.{AreEnding}
-use Rattle.plan_rounds.specs.Stores.{at_stop, has_rides, gathered, AreApartByStop, IsHeldBelow, IsFresh, Spreads, StepsFrom, IsStartOf, AreStored, AreClosedTo, AreWhole, IsNever}
+use Rattle.plan_rounds.specs.Stores.{has_rides, gathered, IsHeldBelow, IsFresh, Spreads, StepsFrom, IsStartOf, AreStored, AreClosedTo, AreWhole, IsNever}
 
 -- ---- what is gathered
 
@@ -29,60 +28,26 @@ use Rattle.plan_rounds.specs.Stores.{at_stop, has_rides, gathered, AreApartBySto
 of_filtered : (p : Label → Bool) (xs : List Label) (x : Label) → Contains (filter p xs) x → Contains xs x
 of_filtered p xs x at = All-contains (Contains xs) (filter p xs) x (All-filter p (Contains xs) xs (All-contains_itself xs)) at
 
--- no label is at a stop past the last
-at_some_stop : (bags : List (List Label)) (stop : ℕ) (x : Label) → Contains (at_stop bags stop) x → stop < length bags
-at_some_stop bags stop x at = by (slice_get bags stop) refl at
-  where
-    by : (o : Option (List Label)) → slice_get bags stop ≡ o → Contains (unwrap_or o []) x → stop < length bags
-    by None is none = let lt = none.1 in absurd (omega (arith, lt))
-    by (Some members) is some = slice_get_within bags stop members is
-
--- a label with so many rides at a stop is gathered
-gathers_at : (rides : ℕ) (bags : List (List Label)) (stop : ℕ) (x : Label) → Contains (at_stop bags stop) x → x.rides ≡ rides →
+-- a label with so many rides is gathered
+gathers_at : (rides : ℕ) (bags : List Label) (x : Label) → Contains bags x → x.rides ≡ rides →
     Contains (gathered rides bags) x
-gathers_at rides bags stop x at same =
-    Contains-joined_below (length bags) (λ s. filter (has_rides rides) (at_stop bags s)) stop x (at_some_stop bags stop x at)
-    (Contains-filter (has_rides rides) (at_stop bags stop) x at (eq-eqb x.rides rides same))
+gathers_at rides bags x at same = Contains-filter (has_rides rides) bags x at (eq-eqb x.rides rides same)
 
 -- and each that is gathered is one
-record IsGathered (rides : ℕ) (bags : List (List Label)) (x : Label) : Type 0 where
-  pub stop : ℕ
-  pub at : Contains (at_stop bags stop) x
-  pub counts : x.rides ≡ rides
+gathered_in : (rides : ℕ) (bags : List Label) (x : Label) → Contains (gathered rides bags) x → Contains bags x
+gathered_in rides bags x at = of_filtered (has_rides rides) bags x at
 
-gathered_tells : (rides : ℕ) (bags : List (List Label)) (x : Label) → Contains (gathered rides bags) x → IsGathered rides bags x
-gathered_tells rides bags x at =
-    let some = joined_below-tells (length bags) (λ s. filter (has_rides rides) (at_stop bags s)) x at in
-    record {
-      stop = some.0;
-      at = of_filtered (has_rides rides) (at_stop bags some.0) x some.2;
-      counts = eqb-true x.rides rides (Contains-filter_passes (has_rides rides) (at_stop bags some.0) x some.2);
-    }
+gathered_counts : (rides : ℕ) (bags : List Label) (x : Label) → Contains (gathered rides bags) x → x.rides ≡ rides
+gathered_counts rides bags x at = eqb-true x.rides rides (Contains-filter_passes (has_rides rides) bags x at)
 
 -- labels of which neither covers the other differ
 apart_differ : (a b : Label) → Apart covers a b → a ≢ b
 apart_differ a b apart same =
     both_ways (covers a a) (subst (λ x. covers a x ≡ false) (sym same) apart.forth) (cover_laws.reflexive a)
 
--- what is gathered of labels that are apart at each stop is apart, where each stands at its stop
-gathered_apart : (rides : ℕ) (bags : List (List Label)) → AreApartByStop bags →
-    ((stop : ℕ) (x : Label) → Contains (at_stop bags stop) x → x.stop.0 ≡ stop) → AreApart covers (gathered rides bags)
-gathered_apart rides bags apart stands =
-    AllPairs-joined_below (Apart covers) (length bags) (λ s. filter (has_rides rides) (at_stop bags s))
-    (λ i lt. AllPairs-filter (Apart covers) (has_rides rides) (at_stop bags i) (apart i))
-    (λ i j x y lt within at_i at_j.
-    by i j x y lt
-    (stands i x (of_filtered (has_rides rides) (at_stop bags i) x at_i))
-    (stands j y (of_filtered (has_rides rides) (at_stop bags j) y at_j)))
-  where
-    other : (a b : Label) → (a.stop.0 ≡ b.stop.0 → ⊥) → covers a b ≡ false
-    other a b differ = false_from_ne_true (covers a b) (λ h. differ (ap (λ (s : StopId). s.0) (covers-tells a b h).stop))
-
-    by : (i j : ℕ) (x y : Label) → i < j → x.stop.0 ≡ i → y.stop.0 ≡ j → Apart covers x y
-    by i j x y lt p q = record {
-      forth = other x y (λ e. omega (arith, lt, p, q, e));
-      back = other y x (λ e. omega (arith, lt, p, q, e));
-    }
+-- what is gathered of labels that are apart is apart
+gathered_apart : (rides : ℕ) (bags : List Label) → AreApart covers bags → AreApart covers (gathered rides bags)
+gathered_apart rides bags apart = AllPairs-filter (Apart covers) (has_rides rides) bags apart
 
 -- ---- links
 
@@ -175,45 +140,38 @@ module _ (feed : FeedRows) (query : Query) where
   -- ---- one round more
 
   module _ (Lacking : LabelFacts → Type 0) (rides : ℕ) (labels : List Label) (Part : LabelFacts → Type 0)
-      (old new : List (List Label)) (stored : AreStored feed query rides labels old)
+      (old new : List Label) (stored : AreStored feed query rides labels old)
       (spreads : Spreads feed query Lacking labels rides Part old new) where
     abbrev more : List Label
     more = labels ++ gathered rides new
 
-    stands : (stop : ℕ) (x : Label) → Contains (at_stop new stop) x → x.stop.0 ≡ stop
-    stands stop x at = ⊎_elim (stored.stands stop x) (λ fresh. fresh.stands) (spreads.right stop x at)
-
-    listed : (stop : ℕ) (x : Label) → Contains (at_stop new stop) x → Contains more x
-    listed stop x at =
-        ⊎_elim (λ before. Contains-append_left labels (gathered rides new) x (stored.listed stop x before))
-        (λ fresh. Contains-append_right labels (gathered rides new) x (gathers_at rides new stop x at fresh.counts))
-        (spreads.right stop x at)
+    listed : (x : Label) → Contains new x → Contains more x
+    listed x at =
+        ⊎_elim (λ before. Contains-append_left labels (gathered rides new) x (stored.listed x before))
+        (λ fresh. Contains-append_right labels (gathered rides new) x (gathers_at rides new x at fresh.counts))
+        (spreads.right x at)
 
     -- what is gathered is fresh
-    fresh_of : (x : Label) → Contains (gathered rides new) x → IsFresh feed query labels rides x.stop.0 x
+    fresh_of : (x : Label) → Contains (gathered rides new) x → IsFresh feed query labels rides x
     fresh_of x at =
-        let g = gathered_tells rides new x at in
         ⊎_elim
-        (λ before. absurd (not_before x g.counts (All-contains (λ y. y.rides < rides) labels x stored.few (stored.listed g.stop x before))))
-        (λ fresh. subst (λ s. IsFresh feed query labels rides s x) (sym fresh.stands) fresh)
-        (spreads.right g.stop x g.at)
+        (λ before.
+        let lt = All-contains (λ y. y.rides < rides) labels x stored.few (stored.listed x before) in
+        absurd (not_before x (gathered_counts rides new x at) lt))
+        (λ fresh. fresh)
+        (spreads.right x (gathered_in rides new x at))
       where
         not_before : (x : Label) → x.rides ≡ rides → x.rides < rides → ⊥
         not_before x same lt = omega (arith, same, lt)
 
-    held : (x : Label) → Contains more x → Contains (at_stop new x.stop.0) x
-    held x at = ⊎_elim before after (Contains-append_cases labels (gathered rides new) x at)
-      where
-        before : Contains labels x → Contains (at_stop new x.stop.0) x
-        before there =
-            spreads.kept x.stop.0 x (stored.held x there) (All-contains (λ y. y.rides < rides) labels x stored.few there)
+    held : (x : Label) → Contains more x → Contains new x
+    held x at =
+        ⊎_elim
+        (λ there. spreads.kept x (stored.held x there) (All-contains (λ y. y.rides < rides) labels x stored.few there))
+        (gathered_in rides new x) (Contains-append_cases labels (gathered rides new) x at)
 
-        after : Contains (gathered rides new) x → Contains (at_stop new x.stop.0) x
-        after there =
-            let g = gathered_tells rides new x there in
-            subst (λ (s : ℕ). Contains (at_stop new s) x) (sym (stands g.stop x g.at)) g.at
-
-    all_more : (P : Label → Type 0) → All P labels → ((x : Label) → IsFresh feed query labels rides x.stop.0 x → P x) → All P more
+    all_more : (P : Label → Type 0) → All P labels → ((x : Label) → IsFresh feed query labels rides x → P x) →
+        All P more
     all_more P before after =
         All-append P labels (gathered rides new) before (All-from P (gathered rides new) (λ x at. after x (fresh_of x at)))
 
@@ -228,11 +186,11 @@ module _ (feed : FeedRows) (query : Query) where
       within = all_more (λ x. IsWithinWindow query x.arrival.0) stored.within (λ x fresh. fresh.within);
     }
 
-    pub stored_more : AreApartByStop new → AreStored feed query (rides + 1) more new
+    pub stored_more : AreApart covers new → AreStored feed query (rides + 1) more new
     stored_more apart = record {
-      stands = stands;
       listed = listed;
       held = held;
+      inside = all_more (λ x. x.stop.0 < length feed.stops) stored.inside (λ x fresh. fresh.inside);
       few = all_more (λ x. x.rides < rides + 1)
           (All-weaker (λ x. x.rides < rides) (λ x. x.rides < rides + 1) (λ x lt. omega (arith, lt)) labels stored.few)
           (λ x fresh. let same = fresh.counts in omega (arith, same));
@@ -243,7 +201,7 @@ module _ (feed : FeedRows) (query : Query) where
           (All-map (IsLinked feed query (labels_of labels)) label_of (gathered rides new)
           (All-from (λ x. IsLinked feed query (labels_of labels) (label_of x)) (gathered rides new) (λ x at. (fresh_of x at).linked))));
       once = AllPairs-append (λ a b. a ≢ b) labels (gathered rides new) stored.once
-          (λ i j d lt within. apart_differ _ _ (gathered_apart rides new apart stands i j d lt within))
+          (λ i j d lt within. apart_differ _ _ (gathered_apart rides new apart i j d lt within))
           (λ x y in_labels in_new same.
           let few = All-contains (λ z. z.rides < rides) labels x stored.few in_labels in
           let counts = (fresh_of y in_new).counts in
@@ -251,9 +209,9 @@ module _ (feed : FeedRows) (query : Query) where
           absurd (omega (arith, few, counts, equal)));
     }
 
-    -- what is covered at the stops is covered by the labels
+    -- what is covered in the bags is covered by the labels
     covered_by : (b : LabelFacts) → IsHeldBelow new b → IsCoveredBy (labels_of more) b
-    covered_by b h = cover_of more h.0 b (listed b.stop.0 h.0 h.1) h.2
+    covered_by b h = cover_of more h.0 b (listed h.0 h.1) h.2
 
     -- each step from labels with fewer rides is covered or may be lacking, where the part has those from the labels of the
     -- last round
@@ -289,28 +247,25 @@ module _ (feed : FeedRows) (query : Query) where
   pub starts_more : (labels new : List Label) → CoversStarts feed query (labels_of labels) → CoversStarts feed query (labels_of (labels ++ new))
   starts_more labels new starts stop stands = covered_more labels new (start_facts query stop) (starts stop stands)
 
-  -- no label at any stop
-  pub stored_none : (bags : List (List Label)) → ((stop : ℕ) → at_stop bags stop ≡ []) → AreStored feed query 0 [] bags
-  stored_none bags none = record {
-    stands = λ stop x at. nothing x (subst (λ ms. Contains ms x) (none stop) at);
-    listed = λ stop x at. subst (λ ms. Contains ms x) (none stop) at;
-    held = λ x at. nothing x at;
+  -- no label at all
+  pub stored_none : AreStored feed query 0 [] []
+  stored_none = record {
+    listed = λ x at. at;
+    held = λ x at. at;
+    inside = λ k d lt. absurd (omega (arith, lt));
     few = λ k d lt. absurd (omega (arith, lt));
     bounded = λ k d lt. absurd (omega (arith, lt));
     within = λ k d lt. absurd (omega (arith, lt));
     linked = λ number label is. let lt = slice_get_within [] number label is in absurd (omega (arith, lt));
     once = λ i j d lt within. absurd (omega (arith, within));
   }
-    where
-      nothing : {P : Type 0} (x : Label) → Contains [] x → P
-      nothing x at = let lt = at.1 in absurd (omega (arith, lt))
 
   -- the starts are covered once they were offered
-  pub starts_covered : (rides : ℕ) (labels : List Label) (bags : List (List Label)) → AreStored feed query rides labels bags →
+  pub starts_covered : (rides : ℕ) (labels bags : List Label) → AreStored feed query rides labels bags →
       ((b : LabelFacts) → IsStartOf feed query b → IsHeldBelow bags b ⊎ IsNever b) → CoversStarts feed query (labels_of labels)
   starts_covered rides labels bags stored all stop stands =
       ⊎_elim
-      (λ some. cover_of labels some.0 (start_facts query stop) (stored.listed stop.0 some.0 some.1) some.2)
+      (λ some. cover_of labels some.0 (start_facts query stop) (stored.listed some.0 some.1) some.2)
       (λ never. absurd never) (all (start_facts query stop) (stop, stands, refl))
 
   -- two different members are apart
@@ -331,40 +286,27 @@ module _ (feed : FeedRows) (query : Query) where
           record { forth = back.back; back = back.forth }
 
   -- all labels are apart
-  labels_apart : (rides : ℕ) (labels : List Label) (bags : List (List Label)) → AreStored feed query rides labels bags →
-      AreApartByStop bags → AreApart covers labels
+  labels_apart : (rides : ℕ) (labels bags : List Label) → AreStored feed query rides labels bags → AreApart covers bags →
+      AreApart covers labels
   labels_apart rides labels bags stored apart i j d lt within =
       let a = get_or labels i d in
       let b = get_or labels j d in
-      by a b (Contains-get_or labels i d (omega (arith, lt, within))) (Contains-get_or labels j d within)
-      (stored.once i j d lt within) (cases_eq a.stop.0 b.stop.0)
-    where
-      other : (a b : Label) → (a.stop.0 ≡ b.stop.0 → ⊥) → covers a b ≡ false
-      other a b differ = false_from_ne_true (covers a b) (λ h. differ (ap (λ (s : StopId). s.0) (covers-tells a b h).stop))
-
-      by : (a b : Label) → Contains labels a → Contains labels b → a ≢ b → (a.stop.0 ≡ b.stop.0) ⊎ (a.stop.0 ≡ b.stop.0 → ⊥) → Apart covers a b
-      by a b at_a at_b differ (inl same) =
-          apart_in (at_stop bags b.stop.0) a b (apart b.stop.0)
-          (subst (λ (s : ℕ). Contains (at_stop bags s) a) same (stored.held a at_a)) (stored.held b at_b) differ
-      by a b at_a at_b differ (inr apart_stops) = record {
-        forth = other a b apart_stops;
-        back = other b a (λ e. apart_stops (sym e));
-      }
+      apart_in bags a b apart (stored.held a (Contains-get_or labels i d (omega (arith, lt, within))))
+      (stored.held b (Contains-get_or labels j d within)) (stored.once i j d lt within)
 
   -- the labels of all rounds
-  pub whole_of : (Lacking : LabelFacts → Type 0) (limit : ℕ) (labels : List Label) (bags : List (List Label)) →
-      limit ≡ query.rides → length bags ≡ length feed.stops → AreStored feed query (limit + 1) labels bags →
-      AreApartByStop bags → AreClosedTo feed query Lacking limit labels → CoversStarts feed query (labels_of labels) →
+  pub whole_of : (Lacking : LabelFacts → Type 0) (limit : ℕ) (labels bags : List Label) →
+      limit ≡ query.rides → AreStored feed query (limit + 1) labels bags →
+      AreApart covers bags → AreClosedTo feed query Lacking limit labels → CoversStarts feed query (labels_of labels) →
       AreWhole feed query Lacking labels
-  whole_of Lacking limit labels bags all many stored apart closed starts = record {
+  whole_of Lacking limit labels bags all stored apart closed starts = record {
     linked = stored.linked;
     starts = starts;
     closed = All-map (λ label. CoversSteps feed query Lacking label.facts (labels_of labels)) label_of labels
         (All-from (λ x. CoversSteps feed query Lacking (facts_of x) (labels_of labels)) labels steps);
     apart = labels_apart (limit + 1) labels bags stored apart;
     few = All-weaker (λ x. x.rides < limit + 1) (λ x. x.rides ≤ query.rides) (λ x lt. omega (arith, lt, all)) labels stored.few;
-    inside = All-from (λ x. x.stop.0 < length feed.stops) labels
-        (λ x at. subst (λ (n : ℕ). x.stop.0 < n) many (at_some_stop bags x.stop.0 x (stored.held x at)));
+    inside = stored.inside;
     within = stored.within;
     bounded = stored.bounded;
   }

@@ -13,8 +13,8 @@ use Rattle.feed_rows.specs.declared.states.FareState.{FareState}
 use Rattle.feed_rows.specs.LabelCover.{Covers}
 use Rattle.plain_laws.proofs.Laws.{int_same-true, eq-int_same}
 use Rattle.plan_rounds.specs.declared.label.Label.{Label}
-use Rattle.plan_rounds.specs.declared.label.StateClass.{StateClass}
-use Rattle.plan_rounds.specs.Labels.{facts_of, same_group, same_moment, same_flag, same_parts, same_state, is_no_later, costs_no_more, covers}
+use Rattle.plan_rounds.specs.declared.label_class.LabelClass.{LabelClass}
+use Rattle.plan_rounds.specs.Labels.{facts_of, same_group, same_moment, same_flag, same_parts, same_state, is_no_later, costs_no_more, covers, class_of, same_class, class_input}
 
 -- ---- states
 
@@ -108,16 +108,30 @@ equivalence_of same equal itself = record {
     by x y (inr h) (inl g) = rw (equal y x g) refl
     by x y (inr h) (inr g) = h ∙ sym g
 
-state_equivalence : IsEquivalence same_state
-state_equivalence = equivalence_of same_state same_state-equal same_state-itself
+-- ---- classes
 
--- of the classes of states too
-pub class_equivalence : IsEquivalence (λ (a b : StateClass). same_state a.0 b.0)
-class_equivalence = record {
-  refl = λ a. same_state-itself a.0;
-  symm = λ a b. state_equivalence.symm a.0 b.0;
-  congr = λ a b c h. state_equivalence.congr a.0 b.0 c.0 h;
-}
+class_at : ℕ → Option FareState → LabelClass
+class_at stop state = record { stop = record { 0 = stop }; state = state }
+
+class_equal : (m n : ℕ) (s t : Option FareState) → m ≡ n → s ≡ t → class_at m s ≡ class_at n t
+class_equal m n s t p q = rw (p, q) refl
+
+pub same_class-equal : (a b : LabelClass) → same_class a b ≡ true → a ≡ b
+unfolding class_at
+same_class-equal a b h =
+    let both = and_parts (a.stop.0 == b.stop.0) (same_state a.state b.state) h in
+    class_equal a.stop.0 b.stop.0 a.state b.state (eqb-true a.stop.0 b.stop.0 both.0)
+    (same_state-equal a.state b.state both.1)
+
+same_class-itself : (a : LabelClass) → same_class a a ≡ true
+same_class-itself a = and_from _ _ (eq-eqb a.stop.0 a.stop.0 refl) (same_state-itself a.state)
+
+pub class_equivalence : IsEquivalence same_class
+class_equivalence = equivalence_of same_class same_class-equal same_class-itself
+
+-- a hash reads the same of the same class
+pub class_input-same : (a b : LabelClass) → same_class a b ≡ true → class_input a ≡ class_input b
+class_input-same a b h = ap class_input (same_class-equal a b h)
 
 -- ---- labels
 
@@ -198,8 +212,11 @@ cover_laws = record {
       });
 }
 
-pub stair_laws : StairLaws covers (λ (a b : StateClass). same_state a.0 b.0) (λ label. record { 0 = label.state }) (λ label. label.arrival.0)
+pub stair_laws : StairLaws covers same_class class_of (λ label. label.arrival.0)
 stair_laws = record {
-  class = λ a b h. subst (λ s. same_state a.state s ≡ true) (covers-tells a b h).state (same_state-itself a.state);
+  class = λ a b h.
+      let c = covers-tells a b h in
+      and_from _ _ (eq-eqb a.stop.0 b.stop.0 (ap (λ (s : StopId). s.0) c.stop))
+      (subst (λ s. same_state a.state s ≡ true) c.state (same_state-itself a.state));
   height = λ a b h. (covers-tells a b h).arrival;
 }

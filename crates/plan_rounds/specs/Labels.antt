@@ -1,5 +1,6 @@
 -- Labels as the program keeps them.
-use Rattle.std.specs.Prelude.{ℕ, ◌+◌, ◌*◌, ◌^◌, ◌≤◌, ◌==◌, Bool, true, false, not, ◌&&◌, nat_le, int_le, List, map, Option, Some, None, pos, ◌+ℤ◌, nat_abs}
+use Rattle.std.specs.Prelude.{ℕ, ◌+◌, ◌*◌, ◌^◌, ◌≤◌, ◌==◌, Bool, true, false, not, ◌&&◌, nat_le, int_le, List, [], ◌++◌, map, Option, Some, None, ℤ, pos, ◌+ℤ◌, nat_abs}
+use Rattle.std.specs.Hash as fed
 use Rattle.transit_base.specs.declared.moments.Moment.{Moment}
 use Rattle.transit_base.specs.declared.numbers.LegGroupId.{LegGroupId}
 use Rattle.transit_base.specs.declared.numbers.StopId.{StopId}
@@ -13,6 +14,7 @@ use Rattle.feed_rows.specs.JourneyStands.{Stand}
 use Rattle.round_laws.specs.LabelSteps.{stand_of_facts}
 use Rattle.plan_rides.specs.declared.caught.CaughtRide.{CaughtRide}
 use Rattle.plan_rounds.specs.declared.label.Label.{Label}
+use Rattle.plan_rounds.specs.declared.label_class.LabelClass.{LabelClass}
 
 -- what a search compares the label by
 abbrev pub facts_of : Label → LabelFacts
@@ -129,3 +131,32 @@ costs_no_more a b = int_le a.paid.0 b.paid.0 && int_le (a.paid.0 +ℤ a.held.0) 
 -- the one covers the other
 unfoldable pub covers : Label → Label → Bool
 covers a b = is_no_later a b && costs_no_more a b && same_state a.state b.state
+
+-- ---- classes
+
+-- what labels must share for one to cover another
+abbrev pub class_of : Label → LabelClass
+class_of label = record { stop = label.stop; state = label.state }
+
+-- the same stop, and the same state of fares
+abbrev pub same_class : LabelClass → LabelClass → Bool
+same_class a b = (a.stop.0 == b.stop.0) && same_state a.state b.state
+
+-- numbers of a group and of a moment, for a hash
+unfoldable pub group_number : Option LegGroupId → ℕ
+group_number (Some g) = g.0
+group_number None = 0
+
+unfoldable pub moment_number : Option Moment → ℤ
+moment_number (Some m) = m.0
+moment_number None = pos 0
+
+-- what a hash reads of a state, and of a class
+abbrev pub state_input : Option FareState → List (List ℕ)
+state_input (Some s) =
+    fed.u32 (group_number s.group)
+    ++ (fed.u32 s.count ++ (fed.i64 (moment_number s.departure) ++ fed.i64 (moment_number s.arrival)))
+state_input None = []
+
+abbrev pub class_input : LabelClass → List (List ℕ)
+class_input class = fed.u32 class.stop.0 ++ state_input class.state

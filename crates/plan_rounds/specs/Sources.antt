@@ -40,7 +40,7 @@ pub record AreEnding (query : Query) (labels : List Label) : Type 0 where
   pub within : All (λ x. IsWithinWindow query x.arrival.0) labels
 
 -- the labels with one ride more than the source's gain those that cover this part, but for what the search may lack
-abbrev pub SpreadsFrom : Searched → List Final → Source → (LabelFacts → Type 0) → List (List Label) → List (List Label) → Type 0
+abbrev pub SpreadsFrom : Searched → List Final → Source → (LabelFacts → Type 0) → List Label → List Label → Type 0
 SpreadsFrom task finals source Part old new =
     Spreads task.feed task.query (Lacks task finals) source.labels.now (source.label.now.rides + 1) Part old new
 

@@ -1,5 +1,6 @@
--- Labels by stop, and what a search by rounds keeps true of them.
-use Rattle.std.specs.Prelude.{◌≡◌, ◌≢◌, ◌⊎◌, ℕ, ◌<◌, ◌≤◌, Bool, false, ◌==◌, List, [], ◌∷◌, length, filter, slice_get, unwrap_or, Some, All, AllPairs, Contains, IsTrue}
+-- Labels in bags, and what a search by rounds keeps true of them.
+use Rattle.std.specs.Prelude.{◌≡◌, ◌≢◌, ◌⊎◌, ℕ, ◌<◌, ◌≤◌, Bool, false, ◌==◌, List, [], ◌∷◌, length, filter, slice_get, Some, All, AllPairs, Contains, IsTrue}
+use Rattle.std.specs.Option.{option_map_or}
 use Rattle.transit_base.specs.declared.numbers.StopId.{StopId}
 use Rattle.feed_rows.specs.declared.journeys.Query.{Query}
 use Rattle.feed_rows.specs.declared.journeys.Ride.{Ride}
@@ -9,37 +10,47 @@ use Rattle.feed_rows.specs.Journeys.{stands_for}
 use Rattle.feed_rows.specs.LabelCover.{Covers}
 use Rattle.feed_rows.specs.PartialJourneys.{LabelFacts}
 use Rattle.label_bag.specs.Bags.{Gathers, AreApart}
+use Rattle.label_bag.specs.Flights.{IsFlight}
 use Rattle.plain_laws.specs.Plain.{joined_below}
 use Rattle.plan_rides.specs.InTime.{IsWithinWindow}
 use Rattle.round_laws.specs.LabelSteps.{start_facts, IsLabelStep}
 use Rattle.round_laws.specs.LinkedTables.{IsLinked, AreLinked, CoversStarts, CoversSteps, AreClosed}
 use Rattle.plan_rounds.specs.declared.label.Label.{Label}
-use Rattle.plan_rounds.specs.Labels.{facts_of, label_of, labels_of, covers, IsBounded}
+use Rattle.plan_rounds.specs.declared.label_class.LabelClass.{LabelClass}
+use Rattle.plan_rounds.specs.Labels.{facts_of, label_of, labels_of, class_of, same_class, covers, IsBounded}
 
--- ---- labels by stop
+-- ---- labels in bags
 
--- those at the stop; none past the last stop
-abbrev pub at_stop : List (List Label) → ℕ → List Label
-at_stop bags stop = unwrap_or (slice_get bags stop) []
+-- labels of the class, in ascending order of arrival, of which none covers another
+pub record IsBagOf (class : LabelClass) (labels : List Label) : Type 0 where
+  pub flight : IsFlight same_class class_of (λ (x : Label). x.arrival.0) class labels
+  pub apart : AreApart covers labels
 
--- the label was taken into the bag of its stop, and those of other stops stayed; labels that it doesn't cover stay too
-pub record Takes (old : List (List Label)) (label : Label) (new : List (List Label)) : Type 0 where
-  pub many : length new ≡ length old
-  pub others : (stop : ℕ) → stop ≢ label.stop.0 → at_stop new stop ≡ at_stop old stop
-  pub gathers : Gathers covers (at_stop old label.stop.0) (label ∷ []) (at_stop new label.stop.0)
-  pub keeps : (x : Label) → Contains (at_stop old label.stop.0) x → covers label x ≡ false →
-      Contains (at_stop new label.stop.0) x
+-- the bag with this number; none past the last
+abbrev pub bag_at : List (LabelClass × List Label) → ℕ → List Label
+bag_at bags number = option_map_or (λ (bag : LabelClass × List Label). bag.1) (slice_get bags number) []
 
--- none of a stop covers another
-abbrev pub AreApartByStop : List (List Label) → Type 0
-AreApartByStop bags = (stop : ℕ) → AreApart covers (at_stop bags stop)
+-- the labels of all bags
+abbrev pub in_bags : List (LabelClass × List Label) → List Label
+in_bags bags = joined_below (length bags) (bag_at bags)
 
--- those with so many rides, stop by stop
+-- each bag is one of its class, and no two are of one class
+abbrev pub AreBagsOf : List (LabelClass × List Label) → Type 0
+AreBagsOf bags =
+    ((number : ℕ) (bag : LabelClass × List Label) → slice_get bags number ≡ Some bag → IsBagOf bag.0 bag.1)
+    × AllPairs (λ (a : LabelClass × List Label) (b : LabelClass × List Label). same_class a.0 b.0 ≡ false) bags
+
+-- the label was taken in, and labels that it doesn't cover stay
+pub record Takes (old : List Label) (label : Label) (new : List Label) : Type 0 where
+  pub gathers : Gathers covers old (label ∷ []) new
+  pub keeps : (x : Label) → Contains old x → covers label x ≡ false → Contains new x
+
+-- those with so many rides
 abbrev pub has_rides : ℕ → Label → Bool
 has_rides rides label = label.rides == rides
 
-abbrev pub gathered : ℕ → List (List Label) → List Label
-gathered rides bags = joined_below (length bags) (λ stop. filter (has_rides rides) (at_stop bags stop))
+abbrev pub gathered : ℕ → List Label → List Label
+gathered rides labels = filter (has_rides rides) labels
 
 -- ---- one round
 
@@ -48,12 +59,12 @@ abbrev pub IsNever : LabelFacts → Type 0
 IsNever b = ⊥
 
 -- one of the labels covers such facts
-abbrev pub IsHeldBelow : List (List Label) → LabelFacts → Type 0
-IsHeldBelow bags b = (x : Label) × Contains (at_stop bags b.stop.0) x × Covers (facts_of x) b
+abbrev pub IsHeldBelow : List Label → LabelFacts → Type 0
+IsHeldBelow bags b = (x : Label) × Contains bags x × Covers (facts_of x) b
 
--- the label of this stop has so many rides, lies within its bounds, and starts or goes on from one of these
-pub record IsFresh (feed : FeedRows) (query : Query) (labels : List Label) (rides stop : ℕ) (x : Label) : Type 0 where
-  pub stands : x.stop.0 ≡ stop
+-- the label is at a stop of the feed, has so many rides, lies within its bounds, and starts or goes on from one of these
+pub record IsFresh (feed : FeedRows) (query : Query) (labels : List Label) (rides : ℕ) (x : Label) : Type 0 where
+  pub inside : x.stop.0 < length feed.stops
   pub counts : x.rides ≡ rides
   pub bounded : IsBounded x
   pub within : IsWithinWindow query x.arrival.0
@@ -62,12 +73,10 @@ pub record IsFresh (feed : FeedRows) (query : Query) (labels : List Label) (ride
 -- what was covered still is, and so are all facts of this part that may not be lacking; labels with fewer rides stayed, and
 -- new ones have so many
 pub record Spreads (feed : FeedRows) (query : Query) (Lacking : LabelFacts → Type 0) (labels : List Label) (rides : ℕ)
-    (Part : LabelFacts → Type 0) (old new : List (List Label)) : Type 0 where
-  pub many : length new ≡ length old
+    (Part : LabelFacts → Type 0) (old new : List Label) : Type 0 where
   pub still : (b : LabelFacts) → IsHeldBelow old b → IsHeldBelow new b
-  pub kept : (stop : ℕ) (x : Label) → Contains (at_stop old stop) x → x.rides < rides → Contains (at_stop new stop) x
-  pub right : (stop : ℕ) (x : Label) → Contains (at_stop new stop) x →
-      Contains (at_stop old stop) x ⊎ IsFresh feed query labels rides stop x
+  pub kept : (x : Label) → Contains old x → x.rides < rides → Contains new x
+  pub right : (x : Label) → Contains new x → Contains old x ⊎ IsFresh feed query labels rides x
   pub all : (b : LabelFacts) → Part b → IsHeldBelow new b ⊎ Lacking b
 
 -- one step leads from the one to the other: by any ride and move, or by this ride
@@ -88,11 +97,12 @@ IsStartOf feed query b = (stop : StopId) × IsTrue (stands_for feed query.from s
 
 -- ---- all rounds
 
--- the labels are those of all stops, each once, with fewer rides than so many; each starts or goes on from an earlier one
-pub record AreStored (feed : FeedRows) (query : Query) (rides : ℕ) (labels : List Label) (bags : List (List Label)) : Type 0 where
-  pub stands : (stop : ℕ) (x : Label) → Contains (at_stop bags stop) x → x.stop.0 ≡ stop
-  pub listed : (stop : ℕ) (x : Label) → Contains (at_stop bags stop) x → Contains labels x
-  pub held : (x : Label) → Contains labels x → Contains (at_stop bags x.stop.0) x
+-- the labels are those in the bags, each once, at stops of the feed, with fewer rides than so many; each starts or goes on
+-- from an earlier one
+pub record AreStored (feed : FeedRows) (query : Query) (rides : ℕ) (labels bags : List Label) : Type 0 where
+  pub listed : (x : Label) → Contains bags x → Contains labels x
+  pub held : (x : Label) → Contains labels x → Contains bags x
+  pub inside : All (λ x. x.stop.0 < length feed.stops) labels
   pub few : All (λ x. x.rides < rides) labels
   pub bounded : All IsBounded labels
   pub within : All (λ x. IsWithinWindow query x.arrival.0) labels

@@ -1,9 +1,9 @@
 //! What a search by rounds keeps of a partial journey.
 ghost use Rattle.std.specs.Prelude.{◌≡◌, ◌+◌, ◌+ℤ◌, ◌<◌, ◌≤◌, ◌^◌, Some, pos, nat_abs};
-ghost use Rattle.std.specs.Cmp.{partial_equiv_from_equiv};
 ghost use Rattle.feed_timetable.specs.Standings.{stand_of};
 ghost use Rattle.plan_rounds.specs.Labels.{IsBounded, IsSmall, costs_no_more, covers, is_no_later, same_flag, same_group, same_moment, same_parts, same_state, stand_of_label, started, went_on};
 
+use crate::label_class::LabelClass;
 use feed_rows::{FareState, Move, Query, Ride};
 use feed_timetable::Standing;
 use label_order::{LabelOrder, Stair};
@@ -115,15 +115,19 @@ impl LabelOrder for Label {
 
 impl Stair for Label {
     ghost use Rattle.plan_rounds.specs.CoverLaws.{stair_laws};
+    ghost use Rattle.plan_rounds.specs.Labels.{class_of};
 
-    type Class = StateClass;
+    type Class = LabelClass;
 
-    ghost class_of = { λ label. record { 0 = label.state } };
+    ghost class_of = { class_of };
 
     ghost height_of = { λ label. label.arrival.0 };
 
-    fn class(&self) -> StateClass {
-        StateClass(self.state)
+    fn class(&self) -> LabelClass {
+        LabelClass {
+            stop: self.stop,
+            state: self.state,
+        }
     }
 
     fn height(&self) -> i64 {
@@ -131,29 +135,6 @@ impl Stair for Label {
     }
 
     ghost stairs = { stair_laws };
-}
-
-/// The states of labels, as classes of which none covers a label of another.
-#[derive(Clone, Copy)]
-pub struct StateClass(Option<FareState>);
-
-impl PartialEq for StateClass {
-    ghost use Rattle.plan_rounds.specs.Labels.{same_state};
-    ghost use Rattle.plan_rounds.specs.CoverLaws.{class_equivalence};
-
-    ghost eq = { λ a b. same_state a.0 b.0 };
-
-    ghost laws = { partial_equiv_from_equiv class_equivalence };
-
-    fn eq(&self, other: &Self) -> bool {
-        same_state(&self.0, &other.0)
-    }
-}
-
-impl Eq for StateClass {
-    ghost use Rattle.plan_rounds.specs.CoverLaws.{class_equivalence};
-
-    ghost laws = { class_equivalence };
 }
 
 /// Whether the one is as good as the other for all that may come after, or better.
@@ -182,7 +163,7 @@ fn costs_no_more(a: &Label, b: &Label) -> bool
 
 /// Whether both states are there and the same, or neither is there.
 #[tactic(auto, unfolding(crate::specs::Labels::same_state))]
-fn same_state(a: &Option<FareState>, b: &Option<FareState>) -> bool
+pub(crate) fn same_state(a: &Option<FareState>, b: &Option<FareState>) -> bool
     ensures { result ≡ same_state a.now b.now }
 {
     match (a, b) {

@@ -7,6 +7,7 @@ mod ends;
 mod entries;
 mod finals;
 mod label;
+mod label_class;
 mod moves;
 mod plan;
 mod search;

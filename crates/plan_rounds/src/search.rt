@@ -15,7 +15,9 @@ ghost use Rattle.plan_rounds.specs.Finals.{AddsEnds, EndsBelow, is_bettered};
 ghost use Rattle.plan_rounds.specs.Searched.{Lacks, searched};
 ghost use Rattle.feed_rows.specs.PartialJourneys.{LabelFacts};
 ghost use Rattle.plan_rounds.specs.Sources.{AreEnding, IsSource, SpreadsFrom, StepsByFirst};
-ghost use Rattle.plan_rounds.specs.Stores.{AreApartByStop, AreStored, AreWhole, IsNever, gathered, IsStartOf, Spreads, StepsBy, StepsFrom, StepsTo};
+ghost use Rattle.label_bag.specs.Bags.{AreApart};
+ghost use Rattle.plan_rounds.specs.Labels.{covers};
+ghost use Rattle.plan_rounds.specs.Stores.{AreStored, AreWhole, IsNever, gathered, IsStartOf, Spreads, StepsBy, StepsFrom, StepsTo};
 
 use crate::bounds::takes_back;
 use crate::ends::Ends;
@@ -198,8 +200,7 @@ impl<'s, 'f> Search<'s, 'f> {
 
     /// Offers the label without rides at a first stop.
     fn offer_start(&self, first: StopId, bags: &mut StopBags) -> Result<(), AllocError>
-        requires stops { length bags.old ≡ length self.now.feed.stops }
-        requires starts { IsTrue (stands_for self.now.feed self.now.query.from first) }
+        requires { IsTrue (stands_for self.now.feed self.now.query.from first) }
         ensures { OnOk result (Spreads self.now.feed self.now.query IsNever [] 0 (λ b. b ≡ start_facts self.now.query first) bags.old bags.new) }
     {
         bags.offer(Label::start(self.rides.query(), first))
@@ -207,7 +208,6 @@ impl<'s, 'f> Search<'s, 'f> {
 
     /// Offers the labels without rides.
     fn offer_starts(&self, bags: &mut StopBags) -> Result<(), AllocError>
-        requires { length bags.old ≡ length self.now.feed.stops }
         ensures { OnOk result (Spreads self.now.feed self.now.query IsNever [] 0 (IsStartOf self.now.feed self.now.query) bags.old bags.new) }
     {
         let firsts = self.firsts();
@@ -249,7 +249,6 @@ impl<'s, 'f> Search<'s, 'f> {
         found: &mut Found<'_, 'f>,
         bags: &mut StopBags,
     ) -> Result<(), AllocError>
-        requires stops { length bags.old ≡ length self.now.feed.stops }
         requires source { IsSource self.now.feed self.now.query source.now }
         requires right { IsRight self.now.feed self.now.query (stand_of_label source.now.label.now) caught.now }
         requires fares { HasFares self.now found.old }
@@ -278,7 +277,6 @@ impl<'s, 'f> Search<'s, 'f> {
         taken: &Move,
         bags: &mut StopBags,
     ) -> Result<(), AllocError>
-        requires stops { length bags.old ≡ length self.now.feed.stops }
         requires source { IsSource self.now.feed self.now.query source.now }
         requires right { IsRight self.now.feed self.now.query (stand_of_label source.now.label.now) caught.now }
         requires small { IsSmall taken.now }
@@ -318,7 +316,6 @@ impl<'s, 'f> Search<'s, 'f> {
         found: &mut Found<'_, 'f>,
         bags: &mut StopBags,
     ) -> Result<(), AllocError>
-        requires stops { length bags.old ≡ length self.now.feed.stops }
         requires source { IsSource self.now.feed self.now.query source.now }
         requires fares { HasFares self.now found.old }
         ensures fares { HasFares self.now found.new }
@@ -341,7 +338,6 @@ impl<'s, 'f> Search<'s, 'f> {
         found: &mut Found<'_, 'f>,
         bags: &mut StopBags,
     ) -> Result<(), AllocError>
-        requires stops { length bags.old ≡ length self.now.feed.stops }
         requires few { count < self.now.query.rides }
         requires numbers { length labels.now < 2 ^ 32 }
         requires stored { AreStored self.now.feed self.now.query (count + 1) labels.now bags.old }
@@ -381,7 +377,7 @@ impl<'s, 'f> Search<'s, 'f> {
         ensures numbers { OnOk result (length labels.new.items < 2 ^ 32) }
         ensures ended { OnOk result (AddsEnds self.now.feed self.now.query labels.new.items (EndsBelow self.now.feed self.now.query labels.new.items (length labels.new.items)) [] front.new) }
         ensures still { OnOk result ((triple : Triple) → is_bettered front.old triple → is_bettered front.new triple) }
-        ensures apart { AreApartByStop bags.now }
+        ensures apart { AreApart covers bags.now }
     {
         let begin = labels.len();
         bags.gather(rides, labels)?;
@@ -401,7 +397,7 @@ impl<'s, 'f> Search<'s, 'f> {
         ensures ended { IfOk result (λ all. AddsEnds self.now.feed self.now.query all.0.items (EndsBelow self.now.feed self.now.query all.0.items (length all.0.items)) [] all.1) }
     {
         let limit = self.limit();
-        let mut bags = StopBags::empty(self.alloc, self.stops())?;
+        let mut bags = StopBags::empty(self.alloc);
         self.offer_starts(&mut bags)?;
         let mut labels = Vec::new(self.alloc);
         let mut front = Front::empty(self.alloc);

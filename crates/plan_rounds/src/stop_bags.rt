@@ -1,23 +1,26 @@
-//! A bag of labels for each stop.
-ghost use Rattle.std.specs.Prelude.{◌≡◌, ℕ, ◌<◌, ◌++◌, ◌∷◌, [], false, length, filter, Contains, IfOk, OnOk};
+//! The bags of labels of a search, for each stop and state of fares one.
+ghost use Rattle.std.specs.Prelude.{◌≡◌, ◌++◌, ◌∷◌, [], false, filter, Contains, IfOk, OnOk};
 ghost use Rattle.label_bag.specs.Bags.{AreApart, Gathers};
-ghost use Rattle.plan_rounds.specs.Labels.{covers};
-ghost use Rattle.plan_rounds.specs.Stores.{AreApartByStop, Takes, at_stop, gathered, has_rides};
+ghost use Rattle.plan_rounds.specs.Labels.{class_of, covers};
+ghost use Rattle.plan_rounds.specs.Stores.{IsBagOf, Takes, gathered, has_rides, in_bags};
 
 use crate::label::Label;
-use label_bag::{Bag, StairBag};
+use crate::label_class::LabelClass;
+use indexmap::IndexMap;
+use label_bag::offer_in_class;
+use label_order::Stair;
 use std::alloc::{AllocError, Global};
 use std::marker::Model;
 
-/// Labels of one stop, of which none covers another. Contracts see a list.
+/// Labels of one stop and state of fares, in ascending order of arrival, of which none covers another. Contracts see a list.
 pub struct StopBag {
-    bag: StairBag<Label>,
+    labels: Vec<Label>,
 }
 
 // Written out, so that what holds one needn't look into it to let go of it.
 impl Drop for StopBag {
     fn drop(self) {
-        let StopBag { bag: _ } = self;
+        let StopBag { labels: _ } = self;
     }
 }
 
@@ -27,17 +30,20 @@ impl Model for StopBag {
 
     ghost Value = { List Label };
 
-    ghost view = { λ s. ⟦<StairBag<Label> as Bag<Label>>⟧.content s.bag };
+    ghost view = { λ s. s.labels.items };
 }
 
 impl StopBag {
-    /// No label.
-    fn empty(alloc: Global) -> StopBag
-        ensures { result ≡ [] }
+    /// The label alone.
+    ///
+    /// # Errors
+    /// Want of memory.
+    fn of(alloc: Global, label: Label) -> Result<StopBag, AllocError>
+        ensures { IfOk result (λ bag. bag ≡ label ∷ []) }
     {
-        StopBag {
-            bag: StairBag::new(alloc),
-        }
+        let mut labels = Vec::with_capacity(alloc, 1)?;
+        labels.push(label)?;
+        Ok(StopBag { labels })
     }
 
     /// Takes the label in, unless one covers it; those that it covers go, and no other.
@@ -45,29 +51,21 @@ impl StopBag {
     /// # Errors
     /// Want of memory.
     fn offer(&mut self, label: Label) -> Result<(), AllocError>
+        requires { IsBagOf (class_of label) self.old }
         ensures gathers { OnOk result (Gathers covers self.old (label ∷ []) self.new) }
         ensures keeps { OnOk result ((x : Label) → Contains self.old x → covers label x ≡ false → Contains self.new x) }
-        ensures apart { AreApart covers self.new }
+        ensures bag { IsBagOf (class_of label) self.new }
     {
-        match self.bag.offer(label) {
-            Ok(_) => Ok(()),
-            Err(_) => Err(AllocError),
-        }
-    }
-
-    /// How many labels there are.
-    fn len(&self) -> usize
-        ensures { result ≡ length self.now }
-    {
-        self.bag.len()
+        offer_in_class(&mut self.labels, label)
     }
 
     /// Adds the labels that have so many rides.
     fn push_into(&self, rides: u8, labels: &mut Vec<Label>) -> Result<(), AllocError>
         ensures { OnOk result (labels.new.items ≡ labels.old.items ++ filter (has_rides rides) self.now) }
     {
-        for number in 0..self.len() {
-            let label = self.bag.member(number);
+        let held = self.labels.as_slice();
+        for number in 0..held.len() {
+            let label = &held[number];
             if label.rides == rides {
                 labels.push(*label)?;
             }
@@ -76,69 +74,82 @@ impl StopBag {
     }
 }
 
-/// The labels of each stop, of which none covers another. Contracts see a list by stop.
+/// The labels of all stops, of which none covers another. Contracts see their list.
 pub struct StopBags {
-    bags: Vec<StopBag>,
+    alloc: Global,
+    bags: IndexMap<LabelClass, StopBag>,
 }
 
 // Written out, so that what holds one needn't look into it to let go of it.
 impl Drop for StopBags {
     fn drop(self) {
-        let StopBags { bags: _ } = self;
+        let StopBags { alloc: _, bags: _ } = self;
     }
 }
 
 impl Model for StopBags {
     ghost use Rattle.std.specs.Prelude.{List};
     ghost use Rattle.plan_rounds.specs.declared.label.Label.{Label};
+    ghost use Rattle.plan_rounds.specs.Stores.{AreBagsOf, in_bags};
 
-    ghost Value = { List (List Label) };
+    ghost Value = { List Label };
 
-    ghost use Rattle.plan_rounds.specs.Stores.{AreApartByStop};
+    ghost view = { λ s. in_bags s.bags.entries };
 
-    ghost view = { λ s. s.bags.items };
-
-    ghost invariant = { λ s. AreApartByStop s.bags.items };
+    ghost invariant = { λ s. AreBagsOf s.bags.entries };
 }
 
 impl StopBags {
-    /// No labels at so many stops.
-    ///
-    /// # Errors
-    /// Want of memory.
-    pub fn empty(alloc: Global, stops: usize) -> Result<StopBags, AllocError>
-        ensures many { IfOk result (λ bags. length bags ≡ stops) }
-        ensures none { IfOk result (λ bags. (stop : ℕ) → at_stop bags stop ≡ []) }
+    /// No labels.
+    pub fn empty(alloc: Global) -> StopBags
+        ensures { result ≡ [] }
     {
-        let mut bags = Vec::with_capacity(alloc, stops)?;
-        for _stop in 0..stops {
-            bags.push(StopBag::empty(alloc))?;
+        StopBags {
+            alloc,
+            bags: IndexMap::new(alloc),
         }
-        Ok(StopBags { bags })
     }
 
-    /// Takes the label in at its stop, unless one covers it; those that it covers go.
+    /// Takes the label in, unless one covers it; those that it covers go, and no other.
     ///
     /// # Errors
     /// Want of memory.
     pub fn offer(&mut self, label: Label) -> Result<(), AllocError>
-        requires { label.stop.0 < length self.old }
         ensures { OnOk result (Takes self.old label self.new) }
     {
-        self.bags[label.stop.0 as usize].offer(label)
+        let class = label.class();
+        match self.bags.get_index_of(&class) {
+            Some(number) => self.bags[number].offer(label),
+            None => {
+                let bag = StopBag::of(self.alloc, label)?;
+                self.bags.insert(class, bag)?;
+                Ok(())
+            }
+        }
     }
 
-    /// Adds the labels that have so many rides, stop by stop.
+    /// Adds the labels that have so many rides, bag by bag.
     ///
     /// # Errors
     /// Want of memory.
     pub fn gather(&self, rides: u8, labels: &mut Vec<Label>) -> Result<(), AllocError>
         ensures value { OnOk result (labels.new.items ≡ labels.old.items ++ gathered rides self.now) }
-        ensures apart { AreApartByStop self.now }
+        ensures apart { AreApart covers self.now }
     {
-        for stop in 0..self.bags.len() {
-            self.bags[stop].push_into(rides, labels)?;
-        }
-        Ok(())
+        push_bags(&self.bags, rides, labels)
     }
+}
+
+/// Adds the labels of the bags that have so many rides.
+fn push_bags(
+    bags: &IndexMap<LabelClass, StopBag>,
+    rides: u8,
+    labels: &mut Vec<Label>,
+) -> Result<(), AllocError>
+    ensures { OnOk result (labels.new.items ≡ labels.old.items ++ gathered rides (in_bags bags.now.entries)) }
+{
+    for number in 0..bags.len() {
+        bags[number].push_into(rides, labels)?;
+    }
+    Ok(())
 }

@@ -7,7 +7,7 @@ use Rattle.fare_automaton.specs.Known.{KnownPicks}
 use Rattle.fare_automaton.specs.Terms.{terms}
 use Rattle.plan_rounds.specs.Searched.{Searched, Lacks}
 use Rattle.plan_rounds.specs.Sources.{AreEnding}
-use Rattle.plan_rounds.specs.Stores.{AreStored, AreClosedTo, Spreads, StepsFrom, IsNever, gathered}
+use Rattle.plan_rounds.specs.Stores.{AreStored, AreClosedTo, Spreads, StepsFrom, IsNever, IsStartOf, gathered}
 use Rattle.round_laws.specs.LinkedTables.{CoversStarts}
 use Rattle.plan_rounds.proofs.FinalSteps.{ends_start}
 use Rattle.plan_rounds.proofs.StoreLaws.{stored_none, stored_more, ending_more, closed_more, closed_weaker, starts_more, starts_covered, whole_of}
@@ -17,9 +17,12 @@ pub gather-requires-clause-ending : goal.gather-requires-clause-ending
 gather-requires-clause-ending c =
     let feed = c.args.self.now.feed in
     let query = c.args.self.now.query in
+    let spreads =
+    subst (λ old. Spreads feed query IsNever [] 0 (IsStartOf feed query) old c.offer_starts.new.bags) c.empty-bags.ensures
+    c.in_ok-offer_starts.ensures in
     subst (λ ls. AreEnding query (ls ++ gathered 0 c.offer_starts.new.bags)) (sym c.new-labels.ensures.items)
-    (ending_more feed query IsNever 0 [] _ c.in_ok-bags.bags c.offer_starts.new.bags (stored_none feed query c.in_ok-bags.bags c.in_ok-bags.ensures.none)
-    c.in_ok-offer_starts.ensures c.limit-limit.ensures.usual (omega arith))
+    (ending_more feed query IsNever 0 [] _ [] c.offer_starts.new.bags (stored_none feed query) spreads c.limit-limit.ensures.usual
+    (omega arith))
 
 pub gather-requires-clause-ended : goal.gather-requires-clause-ended
 gather-requires-clause-ended c =
@@ -43,14 +46,14 @@ pub loop-count-init : goal.loop-count-init
 loop-count-init c =
     let feed = c.args.self.now.feed in
     let query = c.args.self.now.query in
-    let spreads = c.in_ok-offer_starts.ensures in
+    let spreads =
+    subst (λ old. Spreads feed query IsNever [] 0 (IsStartOf feed query) old c.offer_starts.new.bags) c.empty-bags.ensures
+    c.in_ok-offer_starts.ensures in
     let all = c.in_ok-gather.ensures in
     let stored =
-    stored_more feed query IsNever 0 [] _ c.in_ok-bags.bags c.offer_starts.new.bags
-    (stored_none feed query c.in_ok-bags.bags c.in_ok-bags.ensures.none) spreads all.apart in
+    stored_more feed query IsNever 0 [] _ [] c.offer_starts.new.bags (stored_none feed query) spreads all.apart in
     let is = all.value ∙ ap (λ ls. ls ++ gathered 0 c.offer_starts.new.bags) c.new-labels.ensures.items in
     record {
-      many = spreads.many ∙ c.in_ok-bags.ensures.many ∙ c.stops.ensures.is;
       stored = subst (λ ls. AreStored feed query 1 ls c.offer_starts.new.bags) (sym is) stored;
       apart = all.apart;
       closed = λ x at few. absurd (omega (arith, few));
@@ -76,7 +79,6 @@ loop-count-preserved c =
     let closed =
     closed_more feed query old (c.loop-count.count + 1) labels _ c.loop-count.bags c.spread.new.bags was.stored spreads c.loop-count.count refl was.closed (λ b h. h) in
     record {
-      many = spreads.many ∙ was.many;
       stored = subst (λ ls. AreStored feed query (c.loop-count.count + 1 + 1) ls c.spread.new.bags) (sym all.value)
           (stored_more feed query old (c.loop-count.count + 1) labels _ c.loop-count.bags c.spread.new.bags was.stored spreads all.apart);
       apart = all.apart;
@@ -93,4 +95,4 @@ pub returns-clause-whole : goal.returns-clause-whole
 returns-clause-whole c =
     let was = c.loop-count.invariant in
     whole_of c.args.self.now.feed c.args.self.now.query (Lacks c.args.self.now c.loop-count.front) c.loop-count.count c.loop-count.labels.items c.loop-count.bags
-    (omega (arith, c.loop-count-test.false, c.loop-count.auto.count-end, c.limit-limit.ensures.is)) was.many was.stored was.apart was.closed was.starts
+    (omega (arith, c.loop-count-test.false, c.loop-count.auto.count-end, c.limit-limit.ensures.is)) was.stored was.apart was.closed was.starts

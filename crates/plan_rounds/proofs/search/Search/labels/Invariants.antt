@@ -1,17 +1,17 @@
-use Rattle.std.proofs.Common.{◌≡◌, ◌+◌, ◌<◌, ◌^◌, [], length}
+use Rattle.std.proofs.Common.{◌+◌, ◌<◌, ◌^◌, [], length}
 use Rattle.plan_rounds.specs.Finals.{AddsEnds, EndsBelow}
 use Rattle.plan_rounds.specs.Moves.{HasFares}
 use Rattle.plan_rounds.specs.Searched.{Lacks}
-use Rattle.plan_rounds.specs.Labels.{labels_of}
-use Rattle.plan_rounds.specs.Stores.{AreStored, AreClosedTo, AreApartByStop}
+use Rattle.label_bag.specs.Bags.{AreApart}
+use Rattle.plan_rounds.specs.Labels.{covers, labels_of}
+use Rattle.plan_rounds.specs.Stores.{AreStored, AreClosedTo}
 use Rattle.round_laws.specs.LinkedTables.{CoversStarts}
 use Rattle.plan_rounds.proofs.search.Search.labels.Given as goal
 
 abbrev pub invariant-loop-count : goal.invariant-loop-count
 invariant-loop-count l = record {
-  many : length l.bags ≡ length l.self.feed.stops;
   stored : AreStored l.self.feed l.self.query (l.count + 1) l.labels.items l.bags;
-  apart : AreApartByStop l.bags;
+  apart : AreApart covers l.bags;
   closed : AreClosedTo l.self.feed l.self.query (Lacks l.self l.front) l.count l.labels.items;
   starts : CoversStarts l.self.feed l.self.query (labels_of l.labels.items);
   ended : AddsEnds l.self.feed l.self.query l.labels.items (EndsBelow l.self.feed l.self.query l.labels.items (length l.labels.items)) [] l.front;

@@ -1,5 +1,4 @@
-use Rattle.std.proofs.Common.{◌≡◌, ◌∙◌, true, sym, subst, ◌<◌, length}
-use Rattle.plan_rides.proofs.DepartureLaws.{ride_end}
+use Rattle.std.proofs.Common.{◌≡◌, ◌∙◌, true, sym, subst}
 use Rattle.plan_rounds.specs.declared.label.Label.{Label}
 use Rattle.plan_rounds.specs.Labels.{IsBounded, went_on}
 use Rattle.plan_rounds.specs.Searched.{Lacks, is_overtaken_by}
@@ -7,12 +6,6 @@ use Rattle.plan_rounds.proofs.FutileLaws.{overtaken}
 use Rattle.plan_rounds.proofs.RideSteps.{fresh_after}
 use Rattle.plan_rounds.proofs.SpreadLaws.{spreads_none, spreads_taken}
 use Rattle.plan_rounds.proofs.search.Search.offer_move.Goals as goal
-
-pub offer-requires : goal.offer-requires
-offer-requires c =
-    subst (λ (x : Label). x.stop.0 < length c.args.bags.now) (sym c.after-label.ensures.value)
-    (subst (λ n. c.args.caught.now.facts.to.0 < n) (sym c.requires.stops)
-    (ride_end c.args.self.now.feed c.args.caught.now.ride c.args.caught.now.facts c.feed-feed.ensures.sound c.requires.right.facts))
 
 pub returns-then-is_overtaken : goal.returns-then-is_overtaken
 returns-then-is_overtaken c =

@@ -1,21 +1,14 @@
-use Rattle.std.proofs.Common.{◌∙◌, sym, subst, ap, ◌<◌, length}
+use Rattle.std.proofs.Common.{◌∙◌, ap}
 use Rattle.feed_rows.specs.declared.journeys.Query.{Query}
 use Rattle.plan_rounds.specs.Searched.{Searched}
 use Rattle.plan_rounds.specs.Stores.{IsNever}
-use Rattle.plan_rounds.specs.declared.label.Label.{Label}
 use Rattle.plan_rounds.specs.Labels.{started}
 use Rattle.plan_rounds.proofs.RideSteps.{fresh_start}
 use Rattle.plan_rounds.proofs.SpreadLaws.{spreads_taken}
-use Rattle.plan_rounds.proofs.StopLaws.{stands_inside}
 use Rattle.plan_rounds.proofs.search.Search.offer_start.Goals as goal
-
-pub offer-requires : goal.offer-requires
-offer-requires c =
-    subst (λ (x : Label). x.stop.0 < length c.args.bags.now) (sym c.start.ensures)
-    (subst (λ n. c.args.first.0 < n) (sym c.requires.stops) (stands_inside c.args.self.now.feed c.args.self.now.query.from c.args.first c.requires.starts))
 
 pub returns : goal.returns
 returns c =
     spreads_taken c.args.self.now.feed c.args.self.now.query IsNever _ 0 c.offer.result c.args.bags.now c.offer.new.self c.start.result
     (started c.args.self.now.query c.args.first) c.offer.ensures (c.start.ensures ∙ ap (λ (q : Query). started q c.args.first) (c.query.ensures.is ∙ ap (λ (a : Searched). a.query) c.self.view_is))
-    (fresh_start c.args.self.now.feed c.args.self.now.query c.args.first c.requires.starts)
+    (fresh_start c.args.self.now.feed c.args.self.now.query c.args.first c.requires)

@@ -1,6 +1,9 @@
-use Rattle.std.proofs.Common.{subst}
+use Rattle.std.proofs.Common.{◌∙◌, ap, ◌++◌, List}
+use Rattle.std.specs.Prelude.{filter}
 use Rattle.std.proofs.lemmas.Bool.{eq-eqb, ne_eqb}
-use Rattle.std.specs.Prelude.{slice_get, Some, ◌≡◌}
+use Rattle.std.proofs.lemmas.List.{take_all}
+use Rattle.std.proofs.lemmas.Option.{slice_get-get_or}
+use Rattle.plan_rounds.specs.declared.label.Label.{Label}
 use Rattle.plan_rounds.specs.Stores.{has_rides}
 use Rattle.plan_rounds.proofs.BagLaws.{pushes_one, pushes_none}
 use Rattle.plan_rounds.proofs.stop_bags.StopBag.push_into.Goals as goal
@@ -8,12 +11,19 @@ use Rattle.plan_rounds.proofs.stop_bags.StopBag.push_into.Goals.{then-label-ride
 
 pub loop-number-preserved : goal.loop-number-preserved
 loop-number-preserved c =
-    let at = subst (λ ms. slice_get ms c.loop-number.number ≡ Some c.member-label.result.now) c.self.view_is c.member-label.ensures in
+    let held = c.as_slice-held.result.now in
+    let at = slice_get-get_or held c.loop-number.number _ c.loop-number-test.true in
     elim c.if-label-rides.branch [
       | then-label-rides+in_ok-push w ↦
-          rw w.labels-is (pushes_one (has_rides c.args.rides) c.args.self.now c.loop-number.number c.member-label.result.now
+          rw w.labels-is (pushes_one (has_rides c.args.rides) held c.loop-number.number _
           c.args.labels.now.items c.loop-number.labels.items at c.loop-number.invariant _ (eq-eqb _ _ w.if-label-rides.true) w.in_ok-push.ensures.items)
       | else-label-rides w ↦
-          rw w.labels-is (pushes_none (has_rides c.args.rides) c.args.self.now c.loop-number.number c.member-label.result.now
+          rw w.labels-is (pushes_none (has_rides c.args.rides) held c.loop-number.number _
           c.args.labels.now.items c.loop-number.labels.items at c.loop-number.invariant (ne_eqb _ _ w.if-label-rides.false))
     ]
+
+pub returns : goal.returns
+returns c =
+    c.loop-number.invariant
+    ∙ ap (λ (xs : List Label). c.args.labels.now.items ++ filter (has_rides c.args.rides) xs)
+    (take_all c.loop-number.number c.as_slice-held.result.now c.loop-number-test.false ∙ c.as_slice-held.ensures.value ∙ c.self.view_is)

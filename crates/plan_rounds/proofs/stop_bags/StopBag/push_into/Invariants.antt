@@ -4,4 +4,4 @@ use Rattle.plan_rounds.specs.Stores.{has_rides}
 use Rattle.plan_rounds.proofs.stop_bags.StopBag.push_into.Given as goal
 
 abbrev pub invariant-loop-number : goal.invariant-loop-number
-invariant-loop-number l = l.labels.items ≡ l.fn.labels.items ++ filter (has_rides l.rides) (take l.number l.self)
+invariant-loop-number l = l.labels.items ≡ l.fn.labels.items ++ filter (has_rides l.rides) (take l.number l.held)
