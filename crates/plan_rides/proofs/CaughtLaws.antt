@@ -10,6 +10,7 @@ use Rattle.std.proofs.lemmas.Bool.Decides.{nat_tests}
 use Rattle.std.proofs.lemmas.List.Elements.{All-append, All-cons, All-nil, Contains-append_left, Contains-push}
 use Rattle.transit_base.specs.Limits.{most_time}
 use Rattle.transit_base.specs.Moments.{moment_at}
+use Rattle.transit_base.specs.declared.moments.Moment.{Moment}
 use Rattle.transit_base.specs.declared.numbers.StopId.{StopId}
 use Rattle.feed_rows.specs.declared.journeys.Call.{Call}
 use Rattle.feed_rows.specs.declared.journeys.Query.{Query}
@@ -32,9 +33,9 @@ use Rattle.feed_laws.proofs.ShiftLaws.{found_from_Contains}
 use Rattle.feed_laws.proofs.SoundTrips.{sound_trip}
 use Rattle.plan_rides.specs.declared.caught.CaughtRide.{CaughtRide}
 use Rattle.plan_rides.specs.declared.departures.Departure.{Departure}
-use Rattle.plan_rides.specs.Boarding.{Seeking, MayBoard, is_marked}
+use Rattle.plan_rides.specs.Boarding.{Seeking, MayBoard}
 use Rattle.plan_rides.specs.Departures.{IsSpanned, departure_with, IsDeparture, IsFromStop, AreDepartures, departures_at, DoRise, IsBy, IsByBefore, IsByTo, IsByAmong, ride_to, facts_to, facts_in_time, BoardsAt, IsFirstSince, IsReached}
-use Rattle.plan_rides.specs.InTime.{next_in_time, if_in_time, deadline, IsWithinWindow, AddsCaught, IsRight, HasCaughtAmong}
+use Rattle.plan_rides.specs.InTime.{next_in_time, if_in_time, deadline, IsWithinWindow, AddsCaught, IsRight, HasCaughtBy, is_early}
 use Rattle.plan_rides.specs.Travelling.{IsBarred, BoardsNear}
 use Rattle.plan_rides.proofs.DepartureLaws.{ride_stop}
 
@@ -71,10 +72,10 @@ caught_ride feed query stand ride next e =
     }
 
 -- one part after another
-pub adds_more : (feed : FeedRows) (query : Query) (marks : List Bool) (stand : Stand) (Part More Whole : Ride → Type 0) (old mid new : List CaughtRide) →
-    AddsCaught feed query marks stand Part old mid → AddsCaught feed query marks stand More mid new →
-    ((ride : Ride) (next : Stand) → next_in_time feed query stand ride ≡ Some next → Whole ride → Part ride ⊎ More ride) → AddsCaught feed query marks stand Whole old new
-adds_more feed query marks stand Part More Whole old mid new a b split = record {
+pub adds_more : (feed : FeedRows) (query : Query) (latest : List (Option Moment)) (stand : Stand) (Part More Whole : Ride → Type 0) (old mid new : List CaughtRide) →
+    AddsCaught feed query latest stand Part old mid → AddsCaught feed query latest stand More mid new →
+    ((ride : Ride) (next : Stand) → next_in_time feed query stand ride ≡ Some next → Whole ride → Part ride ⊎ More ride) → AddsCaught feed query latest stand Whole old new
+adds_more feed query latest stand Part More Whole old mid new a b split = record {
   still = λ ride h. b.still ride (a.still ride h);
   all = λ ride next e wanted whole.
       ⊎_elim (λ p. b.still ride (a.all ride next e wanted p)) (λ m. b.all ride next e wanted m) (split ride next e whole);
@@ -82,14 +83,14 @@ adds_more feed query marks stand Part More Whole old mid new a b split = record 
 }
 
 -- the same part, said otherwise
-pub adds_same : (feed : FeedRows) (query : Query) (marks : List Bool) (stand : Stand) (Part Whole : Ride → Type 0) (old new : List CaughtRide) → AddsCaught feed query marks stand Part old new →
-    ((ride : Ride) (next : Stand) → next_in_time feed query stand ride ≡ Some next → Whole ride → Part ride) → AddsCaught feed query marks stand Whole old new
-adds_same feed query marks stand Part Whole old new a part = record { still = a.still; all = λ ride next e wanted whole. a.all ride next e wanted (part ride next e whole); right = a.right }
+pub adds_same : (feed : FeedRows) (query : Query) (latest : List (Option Moment)) (stand : Stand) (Part Whole : Ride → Type 0) (old new : List CaughtRide) → AddsCaught feed query latest stand Part old new →
+    ((ride : Ride) (next : Stand) → next_in_time feed query stand ride ≡ Some next → Whole ride → Part ride) → AddsCaught feed query latest stand Whole old new
+adds_same feed query latest stand Part Whole old new a part = record { still = a.still; all = λ ride next e wanted whole. a.all ride next e wanted (part ride next e whole); right = a.right }
 
 -- a part of which no ride is caught
-pub adds_none : (feed : FeedRows) (query : Query) (marks : List Bool) (stand : Stand) (Whole : Ride → Type 0) (rides : List CaughtRide) →
-    ((ride : Ride) (next : Stand) → next_in_time feed query stand ride ≡ Some next → Whole ride → ⊥) → AddsCaught feed query marks stand Whole rides rides
-adds_none feed query marks stand Whole rides never = record { still = λ ride h. h; all = λ ride next e wanted whole. absurd (never ride next e whole); right = λ h. h }
+pub adds_none : (feed : FeedRows) (query : Query) (latest : List (Option Moment)) (stand : Stand) (Whole : Ride → Type 0) (rides : List CaughtRide) →
+    ((ride : Ride) (next : Stand) → next_in_time feed query stand ride ≡ Some next → Whole ride → ⊥) → AddsCaught feed query latest stand Whole rides rides
+adds_none feed query latest stand Whole rides never = record { still = λ ride h. h; all = λ ride next e wanted whole. absurd (never ride next e whole); right = λ h. h }
 
 -- a ride by a departure, to a call, is that one
 same_ride : (feed : FeedRows) (d : Departure) (to : ℕ) (ride : Ride) → IsByTo feed d to ride → ride ≡ ride_to d to
@@ -146,50 +147,43 @@ caught_facts feed query d to call facts right later is goes =
     facts_by feed d to call right later is ∙ rw off (ap Some got.1)
 
 -- the ride by a departure is added
-pub adds_ride : (feed : FeedRows) (query : Query) (marks : List Bool) (stand : Stand) (d : Departure) (to : ℕ) (call : Call) (ride : Ride) (facts : RideFacts) (old new : List CaughtRide) → IsReached feed query stand d → d.from < to → slice_get (calls_of feed d.trip) to ≡ Some call →
-    facts_in_time query d call ≡ Some facts → ride ≡ ride_to d to → new ≡ old ++ record { ride = ride; facts = facts } ∷ [] → AddsCaught feed query marks stand (IsByTo feed d to) old new
-adds_ride feed query marks stand d to call ride facts old new reached later at goes is pushed =
+pub adds_ride : (feed : FeedRows) (query : Query) (latest : List (Option Moment)) (stand : Stand) (d : Departure) (to : ℕ) (call : Call) (ride : Ride) (facts : RideFacts) (old new : List CaughtRide) → IsReached feed query stand d → d.from < to → slice_get (calls_of feed d.trip) to ≡ Some call →
+    facts_in_time query d call ≡ Some facts → ride ≡ ride_to d to → new ≡ old ++ record { ride = ride; facts = facts } ∷ [] → AddsCaught feed query latest stand (IsByTo feed d to) old new
+adds_ride feed query latest stand d to call ride facts old new reached later at goes is pushed =
     let caught : CaughtRide = record { ride = ride_to d to; facts = facts } in
     let next : next_in_time feed query stand (ride_to d to) ≡ Some (stand_at_end facts) = next_by feed query stand d to call reached later at ∙ ap (option_map stand_at_end) goes in
     let right : IsRight feed query stand caught = record { facts = caught_facts feed query d to call facts reached.right later at goes; next = next } in
     let all : new ≡ old ++ caught ∷ [] = pushed ∙ ap (λ r. old ++ record { ride = r; facts = facts } ∷ []) is in
-    subst (AddsCaught feed query marks stand (IsByTo feed d to) old) (sym all) (record {
+    subst (AddsCaught feed query latest stand (IsByTo feed d to) old) (sym all) (record {
       still = λ other h. (h.0, Contains-append_left old (caught ∷ []) h.0 h.1, h.2);
       all = λ other after e wanted by. (caught, Contains-push old caught, sym (same_ride feed d to other by));
       right = λ h. All-append (IsRight feed query stand) old (caught ∷ []) h (All-cons (IsRight feed query stand) caught [] right (All-nil (IsRight feed query stand)));
     })
 
 -- where it isn't in time, nothing is to be added
-pub adds_no_ride : (feed : FeedRows) (query : Query) (marks : List Bool) (stand : Stand) (d : Departure) (to : ℕ) (call : Call) (rides : List CaughtRide) → IsReached feed query stand d → d.from < to → slice_get (calls_of feed d.trip) to ≡ Some call →
-    facts_in_time query d call ≡ None → AddsCaught feed query marks stand (IsByTo feed d to) rides rides
-adds_no_ride feed query marks stand d to call rides reached later is never =
-    adds_none feed query marks stand (IsByTo feed d to) rides
+pub adds_no_ride : (feed : FeedRows) (query : Query) (latest : List (Option Moment)) (stand : Stand) (d : Departure) (to : ℕ) (call : Call) (rides : List CaughtRide) → IsReached feed query stand d → d.from < to → slice_get (calls_of feed d.trip) to ≡ Some call →
+    facts_in_time query d call ≡ None → AddsCaught feed query latest stand (IsByTo feed d to) rides rides
+adds_no_ride feed query latest stand d to call rides reached later is never =
+    adds_none feed query latest stand (IsByTo feed d to) rides
     (λ ride next e by.
     let there : next_in_time feed query stand ride ≡ None = ap (next_in_time feed query stand) (same_ride feed d to ride by) ∙ next_by feed query stand d to call reached later is ∙ ap (option_map stand_at_end) never in
     none-some next (sym there ∙ e))
 
--- what a mapped option tells
-pub option_map-tells : {X Y : Type 0} (f : X → Y) (o : Option X) (y : Y) → option_map f o ≡ Some y → (x : X) × (o ≡ Some x) × (f x ≡ y)
-option_map-tells f None y e = absurd (none-some y e)
-option_map-tells f (Some x) y e = (x, refl, same_Some _ _ e)
-
--- the ride by a departure ends at the stop of the call
-facts_stop : (query : Query) (d : Departure) (call : Call) (facts : RideFacts) → facts_in_time query d call ≡ Some facts → call.stop ≡ facts.to
-unfolding facts_in_time
-facts_stop query d call facts goes =
-    ap (λ (f : RideFacts). f.to) (cond_some (call.drop_off && int_le (facts_to d call).arrival.0 (deadline query)) (facts_to d call) facts goes).1
-
--- nor where its stop isn't marked
-pub adds_unwanted : (feed : FeedRows) (query : Query) (marks : List Bool) (stand : Stand) (d : Departure) (to : ℕ) (call : Call) (rides : List CaughtRide) →
-    IsReached feed query stand d → d.from < to → slice_get (calls_of feed d.trip) to ≡ Some call → is_marked marks call.stop.0 ≡ false →
-    AddsCaught feed query marks stand (IsByTo feed d to) rides rides
-adds_unwanted feed query marks stand d to call rides reached later is unwanted = record {
+-- nor where it arrives too late
+pub adds_late : (feed : FeedRows) (query : Query) (latest : List (Option Moment)) (stand : Stand) (d : Departure) (to : ℕ)
+    (call : Call) (facts : RideFacts) (rides : List CaughtRide) →
+    IsReached feed query stand d → d.from < to → slice_get (calls_of feed d.trip) to ≡ Some call →
+    facts_in_time query d call ≡ Some facts → is_early latest facts.to.0 facts.arrival.0 ≡ false →
+    AddsCaught feed query latest stand (IsByTo feed d to) rides rides
+adds_late feed query latest stand d to call facts rides reached later is goes late = record {
   still = λ ride h. h;
   all = λ ride next e wanted by.
-      let there = ap (next_in_time feed query stand) (sym (same_ride feed d to ride by)) ∙ e in
-      let goes = option_map-tells stand_at_end (facts_in_time query d call) next (sym (next_by feed query stand d to call reached later is) ∙ there) in
-      let stops = facts_stop query d call goes.0 goes.1 in
-      absurd (both_ways (is_marked marks call.stop.0) unwanted (subst (λ (s : StopId). is_marked marks s.0 ≡ true) (sym stops) (subst (λ (n : Stand). is_marked marks n.stop.0 ≡ true) (sym goes.2) wanted)));
+      let there : next_in_time feed query stand ride ≡ Some (stand_at_end facts) =
+      ap (next_in_time feed query stand) (same_ride feed d to ride by) ∙ next_by feed query stand d to call reached later is
+      ∙ ap (option_map stand_at_end) goes in
+      let ends : stand_at_end facts ≡ next = same_Some _ _ (sym there ∙ e) in
+      absurd (both_ways (is_early latest facts.to.0 facts.arrival.0) late
+      (subst (λ (n : Stand). is_early latest n.stop.0 n.at ≡ true) (sym ends) wanted));
   right = λ h. h;
 }
 
@@ -227,19 +221,19 @@ caught_spanned feed sought stand ride next within board c = record {
     onward from at departs way a b = omega (arith, ints)
 
 -- the rides from its call to a later call are all by a departure
-pub adds_departure : (feed : FeedRows) (query : Query) (marks : List Bool) (stand : Stand) (d : Departure) (n : ℕ) (old new : List CaughtRide) → length (calls_of feed d.trip) ≤ n →
-    AddsCaught feed query marks stand (IsByBefore feed d n) old new → AddsCaught feed query marks stand (IsBy feed d) old new
-adds_departure feed query marks stand d n old new all adds =
-    adds_same feed query marks stand (IsByBefore feed d n) (IsBy feed d) old new adds
+pub adds_departure : (feed : FeedRows) (query : Query) (latest : List (Option Moment)) (stand : Stand) (d : Departure) (n : ℕ) (old new : List CaughtRide) → length (calls_of feed d.trip) ≤ n →
+    AddsCaught feed query latest stand (IsByBefore feed d n) old new → AddsCaught feed query latest stand (IsBy feed d) old new
+adds_departure feed query latest stand d n old new all adds =
+    adds_same feed query latest stand (IsByBefore feed d n) (IsBy feed d) old new adds
     (λ ride next e by.
     let last = (caught_calls feed query stand ride next e).1 in
     let here : ride.to < length (calls_of feed d.trip) = subst (λ t. ride.to < length (calls_of feed t)) (ap (λ (x : Departure). x.trip) by.made) last in
     (by, omega arith))
 
 -- none of them ends before its call
-pub adds_first : (feed : FeedRows) (query : Query) (marks : List Bool) (stand : Stand) (d : Departure) (n : ℕ) (rides : List CaughtRide) → n ≤ d.from + 1 → AddsCaught feed query marks stand (IsByBefore feed d n) rides rides
-adds_first feed query marks stand d n rides early =
-    adds_none feed query marks stand (IsByBefore feed d n) rides
+pub adds_first : (feed : FeedRows) (query : Query) (latest : List (Option Moment)) (stand : Stand) (d : Departure) (n : ℕ) (rides : List CaughtRide) → n ≤ d.from + 1 → AddsCaught feed query latest stand (IsByBefore feed d n) rides rides
+adds_first feed query latest stand d n rides early =
+    adds_none feed query latest stand (IsByBefore feed d n) rides
     (λ ride next e by.
     let forward = (caught_calls feed query stand ride next e).0 in
     let from : ride.from ≡ d.from = ap (λ (x : Departure). x.from) by.0.made in
@@ -247,10 +241,10 @@ adds_first feed query marks stand d n rides early =
     omega (arith, forward, from, below, early))
 
 -- one call more
-pub adds_call : (feed : FeedRows) (query : Query) (marks : List Bool) (stand : Stand) (d : Departure) (to : ℕ) (old mid new : List CaughtRide) →
-    AddsCaught feed query marks stand (IsByBefore feed d to) old mid → AddsCaught feed query marks stand (IsByTo feed d to) mid new → AddsCaught feed query marks stand (IsByBefore feed d (to + 1)) old new
-adds_call feed query marks stand d to old mid new before adds =
-    adds_more feed query marks stand (IsByBefore feed d to) (IsByTo feed d to) (IsByBefore feed d (to + 1)) old mid new before adds
+pub adds_call : (feed : FeedRows) (query : Query) (latest : List (Option Moment)) (stand : Stand) (d : Departure) (to : ℕ) (old mid new : List CaughtRide) →
+    AddsCaught feed query latest stand (IsByBefore feed d to) old mid → AddsCaught feed query latest stand (IsByTo feed d to) mid new → AddsCaught feed query latest stand (IsByBefore feed d (to + 1)) old new
+adds_call feed query latest stand d to old mid new before adds =
+    adds_more feed query latest stand (IsByBefore feed d to) (IsByTo feed d to) (IsByBefore feed d (to + 1)) old mid new before adds
     (λ ride next e by. let below = by.1 in ⊎_elim (λ lt. inl (by.0, lt)) (λ ge. inr (by.0, omega arith)) (cases_lt ride.to to))
 
 -- departures that stand in the order of their moments are parted by each moment
@@ -280,10 +274,10 @@ reaches feed query stand stop way earliest departures first k x way_is at right 
     }
 
 -- none before is caught
-pub adds_missed : (feed : FeedRows) (query : Query) (marks : List Bool) (stand : Stand) (stop : StopId) (way : ℕ) (earliest : ℤ) (departures : List Departure) (first : ℕ) (rides : List CaughtRide) → way_to feed query stand stop ≡ Some way → earliest ≡ stand.at +ℤ pos way →
-    All (IsFromStop feed stop.0) departures → IsFirstSince departures earliest first → AddsCaught feed query marks stand (IsByAmong feed departures first) rides rides
-adds_missed feed query marks stand stop way earliest departures first rides way_is at right since =
-    adds_none feed query marks stand (IsByAmong feed departures first) rides
+pub adds_missed : (feed : FeedRows) (query : Query) (latest : List (Option Moment)) (stand : Stand) (stop : StopId) (way : ℕ) (earliest : ℤ) (departures : List Departure) (first : ℕ) (rides : List CaughtRide) → way_to feed query stand stop ≡ Some way → earliest ≡ stand.at +ℤ pos way →
+    All (IsFromStop feed stop.0) departures → IsFirstSince departures earliest first → AddsCaught feed query latest stand (IsByAmong feed departures first) rides rides
+adds_missed feed query latest stand stop way earliest departures first rides way_is at right since =
+    adds_none feed query latest stand (IsByAmong feed departures first) rides
     (λ ride next e among.
     let c = caught_ride feed query stand ride next e in
     let k = among.0 in
@@ -305,10 +299,10 @@ adds_missed feed query marks stand stop way earliest departures first rides way_
     apart at departs leaves earliest walked way a b c d e = omega (arith, ints)
 
 -- one departure more
-pub adds_among : (feed : FeedRows) (query : Query) (marks : List Bool) (stand : Stand) (departures : List Departure) (k : ℕ) (x : Departure) (old mid new : List CaughtRide) → k < length departures →
-    AddsCaught feed query marks stand (IsByAmong feed departures k) old mid → AddsCaught feed query marks stand (IsBy feed (get_or departures k x)) mid new → AddsCaught feed query marks stand (IsByAmong feed departures (k + 1)) old new
-adds_among feed query marks stand departures k x old mid new lt before adds =
-    adds_more feed query marks stand (IsByAmong feed departures k) (IsBy feed (get_or departures k x)) (IsByAmong feed departures (k + 1)) old mid new before adds
+pub adds_among : (feed : FeedRows) (query : Query) (latest : List (Option Moment)) (stand : Stand) (departures : List Departure) (k : ℕ) (x : Departure) (old mid new : List CaughtRide) → k < length departures →
+    AddsCaught feed query latest stand (IsByAmong feed departures k) old mid → AddsCaught feed query latest stand (IsBy feed (get_or departures k x)) mid new → AddsCaught feed query latest stand (IsByAmong feed departures (k + 1)) old new
+adds_among feed query latest stand departures k x old mid new lt before adds =
+    adds_more feed query latest stand (IsByAmong feed departures k) (IsBy feed (get_or departures k x)) (IsByAmong feed departures (k + 1)) old mid new before adds
     (λ ride next e among.
     let below = among.1 in
     ⊎_elim (λ lower. inl (among.0, lower, among.2, among.3, among.4))
@@ -318,13 +312,13 @@ adds_among feed query marks stand departures k x old mid new lt before adds =
     (cases_lt among.0 k))
 
 -- all departures from a stop
-pub adds_stop : (feed : FeedRows) (query : Query) (marks : List Bool) (sought : Seeking) (stand : Stand) (stop n : ℕ)
+pub adds_stop : (feed : FeedRows) (query : Query) (latest : List (Option Moment)) (sought : Seeking) (stand : Stand) (stop n : ℕ)
     (departures : List (List Departure)) (old new : List CaughtRide) →
     sought.query ≡ query → IsWithinWindow query stand.at → MayBoard feed sought stand →
     AreDepartures feed sought departures →
-    length (departures_at departures stop) ≤ n → AddsCaught feed query marks stand (IsByAmong feed (departures_at departures stop) n) old new → AddsCaught feed query marks stand (BoardsAt feed stop) old new
-adds_stop feed query marks sought stand stop n departures old new same within board are all adds =
-    adds_same feed query marks stand (IsByAmong feed (departures_at departures stop) n) (BoardsAt feed stop) old new adds
+    length (departures_at departures stop) ≤ n → AddsCaught feed query latest stand (IsByAmong feed (departures_at departures stop) n) old new → AddsCaught feed query latest stand (BoardsAt feed stop) old new
+adds_stop feed query latest sought stand stop n departures old new same within board are all adds =
+    adds_same feed query latest stand (IsByAmong feed (departures_at departures stop) n) (BoardsAt feed stop) old new adds
     (λ ride next e boards.
     let c = caught_ride feed sought.query stand ride next (subst (λ q. next_in_time feed q stand ride ≡ Some next)
     (sym same) e) in
@@ -337,32 +331,32 @@ adds_stop feed query marks sought stand stop n departures old new same within bo
     (has.0, omega arith, d, slice_get-get_or (departures_at departures stop) has.0 d lt ∙ ap Some has.2, record { facts = c.facts; is = c.is; made = refl }))
 
 -- a stop to which there is no way has no ride
-pub adds_no_way : (feed : FeedRows) (query : Query) (marks : List Bool) (stand : Stand) (stop : StopId) (rides : List CaughtRide) → way_to feed query stand stop ≡ None → AddsCaught feed query marks stand (BoardsAt feed stop.0) rides rides
-adds_no_way feed query marks stand stop rides none =
-    adds_none feed query marks stand (BoardsAt feed stop.0) rides
+pub adds_no_way : (feed : FeedRows) (query : Query) (latest : List (Option Moment)) (stand : Stand) (stop : StopId) (rides : List CaughtRide) → way_to feed query stand stop ≡ None → AddsCaught feed query latest stand (BoardsAt feed stop.0) rides rides
+adds_no_way feed query latest stand stop rides none =
+    adds_none feed query latest stand (BoardsAt feed stop.0) rides
     (λ ride next e boards.
     let c = caught_ride feed query stand ride next e in
     let from : c.facts.from.0 ≡ stop.0 = ap (λ (f : RideFacts). f.from.0) (same_Some _ _ (sym c.is ∙ boards.is)) ∙ boards.at in
     none-some c.way (sym none ∙ ap (way_to feed query stand) (sym (ap stop_id from)) ∙ c.way_is))
 
 -- where a walk leads from a stop to itself, none is barred
-pub adds_unbarred : (feed : FeedRows) (query : Query) (marks : List Bool) (stand : Stand) (seconds : ℕ) (rides : List CaughtRide) → link feed stand.stop stand.stop ≡ Some seconds → AddsCaught feed query marks stand (IsBarred feed stand) rides rides
-adds_unbarred feed query marks stand seconds rides some = adds_none feed query marks stand (IsBarred feed stand) rides (λ ride next e barred. none-some seconds (sym barred.0 ∙ some))
+pub adds_unbarred : (feed : FeedRows) (query : Query) (latest : List (Option Moment)) (stand : Stand) (seconds : ℕ) (rides : List CaughtRide) → link feed stand.stop stand.stop ≡ Some seconds → AddsCaught feed query latest stand (IsBarred feed stand) rides rides
+adds_unbarred feed query latest stand seconds rides some = adds_none feed query latest stand (IsBarred feed stand) rides (λ ride next e barred. none-some seconds (sym barred.0 ∙ some))
 
-pub adds_barred : (feed : FeedRows) (query : Query) (marks : List Bool) (stand : Stand) (old new : List CaughtRide) → AddsCaught feed query marks stand (BoardsAt feed stand.stop.0) old new → AddsCaught feed query marks stand (IsBarred feed stand) old new
-adds_barred feed query marks stand old new adds = adds_same feed query marks stand (BoardsAt feed stand.stop.0) (IsBarred feed stand) old new adds (λ ride next e barred. barred.1)
+pub adds_barred : (feed : FeedRows) (query : Query) (latest : List (Option Moment)) (stand : Stand) (old new : List CaughtRide) → AddsCaught feed query latest stand (BoardsAt feed stand.stop.0) old new → AddsCaught feed query latest stand (IsBarred feed stand) old new
+adds_barred feed query latest stand old new adds = adds_same feed query latest stand (BoardsAt feed stand.stop.0) (IsBarred feed stand) old new adds (λ ride next e barred. barred.1)
 
 -- before the first walk
-pub adds_near : (feed : FeedRows) (query : Query) (marks : List Bool) (stand : Stand) (walks : List Step) (old new : List CaughtRide) → AddsCaught feed query marks stand (IsBarred feed stand) old new → AddsCaught feed query marks stand (BoardsNear feed stand walks 0) old new
-adds_near feed query marks stand walks old new adds =
-    adds_same feed query marks stand (IsBarred feed stand) (BoardsNear feed stand walks 0) old new adds
+pub adds_near : (feed : FeedRows) (query : Query) (latest : List (Option Moment)) (stand : Stand) (walks : List Step) (old new : List CaughtRide) → AddsCaught feed query latest stand (IsBarred feed stand) old new → AddsCaught feed query latest stand (BoardsNear feed stand walks 0) old new
+adds_near feed query latest stand walks old new adds =
+    adds_same feed query latest stand (IsBarred feed stand) (BoardsNear feed stand walks 0) old new adds
     (λ ride next e near. ⊎_elim (λ barred. barred) (λ among. let below = among.1 in absurd (omega (arith, below))) near)
 
 -- one walk more
-pub adds_walk : (feed : FeedRows) (query : Query) (marks : List Bool) (stand : Stand) (walks : List Step) (k : ℕ) (x : Step) (old mid new : List CaughtRide) → k < length walks →
-    AddsCaught feed query marks stand (BoardsNear feed stand walks k) old mid → AddsCaught feed query marks stand (BoardsAt feed (get_or walks k x).to.0) mid new → AddsCaught feed query marks stand (BoardsNear feed stand walks (k + 1)) old new
-adds_walk feed query marks stand walks k x old mid new lt before adds =
-    adds_more feed query marks stand (BoardsNear feed stand walks k) (BoardsAt feed (get_or walks k x).to.0) (BoardsNear feed stand walks (k + 1)) old mid new before adds
+pub adds_walk : (feed : FeedRows) (query : Query) (latest : List (Option Moment)) (stand : Stand) (walks : List Step) (k : ℕ) (x : Step) (old mid new : List CaughtRide) → k < length walks →
+    AddsCaught feed query latest stand (BoardsNear feed stand walks k) old mid → AddsCaught feed query latest stand (BoardsAt feed (get_or walks k x).to.0) mid new → AddsCaught feed query latest stand (BoardsNear feed stand walks (k + 1)) old new
+adds_walk feed query latest stand walks k x old mid new lt before adds =
+    adds_more feed query latest stand (BoardsNear feed stand walks k) (BoardsAt feed (get_or walks k x).to.0) (BoardsNear feed stand walks (k + 1)) old mid new before adds
     (λ ride next e near. ⊎_elim (λ barred. inl (inl barred)) (λ among. walk ride among.0 among.1 among.2 among.3 among.4) near)
   where
     walk : (ride : Ride) (i : ℕ) → i < k + 1 → (step : Step) → slice_get walks i ≡ Some step → BoardsAt feed step.to.0 ride → BoardsNear feed stand walks k ride ⊎ BoardsAt feed (get_or walks k x).to.0 ride
@@ -404,10 +398,10 @@ in_walks feed from to seconds lt is =
     Contains-joined_below (length feed.stops) (λ i. step_list (record { 0 = i }) (link feed from (record { 0 = i }))) to.0 step lt (rw is (Contains-cons_first step []))
 
 -- all walks
-pub has_caught : (feed : FeedRows) (query : Query) (marks : List Bool) (stand : Stand) (walks : List Step) (n : ℕ)
+pub has_caught : (feed : FeedRows) (query : Query) (latest : List (Option Moment)) (stand : Stand) (walks : List Step) (n : ℕ)
     (rides : List CaughtRide) → IsSoundFeed feed → walks ≡ out_of feed stand.stop → length walks ≤ n →
-    AddsCaught feed query marks stand (BoardsNear feed stand walks n) [] rides → HasCaughtAmong feed query marks stand rides
-has_caught feed query marks stand walks n rides sound are all adds ride next e wanted =
+    AddsCaught feed query latest stand (BoardsNear feed stand walks n) [] rides → HasCaughtBy feed query latest stand rides
+has_caught feed query latest stand walks n rides sound are all adds ride next e wanted =
     let c = caught_ride feed query stand ride next e in
     let stop : c.facts.from.0 < length feed.stops = ride_stop feed ride c.facts sound c.is in
     adds.all ride next e wanted (⊎_elim

@@ -1,6 +1,7 @@
 -- Rides that are caught and end within a query's window.
-use Rattle.std.specs.Prelude.{◌≡◌, ℕ, ◌<◌, ◌≤◌, Bool, true, Option, Some, All, Contains, List, slice_index_or, ℤ, pos, negsuc, ◌+ℤ◌, ◌-ℤ◌, ◌≤ℤ◌, ◌<ℤ◌, int_le, option_and_then}
+use Rattle.std.specs.Prelude.{◌≡◌, ℕ, ◌<◌, ◌≤◌, Bool, true, false, Option, Some, None, All, Contains, List, slice_get, slice_index_or, ℤ, pos, negsuc, ◌+ℤ◌, ◌-ℤ◌, ◌≤ℤ◌, ◌<ℤ◌, int_le, option_and_then}
 use Rattle.transit_base.specs.Moments.{moment_at, civil_day}
+use Rattle.transit_base.specs.declared.moments.Moment.{Moment}
 use Rattle.transit_base.specs.declared.numbers.TripId.{TripId}
 use Rattle.feed_rows.specs.declared.journeys.Call.{Call}
 use Rattle.feed_rows.specs.declared.journeys.Query.{Query}
@@ -10,7 +11,6 @@ use Rattle.feed_rows.specs.Limits.{most_window}
 use Rattle.feed_rows.specs.JourneyStands.{Stand, stand_at_end, next_stand}
 use Rattle.feed_rows.specs.Rides.{ride_facts}
 use Rattle.plain_laws.specs.Plain.{when}
-use Rattle.plan_rides.specs.Boarding.{is_marked}
 use Rattle.plan_rides.specs.Runs.{RunOf}
 use Rattle.plan_rides.specs.declared.caught.CaughtRide.{CaughtRide}
 
@@ -55,12 +55,26 @@ pub record IsRight (feed : FeedRows) (query : Query) (stand : Stand) (caught : C
 abbrev pub HasRide : List CaughtRide → Ride → Type 0
 HasRide rides ride = (caught : CaughtRide) × Contains rides caught × (caught.ride ≡ ride)
 
--- the list has what it had, and each ride of this part that is caught from here in time and alights at a marked stop, and
--- stays right
-pub record AddsCaught (feed : FeedRows) (query : Query) (marks : List Bool) (stand : Stand) (Part : Ride → Type 0)
+-- the moment is no later than this one; none is where there is none
+unfoldable pub is_by : Option Moment → ℤ → Bool
+is_by (Some latest) at = int_le at latest.0
+is_by None at = false
+
+-- the same; any moment is where no list says
+unfoldable pub is_by_any : Option (Option Moment) → ℤ → Bool
+is_by_any (Some latest) at = is_by latest at
+is_by_any None at = true
+
+-- the moment is no later than the latest at the stop; any will do at a stop past the end of the list
+abbrev pub is_early : List (Option Moment) → ℕ → ℤ → Bool
+is_early latest stop at = is_by_any (slice_get latest stop) at
+
+-- the list has what it had, and each ride of this part that is caught from here in time and arrives early enough, and stays
+-- right
+pub record AddsCaught (feed : FeedRows) (query : Query) (latest : List (Option Moment)) (stand : Stand) (Part : Ride → Type 0)
     (old new : List CaughtRide) : Type 0 where
   pub still : (ride : Ride) → HasRide old ride → HasRide new ride
-  pub all : (ride : Ride) (next : Stand) → next_in_time feed query stand ride ≡ Some next → is_marked marks next.stop.0 ≡ true
+  pub all : (ride : Ride) (next : Stand) → next_in_time feed query stand ride ≡ Some next → is_early latest next.stop.0 next.at ≡ true
       → Part ride → HasRide new ride
   pub right : All (IsRight feed query stand) old → All (IsRight feed query stand) new
 
@@ -109,7 +123,8 @@ day_after query = civil_day (deadline query) +ℤ pos 1
 abbrev pub HasCaught : FeedRows → Query → Stand → List CaughtRide → Type 0
 HasCaught feed query stand rides = (ride : Ride) (next : Stand) → next_in_time feed query stand ride ≡ Some next → HasRide rides ride
 
--- the list has each of them that alights at a marked stop
-abbrev pub HasCaughtAmong : FeedRows → Query → List Bool → Stand → List CaughtRide → Type 0
-HasCaughtAmong feed query marks stand rides =
-    (ride : Ride) (next : Stand) → next_in_time feed query stand ride ≡ Some next → is_marked marks next.stop.0 ≡ true → HasRide rides ride
+-- the list has each of them that arrives early enough
+abbrev pub HasCaughtBy : FeedRows → Query → List (Option Moment) → Stand → List CaughtRide → Type 0
+HasCaughtBy feed query latest stand rides =
+    (ride : Ride) (next : Stand) → next_in_time feed query stand ride ≡ Some next → is_early latest next.stop.0 next.at ≡ true →
+    HasRide rides ride

@@ -2,5 +2,6 @@ pub mod Asked
 pub mod Boarding
 pub mod Departures
 pub mod InTime
+pub mod Latest
 pub mod Runs
 pub mod Travelling

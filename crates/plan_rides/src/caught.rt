@@ -3,13 +3,14 @@ ghost use Rattle.std.specs.Prelude.{◌≡◌, ◌<◌, ◌≤◌, ◌^◌, All,
 ghost use Rattle.feed_rows.specs.Calls.{calls_of};
 ghost use Rattle.feed_rows.specs.declared.journeys.Call.{Call};
 ghost use Rattle.feed_timetable.specs.Standings.{stand_of};
-ghost use Rattle.plan_rides.specs.Boarding.{MayBoard, is_marked};
+ghost use Rattle.plan_rides.specs.Boarding.{MayBoard};
 ghost use Rattle.plan_rides.specs.Departures.{AreDepartures, BoardsAt, DoRise, IsBy, IsDeparture, IsByTo, IsFirstSince, IsReached, facts_in_time};
-ghost use Rattle.plan_rides.specs.InTime.{IsUsualQuery, IsWithinWindow, AddsCaught, HasCaughtAmong, IsRight};
+ghost use Rattle.plan_rides.specs.InTime.{IsUsualQuery, IsWithinWindow, AddsCaught, HasCaughtBy, IsRight, is_early};
 ghost use Rattle.plan_rides.specs.Travelling.{IsBarred, travelling};
 ghost use Rattle.transit_base.specs.Limits.{most_time};
 
-use crate::departures::{Departure, deadline};
+use crate::departures::Departure;
+use crate::latest::is_early;
 use crate::sought::Sought;
 use feed_rows::{Call, Query, Ride, RideFacts};
 use feed_timetable::{Standing, Timetable};
@@ -33,16 +34,16 @@ fn first_since(departures: &[Departure], moment: Moment) -> usize
     departures.partition_point(|departure| departure.at.0 < moment.0)
 }
 
-/// A traveller of a query, the stops at which they may alight, and where they stand. Contracts see it as the feed, the query,
-/// marks of the stops, and the stand.
+/// A traveller of a query, how late they may arrive at stops, and where they stand. Contracts see it as the feed, the query,
+/// the latest moments by stop, and the stand.
 #[derive(Drop)]
 pub struct Traveller<'s, 'f> {
     timetable: &'s Timetable<'f>,
     sought: &'s Sought<'s>,
     query: &'s Query,
     departures: &'s Groups<Departure>,
-    /// A stop past the end of the marks counts as marked.
-    marks: &'s [bool],
+    /// By stop; none where they needn't arrive at all. At a stop past their end any moment will do.
+    latest: &'s [Option<Moment>],
     standing: Standing,
 }
 
@@ -56,43 +57,33 @@ impl<'s, 'f> Model for Traveller<'s, 'f> {
 
     ghost Value = { Travelling };
 
-    ghost view = { λ s. travelling s.timetable.now s.query.now s.marks.now (stand_of s.standing) };
+    ghost view = { λ s. travelling s.timetable.now s.query.now s.latest.now (stand_of s.standing) };
 
     ghost invariant = { λ s. IsUsualQuery s.query.now × IsWithinWindow s.query.now s.standing.at.0 × AreDepartures s.timetable.now s.sought.now s.departures.now × (s.sought.now.query ≡ s.query.now) × MayBoard s.timetable.now s.sought.now (stand_of s.standing) };
 }
 
 impl<'s, 'f> Traveller<'s, 'f> {
-    /// The traveller of the query, with the departures that are sought for it, who stands there and alights at marked stops.
+    /// The traveller of the query, with the departures that are sought for it, who stands there and arrives by these moments.
     pub fn new(
         timetable: &'s Timetable<'f>,
         sought: &'s Sought<'s>,
         departures: &'s Groups<Departure>,
-        marks: &'s [bool],
+        latest: &'s [Option<Moment>],
         standing: Standing,
     ) -> Traveller<'s, 'f>
         requires usual { IsUsualQuery sought.now.query }
         requires within { IsWithinWindow sought.now.query standing.at.0 }
         requires listed { AreDepartures timetable.now sought.now departures.now }
         requires boards { MayBoard timetable.now sought.now (stand_of standing) }
-        ensures { result ≡ travelling timetable.now sought.now.query marks.now (stand_of standing) }
+        ensures { result ≡ travelling timetable.now sought.now.query latest.now (stand_of standing) }
     {
         Traveller {
             timetable,
             sought,
             query: sought.query(),
             departures,
-            marks,
+            latest,
             standing,
-        }
-    }
-
-    // Whether riders are wanted to alight at the stop.
-    fn is_wanted(&self, stop: StopId) -> bool
-        ensures { result ≡ is_marked self.now.marks stop.0 }
-    {
-        match self.marks.get(stop.0 as usize) {
-            Some(mark) => *mark,
-            None => true,
         }
     }
 
@@ -106,26 +97,20 @@ impl<'s, 'f> Traveller<'s, 'f> {
         departure.run(self.timetable).calls()
     }
 
-    // Where and when the ride by the departure goes that alights at the call; none where riders may not alight there,
-    // or it ends past the window.
-    #[tactic(auto, unfolding(crate::specs::Departures::facts_in_time))]
+    // Where and when the ride by the departure goes that alights at the call, if it ends in time.
     fn facts_in_time(&self, departure: &Departure, call: &Call) -> Option<RideFacts>
         requires right { IsDeparture self.now.feed departure.now }
         requires time { call.now.arrival ≤ most_time }
         ensures { result ≡ facts_in_time self.now.query departure.now call.now }
     {
-        let run = departure.run(self.timetable);
-        let arrival = run.moment(call.arrival);
-        if !call.drop_off || arrival.0 > deadline(self.query).0 {
-            return None;
-        }
-        Some(RideFacts {
-            from: departure.stop,
-            to: call.stop,
-            network: departure.network,
-            departure: departure.at,
-            arrival,
-        })
+        departure.facts_in_time(self.timetable, self.query, call)
+    }
+
+    // Whether a ride that goes so arrives early enough.
+    fn is_early(&self, facts: &RideFacts) -> bool
+        ensures { result ≡ is_early self.now.latest facts.now.to.0 facts.now.arrival.0 }
+    {
+        is_early(self.latest, facts.to, facts.arrival)
     }
 
     // Adds the ride by the departure that alights at the call.
@@ -140,14 +125,14 @@ impl<'s, 'f> Traveller<'s, 'f> {
         requires later { departure.now.from < to }
         requires is { slice_get (calls_of self.now.feed departure.now.trip) to ≡ Some call.now }
         requires time { call.now.arrival ≤ most_time }
-        ensures { OnOk result (AddsCaught self.now.feed self.now.query self.now.marks self.now.stand (IsByTo self.now.feed departure.now to) rides.old.items rides.new.items) }
+        ensures { OnOk result (AddsCaught self.now.feed self.now.query self.now.latest self.now.stand (IsByTo self.now.feed departure.now to) rides.old.items rides.new.items) }
     {
-        if !self.is_wanted(call.stop) {
-            return Ok(());
-        }
         let Some(facts) = self.facts_in_time(departure, call) else {
             return Ok(());
         };
+        if !self.is_early(&facts) {
+            return Ok(());
+        }
         rides.push(CaughtRide {
             ride: departure.ride_to(to),
             facts,
@@ -162,7 +147,7 @@ impl<'s, 'f> Traveller<'s, 'f> {
         rides: &mut Vec<CaughtRide>,
     ) -> Result<(), AllocError>
         requires reached { IsReached self.now.feed self.now.query self.now.stand departure.now }
-        ensures { OnOk result (AddsCaught self.now.feed self.now.query self.now.marks self.now.stand (IsBy self.now.feed departure.now) rides.old.items rides.new.items) }
+        ensures { OnOk result (AddsCaught self.now.feed self.now.query self.now.latest self.now.stand (IsBy self.now.feed departure.now) rides.old.items rides.new.items) }
     {
         let calls = self.calls_of(departure);
         for to in departure.from + 1..calls.len() as u32 {
@@ -173,7 +158,7 @@ impl<'s, 'f> Traveller<'s, 'f> {
 
     // Adds the rides from a stop: by the departures since one gets there.
     fn add_stop(&self, stop: StopId, rides: &mut Vec<CaughtRide>) -> Result<(), AllocError>
-        ensures { OnOk result (AddsCaught self.now.feed self.now.query self.now.marks self.now.stand (BoardsAt self.now.feed stop.0) rides.old.items rides.new.items) }
+        ensures { OnOk result (AddsCaught self.now.feed self.now.query self.now.latest self.now.stand (BoardsAt self.now.feed stop.0) rides.old.items rides.new.items) }
     {
         let Some(seconds) = self.timetable.way_to(self.query, self.standing, stop) else {
             return Ok(());
@@ -189,7 +174,7 @@ impl<'s, 'f> Traveller<'s, 'f> {
 
     // Adds the rides from where one stands, where no walk leads from there to itself: a journey may still begin there.
     fn add_barred(&self, rides: &mut Vec<CaughtRide>) -> Result<(), AllocError>
-        ensures { OnOk result (AddsCaught self.now.feed self.now.query self.now.marks self.now.stand (IsBarred self.now.feed self.now.stand) rides.old.items rides.new.items) }
+        ensures { OnOk result (AddsCaught self.now.feed self.now.query self.now.latest self.now.stand (IsBarred self.now.feed self.now.stand) rides.old.items rides.new.items) }
     {
         let stop = self.standing.stop;
         if let Some(_seconds) = self.timetable.link(stop, stop) {
@@ -199,12 +184,12 @@ impl<'s, 'f> Traveller<'s, 'f> {
         Ok(())
     }
 
-    /// Replaces what `rides` holds by all rides that are caught, end within the query's window and alight at a marked stop.
+    /// Replaces what `rides` holds by all rides that are caught, end within the query's window and arrive early enough.
     ///
     /// # Errors
     /// Want of memory.
     pub fn rides_into(&self, rides: &mut Vec<CaughtRide>) -> Result<(), AllocError>
-        ensures all { OnOk result (HasCaughtAmong self.now.feed self.now.query self.now.marks self.now.stand rides.new.items) }
+        ensures all { OnOk result (HasCaughtBy self.now.feed self.now.query self.now.latest self.now.stand rides.new.items) }
         ensures right { OnOk result (All (IsRight self.now.feed self.now.query self.now.stand) rides.new.items) }
     {
         let _feed = self.timetable.feed();

@@ -9,13 +9,14 @@ ghost use Rattle.feed_rows.specs.declared.journeys.Call.{Call};
 ghost use Rattle.feed_rows.specs.declared.journeys.Ride.{Ride};
 ghost use Rattle.feed_timetable.specs.Standings.{AreShifts};
 ghost use Rattle.plan_rides.specs.Boarding.{is_boarding};
-ghost use Rattle.plan_rides.specs.Departures.{AreBoarded, AreDepartures, HasDepartures, AreInOrder, IsDeparture, Lists, is_listed, ride_to};
+ghost use Rattle.plan_rides.specs.Departures.{AreBoarded, AreDepartures, HasDepartures, AreInOrder, IsDeparture, Lists, facts_in_time, is_listed, ride_to};
 ghost use Rattle.plan_rides.specs.InTime.{deadline, IsUsualQuery, HasShift, IsOnTrip, IsOnDay, IsOnDays, first_day, day_after};
 ghost use Rattle.plan_rides.specs.Runs.{IsServed, run_of};
+ghost use Rattle.transit_base.specs.Limits.{most_time};
 
 use crate::runs::Run;
 use crate::sought::Sought;
-use feed_rows::{Call, Query, Ride};
+use feed_rows::{Call, Query, Ride, RideFacts};
 use feed_timetable::Timetable;
 use plain_laws::{Grouped, Groups};
 use std::alloc::{AllocError, Global};
@@ -42,6 +43,33 @@ impl Departure {
         ensures { result ≡ run_of timetable.now self.now.trip self.now.day self.now.shift }
     {
         Run::new(timetable, self.trip, self.day, self.shift)
+    }
+
+    /// Where and when the ride by it goes that alights at the call; none where riders may not alight there, or it ends past the
+    /// window.
+    #[tactic(auto, unfolding(crate::specs::Departures::facts_in_time))]
+    pub fn facts_in_time(
+        &self,
+        timetable: &Timetable,
+        query: &Query,
+        call: &Call,
+    ) -> Option<RideFacts>
+        requires usual { IsUsualQuery query.now }
+        requires right { IsDeparture timetable.now self.now }
+        requires time { call.now.arrival ≤ most_time }
+        ensures { result ≡ facts_in_time query.now self.now call.now }
+    {
+        let arrival = self.run(timetable).moment(call.arrival);
+        if !call.drop_off || arrival.0 > deadline(query).0 {
+            return None;
+        }
+        Some(RideFacts {
+            from: self.stop,
+            to: call.stop,
+            network: self.network,
+            departure: self.at,
+            arrival,
+        })
     }
 
     /// The ride by it that alights at the call at this place.

@@ -3,6 +3,7 @@
 
 mod caught;
 mod departures;
+mod latest;
 mod rides;
 mod runs;
 mod sought;

@@ -1,14 +1,16 @@
 //! The rides of a query over a timetable.
-ghost use Rattle.std.specs.Prelude.{◌≡◌, All, IfOk, OnOk, option_map};
+ghost use Rattle.std.specs.Prelude.{◌≡◌, ◌<◌, All, IfOk, OnOk, length, option_map};
 ghost use Rattle.feed_rows.specs.JourneyStands.{first_stand};
 ghost use Rattle.feed_rows.specs.SoundFeed.{IsSoundFeed};
 ghost use Rattle.feed_timetable.specs.Standings.{stand_of};
 ghost use Rattle.plan_rides.specs.Asked.{asked, arrival_in_time};
 ghost use Rattle.plan_rides.specs.Boarding.{MayRide};
-ghost use Rattle.plan_rides.specs.InTime.{IsUsualQuery, IsDeadline, IsWithinWindow, HasCaught, HasCaughtAmong, IsRight};
+ghost use Rattle.plan_rides.specs.InTime.{IsUsualQuery, IsDeadline, IsWithinWindow, HasCaught, HasCaughtBy, IsRight};
+ghost use Rattle.plan_rides.specs.Latest.{IsOneMore};
 
 use crate::caught::{CaughtRide, Traveller};
 use crate::departures::{Departure, deadline, departures_of};
+use crate::latest::{last_departures, latest_before};
 use crate::sought::Sought;
 use feed_rows::Query;
 use feed_timetable::{Standing, Timetable};
@@ -127,20 +129,20 @@ impl<'s, 'f> Rides<'s, 'f> {
         Some(arrival)
     }
 
-    /// Replaces what `rides` holds by the rides that are caught from where one stands, end within the window and alight at a
-    /// marked stop; a stop past the end of the marks counts as marked.
+    /// Replaces what `rides` holds by the rides that are caught from where one stands, end within the window and arrive at a stop
+    /// no later than the latest moment there: at none where that is none, and at any at a stop past their end.
     ///
     /// # Errors
     /// Want of memory.
-    pub fn next_among(
+    pub fn next_by(
         &self,
-        marks: &[bool],
+        latest: &[Option<Moment>],
         standing: Standing,
         rides: &mut Vec<CaughtRide>,
     ) -> Result<(), AllocError>
         requires within { IsWithinWindow self.now.query standing.at.0 }
         requires may { MayRide self.now.feed self.now.query (stand_of standing) }
-        ensures all { OnOk result (HasCaughtAmong self.now.feed self.now.query marks.now (stand_of standing) rides.new.items) }
+        ensures all { OnOk result (HasCaughtBy self.now.feed self.now.query latest.now (stand_of standing) rides.new.items) }
         ensures right { OnOk result (All (IsRight self.now.feed self.now.query (stand_of standing)) rides.new.items) }
         ensures sound { IsSoundFeed self.now.feed }
     {
@@ -149,10 +151,34 @@ impl<'s, 'f> Rides<'s, 'f> {
             self.timetable,
             &self.sought,
             &self.departures,
-            marks,
+            latest,
             standing,
         )
         .rides_into(rides)
+    }
+
+    /// How late one may stand at each stop, where one may be as late as this or take one more ride first.
+    ///
+    /// # Errors
+    /// Want of memory.
+    pub fn with_one_more(
+        &self,
+        alloc: Global,
+        latest: &[Option<Moment>],
+    ) -> Result<Vec<Option<Moment>>, AllocError>
+        requires rides { 1 < self.now.query.rides }
+        requires stops { length latest.now ≡ length self.now.feed.stops }
+        ensures { IfOk result (λ new. IsOneMore self.now.feed self.now.query latest.now new.items) }
+    {
+        let _feed = self.timetable.feed();
+        let lasts = last_departures(
+            alloc,
+            self.timetable,
+            &self.sought,
+            &self.departures,
+            latest,
+        )?;
+        latest_before(alloc, self.timetable, self.query, latest, &lasts)
     }
 
     /// Replaces what `rides` holds by the rides that are caught from where one stands and end within the window.
@@ -170,7 +196,7 @@ impl<'s, 'f> Rides<'s, 'f> {
         ensures right { OnOk result (All (IsRight self.now.feed self.now.query (stand_of standing)) rides.new.items) }
         ensures sound { IsSoundFeed self.now.feed }
     {
-        self.next_among(&[], standing, rides)
+        self.next_by(&[], standing, rides)
     }
 
     /// The same rides in a list of their own.

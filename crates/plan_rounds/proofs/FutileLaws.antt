@@ -4,13 +4,12 @@ use Rattle.std.specs.Prelude.{Contains, not, int_le, slice_get}
 use Rattle.std.proofs.lemmas.Int.{ints}
 use Rattle.std.proofs.lemmas.Bool.{cases_lt, and_parts, ne_eqb, not-true}
 use Rattle.std.proofs.lemmas.List.Folds.{list_any-from_Any}
-use Rattle.std.proofs.lemmas.Option.{same_Some, none-some}
+use Rattle.std.proofs.lemmas.Option.{same_Some}
 use Rattle.feed_rows.specs.declared.fares.Triple.{Triple}
 use Rattle.feed_rows.specs.declared.journeys.Query.{Query}
 use Rattle.feed_rows.specs.declared.journeys.RideFacts.{RideFacts}
 use Rattle.feed_rows.specs.declared.states.Move.{Move}
 use Rattle.feed_rows.specs.FeedRows.{FeedRows}
-use Rattle.feed_rows.specs.JourneyStands.{Stand, stand_at_end, end_arrival}
 use Rattle.feed_rows.specs.LabelCover.{Covers}
 use Rattle.feed_rows.specs.ParetoTriples.{at_most}
 use Rattle.feed_rows.specs.PartialJourneys.{LabelFacts}
@@ -19,11 +18,10 @@ use Rattle.plain_laws.proofs.Laws.{list_any_tells, int_le-true}
 use Rattle.plan_rides.specs.InTime.{IsRight}
 use Rattle.plan_rides.specs.declared.caught.CaughtRide.{CaughtRide}
 use Rattle.round_laws.specs.Futility.{IsFutile, is_within, least_end}
-use Rattle.round_laws.specs.LabelSteps.{facts_after, stand_of_facts, IsStated}
-use Rattle.round_laws.proofs.BoundLaws.{ahead_of_ride, ahead_leads, ended_leads}
+use Rattle.round_laws.specs.LabelSteps.{facts_after, IsStated}
+use Rattle.round_laws.proofs.BoundLaws.{ahead_of_ride, ahead_leads}
 use Rattle.plan_rounds.specs.declared.finals.Final.{Final}
 use Rattle.plan_rounds.specs.declared.label.Label.{Label}
-use Rattle.plan_rounds.specs.Ends.{IsNoEnd}
 use Rattle.plan_rounds.specs.Finals.{is_bettered}
 use Rattle.plan_rounds.specs.Labels.{facts_of, stand_of_label}
 use Rattle.plan_rounds.specs.Searched.{Searched, Lacks, has_ahead, is_overtaken_by}
@@ -75,20 +73,6 @@ module _ (feed : FeedRows) (query : Query) (finals : List Final) (x : Label) (ca
       ahead_of_ride feed query sound ahead.0.triple (facts_of x) b caught.ride by.0 by.1
       (subst (λ (f : RideFacts). is_within f.arrival.0 (x.rides + 1) (least_end feed query (facts_of x)) ahead.0.triple ≡ true) (sym same_ride) ahead.2) in
       bettered_by finals ahead.0 t ahead.1 (ahead_leads feed query sound ahead.0.triple n b t before leads)
-
--- a last ride leads to nothing where no journey ends behind it
-pub last_overdue : (feed : FeedRows) (query : Query) (a b : LabelFacts) → query.rides ≤ a.rides + 1 → (to : StepsTo feed query a b) →
-    IsNoEnd feed query to.2.facts.to → IsFutile feed query (is_bettered []) b
-last_overdue feed query a b few to none =
-    ended_leads feed query (is_bettered []) b
-    (subst (λ (n : ℕ). query.rides ≤ n) (sym (ap (λ (x : LabelFacts). x.rides) to.2.next)) few)
-    (λ last t end. absurd (none-some t.arrival.0 (sym (none last end.ends to.2.facts.arrival.0)
-    ∙ ap (λ (s : Stand). end_arrival feed query s last) (sym stands) ∙ end.arrives)))
-  where
-    stands : stand_of_facts b ≡ stand_at_end to.2.facts
-    stands =
-        ap stand_of_facts to.2.next
-        ∙ ap (λ fresh. record (stand_at_end to.2.facts) { fresh = fresh }) (ne_eqb (a.rides + 1) 0 (λ e. omega (arith, e)))
 
 -- what is futile though nothing is found is so whatever is
 pub lacks_any : (task : Searched) (finals : List Final) (b : LabelFacts) → Lacks task [] b → Lacks task finals b

@@ -1,10 +1,10 @@
 pub mod BagLaws
-pub mod EndMarks
 pub mod EntryLaws
 pub mod FinalSteps
 pub mod FutileLaws
 pub mod MoveBounds
 pub mod MoveLaws
+pub mod ProspectLaws
 pub mod RideSteps
 pub mod SourceLaws
 pub mod SpreadLaws

@@ -1,10 +1,11 @@
 -- The rides that are caught from a label, and the labels that they lead to.
 use Rattle.std.proofs.Common.{◌≡◌, refl, sym, ◌∙◌, ap, subst, ℕ, ◌+◌, ◌<◌, ◌≤◌, ◌⊎◌, inl, inr, ⊎_elim, Bool, true, false, List, [], length, arith}
 use Rattle.std.specs.Prelude.{IsTrue, Result, OnOk, Option, Some, None, slice_get, unwrap_or, option_map}
-use Rattle.std.proofs.lemmas.Bool.{cases_lt}
+use Rattle.std.proofs.lemmas.Bool.{both_ways, cases_lt}
 use Rattle.std.proofs.lemmas.Int.{ints}
 use Rattle.std.proofs.lemmas.Result.{on_ok_weaker}
-use Rattle.std.proofs.lemmas.Option.{same_Some, slice_get-map, slice_get_within, unwrap_or-slice_get}
+use Rattle.std.proofs.lemmas.Option.{same_Some, slice_get-map, slice_get_within}
+use Rattle.transit_base.specs.declared.moments.Moment.{Moment}
 use Rattle.transit_base.specs.declared.numbers.StopId.{StopId}
 use Rattle.feed_rows.specs.Journeys.{stands_for}
 use Rattle.feed_rows.specs.declared.journeys.LegFacts.{LegFacts}
@@ -20,18 +21,17 @@ use Rattle.feed_rows.specs.Legs.{leg_facts}
 use Rattle.feed_rows.specs.PartialJourneys.{LabelFacts}
 use Rattle.feed_rows.specs.SoundFeed.{IsSoundFeed}
 use Rattle.plain_laws.proofs.Laws.{le-int_le, slice_get-Contains}
-use Rattle.plan_rides.specs.InTime.{IsRight, HasCaught, HasCaughtAmong, next_in_time}
-use Rattle.plan_rides.specs.Boarding.{is_marked}
-use Rattle.round_laws.specs.Futility.{IsFutile}
-use Rattle.plan_rounds.specs.Ends.{AreEnds}
+use Rattle.plan_rides.specs.InTime.{IsRight, HasCaughtBy, HasRide, is_early, next_in_time}
+use Rattle.round_laws.specs.Futility.{MayLack}
+use Rattle.plan_rounds.specs.Prospects.{AreProspects}
 use Rattle.plan_rounds.specs.Finals.{is_bettered}
-use Rattle.plan_rounds.proofs.FutileLaws.{last_overdue}
+use Rattle.plan_rounds.proofs.ProspectLaws.{any_early, in_time_of, overdue}
 use Rattle.plan_rides.specs.declared.caught.CaughtRide.{CaughtRide}
 use Rattle.feed_rows.specs.StopLinks.{stop_set}
 use Rattle.plan_rides.proofs.DepartureLaws.{ride_end}
 use Rattle.plan_rides.proofs.MarkLaws.{member_of_stands_for}
 use Rattle.plan_rides.proofs.CaughtLaws.{caught_ride, caught_within}
-use Rattle.round_laws.specs.LabelSteps.{IsCaughtRide, IsLabelStep, facts_after, start_facts}
+use Rattle.round_laws.specs.LabelSteps.{IsCaughtRide, IsLabelStep, facts_after, stand_of_facts, start_facts}
 use Rattle.plan_rounds.specs.declared.label.Label.{Label}
 use Rattle.plan_rounds.specs.declared.search.Source.{Source}
 use Rattle.plan_rounds.specs.Labels.{IsBounded, facts_of, label_of, stand_of_label, started, went_on}
@@ -55,12 +55,6 @@ rides_by feed query x caught few right =
           (rw c.way_is (le-int_le _ _ c.catches));
       in_time = c.in_time;
     }
-
--- and each by which they go on is caught in time
-in_time_of : (feed : FeedRows) (query : Query) (x : Label) (ride : Ride) (facts : RideFacts) →
-    IsCaughtRide feed query (facts_of x) ride facts → next_in_time feed query (stand_of_label x) ride ≡ Some (stand_at_end facts)
-unfolding next_in_time next_stand
-in_time_of feed query x ride facts c = rw (c.is, c.caught, le-int_le _ _ c.in_time) refl
 
 -- ---- labels
 
@@ -128,14 +122,6 @@ module _ (feed : FeedRows) (query : Query) (source : Source) (is : IsSource feed
 
 -- ---- all rides
 
--- a mark that isn't set is there
-mark_of : (marks : List Bool) (stop : ℕ) → is_marked marks stop ≡ false → slice_get marks stop ≡ Some false
-mark_of marks stop is = by (slice_get marks stop) refl (unwrap_or-slice_get marks stop true ∙ is)
-  where
-    by : (o : Option Bool) → slice_get marks stop ≡ o → unwrap_or (slice_get marks stop) true ≡ false → slice_get marks stop ≡ Some false
-    by None at e = absurd (let no : true ≡ false = sym (ap (λ o. unwrap_or o true) at) ∙ e in cc)
-    by (Some m) at e = at ∙ ap Some (sym (ap (λ o. unwrap_or o true) at) ∙ e)
-
 module _ (feed : FeedRows) (query : Query) (source : Source) (rides : List CaughtRide) where
   -- one more of the rides
   pub rides_more : (k : ℕ) (caught : CaughtRide) (b : LabelFacts) → slice_get rides k ≡ Some caught →
@@ -148,48 +134,42 @@ module _ (feed : FeedRows) (query : Query) (source : Source) (rides : List Caugh
       inr (subst (λ (c : CaughtRide). StepsBy feed query (facts_of source.label.now) c.ride b)
       (same_Some _ _ (sym steps.3 ∙ ap (slice_get rides) same ∙ at)) steps.4)) (cases_lt steps.0 k)
 
-  -- each step is by one of the rides
-  pub steps_by : (n : ℕ) (b : LabelFacts) → HasCaught feed query (stand_of_label source.label.now) rides → length rides ≤ n →
-      StepsTo feed query (facts_of source.label.now) b → StepsByFirst feed query source rides n b
-  steps_by n b has all to =
-      let step = to.2 in
-      let some = has to.0 (stand_at_end step.facts) (in_time_of feed query source.label.now to.0 step.facts step.rides) in
+  -- a step whose ride is among them is by one of them
+  by_some : (n : ℕ) (b : LabelFacts) (to : StepsTo feed query (facts_of source.label.now) b) → HasRide rides to.0 → length rides ≤ n →
+      StepsByFirst feed query source rides n b
+  by_some n b to some all =
       let at = slice_get-Contains rides some.0 some.1 in
       let lt = slice_get_within rides at.0 some.0 at.1 in
-      (at.0, omega (arith, lt, all), some.0, at.1, (to.1, subst (λ (r : Ride). IsLabelStep feed query (facts_of source.label.now) r to.1 b) (sym some.2) step))
+      (at.0, omega (arith, lt, all), some.0, at.1, (to.1, subst (λ (r : Ride). IsLabelStep feed query (facts_of source.label.now) r to.1 b) (sym some.2) to.2))
 
-module _ (feed : FeedRows) (query : Query) (source : Source) (rides : List CaughtRide) (marks : List Bool)
-    (ends : AreEnds feed query marks) where
-  -- each last step is by one of the rides that alight at marked stops, or leads to nothing
-  pub last_steps_by : (n : ℕ) (b : LabelFacts) → HasCaughtAmong feed query marks (stand_of_label source.label.now) rides → length rides ≤ n →
-      query.rides ≤ source.label.now.rides + 1 → StepsTo feed query (facts_of source.label.now) b →
-      StepsByFirst feed query source rides n b ⊎ IsFutile feed query (is_bettered []) b
-  last_steps_by n b has all few to = by (is_marked marks to.2.facts.to.0) refl
-    where
-      by : (m : Bool) → is_marked marks to.2.facts.to.0 ≡ m → StepsByFirst feed query source rides n b ⊎ IsFutile feed query (is_bettered []) b
-      by true marked =
-          let step = to.2 in
-          let some = has to.0 (stand_at_end step.facts) (in_time_of feed query source.label.now to.0 step.facts step.rides) marked in
-          let at = slice_get-Contains rides some.0 some.1 in
-          let lt = slice_get_within rides at.0 some.0 at.1 in
-          inl (at.0, omega (arith, lt, all), some.0, at.1, (to.1, subst (λ (r : Ride). IsLabelStep feed query (facts_of source.label.now) r to.1 b) (sym some.2) step))
-      by false unmarked = inr (last_overdue feed query (facts_of source.label.now) b few to (ends to.2.facts.to (mark_of marks to.2.facts.to.0 unmarked)))
+  -- each step is by one of the rides that arrive early enough, or leads to nothing
+  module _ (whole : Bool) (all : List (List (Option Moment))) (more : ℕ) (sound : IsSoundFeed feed)
+      (is : IsSource feed query source) (left : source.label.now.rides + 1 + more ≡ query.rides)
+      (prospects : AreProspects feed query all) (lean : whole ≡ true → all ≡ [])
+      (has : HasCaughtBy feed query (unwrap_or (slice_get all more) []) (stand_of_label source.label.now) rides) where
+    abbrev latest : List (Option Moment)
+    latest = unwrap_or (slice_get all more) []
 
-  -- what is found for a last ride
-  pub find_last : {E : Type 0} (result : Result (Unit {0}) E) (whole : Bool) → whole ≡ false →
-      query.rides ≤ source.label.now.rides + 1 → OnOk result (HasCaughtAmong feed query marks (stand_of_label source.label.now) rides) →
-      OnOk result ((b : LabelFacts) → StepsTo feed query (facts_of source.label.now) b → StepsByFirst feed query source rides (length rides) b
-      ⊎ ((whole ≡ false) × IsFutile feed query (is_bettered []) b))
-  find_last result whole lean few =
-      on_ok_weaker result
-      (λ has b to. ⊎_elim inl (λ futile. inr (lean, futile)) (last_steps_by (length rides) b has (omega arith) few to))
+    pub steps_by : (b : LabelFacts) → StepsTo feed query (facts_of source.label.now) b →
+        StepsByFirst feed query source rides (length rides) b ⊎ MayLack feed query whole (is_bettered []) b
+    steps_by b to = by (is_early latest to.2.facts.to.0 to.2.facts.arrival.0) refl
+      where
+        in_time : next_in_time feed query (stand_of_label source.label.now) to.0 ≡ Some (stand_at_end to.2.facts)
+        in_time = in_time_of feed query (facts_of source.label.now) to.0 to.2.facts to.2.rides
 
--- what is found for any
-pub find_any : {E : Type 0} (result : Result (Unit {0}) E) (feed : FeedRows) (query : Query) (source : Source) (rides : List CaughtRide)
-    (Lacking : LabelFacts → Type 0) → OnOk result (HasCaught feed query (stand_of_label source.label.now) rides) →
-    OnOk result ((b : LabelFacts) → StepsTo feed query (facts_of source.label.now) b → StepsByFirst feed query source rides (length rides) b ⊎ Lacking b)
-find_any result feed query source rides Lacking =
-    on_ok_weaker result (λ has b to. inl (steps_by feed query source rides (length rides) b has (omega arith) to))
+        by : (early : Bool) → is_early latest to.2.facts.to.0 to.2.facts.arrival.0 ≡ early →
+            StepsByFirst feed query source rides (length rides) b ⊎ MayLack feed query whole (is_bettered []) b
+        by true early = inl (by_some (length rides) b to (has to.0 (stand_at_end to.2.facts) in_time early) (omega arith))
+        by false late = inr (
+          lack whole refl,
+          overdue feed query latest more (facts_of source.label.now) b (omega (arith, left)) sound is.within to (prospects more) late,
+        )
+          where
+            lack : (w : Bool) → whole ≡ w → whole ≡ false
+            lack false same = same
+            lack true same =
+                let none = ap (λ (ls : List (List (Option Moment))). is_early (unwrap_or (slice_get ls more) []) to.2.facts.to.0 to.2.facts.arrival.0) (lean same) in
+                absurd (both_ways (is_early latest to.2.facts.to.0 to.2.facts.arrival.0) late (none ∙ any_early to.2.facts.to.0 to.2.facts.arrival.0))
 
 -- what is by one of the first rides is by one of more
 pub by_first : (feed : FeedRows) (query : Query) (source : Source) (rides : List CaughtRide) (m n : ℕ) (b : LabelFacts) → m ≤ n →

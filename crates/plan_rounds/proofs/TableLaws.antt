@@ -1,12 +1,12 @@
 -- The bags of a table have the numbers of exactly their labels.
 use Rattle.std.proofs.Common.{◌≡◌, refl, sym, ◌∙◌, ap, subst, ℕ, ◌+◌, ◌*◌, ◌<◌, ◌≤◌, ◌⊎◌, inl, inr, List, [], ◌∷◌, length, get_or, arith, All, pos}
-use Rattle.std.specs.Prelude.{◌≢◌, AllPairs, Contains, Some, None, map, filter, option_map, slice_get, ◌==◌}
+use Rattle.std.specs.Prelude.{◌≢◌, AllPairs, Contains, Option, Some, None, map, filter, option_map, slice_get, ◌==◌}
 use Rattle.std.specs.Option.{option_map_or}
 use Rattle.std.proofs.lemmas.Bool.{cases_lt, cases_order, lt-ltb, le-ltb}
 use Rattle.std.proofs.lemmas.List.{length-map, get_or-map}
 use Rattle.std.proofs.lemmas.List.Kept.{AllPairs-filter}
 use Rattle.std.proofs.lemmas.Nat.{mul-le}
-use Rattle.std.proofs.lemmas.Option.{slice_get-map, slice_get-get_or, slice_get_within}
+use Rattle.std.proofs.lemmas.Option.{none-some, same_Some, slice_get-map, slice_get-get_or, slice_get_within}
 use Rattle.transit_base.specs.declared.numbers.StopId.{StopId}
 use Rattle.feed_rows.specs.RoundTables.{Label as Kept, RoundTable}
 use Rattle.feed_rows.specs.SoundTable.{IsLabel, IsBag, AreBags}
@@ -17,7 +17,11 @@ use Rattle.plan_rounds.specs.declared.finals.Final.{Final}
 use Rattle.plan_rounds.specs.declared.label.Label.{Label}
 use Rattle.plan_rounds.specs.Labels.{label_of}
 use Rattle.plan_rounds.specs.Tables.{group_at, group_of_label, numbered, bag_in, table_in}
-use Rattle.plan_rides.proofs.CaughtLaws.{option_map-tells}
+
+-- what a mapped option tells
+pub option_map-tells : {X Y : Type 0} (f : X → Y) (o : Option X) (y : Y) → option_map f o ≡ Some y → (x : X) × (o ≡ Some x) × (f x ≡ y)
+option_map-tells f None y e = absurd (none-some y e)
+option_map-tells f (Some x) y e = (x, refl, same_Some _ _ e)
 
 -- ---- groups of labels
 

@@ -28,8 +28,7 @@ use Rattle.plan_rounds.specs.Finals.{final_of, finals_of, is_bettered}
 use Rattle.plan_rounds.specs.Labels.{facts_of, label_of, labels_of, covers}
 use Rattle.plan_rounds.specs.Stores.{AreWhole}
 use Rattle.plan_rounds.specs.Tables.{numbered, table_in, IsExactTable}
-use Rattle.plan_rides.proofs.CaughtLaws.{option_map-tells}
-use Rattle.plan_rounds.proofs.TableLaws.{are_bags}
+use Rattle.plan_rounds.proofs.TableLaws.{are_bags, option_map-tells}
 
 -- what is bettered is found
 pub found_of : (finals : List Final) (t : Triple) → is_bettered finals t → IsFound (finals_of finals) t

@@ -1,10 +1,10 @@
 pub mod CoverLaws
-pub mod Ends
 pub mod Entries
 pub mod FinalLaws
 pub mod Finals
 pub mod Labels
 pub mod Moves
+pub mod Prospects
 pub mod Searched
 pub mod Sources
 pub mod Stores

@@ -117,15 +117,6 @@ impl<'s, 'f> Search<'s, 'f> {
         )
     }
 
-    /// Whether one more ride from the label is the last of the limit, and the search may lack what leads nowhere.
-    pub(crate) fn ends_next(&self, label: &Label) -> bool
-        requires { label.now.rides < 8 }
-        ensures lean { result ≡ true → self.now.whole ≡ false }
-        ensures last { result ≡ true → self.now.query.rides ≤ label.now.rides + 1 }
-    {
-        !self.whole && label.rides + 1 >= self.limit()
-    }
-
     /// Whether all that the ride leads to from the label is found already: a final arrives no later than the ride, with no more
     /// rides, and costs no more than can follow. A search that is to be whole doesn't ask.
     pub(crate) fn is_futile(&self, source: &Source, finals: &[Final], caught: &CaughtRide) -> bool

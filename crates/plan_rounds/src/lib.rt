@@ -3,13 +3,13 @@
 #![tactic(auto)]
 
 mod bounds;
-mod ends;
 mod entries;
 mod finals;
 mod label;
 mod label_class;
 mod moves;
 mod plan;
+mod prospects;
 mod search;
 mod stop_bags;
 mod table;

@@ -20,20 +20,21 @@ ghost use Rattle.plan_rounds.specs.Labels.{covers};
 ghost use Rattle.plan_rounds.specs.Stores.{AreStored, AreWhole, IsNever, gathered, IsStartOf, Spreads, StepsBy, StepsFrom, StepsTo};
 
 use crate::bounds::takes_back;
-use crate::ends::Ends;
 use crate::finals::Final;
 use crate::label::Label;
 use crate::moves::is_bettered;
+use crate::prospects::prospects_of;
 use crate::stop_bags::StopBags;
 use fare_automaton::{Automaton, KnownOptions};
 use fare_timeframes::Timeframes;
 use feed_rows::{ChangeChoice, Feed, LegFacts, Move, Query};
 use feed_timetable::Timetable;
 use pareto_front::Front;
+use plain_laws::Groups;
 use plan_rides::{CaughtRide, Rides};
 use std::alloc::{AllocError, Global};
 use std::marker::Model;
-use transit_base::StopId;
+use transit_base::{Moment, StopId};
 
 /// A query over a timetable, with what is computed once for it. Contracts see the feed, the query, and whether the labels are to
 /// cover all partial journeys or those alone that matter for the answer.
@@ -43,7 +44,8 @@ pub struct Search<'s, 'f> {
     timeframes: Timeframes,
     /// The fares for the query's rider.
     pub(crate) automaton: Automaton<'f>,
-    pub(crate) ends: Ends,
+    /// How late rides may arrive at stops, by the number of rides that may follow; no lists where the search is to be whole.
+    prospects: Groups<Option<Moment>>,
     /// Whether some change takes back what a leg before it cost.
     pub(crate) takes_back: bool,
     pub(crate) whole: bool,
@@ -57,7 +59,7 @@ impl<'s, 'f> Drop for Search<'s, 'f> {
             rides: _,
             timeframes: _,
             automaton: _,
-            ends: _,
+            prospects: _,
             takes_back: _,
             whole: _,
         } = self;
@@ -65,10 +67,10 @@ impl<'s, 'f> Drop for Search<'s, 'f> {
 }
 
 impl<'s, 'f> Model for Search<'s, 'f> {
-    ghost use Rattle.std.specs.Prelude.{◌≡◌};
+    ghost use Rattle.std.specs.Prelude.{◌≡◌, true, []};
     ghost use Rattle.fare_automaton.specs.Terms.{terms};
     ghost use Rattle.fare_timeframes.specs.BuiltTimeframes.{AreTimeframesOf};
-    ghost use Rattle.plan_rounds.specs.Ends.{AreEnds};
+    ghost use Rattle.plan_rounds.specs.Prospects.{AreProspects};
     ghost use Rattle.plan_rounds.specs.Searched.{Searched, searched};
     ghost use Rattle.round_laws.specs.Futility.{some_takes_back};
 
@@ -76,7 +78,7 @@ impl<'s, 'f> Model for Search<'s, 'f> {
 
     ghost view = { λ s. searched s.rides s.whole };
 
-    ghost invariant = { λ s. AreTimeframesOf s.rides.feed s.timeframes × (s.automaton ≡ terms s.rides.feed s.rides.query.rider) × (s.takes_back ≡ some_takes_back s.rides.feed) × AreEnds s.rides.feed s.rides.query s.ends.marks.items };
+    ghost invariant = { λ s. AreTimeframesOf s.rides.feed s.timeframes × (s.automaton ≡ terms s.rides.feed s.rides.query.rider) × (s.takes_back ≡ some_takes_back s.rides.feed) × AreProspects s.rides.feed s.rides.query s.prospects × (s.whole ≡ true → s.prospects ≡ []) };
 }
 
 /// A label with its number among those so far, from which a round goes on.
@@ -138,13 +140,13 @@ impl<'s, 'f> Search<'s, 'f> {
             rides.deadline(),
         )?;
         let automaton = Automaton::compile(alloc, timetable.feed(), query.rider)?;
-        let ends = Ends::of(alloc, timetable, query)?;
+        let prospects = prospects_of(alloc, &rides, whole)?;
         Ok(Search {
             alloc,
             rides,
             timeframes,
             automaton,
-            ends,
+            prospects,
             takes_back: takes_back(timetable.feed()),
             whole,
         })
@@ -291,20 +293,17 @@ impl<'s, 'f> Search<'s, 'f> {
         bags.offer(label)
     }
 
-    /// Replaces what `rides` holds by the rides that are caught from the label, or as the last of the limit by those of them
-    /// behind which a journey can end.
+    /// Replaces what `rides` holds by the rides that are caught from the label, where the search may lack what leads nowhere by
+    /// those of them behind which a journey can end by the rides that are left.
     fn find_rides(&self, source: &Source, rides: &mut Vec<CaughtRide>) -> Result<(), AllocError>
         requires { IsSource self.now.feed self.now.query source.now }
         ensures all { OnOk result ((b : LabelFacts) → StepsTo self.now.feed self.now.query (facts_of source.now.label.now) b → StepsByFirst self.now.feed self.now.query source.now rides.new.items (length rides.new.items) b ⊎ Lacks self.now [] b) }
         ensures right { OnOk result (All (IsRight self.now.feed self.now.query (stand_of_label source.now.label.now)) rides.new.items) }
     {
         let _feed = self.feed();
-        let standing = source.label.standing();
-        if self.ends_next(source.label) {
-            self.rides.next_among(self.ends.marks(), standing, rides)
-        } else {
-            self.rides.next_into(standing, rides)
-        }
+        let more = self.limit() - source.label.rides - 1;
+        let latest = self.prospects.get(usize::from(more));
+        self.rides.next_by(latest, source.label.standing(), rides)
     }
 
     /// Offers what one more ride leads to from the label. What `rides` holds is lost.

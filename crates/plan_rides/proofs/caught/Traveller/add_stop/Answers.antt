@@ -19,7 +19,7 @@ loop-k-init c =
     let at = c.plus-earliest.ensures ∙ ap (λ (t : Travelling). t.stand.at +ℤ pos seconds) c.self.view_is in
     let are = subst (λ (t : Travelling). AreDepartures t.feed c.self.inside.sought.now c.self.inside.departures.now) c.self.view_is c.self.invariant.2 in
     let right = subst (All (IsFromStop me.feed c.args.stop.0)) (sym c.get-departures.ensures) (are.right c.args.stop.0) in
-    record { since = omega arith; adds = adds_missed me.feed me.query me.marks me.stand c.args.stop seconds _ _ _ _ way at right c.first_since-first.ensures }
+    record { since = omega arith; adds = adds_missed me.feed me.query me.latest me.stand c.args.stop seconds _ _ _ _ way at right c.first_since-first.ensures }
 
 pub add_departure-requires : goal.add_departure-requires
 add_departure-requires c =
@@ -44,5 +44,5 @@ returns c =
     let board = subst (λ (t : Travelling). MayBoard t.feed c.self.inside.sought.now t.stand) c.self.view_is c.self.invariant.4 in
     let same = ap length c.get-departures.ensures in
     let query = c.self.invariant.3 ∙ ap (λ (t : Travelling). t.query) c.self.view_is in
-    adds_stop me.feed me.query me.marks c.self.inside.sought.now me.stand c.args.stop.0 c.loop-k.k c.self.inside.departures.now _ _ query within board are (omega (arith, same, c.loop-k-test.false))
-    (subst (λ ds. AddsCaught me.feed me.query me.marks me.stand (IsByAmong me.feed ds c.loop-k.k) c.args.rides.now.items c.loop-k.rides.items) c.get-departures.ensures c.loop-k.invariant.adds)
+    adds_stop me.feed me.query me.latest c.self.inside.sought.now me.stand c.args.stop.0 c.loop-k.k c.self.inside.departures.now _ _ query within board are (omega (arith, same, c.loop-k-test.false))
+    (subst (λ ds. AddsCaught me.feed me.query me.latest me.stand (IsByAmong me.feed ds c.loop-k.k) c.args.rides.now.items c.loop-k.rides.items) c.get-departures.ensures c.loop-k.invariant.adds)

@@ -6,5 +6,5 @@ use Rattle.plan_rides.proofs.caught.Traveller.add_stop.Given as goal
 abbrev pub invariant-loop-k : goal.invariant-loop-k
 invariant-loop-k l = record {
   since : l.first ≤ l.k;
-  adds : AddsCaught l.self.feed l.self.query l.self.marks l.self.stand (IsByAmong l.self.feed l.departures l.k) l.fn.rides.items l.rides.items;
+  adds : AddsCaught l.self.feed l.self.query l.self.latest l.self.stand (IsByAmong l.self.feed l.departures l.k) l.fn.rides.items l.rides.items;
 }

@@ -12,5 +12,5 @@ pub returns-clause-all : goal.returns-clause-all
 returns-clause-all c =
     let me = c.args.self.now in
     let sound = subst IsSoundFeed (ap (λ (t : Travelling). t.feed) c.self.view_is) c.feed-feed.ensures.sound in
-    has_caught me.feed me.query me.marks me.stand _ c.loop-k.k _ sound (c.walks_from-walks.ensures ∙ ap
+    has_caught me.feed me.query me.latest me.stand _ c.loop-k.k _ sound (c.walks_from-walks.ensures ∙ ap
     (λ (t : Travelling). out_of t.feed t.stand.stop) c.self.view_is) c.loop-k-test.false c.loop-k.invariant

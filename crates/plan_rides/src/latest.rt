@@ -1,0 +1,200 @@
+//! How late one may be at each stop, so that one still gets on early enough.
+ghost use Rattle.std.specs.Prelude.{◌≡◌, ℤ, ◌<◌, ◌≤◌, ◌≤ℤ◌, ◌+ℤ◌, pos, true, false, length, All, Contains, IfOk};
+ghost use Rattle.plan_rides.specs.Departures.{AreDepartures, DoRise, IsDeparture};
+ghost use Rattle.plan_rides.specs.InTime.{IsUsualQuery, is_by, is_early};
+ghost use Rattle.plan_rides.specs.Latest.{AreAllBefore, AreLastOnes, IsLatestBefore, LeadsOn, latest_at, leads_to};
+ghost use Rattle.plan_rides.specs.declared.departures.Departure.{Departure};
+ghost use Rattle.transit_base.specs.Limits.{most_time};
+
+use crate::departures::Departure;
+use crate::sought::Sought;
+use feed_rows::{Call, Query};
+use feed_timetable::Timetable;
+use plain_laws::Groups;
+use std::alloc::{AllocError, Global};
+use transit_base::{Moment, Secs, StopId};
+
+/// Whether the moment is no later than this one; none is where there is none.
+#[tactic(auto, unfolding(crate::specs::InTime::is_by))]
+fn is_by(latest: Option<Moment>, at: Moment) -> bool
+    ensures { result ≡ is_by latest at.0 }
+{
+    match latest {
+        Some(moment) => at.0 <= moment.0,
+        None => false,
+    }
+}
+
+/// Whether the moment is no later than the latest at the stop; any will do at a stop past their end.
+#[tactic(auto, unfolding(crate::specs::InTime::is_by_any))]
+pub fn is_early(latest: &[Option<Moment>], stop: StopId, at: Moment) -> bool
+    ensures { result ≡ is_early latest.now stop.0 at.0 }
+{
+    match latest.get(stop.0 as usize) {
+        Some(moment) => is_by(*moment, at),
+        None => true,
+    }
+}
+
+/// Whether the ride by the departure to the call arrives early enough.
+fn leads_to(
+    timetable: &Timetable,
+    query: &Query,
+    latest: &[Option<Moment>],
+    departure: &Departure,
+    call: &Call,
+) -> bool
+    requires usual { IsUsualQuery query.now }
+    requires right { IsDeparture timetable.now departure.now }
+    requires time { call.now.arrival ≤ most_time }
+    ensures { result ≡ leads_to query.now latest.now departure.now call.now }
+{
+    match departure.facts_in_time(timetable, query, call) {
+        Some(facts) => is_early(latest, facts.to, facts.arrival),
+        None => false,
+    }
+}
+
+/// Whether a ride by the departure arrives early enough.
+fn leads_on(
+    timetable: &Timetable,
+    query: &Query,
+    latest: &[Option<Moment>],
+    departure: &Departure,
+) -> bool
+    requires usual { IsUsualQuery query.now }
+    requires right { IsDeparture timetable.now departure.now }
+    ensures { LeadsOn timetable.now query.now latest.now departure.now → result ≡ true }
+{
+    let calls = departure.run(timetable).calls();
+    for to in departure.from + 1..calls.len() as u32 {
+        if leads_to(timetable, query, latest, departure, &calls[to as usize]) {
+            return true;
+        }
+    }
+    false
+}
+
+/// When the last departure of these leads on.
+fn last_of(
+    timetable: &Timetable,
+    query: &Query,
+    latest: &[Option<Moment>],
+    departures: &[Departure],
+) -> Option<Moment>
+    requires usual { IsUsualQuery query.now }
+    requires right { All (IsDeparture timetable.now) departures.now }
+    requires rises { DoRise departures.now }
+    ensures { (d : Departure) → Contains departures.now d → LeadsOn timetable.now query.now latest.now d → is_by result d.at.0 ≡ true }
+{
+    for k in (0..departures.len()).rev() {
+        if leads_on(timetable, query, latest, &departures[k]) {
+            return Some(departures[k].at);
+        }
+    }
+    None
+}
+
+/// When the last departure from each stop leads on.
+///
+/// # Errors
+/// Want of memory.
+pub fn last_departures(
+    alloc: Global,
+    timetable: &Timetable,
+    sought: &Sought,
+    departures: &Groups<Departure>,
+    latest: &[Option<Moment>],
+) -> Result<Vec<Option<Moment>>, AllocError>
+    requires usual { IsUsualQuery sought.now.query }
+    requires listed { AreDepartures timetable.now sought.now departures.now }
+    ensures { IfOk result (λ lasts. AreLastOnes timetable.now sought.now.query latest.now departures.now (length departures.now) lasts.items) }
+{
+    let mut lasts = Vec::with_capacity(alloc, departures.count())?;
+    for stop in 0..departures.count() {
+        let last = last_of(timetable, sought.query(), latest, departures.get(stop));
+        lasts.push(last)?;
+    }
+    Ok(lasts)
+}
+
+/// The later of the two moments.
+fn later(one: Option<Moment>, other: Option<Moment>) -> Option<Moment>
+    ensures one { (at : ℤ) → is_by one at ≡ true → is_by result at ≡ true }
+    ensures other { (at : ℤ) → is_by other at ≡ true → is_by result at ≡ true }
+{
+    match (one, other) {
+        (Some(a), Some(b)) => { if a.0 < b.0 { other } else { one } }
+        (Some(_), None) => one,
+        (None, _) => other,
+    }
+}
+
+/// How late one may begin a walk that takes so long, to be by then where it leads.
+fn before_walk(query: &Query, latest: Option<Moment>, walk: Secs) -> Option<Moment>
+    requires { IsUsualQuery query.now }
+    ensures { (at : ℤ) → query.now.departure.0 ≤ℤ at → is_by latest (at +ℤ pos walk.0) ≡ true → is_by result at ≡ true }
+{
+    let latest = latest?;
+    if latest.0 < query.departure.plus(walk).0 {
+        return None;
+    }
+    Some(Moment(latest.0 - i64::from(walk.0)))
+}
+
+/// The latest moment at the stop; none past the last stop.
+fn latest_at(latest: &[Option<Moment>], stop: StopId) -> Option<Moment>
+    ensures { result ≡ latest_at latest.now stop.0 }
+{
+    match latest.get(stop.0 as usize) {
+        Some(moment) => *moment,
+        None => None,
+    }
+}
+
+/// How late one may stand at the stop, where one may be as late as this or walk to where one may be so late.
+fn latest_from(
+    timetable: &Timetable,
+    query: &Query,
+    stop: StopId,
+    own: Option<Moment>,
+    lasts: &[Option<Moment>],
+) -> Option<Moment>
+    requires { IsUsualQuery query.now }
+    ensures { IsLatestBefore timetable.now query.now lasts.now stop own result }
+{
+    let walks = timetable.walks_from(stop);
+    let mut latest = own;
+    for k in 0..walks.len() {
+        let step = walks[k];
+        latest = later(
+            latest,
+            before_walk(query, latest_at(lasts, step.to), step.seconds),
+        );
+    }
+    latest
+}
+
+/// How late one may stand at each stop, where one may be as late as this or walk to where one may be so late.
+///
+/// # Errors
+/// Want of memory.
+pub fn latest_before(
+    alloc: Global,
+    timetable: &Timetable,
+    query: &Query,
+    latest: &[Option<Moment>],
+    lasts: &[Option<Moment>],
+) -> Result<Vec<Option<Moment>>, AllocError>
+    requires usual { IsUsualQuery query.now }
+    requires many { length latest.now ≡ length timetable.now.stops }
+    ensures { IfOk result (λ new. AreAllBefore timetable.now query.now latest.now lasts.now new.items) }
+{
+    let stops = timetable.feed().stops.items().len();
+    let mut new = Vec::with_capacity(alloc, stops)?;
+    for stop in 0..stops {
+        let moment = latest_from(timetable, query, StopId(stop as u32), latest[stop], lasts);
+        new.push(moment)?;
+    }
+    Ok(new)
+}
