@@ -10,3 +10,4 @@ pub mod FutilityLaws
 pub mod BoundLaws
 pub mod TableLaws
 pub mod AnswerLaws
+pub mod CompletionLaws
