@@ -37,7 +37,7 @@ use Rattle.plan_rounds.specs.declared.search.Source.{Source}
 use Rattle.plan_rounds.specs.Labels.{IsBounded, facts_of, label_of, stand_of_label, started, went_on}
 use Rattle.plan_rounds.specs.Moves.{AreMovesOf}
 use Rattle.plan_rounds.specs.Sources.{IsSource, StepsByFirst, LeadsByFirst}
-use Rattle.plan_rounds.specs.Stores.{IsFresh, StepsBy, StepsTo, IsStartOf, IsStartAmong}
+use Rattle.plan_rounds.specs.Stores.{IsFresh, IsPrunedBy, StepsBy, StepsTo, IsStartOf, IsStartAmong}
 use Rattle.plan_rounds.proofs.StopLaws.{stands_inside}
 
 -- ---- rides
@@ -67,6 +67,7 @@ fresh_start feed query first stands = record {
   bounded = record { paid = omega arith; held = omega arith };
   within = record { since = omega (arith, ints); until = omega (arith, ints) };
   linked = inl (record { stands = stands; facts = refl; parent = refl; ride = refl; taken = refl });
+  pruned = λ y at. let lt = at.1 in absurd (omega (arith, lt));
 }
 
 -- where the ride and a move lead from a source is a label of its own
@@ -80,8 +81,9 @@ module _ (feed : FeedRows) (query : Query) (source : Source) (is : IsSource feed
 
   pub fresh_after : (taken : Move) → IsSoundFeed feed →
       move_after feed query.rider from.state from.held.0 leg taken ≡ Some taken → IsBounded (went_on from source.number caught taken) →
+      IsPrunedBy feed query source.labels.now (went_on from source.number caught taken) →
       IsFresh feed query source.labels.now (from.rides + 1) (went_on from source.number caught taken)
-  fresh_after taken sound pays bounded = record {
+  fresh_after taken sound pays bounded pruned = record {
     inside = ride_end feed caught.ride caught.facts sound right.facts;
     counts = refl;
     bounded = bounded;
@@ -97,6 +99,7 @@ module _ (feed : FeedRows) (query : Query) (source : Source) (is : IsSource feed
       taken = refl;
       step = record { facts = caught.facts; rides = rides_by feed query from caught is.few right; pays = pays; next = refl };
     });
+    pruned = pruned;
   }
 
   -- one more of the moves
@@ -160,10 +163,9 @@ module _ (feed : FeedRows) (query : Query) (source : Source) (rides : List Caugh
         by : (early : Bool) → is_early latest to.2.facts.to.0 to.2.facts.arrival.0 ≡ early →
             StepsByFirst feed query source rides (length rides) b ⊎ MayLack feed query whole (is_bettered []) b
         by true early = inl (by_some (length rides) b to (has to.0 (stand_at_end to.2.facts) in_time early) (omega arith))
-        by false late = inr (
-          lack whole refl,
-          overdue feed query latest more (facts_of source.label.now) b (omega (arith, left)) sound is.within to (prospects more) late,
-        )
+        by false late =
+            let futile = overdue feed query latest more (facts_of source.label.now) b (omega (arith, left)) sound is.within to (prospects more) late in
+            inr (subst (λ w. MayLack feed query w (is_bettered []) b) (sym (lack whole refl)) futile)
           where
             lack : (w : Bool) → whole ≡ w → whole ≡ false
             lack false same = same

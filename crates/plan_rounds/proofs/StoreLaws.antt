@@ -20,7 +20,7 @@ use Rattle.plan_rounds.specs.declared.label.Label.{Label}
 use Rattle.plan_rounds.specs.Labels.{facts_of, label_of, labels_of, covers, IsBounded}
 use Rattle.plan_rounds.specs.CoverLaws.{cover_laws}
 use Rattle.plan_rounds.specs.Sources.{AreEnding}
-use Rattle.plan_rounds.specs.Stores.{has_rides, gathered, IsHeldBelow, IsFresh, Spreads, StepsFrom, IsStartOf, AreStored, AreClosedTo, AreWhole, IsNever}
+use Rattle.plan_rounds.specs.Stores.{has_rides, gathered, IsHeldBelow, IsFresh, Spreads, StepsFrom, IsStartOf, AreStored, AreClosedTo, ArePruned, AreWhole, IsNever}
 
 -- ---- what is gathered
 
@@ -175,6 +175,12 @@ module _ (feed : FeedRows) (query : Query) where
     all_more P before after =
         All-append P labels (gathered rides new) before (All-from P (gathered rides new) (λ x at. after x (fresh_of x at)))
 
+    at_most_so_many : All (λ x. x.rides < rides + 1) more
+    at_most_so_many =
+        all_more (λ x. x.rides < rides + 1)
+        (All-weaker (λ x. x.rides < rides) (λ x. x.rides < rides + 1) (λ x lt. omega (arith, lt)) labels stored.few)
+        (λ x fresh. let same = fresh.counts in omega (arith, same))
+
     -- they lie within their bounds
     pub ending_more : IsUsualQuery query → rides ≤ query.rides → AreEnding query more
     ending_more usual within = record {
@@ -186,14 +192,25 @@ module _ (feed : FeedRows) (query : Query) where
       within = all_more (λ x. IsWithinWindow query x.arrival.0) stored.within (λ x fresh. fresh.within);
     }
 
+    -- none is outdone by an end of one with fewer rides
+    pruned_more : ArePruned feed query more
+    pruned_more x y at_x at_y lt =
+        ⊎_elim (λ old_y. ⊎_elim (λ old_x. stored.pruned x y old_x old_y lt) (λ new_x. (fresh_of x new_x).pruned y old_y)
+        (Contains-append_cases labels (gathered rides new) x at_x))
+        (λ new_y. absurd (last (fresh_of y new_y).counts))
+        (Contains-append_cases labels (gathered rides new) y at_y)
+      where
+        last : y.rides ≡ rides → ⊥
+        last counts =
+            let few = All-contains (λ z. z.rides < rides + 1) more x at_most_so_many at_x in omega
+            (arith, counts, few, lt)
+
     pub stored_more : AreApart covers new → AreStored feed query (rides + 1) more new
     stored_more apart = record {
       listed = listed;
       held = held;
       inside = all_more (λ x. x.stop.0 < length feed.stops) stored.inside (λ x fresh. fresh.inside);
-      few = all_more (λ x. x.rides < rides + 1)
-          (All-weaker (λ x. x.rides < rides) (λ x. x.rides < rides + 1) (λ x lt. omega (arith, lt)) labels stored.few)
-          (λ x fresh. let same = fresh.counts in omega (arith, same));
+      few = at_most_so_many;
       bounded = all_more IsBounded stored.bounded (λ x fresh. fresh.bounded);
       within = all_more (λ x. IsWithinWindow query x.arrival.0) stored.within (λ x fresh. fresh.within);
       linked = subst (AreLinked feed query) (sym (map-append label_of labels (gathered rides new)))
@@ -207,6 +224,7 @@ module _ (feed : FeedRows) (query : Query) where
           let counts = (fresh_of y in_new).counts in
           let equal = ap (λ (z : Label). z.rides) same in
           absurd (omega (arith, few, counts, equal)));
+      pruned = pruned_more;
     }
 
     -- what is covered in the bags is covered by the labels
@@ -258,6 +276,7 @@ module _ (feed : FeedRows) (query : Query) where
     within = λ k d lt. absurd (omega (arith, lt));
     linked = λ number label is. let lt = slice_get_within [] number label is in absurd (omega (arith, lt));
     once = λ i j d lt within. absurd (omega (arith, within));
+    pruned = λ x y at_x. let lt = at_x.1 in absurd (omega (arith, lt));
   }
 
   -- the starts are covered once they were offered
@@ -309,6 +328,7 @@ module _ (feed : FeedRows) (query : Query) where
     inside = stored.inside;
     within = stored.within;
     bounded = stored.bounded;
+    pruned = stored.pruned;
   }
     where
       steps : (x : Label) → Contains labels x → CoversSteps feed query Lacking (facts_of x) (labels_of labels)

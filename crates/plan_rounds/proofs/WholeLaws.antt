@@ -1,12 +1,14 @@
--- The table of all rounds is whole.
-use Rattle.std.proofs.Common.{◌≡◌, sym, ◌∙◌, subst, ℕ, ◌+◌, ◌*◌, ◌<◌, ◌≤◌, ◌⊎◌, inl, inr, ⊎_elim, Bool, true, false, List, length, get_or, All}
+-- The table of all rounds is exact, and that of a search that is to be whole is sound and closed.
+use Rattle.std.proofs.Common.{◌≡◌, sym, ◌∙◌, ap, subst, ℕ, ◌+◌, ◌*◌, ◌<◌, ◌≤◌, ◌⊎◌, inl, inr, ⊎_elim, Bool, true, false, List, length, get_or, All}
 use Rattle.std.specs.Prelude.{◌≢◌, Some, slice_get}
 use Rattle.std.proofs.lemmas.Bool.{both_ways, cases_order}
-use Rattle.std.proofs.lemmas.List.Elements.{All-weaker}
+use Rattle.std.proofs.lemmas.List.Elements.{All-contains, All-weaker}
 use Rattle.std.proofs.lemmas.List.Folds.{Any-from_list_any}
-use Rattle.plain_laws.proofs.Laws.{list_any-map}
+use Rattle.plain_laws.proofs.Laws.{list_any-map, Contains-slice_get}
 use Rattle.std.proofs.lemmas.Option.{slice_get-map, slice_get_within, get_or_from_slice_get}
 use Rattle.feed_rows.specs.declared.journeys.Query.{Query}
+use Rattle.feed_rows.specs.ClosedTable.{IsClosedTable}
+use Rattle.feed_rows.specs.FareFloor.{is_outdone}
 use Rattle.feed_rows.specs.FeedRows.{FeedRows}
 use Rattle.feed_rows.specs.declared.fares.Triple.{Triple}
 use Rattle.feed_rows.specs.LabelCover.{Covers}
@@ -14,19 +16,21 @@ use Rattle.feed_rows.specs.ParetoTriples.{at_most}
 use Rattle.feed_rows.specs.PartialJourneys.{LabelFacts}
 use Rattle.feed_rows.specs.RoundTables.{Label as Kept, RoundTable}
 use Rattle.feed_rows.specs.SoundFeed.{IsSoundFeed}
-use Rattle.feed_rows.specs.SoundTable.{IsWithoutExcess, CoversJourneys}
+use Rattle.feed_rows.specs.SoundTable.{IsWithoutExcess, CoversJourneys, IsPruned}
 use Rattle.label_bag.specs.Bags.{AreApart}
 use Rattle.plain_laws.specs.Plain.{list_below, groups_below}
 use Rattle.round_laws.specs.Futility.{MayLack}
-use Rattle.round_laws.specs.LinkedTables.{CoversSteps, AreFinals, IsFound}
-use Rattle.round_laws.proofs.AnswerLaws.{exact_entries, ends_exactly, found_upward}
-use Rattle.round_laws.proofs.TableLaws.{are_real, covers_journeys}
+use Rattle.round_laws.specs.LabelSteps.{IsLabelEnd}
+use Rattle.round_laws.specs.LinkedTables.{CoversSteps, AreFinals, IsFinal, IsFound}
+use Rattle.round_laws.proofs.AnswerLaws.{exact_entries, ends_exactly}
+use Rattle.round_laws.proofs.ClosedLaws.{covers_journeys, closed_table}
+use Rattle.round_laws.proofs.TableLaws.{are_real}
 use Rattle.plan_rounds.specs.declared.finals.Final.{Final}
 use Rattle.plan_rounds.specs.declared.label.Label.{Label}
 use Rattle.plan_rounds.specs.CoverLaws.{covers-holds}
 use Rattle.plan_rounds.specs.Finals.{final_of, finals_of, is_bettered}
 use Rattle.plan_rounds.specs.Labels.{facts_of, label_of, labels_of, covers}
-use Rattle.plan_rounds.specs.Stores.{AreWhole}
+use Rattle.plan_rounds.specs.Stores.{ArePruned, AreWhole}
 use Rattle.plan_rounds.specs.Tables.{numbered, table_in, IsExactTable}
 use Rattle.plan_rounds.proofs.TableLaws.{are_bags, option_map-tells}
 
@@ -51,6 +55,7 @@ whole_weaker feed query Lacking More labels more are = record {
   inside = are.inside;
   within = are.within;
   bounded = are.bounded;
+  pruned = are.pruned;
 }
 
 module _ (feed : FeedRows) (query : Query) (labels : List Label) (stops limit : ℕ) (finals : List Final) where
@@ -86,6 +91,26 @@ module _ (feed : FeedRows) (query : Query) (labels : List Label) (stops limit : 
       apart_at apart m n x.0 y.0 x.1 y.1 differ
       (subst (λ (l : Kept). Covers l.facts (facts_of y.0)) (sym x.2) (subst (λ (l : Kept). Covers a.facts l.facts) (sym y.2) below))
 
+  -- no label is outdone by a final with fewer rides
+  pruned : ArePruned feed query labels → AreFinals feed query (labels_of labels) (finals_of finals) →
+      IsPruned feed query table
+  pruned are ends number label final is at lt outdone =
+      let x = option_map-tells label_of (slice_get labels number) label
+      (sym (slice_get-map label_of labels number) ∙ is) in
+      let f = All-contains (IsFinal feed query (labels_of labels)) (finals_of finals) final ends.right at in
+      let y =
+      option_map-tells label_of (slice_get labels final.label) f.label
+      (sym (slice_get-map label_of labels final.label) ∙ f.is) in
+      let fewer =
+      subst (λ (n : ℕ). n < x.0.rides) (f.end.rides ∙ sym (ap (λ (l : Kept). l.facts.rides) y.2))
+      (subst (λ (l : Kept). final.triple.rides < l.facts.rides) (sym x.2) lt) in
+      let ends_there =
+      subst (λ (l : Kept). IsLabelEnd feed query l.facts final.last final.triple) (sym y.2) f.end in
+      both_ways (is_outdone feed query final.triple (facts_of x.0))
+      (are x.0 y.0 (Contains-slice_get labels number x.0 x.1) (Contains-slice_get labels final.label y.0 y.1) fewer
+      final.triple (final.last, ends_there))
+      (subst (λ (l : Kept). is_outdone feed query final.triple l.facts ≡ true) (sym x.2) outdone)
+
   pub exact_table : IsSoundFeed feed → (whole : Bool) →
       AreWhole feed query (MayLack feed query whole (IsFound (finals_of finals))) labels →
       AreFinals feed query (labels_of labels) (finals_of finals) → stops ≡ length feed.stops → limit ≡ query.rides →
@@ -96,11 +121,18 @@ module _ (feed : FeedRows) (query : Query) (labels : List Label) (stops limit : 
         (subst (λ (n : ℕ). All (λ x. x.rides ≤ n) labels) (sym all_rides) are.few)
         (subst (λ (n : ℕ). All (λ x. x.stop.0 < n) labels) (sym all_stops) are.inside) finals;
     no_excess = no_excess are.apart;
+    pruned = pruned are.pruned ends;
     exact = ends_exactly feed query whole table sound are.linked are.starts are.closed ends;
     offers = λ entries is. (exact_entries feed query whole table sound are.linked are.starts are.closed ends entries is).1;
   }
 
-  -- a search that is to be whole lacks no partial journey
-  pub covers_all : AreWhole feed query (MayLack feed query true (IsFound (finals_of finals))) labels → CoversJourneys feed query table
-  covers_all are =
-      covers_journeys feed query (IsFound (finals_of finals)) table (found_upward (finals_of finals)) are.linked are.starts are.closed
+  -- a search that is to be whole covers the partial journeys, and its table is closed
+  pub covers_all : IsSoundFeed feed → AreWhole feed query
+      (MayLack feed query true (IsFound (finals_of finals))) labels →
+      CoversJourneys feed query table
+  covers_all sound are = covers_journeys feed query table sound are.linked are.starts are.closed
+
+  pub closed_all : IsSoundFeed feed → AreWhole feed query
+      (MayLack feed query true (IsFound (finals_of finals))) labels →
+      IsClosedTable feed query table
+  closed_all sound are = closed_table feed query table sound are.linked are.starts are.closed

@@ -1,5 +1,5 @@
 -- What the labels of a search end in.
-use Rattle.std.specs.Prelude.{◌≡◌, ℕ, ◌<◌, true, List, map, slice_get, All, Some}
+use Rattle.std.specs.Prelude.{◌≡◌, ℕ, ◌<◌, true, List, length, map, slice_get, All, Some}
 use Rattle.std.specs.List.{list_any}
 use Rattle.transit_base.specs.declared.numbers.StopId.{StopId}
 use Rattle.feed_rows.specs.declared.fares.Triple.{Triple}
@@ -37,6 +37,11 @@ EndsIn feed query label triple = (last : StopId) × IsLabelEnd feed query (facts
 abbrev pub EndsBelow : FeedRows → Query → List Label → ℕ → Triple → Type 0
 EndsBelow feed query labels n triple =
     (k : ℕ) × (k < n) × (label : Label) × (slice_get labels k ≡ Some label) × EndsIn feed query label triple
+
+-- whatever the labels end in, some final is at most it
+abbrev pub HasEnds : FeedRows → Query → List Label → List Final → Type 0
+HasEnds feed query labels finals =
+    (triple : Triple) → EndsBelow feed query labels (length labels) triple → is_bettered finals triple
 
 -- what was bettered still is, and so is each triple of this part; the finals are ends of labels
 pub record AddsEnds (feed : FeedRows) (query : Query) (labels : List Label) (Part : Triple → Type 0) (old new : List Final) : Type 0 where

@@ -1,5 +1,5 @@
 -- What is asked of a search by rounds, and which labels it may lack.
-use Rattle.std.specs.Prelude.{ℕ, Bool, ◌&&◌, not, List, ℤ}
+use Rattle.std.specs.Prelude.{ℕ, Bool, List, ℤ}
 use Rattle.feed_rows.specs.declared.journeys.Query.{Query}
 use Rattle.feed_rows.specs.FeedRows.{FeedRows}
 use Rattle.feed_rows.specs.PartialJourneys.{LabelFacts}
@@ -11,8 +11,8 @@ use Rattle.plan_rounds.specs.declared.label.Label.{Label}
 use Rattle.plan_rounds.specs.Finals.{is_bettered}
 use Rattle.plan_rounds.specs.Labels.{facts_of}
 
--- a feed and a query over it, and whether the labels are to cover all partial journeys or those alone that matter for the
--- answer
+-- a feed and a query over it, and whether the labels are to cover all partial journeys but those that a final outdoes,
+-- or those alone that matter for the answer
 pub record Searched : Type 0 where
   pub feed : FeedRows
   pub query : Query
@@ -29,8 +29,7 @@ Lacks task finals = MayLack task.feed task.query task.whole (is_bettered finals)
 abbrev pub has_ahead : List Final → ℤ → ℕ → ℤ → Bool
 has_ahead finals at rides price = list_any (λ final. is_within at rides price final.triple) finals
 
--- the search may lack the label, and some final arrives no later, with no more rides, and costs no more than can follow
+-- some final arrives no later than the label, with no more rides, and costs no more than can follow
 abbrev pub is_overtaken_by : Searched → List Final → Label → Bool
 is_overtaken_by task finals label =
-    not task.whole
-    && has_ahead finals label.arrival.0 label.rides (least_end task.feed task.query (facts_of label))
+    has_ahead finals label.arrival.0 label.rides (least_end task.feed task.query task.whole (facts_of label))

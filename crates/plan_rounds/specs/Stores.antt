@@ -2,9 +2,11 @@
 use Rattle.std.specs.Prelude.{◌≡◌, ◌≢◌, ◌⊎◌, ℕ, ◌<◌, ◌≤◌, Bool, false, ◌==◌, List, [], ◌∷◌, length, filter, slice_get, Some, All, AllPairs, Contains, IsTrue}
 use Rattle.std.specs.Option.{option_map_or}
 use Rattle.transit_base.specs.declared.numbers.StopId.{StopId}
+use Rattle.feed_rows.specs.declared.fares.Triple.{Triple}
 use Rattle.feed_rows.specs.declared.journeys.Query.{Query}
 use Rattle.feed_rows.specs.declared.journeys.Ride.{Ride}
 use Rattle.feed_rows.specs.declared.states.Move.{Move}
+use Rattle.feed_rows.specs.FareFloor.{is_outdone}
 use Rattle.feed_rows.specs.FeedRows.{FeedRows}
 use Rattle.feed_rows.specs.Journeys.{stands_for}
 use Rattle.feed_rows.specs.LabelCover.{Covers}
@@ -17,6 +19,7 @@ use Rattle.round_laws.specs.LabelSteps.{start_facts, IsLabelStep}
 use Rattle.round_laws.specs.LinkedTables.{IsLinked, AreLinked, CoversStarts, CoversSteps, AreClosed}
 use Rattle.plan_rounds.specs.declared.label.Label.{Label}
 use Rattle.plan_rounds.specs.declared.label_class.LabelClass.{LabelClass}
+use Rattle.plan_rounds.specs.Finals.{EndsIn}
 use Rattle.plan_rounds.specs.Labels.{facts_of, label_of, labels_of, class_of, same_class, covers, IsBounded}
 
 -- ---- labels in bags
@@ -62,13 +65,21 @@ IsNever b = ⊥
 abbrev pub IsHeldBelow : List Label → LabelFacts → Type 0
 IsHeldBelow bags b = (x : Label) × Contains bags x × Covers (facts_of x) b
 
--- the label is at a stop of the feed, has so many rides, lies within its bounds, and starts or goes on from one of these
+-- no end of one of these labels outdoes the label
+abbrev pub IsPrunedBy : FeedRows → Query → List Label → Label → Type 0
+IsPrunedBy feed query labels x =
+    (y : Label) → Contains labels y → (triple : Triple) → EndsIn feed query y triple →
+    is_outdone feed query triple (facts_of x) ≡ false
+
+-- the label is at a stop of the feed, has so many rides, lies within its bounds, starts or goes on from one of these, and none
+-- of their ends outdoes it
 pub record IsFresh (feed : FeedRows) (query : Query) (labels : List Label) (rides : ℕ) (x : Label) : Type 0 where
   pub inside : x.stop.0 < length feed.stops
   pub counts : x.rides ≡ rides
   pub bounded : IsBounded x
   pub within : IsWithinWindow query x.arrival.0
   pub linked : IsLinked feed query (labels_of labels) (label_of x)
+  pub pruned : IsPrunedBy feed query labels x
 
 -- what was covered still is, and so are all facts of this part that may not be lacking; labels with fewer rides stayed, and
 -- new ones have so many
@@ -97,8 +108,15 @@ IsStartOf feed query b = (stop : StopId) × IsTrue (stands_for feed query.from s
 
 -- ---- all rounds
 
+-- no end of a label with fewer rides outdoes one of the labels
+abbrev pub ArePruned : FeedRows → Query → List Label → Type 0
+ArePruned feed query labels =
+    (x y : Label) → Contains labels x → Contains labels y → y.rides < x.rides → (triple : Triple) →
+    EndsIn feed query y triple →
+    is_outdone feed query triple (facts_of x) ≡ false
+
 -- the labels are those in the bags, each once, at stops of the feed, with fewer rides than so many; each starts or goes on
--- from an earlier one
+-- from an earlier one, and none is outdone by an end of one with fewer rides
 pub record AreStored (feed : FeedRows) (query : Query) (rides : ℕ) (labels bags : List Label) : Type 0 where
   pub listed : (x : Label) → Contains bags x → Contains labels x
   pub held : (x : Label) → Contains labels x → Contains bags x
@@ -108,13 +126,15 @@ pub record AreStored (feed : FeedRows) (query : Query) (rides : ℕ) (labels bag
   pub within : All (λ x. IsWithinWindow query x.arrival.0) labels
   pub linked : AreLinked feed query (labels_of labels)
   pub once : AllPairs (λ a b. a ≢ b) labels
+  pub pruned : ArePruned feed query labels
 
 -- each step from a label with fewer rides than so many is covered, or leads to facts that may be lacking
 abbrev pub AreClosedTo : FeedRows → Query → (LabelFacts → Type 0) → ℕ → List Label → Type 0
 AreClosedTo feed query Lacking rides labels =
     (x : Label) → Contains labels x → x.rides < rides → CoversSteps feed query Lacking (facts_of x) (labels_of labels)
 
--- the labels of all rounds: they cover the starts, and each step from each of them that may not be lacking
+-- the labels of all rounds: they cover the starts, and each step from each of them that may not be lacking; none is
+-- outdone by an end of one with fewer rides
 pub record AreWhole (feed : FeedRows) (query : Query) (Lacking : LabelFacts → Type 0) (labels : List Label) : Type 0 where
   pub linked : AreLinked feed query (labels_of labels)
   pub starts : CoversStarts feed query (labels_of labels)
@@ -124,6 +144,7 @@ pub record AreWhole (feed : FeedRows) (query : Query) (Lacking : LabelFacts → 
   pub inside : All (λ x. x.stop.0 < length feed.stops) labels
   pub within : All (λ x. IsWithinWindow query x.arrival.0) labels
   pub bounded : All IsBounded labels
+  pub pruned : ArePruned feed query labels
 
 -- ---- parts of a round
 

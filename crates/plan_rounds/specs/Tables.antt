@@ -7,7 +7,8 @@ use Rattle.feed_rows.specs.declared.fares.Entry.{Entry}
 use Rattle.feed_rows.specs.JourneyEntries.{CoversOffers}
 use Rattle.feed_rows.specs.FeedRows.{FeedRows}
 use Rattle.feed_rows.specs.RoundTables.{RoundTable, entries_of}
-use Rattle.feed_rows.specs.SoundTable.{AreReal, AreBags, IsWithoutExcess, CoversJourneys, EndsExactly}
+use Rattle.feed_rows.specs.ClosedTable.{IsClosedTable}
+use Rattle.feed_rows.specs.SoundTable.{AreReal, AreBags, IsWithoutExcess, CoversJourneys, EndsExactly, IsPruned}
 use Rattle.plain_laws.specs.declared.groups.Grouped.{Grouped}
 use Rattle.plan_rounds.specs.declared.finals.Final.{Final}
 use Rattle.plan_rounds.specs.declared.label.Label.{Label}
@@ -50,20 +51,24 @@ pub record TableParts : Type 0 where
 abbrev pub table_by : TableParts → RoundTable
 table_by parts = table_in parts.labels parts.stops parts.numbers parts.finals
 
--- the labels are real, the bags have them, none is in excess, and the finals are the exact answer, and cover whatever is offered
+-- whatever is offered, some entry by which a final ends is at most it
+abbrev pub CoversAllOffers : FeedRows → Query → RoundTable → Type 0
+CoversAllOffers feed query table =
+    (entries : List Entry) → entries_of table ≡ Some entries → CoversOffers feed query entries
+
+-- the labels are real, the bags have them, none is in excess or outdone by a final with fewer rides, and the finals are
+-- the exact answer, and cover whatever is offered
 pub record IsExactTable (feed : FeedRows) (query : Query) (table : RoundTable) : Type 0 where
   pub real : AreReal feed query table
   pub bags : AreBags table
   pub no_excess : IsWithoutExcess table
   pub exact : EndsExactly feed query table
-  pub offers : (entries : List Entry) → entries_of table ≡ Some entries → CoversOffers feed query entries
+  pub pruned : IsPruned feed query table
+  pub offers : CoversAllOffers feed query table
 
--- and they cover all partial journeys of the query
-pub record IsWholeTable (feed : FeedRows) (query : Query) (table : RoundTable) : Type 0 where
-  pub exact : IsExactTable feed query table
-  pub covers : CoversJourneys feed query table
-
--- the table of a search: where that is to be whole, it covers all partial journeys
+-- the table of a search: where that is to be whole, it covers all partial journeys but those of which all is found that
+-- they lead to, and is closed
 pub record IsTableOf (task : Searched) (table : RoundTable) : Type 0 where
   pub exact : IsExactTable task.feed task.query table
   pub covers : task.whole ≡ true → CoversJourneys task.feed task.query table
+  pub closed : task.whole ≡ true → IsClosedTable task.feed task.query table

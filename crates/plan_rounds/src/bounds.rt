@@ -1,5 +1,5 @@
 //! What a search needn't look at, since whatever it leads to is found already.
-ghost use Rattle.std.specs.Prelude.{◌≡◌, ◌+◌, ◌<◌, ◌≤◌, true, false, None, IsTrue, pos, ◌*ℤ◌, ◌*◌, ◌^◌, nat_abs};
+ghost use Rattle.std.specs.Prelude.{◌≡◌, ◌||◌, ◌+◌, ◌<◌, ◌≤◌, true, false, None, IsTrue, pos, ◌*ℤ◌, ◌*◌, ◌^◌, nat_abs};
 ghost use Rattle.std.specs.List.{list_any};
 ghost use Rattle.feed_rows.specs.Codes.{change_alone};
 ghost use Rattle.feed_rows.specs.FareFloor.{fare_floor};
@@ -74,12 +74,20 @@ impl<'s, 'f> Search<'s, 'f> {
         self.automaton.floor()
     }
 
+    /// Whether what is held counts as taken back: where some change takes it back, and for a search that is to be whole
+    /// always.
+    fn takes_held_back(&self) -> bool
+        ensures { result ≡ (self.now.whole || some_takes_back self.now.feed) }
+    {
+        self.whole || self.takes_back
+    }
+
     /// The least price from which a journey can go on from the label.
     fn least_price(&self, label: &Label) -> i128
-        ensures value { result ≡ least_price self.now.feed (facts_of label.now) }
+        ensures value { result ≡ least_price self.now.feed self.now.whole (facts_of label.now) }
         ensures low { nat_abs result ≤ 2 ^ 64 }
     {
-        if self.takes_back || label.state.is_none() {
+        if self.takes_held_back() || label.state.is_none() {
             label.price().min(i128::from(label.paid.0))
         } else {
             label.price()
@@ -89,25 +97,24 @@ impl<'s, 'f> Search<'s, 'f> {
     /// The least price at which a journey can end that goes on from the label.
     #[tactic(auto, unfolding(round_laws::specs::Futility::least_end))]
     fn least_end(&self, label: &Label) -> i128
-        ensures { result ≡ least_end self.now.feed self.now.query (facts_of label.now) }
+        ensures { result ≡ least_end self.now.feed self.now.query self.now.whole (facts_of label.now) }
     {
         let more = self.limit().saturating_sub(label.rides);
         self.least_price(label) + times(self.floor(), more)
     }
 
-    /// Whether a final arrives no later than the label, with no more rides, and costs no more than can follow from it. A search
-    /// that is to be whole doesn't ask.
+    /// Whether a final arrives no later than the label, with no more rides, and costs no more than can follow from it.
     pub(crate) fn is_overtaken(&self, label: &Label, finals: &[Final]) -> bool
         ensures { result ≡ is_overtaken_by self.now finals.now label.now }
     {
-        !self.whole && has_ahead(finals, label.arrival, label.rides, self.least_end(label))
+        has_ahead(finals, label.arrival, label.rides, self.least_end(label))
     }
 
     /// Whether a final arrives no later than the ride, with no more rides than it makes of the label, and costs no more than can
     /// follow from that.
     fn is_late(&self, label: &Label, finals: &[Final], caught: &CaughtRide) -> bool
         requires { label.now.rides < 8 }
-        ensures { result ≡ has_ahead finals.now caught.now.facts.arrival.0 (label.now.rides + 1) (least_end self.now.feed self.now.query (facts_of label.now)) }
+        ensures { result ≡ has_ahead finals.now caught.now.facts.arrival.0 (label.now.rides + 1) (least_end self.now.feed self.now.query self.now.whole (facts_of label.now)) }
     {
         has_ahead(
             finals,
@@ -118,16 +125,13 @@ impl<'s, 'f> Search<'s, 'f> {
     }
 
     /// Whether all that the ride leads to from the label is found already: a final arrives no later than the ride, with no more
-    /// rides, and costs no more than can follow. A search that is to be whole doesn't ask.
+    /// rides, and costs no more than can follow.
     pub(crate) fn is_futile(&self, source: &Source, finals: &[Final], caught: &CaughtRide) -> bool
         requires source { IsSource self.now.feed self.now.query source.now }
         requires right { IsRight self.now.feed self.now.query (stand_of_label source.now.label.now) caught.now }
         ensures { result ≡ true → (b : LabelFacts) → StepsBy self.now.feed self.now.query (facts_of source.now.label.now) caught.now.ride b → Lacks self.now finals.now b }
     {
         let _feed = self.feed();
-        if self.whole {
-            return false;
-        }
         self.is_late(source.label, finals, caught)
     }
 }

@@ -2,7 +2,9 @@
 ghost use Rattle.std.specs.Prelude.{IfOk};
 ghost use Rattle.feed_rows.specs.JourneyEntries.{CoversOffers, IsExactAnswer};
 ghost use Rattle.plan_rides.specs.InTime.{IsUsualQuery};
-ghost use Rattle.plan_rounds.specs.Tables.{IsTableOf, IsWholeTable, table_by};
+ghost use Rattle.feed_rows.specs.ClosedTable.{IsClosedTable};
+ghost use Rattle.feed_rows.specs.SoundTable.{IsSoundTable};
+ghost use Rattle.plan_rounds.specs.Tables.{CoversAllOffers, IsTableOf, table_by};
 
 use crate::search::Search;
 use crate::table::RoundTable;
@@ -22,14 +24,17 @@ impl<'s, 'f> Search<'s, 'f> {
     }
 }
 
-/// The labels of a query, round by round: they are real, none is in excess, they cover all partial journeys of the query, and
-/// what they end in is the exact answer.
+/// The labels of a query, round by round: they are real, none is in excess or outdone by a final with fewer rides, they
+/// cover all partial journeys of the query but those that a final outdoes, of which all is found that they lead to, and
+/// what they end in is the exact answer. That nothing is lacking shows by the table alone: it is closed under rides.
 ///
 /// # Errors
 /// Want of memory; so counts that there would be 2^32 labels or more.
 pub fn rounds(alloc: Global, timetable: &Timetable, query: &Query) -> Result<RoundTable, AllocError>
     requires usual { IsUsualQuery query.now }
-    ensures { IfOk result (λ table. IsWholeTable timetable.now query.now (table_by table)) }
+    ensures sound { IfOk result (λ table. IsSoundTable timetable.now query.now (table_by table)) }
+    ensures closed { IfOk result (λ table. IsClosedTable timetable.now query.now (table_by table)) }
+    ensures offers { IfOk result (λ table. CoversAllOffers timetable.now query.now (table_by table)) }
 {
     Search::new(alloc, timetable, query, true)?.table(alloc)
 }

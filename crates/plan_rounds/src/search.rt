@@ -11,7 +11,7 @@ ghost use Rattle.plan_rides.specs.InTime.{IsRight, IsUsualQuery};
 ghost use Rattle.plan_rounds.specs.Labels.{IsBounded, IsSmall, facts_of, stand_of_label};
 ghost use Rattle.plan_rounds.specs.Moves.{AreMovesOf, HasFares};
 ghost use Rattle.feed_rows.specs.declared.fares.Triple.{Triple};
-ghost use Rattle.plan_rounds.specs.Finals.{AddsEnds, EndsBelow, is_bettered};
+ghost use Rattle.plan_rounds.specs.Finals.{AddsEnds, EndsBelow, HasEnds, is_bettered};
 ghost use Rattle.plan_rounds.specs.Searched.{Lacks, searched};
 ghost use Rattle.feed_rows.specs.PartialJourneys.{LabelFacts};
 ghost use Rattle.plan_rounds.specs.Sources.{AreEnding, IsSource, SpreadsFrom, StepsByFirst};
@@ -37,7 +37,7 @@ use std::marker::Model;
 use transit_base::{Moment, StopId};
 
 /// A query over a timetable, with what is computed once for it. Contracts see the feed, the query, and whether the labels are to
-/// cover all partial journeys or those alone that matter for the answer.
+/// cover all partial journeys but those that a final outdoes, or those alone that matter for the answer.
 pub struct Search<'s, 'f> {
     alloc: Global,
     rides: Rides<'s, 'f>,
@@ -118,8 +118,8 @@ impl<'a, 'f> Drop for Found<'a, 'f> {
 }
 
 impl<'s, 'f> Search<'s, 'f> {
-    /// The search for the query over the timetable: for labels that cover all partial journeys, where it is to be whole, and
-    /// else for those that matter for the answer.
+    /// The search for the query over the timetable: for labels that cover all partial journeys but those that a final
+    /// outdoes, where it is to be whole, and else for those that matter for the answer.
     ///
     /// # Errors
     /// Want of memory.
@@ -253,6 +253,7 @@ impl<'s, 'f> Search<'s, 'f> {
     ) -> Result<(), AllocError>
         requires source { IsSource self.now.feed self.now.query source.now }
         requires right { IsRight self.now.feed self.now.query (stand_of_label source.now.label.now) caught.now }
+        requires ended { HasEnds self.now.feed self.now.query source.now.labels.now finals.now }
         requires fares { HasFares self.now found.old }
         ensures fares { HasFares self.now found.new }
         ensures spreads { OnOk result (SpreadsFrom self.now finals.now source.now (StepsBy self.now.feed self.now.query (facts_of source.now.label.now) caught.now.ride) bags.old bags.new) }
@@ -281,6 +282,7 @@ impl<'s, 'f> Search<'s, 'f> {
     ) -> Result<(), AllocError>
         requires source { IsSource self.now.feed self.now.query source.now }
         requires right { IsRight self.now.feed self.now.query (stand_of_label source.now.label.now) caught.now }
+        requires ended { HasEnds self.now.feed self.now.query source.now.labels.now finals.now }
         requires small { IsSmall taken.now }
         requires pays { move_after self.now.feed self.now.query.rider source.now.label.now.state source.now.label.now.held.0 (leg_facts self.now.feed caught.now.facts) taken.now ≡ Some taken.now }
         ensures { OnOk result (SpreadsFrom self.now finals.now source.now (λ b. b ≡ facts_after (facts_of source.now.label.now) caught.now.facts taken.now) bags.old bags.new) }
@@ -316,6 +318,7 @@ impl<'s, 'f> Search<'s, 'f> {
         bags: &mut StopBags,
     ) -> Result<(), AllocError>
         requires source { IsSource self.now.feed self.now.query source.now }
+        requires ended { HasEnds self.now.feed self.now.query source.now.labels.now finals.now }
         requires fares { HasFares self.now found.old }
         ensures fares { HasFares self.now found.new }
         ensures spreads { OnOk result (SpreadsFrom self.now finals.now source.now (StepsTo self.now.feed self.now.query (facts_of source.now.label.now)) bags.old bags.new) }
@@ -340,6 +343,7 @@ impl<'s, 'f> Search<'s, 'f> {
         requires few { count < self.now.query.rides }
         requires numbers { length labels.now < 2 ^ 32 }
         requires stored { AreStored self.now.feed self.now.query (count + 1) labels.now bags.old }
+        requires ended { HasEnds self.now.feed self.now.query labels.now finals.now }
         requires fares { HasFares self.now found.old }
         ensures fares { HasFares self.now found.new }
         ensures spreads { OnOk result (Spreads self.now.feed self.now.query (Lacks self.now finals.now) labels.now (count + 1) (StepsFrom self.now.feed self.now.query labels.now count) bags.old bags.new) }

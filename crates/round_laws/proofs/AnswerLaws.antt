@@ -21,6 +21,7 @@ use Rattle.round_laws.specs.LabelSteps.{IsStated, IsLabelEnd}
 use Rattle.round_laws.specs.LinkedTables.{AreLinked, IsCoveredBy, CoversStarts, AreClosed, IsFound, IsFinal, AreFinals}
 use Rattle.round_laws.proofs.CoverLaws.{ends_no_worse}
 use Rattle.round_laws.proofs.FutilityLaws.{IsUpward}
+use Rattle.round_laws.proofs.OutdoneLaws.{lack_futile}
 use Rattle.round_laws.proofs.EndLaws.{entry_of_end, part_of_entry, end_of_entry}
 use Rattle.round_laws.proofs.PartLaws.{item_at, stated_of_part}
 use Rattle.round_laws.proofs.TableLaws.{linked_stated, is_traced, coverer, all_served}
@@ -134,9 +135,11 @@ module _ (feed : FeedRows) (query : Query) (whole : Bool) (table : RoundTable) (
       let n = end_of_entry feed query entry sound is in
       let part = part_of_entry entry in
       ⊎_elim (λ some. covered_found n.a entry.journey.last entry.triple (stated_of_part feed query part n.a n.has) some n.end)
-      (λ lack. lack.1 0 entry.triple (entry.journey.last, n.end))
-      (all_served feed query (IsFound table.finals) (found_upward table.finals) whole table.labels linked starts closed part
-      n.a n.has)
+      (λ lack. lack_futile feed query sound (IsFound table.finals)
+      (found_upward table.finals) whole n.a lack 0 entry.triple
+      (entry.journey.last, n.end))
+      (all_served feed query sound (IsFound table.finals) (found_upward table.finals) whole table.labels linked starts
+      closed part n.a n.has)
 
   -- the entries by which the finals end are the exact answer, and cover whatever is offered
   pub exact_entries : (entries : List Entry) → entries_of table ≡ Some entries →

@@ -69,13 +69,18 @@ none_taken feed (Some pick) none = by (slice_get feed.transfer_rules pick.rule.0
         other false same = refl
         other true same = sym (list_any-place (λ r. r.kind == change_alone) feed.transfer_rules pick.rule.0 row is same) ∙ none
 
+second_false : (x y : Bool) → (x || y) ≡ false → y ≡ false
+second_false true y e = absurd (let no : true ≡ false = e in cc)
+second_false false y e = e
+
 -- the least price after a step is no less than the one before it with the floor
-least_step : (feed : FeedRows) (query : Query) (a b : LabelFacts) (ride : Ride) (move : Move) →
-    IsLabelStep feed query a ride move b → (least_price feed a +ℤ fare_floor feed query.rider) ≤ℤ least_price feed b
-least_step feed query a b ride move s =
+least_step : (feed : FeedRows) (query : Query) (whole : Bool) (a b : LabelFacts) (ride : Ride) (move : Move) →
+    IsLabelStep feed query a ride move b →
+    (least_price feed whole a +ℤ fare_floor feed query.rider) ≤ℤ least_price feed whole b
+least_step feed query whole a b ride move s =
     let low = low_move feed query.rider a.state a.paid a.held (leg_facts feed s.facts) move s.pays in
-    subst (λ (b : LabelFacts). (least_price feed a +ℤ fare_floor feed query.rider) ≤ℤ least_price feed b) (sym s.next)
-    (by a.state s.pays (some_takes_back feed) refl low)
+    subst (λ (b : LabelFacts). (least_price feed whole a +ℤ fare_floor feed query.rider) ≤ℤ least_price feed whole b)
+    (sym s.next) (by a.state s.pays (whole || some_takes_back feed) refl low)
   where
     floor : ℤ
     floor = fare_floor feed query.rider
@@ -84,14 +89,15 @@ least_step feed query a b ride move s =
     price = a.paid +ℤ move.paid.0 +ℤ move.held.0
 
     by : (state : Option FareState) → move_after feed query.rider state a.held (leg_facts feed s.facts) move ≡ Some move →
-        (back : Bool) → some_takes_back feed ≡ back →
+        (back : Bool) → (whole || some_takes_back feed) ≡ back →
         (int_min a.paid (a.paid +ℤ a.held) +ℤ floor) ≤ℤ int_min (a.paid +ℤ move.paid.0) price →
         ((if back || is_none state then int_min a.paid (a.paid +ℤ a.held) else a.paid +ℤ a.held) +ℤ floor) ≤ℤ
         (if back || false then int_min (a.paid +ℤ move.paid.0) price else price)
     by state pays true is low = low
     by None pays false is low = no_more _ _ _ low (min_second _ _)
     by (Some state) pays false is low =
-        low_price feed query.rider state a.paid a.held (leg_facts feed s.facts) move pays (none_taken feed (place_taken move) is)
+        low_price feed query.rider state a.paid a.held (leg_facts feed s.facts) move pays
+        (none_taken feed (place_taken move) (second_false whole (some_takes_back feed) is))
 
 -- so is the least price at the end
 end_by : (x y floor : ℤ) (limit n : ℕ) → n < limit → (x +ℤ floor) ≤ℤ y →
@@ -110,12 +116,13 @@ end_by x y floor limit n lt le = by (limit - (n + 1)) (omega (arith, lt))
 -- ---- a triple that is ahead
 
 -- what the test tells, and when it passes
-record Ahead (at : ℤ) (rides : ℕ) (price : ℤ) (triple : Triple) : Type 0 where
+pub record Ahead (at : ℤ) (rides : ℕ) (price : ℤ) (triple : Triple) : Type 0 where
   pub arrival : triple.arrival.0 ≤ℤ at
   pub few : triple.rides ≤ rides
   pub cheap : triple.price.0 ≤ℤ price
 
-ahead_tells : (at : ℤ) (rides : ℕ) (price : ℤ) (triple : Triple) → is_within at rides price triple ≡ true → Ahead at rides price triple
+pub ahead_tells : (at : ℤ) (rides : ℕ) (price : ℤ) (triple : Triple) → is_within at rides price triple ≡ true →
+    Ahead at rides price triple
 ahead_tells at rides price triple is =
     let all = and_parts (int_le triple.arrival.0 at && nat_le triple.rides rides) _ is in
     let both = and_parts (int_le triple.arrival.0 at) _ all.0 in
@@ -124,18 +131,20 @@ ahead_tells at rides price triple is =
     few : (m n : ℕ) → nat_le m n ≡ true → m ≤ n
     few m n h = grind (arith, nat_tests)
 
-ahead_passes : (at : ℤ) (rides : ℕ) (price : ℤ) (triple : Triple) → Ahead at rides price triple → is_within at rides price triple ≡ true
+pub ahead_passes : (at : ℤ) (rides : ℕ) (price : ℤ) (triple : Triple) → Ahead at rides price triple →
+    is_within at rides price triple ≡ true
 ahead_passes at rides price triple a = by triple.arrival.0 at triple.price.0 price triple.rides rides a.arrival a.few a.cheap
   where
     by : (x x' p p' : ℤ) (n n' : ℕ) → x ≤ℤ x' → n ≤ n' → p ≤ℤ p' → (int_le x x' && nat_le n n' && int_le p p') ≡ true
     by x x' p p' n n' le few less = grind (arith, ints, nat_tests, le, few, less)
 
 -- how little can follow is no more than the price so far
-least_below : (feed : FeedRows) (query : Query) (a : LabelFacts) → least_end feed query a ≤ℤ price_so_far a
+least_below : (feed : FeedRows) (query : Query) (whole : Bool) (a : LabelFacts) →
+    least_end feed query whole a ≤ℤ price_so_far a
 unfolding least_end
-least_below feed query a =
-    by (least_price feed a) (fare_floor feed query.rider) (query.rides - a.rides)
-    (least (some_takes_back feed || is_none a.state)) (floor_below feed query.rider)
+least_below feed query whole a =
+    by (least_price feed whole a) (fare_floor feed query.rider) (query.rides - a.rides)
+    (least ((whole || some_takes_back feed) || is_none a.state)) (floor_below feed query.rider)
   where
     least : (b : Bool) → (if b then int_min a.paid (price_so_far a) else price_so_far a) ≤ℤ price_so_far a
     least true = min_second _ _
@@ -154,27 +163,42 @@ least_below feed query a =
         sum : (x y z : ℤ) → x ≤ℤ z → y ≤ℤ pos 0 → (x +ℤ y) ≤ℤ z
         sum x y z p q = omega (arith, ints, p, q)
 
-module _ (feed : FeedRows) (query : Query) (sound : IsSoundFeed feed) (triple : Triple) where
+module _ (feed : FeedRows) (query : Query) (whole : Bool) (sound : IsSoundFeed feed) (triple : Triple) where
   -- the triple arrives no later than one stands there, with no more rides, and costs no more than can follow
   abbrev IsAheadOf : LabelFacts → Type 0
-  IsAheadOf a = is_within a.arrival a.rides (least_end feed query a) triple ≡ true
+  IsAheadOf a = is_within a.arrival a.rides (least_end feed query whole a) triple ≡ true
 
   -- a triple that is ahead of a ride is ahead of whatever that leads to
   pub ahead_of_ride : (a b : LabelFacts) (ride : Ride) (move : Move) (s : IsLabelStep feed query a ride move b) →
-      is_within s.facts.arrival.0 (a.rides + 1) (least_end feed query a) triple ≡ true → IsAheadOf b
+      is_within s.facts.arrival.0 (a.rides + 1) (least_end feed query whole a) triple ≡ true → IsAheadOf b
   unfolding least_end
   ahead_of_ride a b ride move s is =
       let t = ahead_tells _ _ _ triple is in
-      let least = least_step feed query a b ride move s in
+      let least = least_step feed query whole a b ride move s in
       let few : b.rides ≡ a.rides + 1 = ap (λ (x : LabelFacts). x.rides) s.next in
       let at : b.arrival ≡ s.facts.arrival.0 = ap (λ (x : LabelFacts). x.arrival) s.next in
       ahead_passes _ _ _ triple (record {
         arrival = subst (λ (z : ℤ). triple.arrival.0 ≤ℤ z) (sym at) t.arrival;
         few = subst (λ (n : ℕ). triple.rides ≤ n) (sym few) t.few;
         cheap = no_more _ _ _ t.cheap
-            (subst (λ (n : ℕ). least_end feed query a ≤ℤ (least_price feed b +ℤ (fare_floor feed query.rider *ℤ pos (query.rides - n))))
-            (sym few) (end_by (least_price feed a) (least_price feed b) (fare_floor feed query.rider) query.rides a.rides s.rides.few least));
+            (subst (λ (n : ℕ). least_end feed query whole a ≤ℤ
+            (least_price feed whole b +ℤ (fare_floor feed query.rider *ℤ pos (query.rides - n))))
+            (sym few) (end_by (least_price feed whole a) (least_price feed whole b)
+            (fare_floor feed query.rider) query.rides a.rides s.rides.few least));
       })
+
+  -- so is one that is ahead before the ride
+  pub ahead_after : (a b : LabelFacts) (ride : Ride) (move : Move) → IsLabelStep feed query a ride move b →
+      IsAheadOf a → IsAheadOf b
+  ahead_after a b ride move s is =
+      let t = ahead_tells _ _ _ triple is in
+      let later = later_ride feed query a ride s.facts sound s.rides in
+      ahead_of_ride a b ride move s
+      (ahead_passes _ _ _ triple (record {
+        arrival = no_more _ _ _ t.arrival later;
+        few = omega (arith, t.few);
+        cheap = t.cheap;
+      }))
 
   -- it betters all that so many more rides lead to
   pub ahead_leads : (n : ℕ) (a : LabelFacts) (other : Triple) → IsAheadOf a → LeadsBy feed query n a other → at_most triple other ≡ true
@@ -185,19 +209,11 @@ module _ (feed : FeedRows) (query : Query) (sound : IsSoundFeed feed) (triple : 
       ahead_passes other.arrival.0 other.rides other.price.0 triple (record {
         arrival = no_more _ _ _ t.arrival later;
         few = subst (λ (n : ℕ). triple.rides ≤ n) (sym e.rides) t.few;
-        cheap = no_more _ _ _ t.cheap (subst (λ (z : ℤ). least_end feed query a ≤ℤ z) (sym e.price) (least_below feed query a));
+        cheap = no_more _ _ _ t.cheap
+            (subst (λ (z : ℤ). least_end feed query whole a ≤ℤ z) (sym e.price) (least_below feed query whole a));
       })
   ahead_leads (suc n) a other is leads =
-      let s = leads.3 in
-      let t = ahead_tells _ _ _ triple is in
-      let later = later_ride feed query a leads.0 s.facts sound s.rides in
-      ahead_leads n leads.2 other
-      (ahead_of_ride a leads.2 leads.0 leads.1 s
-      (ahead_passes _ _ _ triple (record {
-        arrival = no_more _ _ _ t.arrival later;
-        few = omega (arith, t.few);
-        cheap = t.cheap;
-      }))) leads.4
+      ahead_leads n leads.2 other (ahead_after a leads.2 leads.0 leads.1 leads.3 is) leads.4
 
 -- ---- ends of the last ride
 

@@ -1,5 +1,5 @@
 -- What is futile stays so along rides and for whatever it covers.
-use Rattle.std.proofs.Common.{◌≡◌, ℕ, zero, suc, Bool, true}
+use Rattle.std.proofs.Common.{◌≡◌, ℕ, zero, suc, Bool, true, false}
 use Rattle.feed_rows.specs.declared.fares.Triple.{Triple}
 use Rattle.feed_rows.specs.declared.journeys.Query.{Query}
 use Rattle.feed_rows.specs.declared.journeys.Ride.{Ride}
@@ -48,7 +48,8 @@ module _ (feed : FeedRows) (query : Query) (Found : Triple → Type 0) where
       let better = leads_no_worse feed query n a b triple stated stated' covers leads in
       upward better.triple triple better.below (futile n better.triple better.leads)
 
--- and it stays so where more is found
+-- what may be lacking still may be where more is found
 pub lack_more : (feed : FeedRows) (query : Query) (whole : Bool) (Found More : Triple → Type 0) (a : LabelFacts) →
     ((triple : Triple) → Found triple → More triple) → MayLack feed query whole Found a → MayLack feed query whole More a
-lack_more feed query whole Found More a more lack = (lack.0, λ n triple leads. more triple (lack.1 n triple leads))
+lack_more feed query true Found More a more lack = (lack.0, more lack.0 lack.1, lack.2)
+lack_more feed query false Found More a more lack = λ n triple leads. more triple (lack n triple leads)

@@ -8,6 +8,8 @@ pub mod TimeLaws
 pub mod EndLaws
 pub mod FutilityLaws
 pub mod BoundLaws
+pub mod OutdoneLaws
 pub mod TableLaws
 pub mod AnswerLaws
 pub mod CompletionLaws
+pub mod ClosedLaws

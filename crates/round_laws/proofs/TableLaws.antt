@@ -1,5 +1,5 @@
 -- Labels that go on from one another and are closed under steps: they are real, and cover each partial journey.
-use Rattle.std.proofs.Common.{◌≡◌, refl, sym, ◌∙◌, ap, subst, ℕ, zero, suc, ◌+◌, ◌<◌, ◌⊎◌, inl, inr, ⊎_elim, Bool, true, List, take, drop, take-append-drop, length-take, arith, add-one}
+use Rattle.std.proofs.Common.{◌≡◌, refl, sym, ◌∙◌, ap, subst, ℕ, zero, suc, ◌+◌, ◌<◌, ◌⊎◌, inl, inr, ⊎_elim, Bool, List, take, drop, take-append-drop, length-take, arith, add-one}
 use Rattle.std.specs.Prelude.{Some, slice_get}
 use Rattle.std.proofs.lemmas.Option.{slice_get_within, slice_get-get_or}
 use Rattle.feed_rows.specs.declared.fares.Triple.{Triple}
@@ -10,13 +10,15 @@ use Rattle.feed_rows.specs.FeedRows.{FeedRows}
 use Rattle.feed_rows.specs.LabelCover.{Covers}
 use Rattle.feed_rows.specs.PartialJourneys.{PartialJourney, LabelFacts}
 use Rattle.feed_rows.specs.RoundTables.{Label, RoundTable, start_at, with_ride, traced}
-use Rattle.feed_rows.specs.SoundTable.{IsReal, CoversJourneys}
+use Rattle.feed_rows.specs.SoundFeed.{IsSoundFeed}
+use Rattle.feed_rows.specs.SoundTable.{IsReal}
 use Rattle.plain_laws.proofs.Laws.{All-slice_get, slice_get-append_left}
 use Rattle.round_laws.specs.Futility.{MayLack}
 use Rattle.round_laws.specs.LabelSteps.{HasFacts, IsStated, IsLabelStep}
 use Rattle.round_laws.specs.LinkedTables.{IsStart, IsNext, IsLinked, AreLinked, IsCoveredBy, CoversStarts, CoversSteps, AreClosed}
 use Rattle.round_laws.proofs.CoverLaws.{covers-trans, follow}
-use Rattle.round_laws.proofs.FutilityLaws.{IsUpward, futile_after, futile_below}
+use Rattle.round_laws.proofs.FutilityLaws.{IsUpward}
+use Rattle.round_laws.proofs.OutdoneLaws.{lack_after, lack_below}
 use Rattle.round_laws.proofs.PartLaws.{stated_of_part, stated_of_start, stated_of_step}
 use Rattle.round_laws.proofs.StartLaws.{start_has_facts, start_of_facts}
 use Rattle.round_laws.proofs.GoingOnLaws.{extend}
@@ -33,7 +35,7 @@ linked_stated feed query labels label (inr next) =
     stated_of_step feed query next.before.facts next.by next.move label.facts next.step
 
 -- an earlier label of a list, by its place in the whole list
-earlier : {X : Type 0} (xs : List X) (n i : ℕ) (x : X) → slice_get (take n xs) i ≡ Some x →
+pub earlier : {X : Type 0} (xs : List X) (n i : ℕ) (x : X) → slice_get (take n xs) i ≡ Some x →
     (i < n) × (slice_get xs i ≡ Some x)
 earlier {X} xs n i x is =
     let within = slice_get_within (take n xs) i x is in
@@ -125,8 +127,10 @@ coverer labels facts some = record {
 covered_more : (labels : List Label) (a b : LabelFacts) → IsCoveredBy labels a → Covers a b → IsCoveredBy labels b
 covered_more labels a b some covers = (some.0, some.1, some.2, some.3, covers-trans some.1.facts a b some.4 covers)
 
-module _ (feed : FeedRows) (query : Query) (Found : Triple → Type 0) (upward : IsUpward Found) (whole : Bool)
-    (labels : List Label) (linked : AreLinked feed query labels) (starts : CoversStarts feed query labels)
+module _ (feed : FeedRows) (query : Query) (sound : IsSoundFeed feed) (Found : Triple → Type 0)
+    (upward : IsUpward Found)
+    (whole : Bool) (labels : List Label) (linked : AreLinked feed query labels)
+    (starts : CoversStarts feed query labels)
     (closed : AreClosed feed query (MayLack feed query whole Found) labels) where
   -- such facts are covered, or may be lacking
   abbrev pub IsServed : LabelFacts → Type 0
@@ -142,11 +146,9 @@ module _ (feed : FeedRows) (query : Query) (Found : Triple → Type 0) (upward :
       All-slice_get (λ (label : Label). CoversSteps feed query (MayLack feed query whole Found) label.facts labels) labels
       number c is closed in
       ⊎_elim (λ some. inl (covered_more labels f.b b some f.covers))
-      (λ lack. inr (
-        lack.0,
-        futile_below feed query Found upward f.b b
-            (stated_of_step feed query c.facts ride f.move f.b f.step) (stated_of_step feed query a ride move b s) f.covers lack.1,
-      ))
+      (λ lack. inr (lack_below feed query Found upward whole f.b b
+      (stated_of_step feed query c.facts ride f.move f.b f.step)
+      (stated_of_step feed query a ride move b s) f.covers lack))
       (on ride f.move f.b f.step)
 
   -- whatever goes on from such facts is such
@@ -155,7 +157,8 @@ module _ (feed : FeedRows) (query : Query) (Found : Triple → Type 0) (upward :
   step_served a b ride move (inl some) stated s =
       let c = coverer labels a some in
       step_of_label c.label c.number c.is a b ride move c.covers stated s
-  step_served a b ride move (inr lack) stated s = inr (lack.0, futile_after feed query Found a b ride move s lack.1)
+  step_served a b ride move (inr lack) stated s =
+      inr (lack_after feed query sound Found upward whole a b ride move s lack)
 
   -- so are the facts after each number of rides
   served_after : (n : ℕ) (part : PartialJourney) (a : LabelFacts) → HasFacts feed query part a → a.rides ≡ n → IsServed a
@@ -170,12 +173,3 @@ module _ (feed : FeedRows) (query : Query) (Found : Triple → Type 0) (upward :
   -- so are those of each partial journey
   pub all_served : (part : PartialJourney) (a : LabelFacts) → HasFacts feed query part a → IsServed a
   all_served part a h = served_after a.rides part a h refl
-
--- a whole table of such labels covers the partial journeys
-pub covers_journeys : (feed : FeedRows) (query : Query) (Found : Triple → Type 0) (table : RoundTable) → IsUpward Found →
-    AreLinked feed query table.labels → CoversStarts feed query table.labels →
-    AreClosed feed query (MayLack feed query true Found) table.labels → CoversJourneys feed query table
-covers_journeys feed query Found table upward linked starts closed part facts partial has =
-    ⊎_elim inl (λ lack. absurd (let no = lack.0 in cc))
-    (all_served feed query Found upward true table.labels linked starts closed part facts
-    (record { partial = partial; facts = has }))

@@ -1,5 +1,5 @@
 -- What more rides lead to, and when a search needn't go on, since all that is found already.
-use Rattle.std.specs.Prelude.{◌≡◌, ℕ, zero, suc, ◌-◌, Bool, false, ◌&&◌, ◌||◌, ◌==◌, if◌then◌else◌, nat_le, int_le, is_none, ℤ, pos, ◌+ℤ◌, ◌*ℤ◌}
+use Rattle.std.specs.Prelude.{ℕ, zero, suc, ◌-◌, Bool, true, false, ◌&&◌, ◌||◌, ◌==◌, if◌then◌else◌, nat_le, int_le, is_none, ℤ, pos, ◌+ℤ◌, ◌*ℤ◌, IsTrue}
 use Rattle.std.specs.List.{list_any}
 use Rattle.transit_base.specs.declared.numbers.StopId.{StopId}
 use Rattle.feed_rows.specs.declared.fares.Triple.{Triple}
@@ -7,7 +7,7 @@ use Rattle.feed_rows.specs.declared.journeys.Query.{Query}
 use Rattle.feed_rows.specs.declared.journeys.Ride.{Ride}
 use Rattle.feed_rows.specs.declared.states.Move.{Move}
 use Rattle.feed_rows.specs.Codes.{change_alone}
-use Rattle.feed_rows.specs.FareFloor.{fare_floor, least_so_far}
+use Rattle.feed_rows.specs.FareFloor.{fare_floor, is_outdone, least_so_far}
 use Rattle.feed_rows.specs.FeedRows.{FeedRows}
 use Rattle.feed_rows.specs.LabelCover.{price_so_far}
 use Rattle.feed_rows.specs.PartialJourneys.{LabelFacts}
@@ -25,9 +25,14 @@ LeadsBy feed query (suc n) a triple =
 abbrev pub IsFutile : FeedRows → Query → (Triple → Type 0) → LabelFacts → Type 0
 IsFutile feed query Found a = (n : ℕ) (triple : Triple) → LeadsBy feed query n a triple → Found triple
 
--- a search that isn't to be whole may lack what is futile
+-- some triple that is found outdoes such facts
+abbrev pub IsOutdoneBy : FeedRows → Query → (Triple → Type 0) → LabelFacts → Type 0
+IsOutdoneBy feed query Found a = (triple : Triple) × Found triple × IsTrue (is_outdone feed query triple a)
+
+-- a search that is to be whole may lack what is outdone, and another whatever is futile
 abbrev pub MayLack : FeedRows → Query → Bool → (Triple → Type 0) → LabelFacts → Type 0
-MayLack feed query whole Found a = (whole ≡ false) × IsFutile feed query Found a
+MayLack feed query true Found a = IsOutdoneBy feed query Found a
+MayLack feed query false Found a = IsFutile feed query Found a
 
 -- ---- how little it can cost
 
@@ -35,13 +40,16 @@ MayLack feed query whole Found a = (whole ≡ false) × IsFutile feed query Foun
 unfoldable pub some_takes_back : FeedRows → Bool
 some_takes_back feed = list_any (λ row. row.kind == change_alone) feed.transfer_rules
 
--- the least price that a continuation can start from: what is held counts where nothing takes it back
-abbrev pub least_price : FeedRows → LabelFacts → ℤ
-least_price feed a = if some_takes_back feed || is_none a.state then least_so_far a else price_so_far a
+-- the least price that a continuation can start from: but for a search that is to be whole, what is held counts where
+-- nothing takes it back
+abbrev pub least_price : FeedRows → Bool → LabelFacts → ℤ
+least_price feed whole a =
+    if (whole || some_takes_back feed) || is_none a.state then least_so_far a else price_so_far a
 
 -- the least price at a journey's end
-unfoldable pub least_end : FeedRows → Query → LabelFacts → ℤ
-least_end feed query a = least_price feed a +ℤ (fare_floor feed query.rider *ℤ pos (query.rides - a.rides))
+unfoldable pub least_end : FeedRows → Query → Bool → LabelFacts → ℤ
+least_end feed query whole a =
+    least_price feed whole a +ℤ (fare_floor feed query.rider *ℤ pos (query.rides - a.rides))
 
 -- the triple arrives no later than this moment, with no more rides than so many, and costs no more than this
 abbrev pub is_within : ℤ → ℕ → ℤ → Triple → Bool

@@ -1,12 +1,8 @@
-use Rattle.std.proofs.Common.{sym, ◌∙◌, ap}
-use Rattle.plan_rounds.specs.Searched.{Searched}
+use Rattle.std.proofs.Common.{sym, ◌∙◌}
 use Rattle.plan_rounds.proofs.FutileLaws.{ride_overtaken}
 use Rattle.plan_rounds.proofs.search.Search.is_futile.Goals as goal
 
 pub returns : goal.returns
-returns c is b by = (
-  sym (ap (λ (a : Searched). a.whole) c.self.view_is) ∙ c.if-self.false,
-  ride_overtaken c.args.self.now.feed c.args.self.now.query c.args.finals.now c.args.source.now.label.now c.args.caught.now
-      c.requires.right b by c.feed-feed.ensures.sound
-      (sym c.is_late.ensures ∙ is),
-)
+returns c is b by =
+    ride_overtaken c.args.self.now c.args.finals.now c.args.source.now.label.now c.args.caught.now c.requires.right b by
+    c.feed-feed.ensures.sound (sym c.is_late.ensures ∙ is)

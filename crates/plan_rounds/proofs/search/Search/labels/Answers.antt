@@ -1,6 +1,6 @@
 use Rattle.std.proofs.Common.{refl, sym, ◌∙◌, ap, subst, List, ◌+◌, ◌++◌, [], arith}
 use Rattle.plan_rounds.specs.declared.finals.Final.{Final}
-use Rattle.plan_rounds.specs.Finals.{is_bettered}
+use Rattle.plan_rounds.specs.Finals.{HasEnds, is_bettered}
 use Rattle.plan_rounds.specs.Labels.{labels_of}
 use Rattle.round_laws.proofs.FutilityLaws.{lack_more}
 use Rattle.fare_automaton.specs.Known.{KnownPicks}
@@ -41,6 +41,13 @@ gather-requires-in-loop-count-clause-ending c =
 
 pub gather-requires-in-loop-count-clause-ended : goal.gather-requires-in-loop-count-clause-ended
 gather-requires-in-loop-count-clause-ended c = c.loop-count.invariant.ended
+
+pub spread-requires-clause-ended : goal.spread-requires-clause-ended
+spread-requires-clause-ended c =
+    let feed = c.args.self.now.feed in
+    let query = c.args.self.now.query in
+    subst (λ ls. HasEnds feed query ls c.items.result.now) (sym c.deref.ensures.value)
+    (subst (HasEnds feed query c.loop-count.labels.items) (sym c.items.ensures.value) c.loop-count.invariant.ended.all)
 
 pub loop-count-init : goal.loop-count-init
 loop-count-init c =

@@ -1,8 +1,8 @@
-use Rattle.std.proofs.Common.{◌≡◌, ◌∙◌, true, sym, subst}
+use Rattle.std.proofs.Common.{◌≡◌, ◌∙◌, true, false, sym, subst}
 use Rattle.plan_rounds.specs.declared.label.Label.{Label}
 use Rattle.plan_rounds.specs.Labels.{IsBounded, went_on}
 use Rattle.plan_rounds.specs.Searched.{Lacks, is_overtaken_by}
-use Rattle.plan_rounds.proofs.FutileLaws.{overtaken}
+use Rattle.plan_rounds.proofs.FutileLaws.{overtaken, not_outdone}
 use Rattle.plan_rounds.proofs.RideSteps.{fresh_after}
 use Rattle.plan_rounds.proofs.SpreadLaws.{spreads_none, spreads_taken}
 use Rattle.plan_rounds.proofs.search.Search.offer_move.Goals as goal
@@ -24,4 +24,8 @@ returns c =
     spreads_taken c.args.self.now.feed c.args.self.now.query (Lacks c.args.self.now c.args.finals.now) source.labels.now _ c.offer.result c.args.bags.now c.offer.new.self c.after-label.result
     (went_on source.label.now source.number caught taken) c.offer.ensures c.after-label.ensures.value
     (fresh_after c.args.self.now.feed c.args.self.now.query source c.requires.source caught c.requires.right taken c.feed-feed.ensures.sound
-    c.requires.pays (subst IsBounded c.after-label.ensures.value c.after-label.ensures.bounded))
+    c.requires.pays (subst IsBounded c.after-label.ensures.value c.after-label.ensures.bounded)
+    (not_outdone c.args.self.now c.args.finals.now source.labels.now
+    (went_on source.label.now source.number caught taken)
+    c.requires.ended (subst (λ (x : Label). is_overtaken_by c.args.self.now c.args.finals.now x ≡ false) c.after-label.ensures.value
+    (sym c.is_overtaken.ensures ∙ c.if-is_overtaken.false))))

@@ -8,7 +8,7 @@ use Rattle.plan_rounds.specs.Searched.{Lacks}
 use Rattle.plan_rounds.specs.Stores.{AreWhole}
 use Rattle.plan_rounds.specs.Tables.{IsTableOf}
 use Rattle.plan_rounds.proofs.FinalSteps.{as_good, are_finals}
-use Rattle.plan_rounds.proofs.WholeLaws.{found_of, whole_weaker, exact_table, covers_all}
+use Rattle.plan_rounds.proofs.WholeLaws.{found_of, whole_weaker, exact_table, covers_all, closed_all}
 use Rattle.round_laws.specs.Futility.{MayLack}
 use Rattle.round_laws.specs.LinkedTables.{IsFound}
 use Rattle.round_laws.proofs.FutilityLaws.{lack_more}
@@ -35,6 +35,9 @@ returns c =
       exact = exact_table feed query labels c.stops-stops.result c.limit-limit.result finals c.stops-stops.ensures.sound c.args.self.now.whole are ends
           c.stops-stops.ensures.is c.limit-limit.ensures.is;
       covers = λ whole.
-          covers_all feed query labels c.stops-stops.result c.limit-limit.result finals
+          covers_all feed query labels c.stops-stops.result c.limit-limit.result finals c.stops-stops.ensures.sound
+          (subst (λ w. AreWhole feed query (MayLack feed query w (IsFound (finals_of finals))) labels) whole are);
+      closed = λ whole.
+          closed_all feed query labels c.stops-stops.result c.limit-limit.result finals c.stops-stops.ensures.sound
           (subst (λ w. AreWhole feed query (MayLack feed query w (IsFound (finals_of finals))) labels) whole are);
     })) c.of.ensures
