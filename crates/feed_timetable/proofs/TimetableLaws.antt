@@ -1,5 +1,5 @@
 -- Bounds that a feed without faults keeps, and on which days its trips run.
-use Rattle.std.proofs.Common.{◌≡◌, sym, ◌∙◌, ap, subst, get_or, filter, ℕ, ◌^◌, ◌<◌, Bool, List, length, true, arith, ℤ, pos, ◌≤ℤ◌, ◌<ℤ◌, ◌-ℤ◌}
+use Rattle.std.proofs.Common.{◌≡◌, sym, ◌∙◌, ap, subst, get_or, filter, ℕ, ◌^◌, ◌<◌, Bool, List, length, true, false, arith, ℤ, pos, ◌≤ℤ◌, ◌<ℤ◌, ◌-ℤ◌}
 use Rattle.std.specs.Prelude.{◌==◌, Some, slice_get}
 use Rattle.std.proofs.lemmas.Option.{get_or_from_slice_get, slice_get-get_or}
 use Rattle.std.proofs.lemmas.List.Sums.{length-filter, count_by-le-length}
@@ -17,12 +17,12 @@ use Rattle.feed_rows.specs.Calls.{calls_of}
 use Rattle.feed_rows.specs.Shifts.{is_shift, shifts_of}
 use Rattle.feed_rows.specs.Rides.{runs_on}
 use Rattle.feed_rows.specs.ServiceDays.{is_active}
-use Rattle.plain_laws.specs.Plain.{list_below}
-use Rattle.plain_laws.proofs.Laws.{length-list_below, slice_get-list_below}
+use Rattle.plain_laws.proofs.Laws.{slice_get-list_below}
 use Rattle.feed_laws.proofs.CallLaws.{length-calls_of}
 use Rattle.feed_laws.proofs.CallTimes.{first_departure_most}
 use Rattle.feed_laws.proofs.ShiftLaws.{found_from_Contains, list_any-shifts_of, is_shift_bounds}
 use Rattle.feed_laws.proofs.SoundTrips.{sound_trip}
+use Rattle.feed_timetable.specs.ServicesOn.{services_on}
 use Rattle.feed_timetable.specs.Standings.{AreShifts}
 
 -- a trip has no more calls than there are stop times
@@ -50,26 +50,22 @@ shift_bounds feed trip sound k d lt =
     within z low high = (omega (arith, ints), omega (arith, ints))
 
 -- the service of a trip has a name
-pub trip_service : (feed : FeedRows) (i : ℕ) (row : TripRow) → IsSoundFeed feed → row ≡ get_or feed.trips i row → i < length feed.trips → row.service.0 < length feed.service_names
+trip_service : (feed : FeedRows) (i : ℕ) (row : TripRow) → IsSoundFeed feed → row ≡ get_or feed.trips i row → i < length feed.trips → row.service.0 < length feed.service_names
 trip_service feed i row sound is lt = subst (λ (r : TripRow). r.service.0 < length feed.service_names) (sym is) (sound.trips.services i row lt)
 
--- the services' list has a place for the service of each trip
-pub service_is_listed : (feed : FeedRows) (day : ℤ) (active : List Bool) (trips : List TripRow) (i : ℕ) (row : TripRow) → IsSoundFeed feed → trips ≡ feed.trips → active ≡ list_below (length feed.service_names) (λ s. is_active feed (record { 0 = s }) day) → row ≡ get_or trips i row → i < length trips →
-    row.service.0 < length active
-service_is_listed feed day active trips i row sound rows all is lt =
-    let row_is = is ∙ ap (λ (ts : List TripRow). get_or ts i row) rows in
-    let service = trip_service feed i row sound row_is (subst (λ (ts : List TripRow). i < length ts) rows lt) in
-    rw (all, length-list_below) service
-
 -- a trip runs on the days of its service
-pub trip_runs : (feed : FeedRows) (day : ℤ) (active : List Bool) (trips : List TripRow) (i : ℕ) (row : TripRow) (runs : Bool) → IsSoundFeed feed → trips ≡ feed.trips → active ≡ list_below (length feed.service_names) (λ s. is_active feed (record { 0 = s }) day) → row ≡ get_or trips i row → i < length trips → runs ≡ get_or active row.service.0 runs →
-    runs ≡ runs_on feed (record { 0 = i }) day
-trip_runs feed day active trips i row runs sound rows all is lt read =
+pub trip_runs : (feed : FeedRows) (day : ℤ) (active : List Bool) (trips : List TripRow) (i : ℕ) (row : TripRow) →
+    IsSoundFeed feed → trips ≡ feed.trips → active ≡ services_on feed day → row ≡ get_or trips i row → i < length trips →
+    get_or active (get_or trips i row).service.0 false ≡ runs_on feed (record { 0 = i }) day
+trip_runs feed day active trips i row sound rows all is lt =
     let row_is = is ∙ ap (λ (ts : List TripRow). get_or ts i row) rows in
     let within = subst (λ (ts : List TripRow). i < length ts) rows lt in
     let service = trip_service feed i row sound row_is within in
     let on : ℕ → Bool = λ s. is_active feed (record { 0 = s }) day in
     let got = slice_get-list_below (length feed.service_names) on row.service.0 service in
     let one : slice_get feed.trips i ≡ Some row = slice_get-get_or feed.trips i row within ∙ ap Some (sym row_is) in
-    let found = get_or_from_slice_get (list_below (length feed.service_names) on) row.service.0 (is_active feed row.service day) runs got in
-    rw one (read ∙ ap (λ (xs : List Bool). get_or xs row.service.0 runs) all ∙ found)
+    let found =
+    get_or_from_slice_get (services_on feed day) row.service.0 (is_active feed row.service day) false got in
+    rw one
+    (ap (λ (r : TripRow). get_or active r.service.0 false) (sym is)
+    ∙ ap (λ (xs : List Bool). get_or xs row.service.0 false) all ∙ found)

@@ -1,5 +1,5 @@
 //! The stops, trips, walks and services of one feed, beside one another.
-ghost use Rattle.std.specs.Prelude.{◌≡◌, ◌<◌, ◌≤◌, ◌^◌, ◌≤ℤ◌, pos, negsuc, length, All, IfOk, IfSome, IsTrue, option_map, Option, Some, None};
+ghost use Rattle.std.specs.Prelude.{◌≡◌, ◌<◌, ◌≤◌, ◌^◌, ◌≤ℤ◌, ℤ, pos, negsuc, length, All, IfOk, IfSome, IsTrue, option_map, Option, Some, None};
 ghost use Rattle.feed_rows.specs.Limits.{least_shift, most_shift};
 ghost use Rattle.transit_base.specs.Limits.{most_time};
 ghost use Rattle.transit_base.specs.declared.moments.Secs.{Secs};
@@ -9,13 +9,12 @@ ghost use Rattle.feed_rows.specs.SoundFeed.{IsSoundFeed};
 ghost use Rattle.feed_rows.specs.Calls.{calls_of, first_departure};
 ghost use Rattle.feed_rows.specs.Shifts.{has_frequencies, shifts_of};
 ghost use Rattle.feed_rows.specs.Rides.{runs_on, ride_facts, trip_network};
-ghost use Rattle.feed_rows.specs.ServiceDays.{is_active};
-ghost use Rattle.plain_laws.specs.Plain.{list_below};
 ghost use Rattle.feed_rows.specs.Queries.{find_stop, find_trip};
 ghost use Rattle.feed_rows.specs.StopLinks.{link, stop_set};
 ghost use Rattle.feed_rows.specs.Journeys.{stands_for, access, egress, direct, is_caught};
 ghost use Rattle.feed_rows.specs.JourneyStands.{way_to, way_out, end_arrival};
 ghost use Rattle.feed_timetable.specs.Standings.{stand_of, IsNear, AreShifts};
+ghost use Rattle.feed_timetable.specs.ServicesOn.{services_on};
 ghost use Rattle.feed_walks.specs.OutOf.{out_of};
 
 use crate::standing::Standing;
@@ -157,9 +156,12 @@ impl<'f> Timetable<'f> {
         self.calendar.active(service, day)
     }
 
-    // Whether each service is active on the day, by its number.
-    fn services_on(&self, alloc: Global, day: Day) -> Result<Vec<bool>, AllocError>
-        ensures { IfOk result (λ active. active.items ≡ list_below (length self.now.service_names) (λ s. is_active self.now (record { 0 = s }) day.0)) }
+    /// Whether each service is active on the day, by its number.
+    ///
+    /// # Errors
+    /// Want of memory.
+    pub fn services_on(&self, alloc: Global, day: Day) -> Result<Vec<bool>, AllocError>
+        ensures { IfOk result (λ active. active.items ≡ services_on self.now day.0) }
     {
         let feed = self.feed;
         let _rows = &feed.trips;
@@ -171,22 +173,16 @@ impl<'f> Timetable<'f> {
         Ok(active)
     }
 
-    /// Whether each trip runs on the day, by its number.
-    ///
-    /// # Errors
-    /// Want of memory.
-    pub fn trips_on(&self, alloc: Global, day: Day) -> Result<Vec<bool>, AllocError>
-        ensures { IfOk result (λ runs. runs.items ≡ list_below (length self.now.trips) (λ t. runs_on self.now (record { 0 = t }) day.0)) }
+    /// Whether the trip runs on a day on which these services are active, by their numbers.
+    pub fn runs_with(&self, active: &[bool], trip: TripId) -> bool
+        requires many { length active.now ≡ length self.now.service_names }
+        requires trip { trip.0 < length self.now.trips }
+        ensures { (day : ℤ) → active.now ≡ services_on self.now day → result ≡ runs_on self.now trip day }
     {
         let feed = self.feed;
         let _rows = &feed.trips;
-        let trips = feed.trips.items();
-        let active = self.services_on(alloc, day)?;
-        let mut runs = Vec::with_capacity(alloc, trips.len())?;
-        for trip in trips {
-            runs.push(active[trip.service.0 as usize])?;
-        }
-        Ok(runs)
+        let service = feed.trips.items()[trip.0 as usize].service;
+        active[service.0 as usize]
     }
 
     /// The calls of a trip, in order.

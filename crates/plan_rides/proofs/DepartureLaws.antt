@@ -1,13 +1,13 @@
 -- How the departures of a window are listed, part by part.
 use Rattle.std.proofs.Common.{◌≡◌, refl, sym, ◌∙◌, ap, subst, ℕ, zero, suc, ◌+◌, ◌*◌, ◌<◌, ◌≤◌, ◌⊎◌, inl, inr, ⊎_elim, Bool, true, false, List, [], ◌∷◌, ◌++◌, length, get_or, arith, ℤ, pos, ◌+ℤ◌, ◌-ℤ◌, ◌*ℤ◌, ◌≤ℤ◌, ◌<ℤ◌}
 use Rattle.std.specs.Prelude.{◌==◌, Some, slice_get, All, Contains, int_le, map, filter}
-use Rattle.std.specs.List.{list_any}
 use Rattle.std.specs.List.Sorted.{IsPermutation, IsSortedByKey}
 use Rattle.std.specs.Cmp.{int_cmp_total}
 use Rattle.std.specs.Ordering.{int_cmp, is_lt}
 use Rattle.std.proofs.lemmas.Int.{ints}
-use Rattle.std.proofs.lemmas.Option.{same_Some, slice_get_within, get_or_from_slice_get}
-use Rattle.std.proofs.lemmas.List.{get_or_default, length-map}
+use Rattle.std.proofs.lemmas.Option.{same_Some, slice_get_within}
+use Rattle.std.proofs.lemmas.List.{get_or_default, length-map, length-replicate}
+use Rattle.std.proofs.Math.ListN.{replicate}
 use Rattle.std.proofs.lemmas.List.Kept.{AllPairs-filter}
 use Rattle.std.proofs.lemmas.List.Sorted.{All-permutation, Contains-permutation, ranks_by, sorted_far}
 use Rattle.std.proofs.lemmas.Bool.{cases_lt, and_from, and_parts}
@@ -36,10 +36,10 @@ use Rattle.feed_laws.proofs.RideLaws.{ride_facts_tells, ride_facts_timed}
 use Rattle.feed_laws.proofs.ShiftLaws.{Contains_from_found, list_any-shifts_of}
 use Rattle.feed_laws.proofs.SoundTrips.{row_at, sound_trip}
 use Rattle.plain_laws.specs.declared.groups.Grouped.{Grouped}
-use Rattle.plain_laws.specs.Plain.{list_below, group_of, groups_below}
-use Rattle.plain_laws.proofs.Laws.{slice_get-list_below, filled_and-true, int_le-true, le-int_le, Contains-group_of, group_of-tells, list_any-place, groups_below-at, groups_below-past, All-from}
+use Rattle.plain_laws.specs.Plain.{group_of, groups_below}
+use Rattle.plain_laws.proofs.Laws.{int_le-true, le-int_le, Contains-group_of, group_of-tells, groups_below-at, groups_below-past, All-from}
 use Rattle.plan_rides.specs.declared.departures.Departure.{Departure}
-use Rattle.plan_rides.specs.Departures.{IsSpanned, AreBoarded, departure_with, departure_from, grouped, IsDeparture, IsGrouped, IsFromStop, is_listed, Lists, HasDepartures, AreInOrder, DoRise, AreDepartures}
+use Rattle.plan_rides.specs.Departures.{IsSpanned, AddsTrip, AreBoarded, AreListed, departure_with, departure_from, grouped, IsDeparture, IsGrouped, IsFromStop, is_listed, Lists, HasDepartures, AreInOrder, DoRise, AreDepartures}
 use Rattle.plan_rides.specs.Boarding.{Seeking, is_boarding, is_marked}
 use Rattle.plan_rides.specs.InTime.{deadline, IsUsualQuery, IsOfRun, IsAt, IsBefore, HasShift, IsOnTrip, IsOnDay, IsOnDays, departure_of, first_day, day_after}
 use Rattle.plan_rides.specs.Runs.{RunOf, run_of, IsServed, IsRun}
@@ -204,14 +204,6 @@ spanned_runs feed sought ride facts e =
     let r = ride_facts_tells feed ride facts e.is in
     (r.runs, Contains_from_found (shifts_of feed ride.trip) ride.shift (list_any-shifts_of feed ride.trip ride.shift ∙ r.shift))
 
--- and it is of a trip of the feed
-spanned_trip : (feed : FeedRows) (sought : Seeking) (ride : Ride) (facts : RideFacts) →
-    IsSpanned feed sought ride facts → ride.trip.0 < length feed.trips
-spanned_trip feed sought ride facts e =
-    let runs = spanned_runs feed sought ride facts e in
-    let row = filled_and-true (slice_get feed.trips ride.trip.0) _ runs.0 in
-    slice_get_within feed.trips ride.trip.0 row.value row.is
-
 -- it runs on one of the days from 13 before the civil day of the sought's departure to the last of the window
 spanned_day : (feed : FeedRows) (sought : Seeking) (ride : Ride) (facts : RideFacts) → IsSoundFeed feed →
     IsSpanned feed sought ride facts → (first_day sought.query ≤ℤ ride.day.0) × (ride.day.0 <ℤ day_after sought.query)
@@ -233,54 +225,98 @@ lists_whole_run sought run n old new all adds =
     let last : ride.to < length (calls_of run.feed run.trip) = subst (λ t. ride.to < length (calls_of run.feed t)) (ap trip_id of.trip) calls.1 in
     (of, omega arith))
 
--- and it boards at one of the trip's calls, at a stop that is marked
-spanned_boarding : (feed : FeedRows) (sought : Seeking) (ride : Ride) (facts : RideFacts) →
-    IsSpanned feed sought ride facts → list_any (λ (call : Call). is_boarding sought call) (calls_of feed ride.trip) ≡ true
-spanned_boarding feed sought ride facts e =
-    let r = ride_facts_tells feed ride facts e.is in
-    let at = ap (λ (f : RideFacts). f.from.0) (sym r.facts_are) in
-    list_any-place (λ (call : Call). is_boarding sought call) (calls_of feed ride.trip) ride.from r.boarding r.boards
-    (and_from _ _ r.pickup (subst (λ (n : ℕ). is_marked sought.marks n ≡ true) at e.boards))
+-- the trips are of the feed, those that are marked are among them, and of the first n stop times those at which riders may
+-- board at a stop that is marked
+pub record ListsBoarded (feed : FeedRows) (sought : Seeking) (n : ℕ) (marks : List Bool) (trips : List TripId) : Type 0 where
+  pub many : length marks ≡ length feed.trips
+  pub listed : AreListed marks trips
+  pub inside : All (λ (trip : TripId). trip.0 < length feed.trips) trips
+  pub all : (k : ℕ) (d : StopTimeRow) → k < n → is_boarding sought (get_or feed.stop_times k d) ≡ true →
+      Contains trips (get_or feed.stop_times k d).trip
 
--- no trip is looked at yet
-pub boarded_start : (feed : FeedRows) (sought : Seeking) (trips : List TripId) → trips ≡ [] →
-    AreBoarded feed sought 0 trips
-boarded_start feed sought trips empty = subst (AreBoarded feed sought 0) (sym empty) (record {
+-- no stop time is looked at yet
+pub none_boarded : (feed : FeedRows) (sought : Seeking) (marks : List Bool) (trips : List TripId) →
+    marks ≡ replicate (length feed.trips) false → trips ≡ [] → ListsBoarded feed sought 0 marks trips
+none_boarded feed sought marks trips unmarked empty = rw (unmarked, empty) (record {
+  many = length-replicate (length feed.trips) false;
+  listed = λ trip marked. absurd (true≢false (sym marked ∙ none (length feed.trips) trip.0));
   inside = All-nil (λ (t : TripId). t.0 < length feed.trips);
-  all = λ ride facts e below. absurd (omega (arith, below));
-})
-
--- one trip more, which is kept
-pub boarded_kept : (feed : FeedRows) (sought : Seeking) (n : ℕ) (old new : List TripId) → n < length feed.trips →
-    new ≡ old ++ trip_id n ∷ [] → AreBoarded feed sought n old → AreBoarded feed sought (n + 1) new
-boarded_kept feed sought n old new lt pushed before = subst (AreBoarded feed sought (n + 1)) (sym pushed) (record {
-  inside = All-append inside old (trip_id n ∷ []) before.inside (All-cons inside (trip_id n) [] lt (All-nil inside));
-  all = λ ride facts e below. ⊎_elim
-      (λ lower. Contains-append_left old (trip_id n ∷ []) ride.trip (before.all ride facts e lower))
-      (λ upper.
-      let same : ride.trip.0 ≡ n = omega arith in
-      subst (Contains (old ++ trip_id n ∷ [])) (sym (ap trip_id same)) (Contains-push old (trip_id n)))
-      (cases_lt ride.trip.0 n);
+  all = λ k d below boards. absurd (omega (arith, below));
 })
   where
-    inside : TripId → Type 0
-    inside trip = trip.0 < length feed.trips
+    none : (n i : ℕ) → get_or (replicate n false) i false ≡ false
+    none zero i = refl
+    none (suc n) zero = refl
+    none (suc n) (suc i) = none n i
 
--- one trip more, which riders may board at no stop that is marked
-pub boarded_past : (feed : FeedRows) (sought : Seeking) (n : ℕ) (trips : List TripId) →
-    false ≡ list_any (λ (call : Call). is_boarding sought call) (calls_of feed (trip_id n)) →
-    AreBoarded feed sought n trips → AreBoarded feed sought (n + 1) trips
-boarded_past feed sought n trips never before = record {
-  inside = before.inside;
-  all = λ ride facts e below. ⊎_elim
-      (λ lower. before.all ride facts e lower)
-      (λ upper.
-      let same : ride.trip.0 ≡ n = omega arith in
-      let boards = subst (λ t. list_any (λ (call : Call). is_boarding sought call) (calls_of feed t) ≡ true)
-      (ap trip_id same) (spanned_boarding feed sought ride facts e) in
-      absurd (true≢false (sym boards ∙ sym never)))
-      (cases_lt ride.trip.0 n);
+-- the trip of a stop time is one of the feed
+pub row_trip : (feed : FeedRows) (rows : List StopTimeRow) (n : ℕ) (d : StopTimeRow) → IsSoundFeed feed →
+    rows ≡ feed.stop_times → n < length rows → (get_or rows n d).trip.0 < length feed.trips
+row_trip feed rows n d sound same lt =
+    subst (λ (rs : List StopTimeRow). (get_or rs n d).trip.0 < length feed.trips) (sym same)
+    (sound.stop_times.trips n d (subst (λ (rs : List StopTimeRow). n < length rs) same lt))
+
+-- one stop time more, whose trip is listed, or at which riders may not board
+pub boarded_more : (feed : FeedRows) (sought : Seeking) (rows : List StopTimeRow) (n : ℕ) (d : StopTimeRow)
+    (marks more : List Bool) (old new : List TripId) → IsSoundFeed feed → rows ≡ feed.stop_times → n < length rows →
+    length more ≡ length marks → AreListed more new → AddsTrip (get_or rows n d).trip old new →
+    ListsBoarded feed sought n marks old → ListsBoarded feed sought (n + 1) more new
+boarded_more feed sought rows n d marks more old new sound same lt many listed adds before = record {
+  many = many ∙ before.many;
+  listed = listed;
+  inside = adds.only (length feed.trips) (row_trip feed rows n d sound same lt) before.inside;
+  all = λ k e below boards. step k e boards (cases_lt k n) below;
 }
+  where
+    step : (k : ℕ) (e : StopTimeRow) → is_boarding sought (get_or feed.stop_times k e) ≡ true →
+        (k < n) ⊎ (n ≤ k) → k < n + 1 → Contains new (get_or feed.stop_times k e).trip
+    step k e boards (inl lower) below = adds.still (get_or feed.stop_times k e).trip (before.all k e lower boards)
+    step k e boards (inr upper) below =
+        let last : k ≡ n = omega (arith, upper, below) in
+        let here = get_or_default rows n d e lt ∙ ap (λ (rs : List StopTimeRow). get_or rs n e) same in
+        rw last (subst (λ (r : StopTimeRow). Contains new r.trip) here adds.here)
+
+pub boarded_past : (feed : FeedRows) (sought : Seeking) (rows : List StopTimeRow) (n : ℕ) (d : StopTimeRow)
+    (marks : List Bool) (trips : List TripId) → rows ≡ feed.stop_times → n < length rows →
+    false ≡ is_boarding sought (get_or rows n d) → ListsBoarded feed sought n marks trips →
+    ListsBoarded feed sought (n + 1) marks trips
+boarded_past feed sought rows n d marks trips same lt never before = record {
+  many = before.many;
+  listed = before.listed;
+  inside = before.inside;
+  all = λ k e below boards. step k e boards (cases_lt k n) below;
+}
+  where
+    step : (k : ℕ) (e : StopTimeRow) → is_boarding sought (get_or feed.stop_times k e) ≡ true →
+        (k < n) ⊎ (n ≤ k) → k < n + 1 → Contains trips (get_or feed.stop_times k e).trip
+    step k e boards (inl lower) below = before.all k e lower boards
+    step k e boards (inr upper) below =
+        let last : k ≡ n = omega (arith, upper, below) in
+        let here = get_or_default rows n d e lt ∙ ap (λ (rs : List StopTimeRow). get_or rs n e) same in
+        let may : is_boarding sought (get_or feed.stop_times n e) ≡ true = rw last at boards in
+        absurd (true≢false (sym may ∙ sym (ap (is_boarding sought) here) ∙ sym never))
+
+-- all stop times: a ride that may be caught boards at one of them
+pub boarded_all : (feed : FeedRows) (sought : Seeking) (n : ℕ) (marks : List Bool) (trips : List TripId) →
+    IsSoundFeed feed → length feed.stop_times ≤ n → ListsBoarded feed sought n marks trips → AreBoarded feed sought trips
+boarded_all feed sought n marks trips sound whole lists = record {
+  inside = lists.inside;
+  all = λ ride facts e. boards ride facts e;
+}
+  where
+    boards : (ride : Ride) (facts : RideFacts) → IsSpanned feed sought ride facts → Contains trips ride.trip
+    boards ride facts e =
+        let r = ride_facts_tells feed ride facts e.is in
+        let found = calls_of_row feed ride.trip ride.from r.boarding (sound_trip feed ride.trip sound).ends r.boards in
+        let row = found.0 in
+        let at = row_at feed ride.trip ride.from row found.1 in
+        let stop = ap (λ (f : RideFacts). f.from.0) (sym r.facts_are) ∙ ap (λ (s : StopId). s.0) found.2.stop in
+        let marked = subst (λ (m : ℕ). is_marked sought.marks m ≡ true) stop e.boards in
+        let may = and_from row.pickup (is_marked sought.marks row.stop.0) (sym found.2.pickup ∙ r.pickup) marked in
+        let lt = at.member.1 in
+        let there = at.member.2 in
+        let listed = lists.all at.member.0 row (omega (arith, lt, whole)) (ap (is_boarding sought) there ∙ may) in
+        subst (Contains trips) (ap (λ (x : StopTimeRow). x.trip) there ∙ ap trip_id at.own) listed
 
 -- where a trip doesn't run on a day, nothing is to be added
 pub lists_no_trip : (feed : FeedRows) (sought : Seeking) (trip : TripId) (day : ℤ) (rides : List (Grouped Departure)) →
@@ -291,13 +327,6 @@ lists_no_trip feed sought trip day rides never =
     let runs = spanned_runs feed sought ride facts e in
     let here : runs_on feed trip day ≡ true = subst (λ t. runs_on feed t day ≡ true) (ap trip_id is.0) (subst (λ d. runs_on feed ride.trip d ≡ true) is.1 runs.0) in
     true≢false (sym here ∙ sym never))
-
--- whether a trip runs on a day stands at its number
-pub runs_at : (feed : FeedRows) (day : ℤ) (all : List Bool) (trip : ℕ) (runs : Bool) → all ≡ list_below (length feed.trips) (λ t. runs_on feed (record { 0 = t }) day) → trip < length feed.trips → runs ≡ get_or all trip runs → runs ≡ runs_on feed (record { 0 = trip }) day
-runs_at feed day all trip runs is lt read =
-    let on : ℕ → Bool = λ t. runs_on feed (record { 0 = t }) day in
-    let got = slice_get-list_below (length feed.trips) on trip lt in
-    read ∙ ap (λ (bs : List Bool). get_or bs trip runs) is ∙ get_or_from_slice_get (list_below (length feed.trips) on) trip (on trip) runs got
 
 -- one trip more
 pub lists_trip : (feed : FeedRows) (sought : Seeking) (day : ℤ) (trips : List TripId) (k : ℕ) (d : TripId)
@@ -360,12 +389,12 @@ lists_whole_trip feed sought trip day shifts n old new all whole adds =
 
 -- all trips
 pub lists_whole_day : (feed : FeedRows) (sought : Seeking) (day : ℤ) (trips : List TripId) (n : ℕ)
-    (old new : List (Grouped Departure)) → AreBoarded feed sought (length feed.trips) trips → length trips ≤ n →
+    (old new : List (Grouped Departure)) → AreBoarded feed sought trips → length trips ≤ n →
     Lists feed sought (IsOnDay day trips n) old new → Lists feed sought (λ ride. ride.day.0 ≡ day) old new
 lists_whole_day feed sought day trips n old new boarded all adds =
     lists_same feed sought (IsOnDay day trips n) (λ ride. ride.day.0 ≡ day) old new adds
     (λ ride facts e on.
-    let has = boarded.all ride facts e (spanned_trip feed sought ride facts e) in
+    let has = boarded.all ride facts e in
     let lt = has.1 in
     (on, (has.0, omega arith, has.2)))
 

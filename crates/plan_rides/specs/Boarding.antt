@@ -1,8 +1,8 @@
 -- Where the rides of a search may board.
 use Rattle.std.specs.Prelude.{◌≡◌, ◌⊎◌, ℕ, ◌<◌, Bool, true, ◌&&◌, List, length, slice_get, slice_index_or, Some, IsTrue}
 use Rattle.transit_base.specs.declared.numbers.StopId.{StopId}
-use Rattle.feed_rows.specs.declared.journeys.Call.{Call}
 use Rattle.feed_rows.specs.declared.journeys.Query.{Query}
+use Rattle.feed_rows.specs.declared.rows.StopTimeRow.{StopTimeRow}
 use Rattle.feed_rows.specs.FeedRows.{FeedRows}
 use Rattle.feed_rows.specs.JourneyStands.{Stand, first_stand, way_to}
 use Rattle.feed_rows.specs.Journeys.{stands_for}
@@ -20,9 +20,9 @@ pub record Seeking : Type 0 where
 abbrev pub seeking : Query → List Bool → Seeking
 seeking query marks = record { query = query; marks = marks }
 
--- riders may board at the call, and its stop is marked
-abbrev pub is_boarding : Seeking → Call → Bool
-is_boarding sought call = call.pickup && is_marked sought.marks call.stop.0
+-- riders may board at the stop time, and its stop is marked
+abbrev pub is_boarding : Seeking → StopTimeRow → Bool
+is_boarding sought row = row.pickup && is_marked sought.marks row.stop.0
 
 -- each stop is marked at which one may board from here
 abbrev pub MarksFrom : FeedRows → Query → List Bool → Stand → Type 0

@@ -1,5 +1,5 @@
 -- Departures within a query's window, by the stops that they are from.
-use Rattle.std.specs.Prelude.{◌≡◌, Bool, true, ◌&&◌, ℕ, ◌<◌, ◌≤◌, List, [], length, slice_get, unwrap_or, All, Contains, Option, Some, ℤ, pos, ◌+ℤ◌, ◌≤ℤ◌, ◌<ℤ◌, int_le}
+use Rattle.std.specs.Prelude.{◌≡◌, Bool, true, false, ◌&&◌, ℕ, ◌<◌, ◌≤◌, List, [], length, slice_get, slice_index_or, unwrap_or, All, Contains, Option, Some, ℤ, pos, ◌+ℤ◌, ◌≤ℤ◌, ◌<ℤ◌, int_le}
 use Rattle.std.specs.List.{AllPairs, AllWithin}
 use Rattle.transit_base.specs.Moments.{moment_at}
 use Rattle.transit_base.specs.declared.numbers.TripId.{TripId}
@@ -27,11 +27,20 @@ pub record IsSpanned (feed : FeedRows) (sought : Seeking) (ride : Ride) (facts :
   pub since : sought.query.departure.0 ≤ℤ facts.departure.0
   pub until : facts.arrival.0 ≤ℤ deadline sought.query
 
--- the trips are of the feed, and of its first n those are among them that have a ride that may be caught
-pub record AreBoarded (feed : FeedRows) (sought : Seeking) (n : ℕ) (trips : List TripId) : Type 0 where
+-- the trips are of the feed, and those are among them that have a ride that may be caught
+pub record AreBoarded (feed : FeedRows) (sought : Seeking) (trips : List TripId) : Type 0 where
   pub inside : All (λ (trip : TripId). trip.0 < length feed.trips) trips
-  pub all : (ride : Ride) (facts : RideFacts) → IsSpanned feed sought ride facts → ride.trip.0 < n →
-      Contains trips ride.trip
+  pub all : (ride : Ride) (facts : RideFacts) → IsSpanned feed sought ride facts → Contains trips ride.trip
+
+-- each trip that is marked is among them
+abbrev pub AreListed : List Bool → List TripId → Type 0
+AreListed marks trips = (trip : TripId) → slice_index_or marks trip.0 false ≡ true → Contains trips trip
+
+-- the new list has the trips of the old one and the trip; where their numbers are below a bound, all are
+pub record AddsTrip (trip : TripId) (old new : List TripId) : Type 0 where
+  pub still : (other : TripId) → Contains old other → Contains new other
+  pub here : Contains new trip
+  pub only : (n : ℕ) → trip.0 < n → All (λ (t : TripId). t.0 < n) old → All (λ (t : TripId). t.0 < n) new
 
 -- where the ride departs
 abbrev pub departure_with : Ride → RideFacts → Departure

@@ -1,22 +1,20 @@
 //! The departures of a query's window, listed once by platform.
 ghost use Rattle.std.specs.Prelude.{◌≡◌, ◌<◌, ◌≤◌, ◌+◌, ◌-◌, ◌^◌, ◌≤ℤ◌, ◌<ℤ◌, ◌+ℤ◌, pos, negsuc, length, All, IfOk, OnOk, slice_get, slice_index_or, true, false};
-ghost use Rattle.std.specs.List.{list_any};
 ghost use Rattle.std.specs.List.Sorted.{IsPermutation};
 ghost use Rattle.feed_rows.specs.Calls.{calls_of};
 ghost use Rattle.feed_rows.specs.Rides.{runs_on};
 ghost use Rattle.feed_rows.specs.Shifts.{shifts_of};
-ghost use Rattle.feed_rows.specs.declared.journeys.Call.{Call};
 ghost use Rattle.feed_rows.specs.declared.journeys.Ride.{Ride};
 ghost use Rattle.feed_timetable.specs.Standings.{AreShifts};
 ghost use Rattle.plan_rides.specs.Boarding.{is_boarding};
-ghost use Rattle.plan_rides.specs.Departures.{AreBoarded, AreDepartures, HasDepartures, AreInOrder, IsDeparture, Lists, facts_in_time, is_listed, ride_to};
+ghost use Rattle.plan_rides.specs.Departures.{AddsTrip, AreBoarded, AreDepartures, AreListed, HasDepartures, AreInOrder, IsDeparture, Lists, facts_in_time, is_listed, ride_to};
 ghost use Rattle.plan_rides.specs.InTime.{deadline, IsUsualQuery, HasShift, IsOnTrip, IsOnDay, IsOnDays, first_day, day_after};
 ghost use Rattle.plan_rides.specs.Runs.{IsServed, run_of};
 ghost use Rattle.transit_base.specs.Limits.{most_time};
 
 use crate::runs::Run;
 use crate::sought::Sought;
-use feed_rows::{Call, Query, Ride, RideFacts};
+use feed_rows::{Call, Query, Ride, RideFacts, StopTimeRow};
 use feed_timetable::Timetable;
 use plain_laws::{Grouped, Groups};
 use std::alloc::{AllocError, Global};
@@ -150,29 +148,47 @@ fn list_trip(
     Ok(())
 }
 
-// Whether riders may board at one of the calls, at a stop that is marked.
-fn has_boarding(sought: &Sought, calls: &[Call]) -> bool
-    ensures { result ≡ list_any (λ (call : Call). is_boarding sought.now call) calls.now }
+// Whether riders may board at the stop time, and its stop is marked.
+fn is_boarding(sought: &Sought, row: &StopTimeRow) -> bool
+    ensures { result ≡ is_boarding sought.now row.now }
 {
-    calls
-        .iter()
-        .any(|call| call.pickup && sought.boards_at(call.stop))
+    row.pickup && sought.boards_at(row.stop)
 }
 
-// The trips that riders may board at a stop that is marked. A query of one ride has few of them, and looks at no other trip
-// again, whatever the days.
+// Lists a trip with its mark, where it has none yet.
+fn list_once(marks: &mut [bool], trips: &mut Vec<TripId>, trip: TripId) -> Result<(), AllocError>
+    requires inside { trip.0 < length marks.old }
+    requires listed { AreListed marks.old trips.old.items }
+    ensures many { OnOk result (length marks.new ≡ length marks.old) }
+    ensures listed { OnOk result (AreListed marks.new trips.new.items) }
+    ensures adds { OnOk result (AddsTrip trip trips.old.items trips.new.items) }
+{
+    let number = trip.0 as usize;
+    if marks[number] {
+        return Ok(());
+    }
+    marks[number] = true;
+    trips.push(trip)?;
+    Ok(())
+}
+
+// The trips that riders may board at a stop that is marked, in the order of the file. A query of one ride has few of them, and
+// looks at no other trip again, whatever the days.
 fn boarded_trips(
     alloc: Global,
     timetable: &Timetable,
     sought: &Sought,
 ) -> Result<Vec<TripId>, AllocError>
-    ensures { IfOk result (λ trips. AreBoarded timetable.now sought.now (length timetable.now.trips) trips.items) }
+    ensures { IfOk result (λ trips. AreBoarded timetable.now sought.now trips.items) }
 {
+    let feed = timetable.feed();
+    let _rows = &feed.trips;
+    let rows = feed.stop_times.items();
+    let mut marks = vec![in alloc; false; feed.trips.items().len()]?;
     let mut trips = Vec::new(alloc);
-    for number in 0..timetable.trips() {
-        let trip = TripId(number);
-        if has_boarding(sought, timetable.calls_of(trip)) {
-            trips.push(trip)?;
+    for row in rows {
+        if is_boarding(sought, row) {
+            list_once(&mut marks, &mut trips, row.trip)?;
         }
     }
     Ok(trips)
@@ -188,15 +204,15 @@ fn list_day(
     listed: &mut Vec<Grouped<Departure>>,
 ) -> Result<(), AllocError>
     requires usual { IsUsualQuery sought.now.query }
-    requires trips { AreBoarded timetable.now sought.now (length timetable.now.trips) trips.now }
+    requires trips { AreBoarded timetable.now sought.now trips.now }
     requires day_low { negsuc 799_999 ≤ℤ day.0 }
     requires day_high { day.0 ≤ℤ pos 3_000_000 }
     ensures { OnOk result (Lists timetable.now sought.now (λ (ride : Ride). ride.day.0 ≡ day.0) listed.old.items listed.new.items) }
 {
-    let runs = timetable.trips_on(alloc, day)?;
+    let active = timetable.services_on(alloc, day)?;
     for k in 0..trips.len() {
         let trip = trips[k];
-        if runs[trip.0 as usize] {
+        if timetable.runs_with(&active, trip) {
             list_trip(alloc, timetable, sought, trip, day, listed)?;
         }
     }

@@ -1,24 +1,42 @@
-use Rattle.std.proofs.Common.{◌≡◌, ◌<◌, ◌∙◌, ap, sym, length, false, arith}
-use Rattle.std.specs.List.{list_any}
-use Rattle.feed_rows.specs.Calls.{calls_of}
-use Rattle.feed_rows.specs.declared.journeys.Call.{Call}
-use Rattle.plan_rides.specs.Boarding.{is_boarding}
-use Rattle.plan_rides.proofs.DepartureLaws.{boarded_kept, boarded_past, boarded_start, trip_id}
+use Rattle.std.proofs.Common.{◌≡◌, ◌∙◌, sym, ap, length, false, rules, arith}
+use Rattle.std.proofs.Math.ListN.{replicate}
+use Rattle.feed_rows.specs.FeedRows.{FeedRows}
+use Rattle.plan_rides.proofs.DepartureLaws.{none_boarded, row_trip, boarded_more, boarded_past, boarded_all}
+use Rattle.plan_rides.proofs.MarkLaws.{marks_back}
 use Rattle.plan_rides.proofs.departures.boarded_trips.Goals as goal
-use Rattle.plan_rides.proofs.departures.boarded_trips.Goals.{then-has_boarding+in_ok-push, else-has_boarding}
+use Rattle.plan_rides.proofs.departures.boarded_trips.Goals.{then-is_boarding+in_ok-list_once, else-is_boarding}
 
-pub loop-number-init : goal.loop-number-init
-loop-number-init c = boarded_start _ _ _ c.new-trips.ensures.items
+pub loop-row-init : goal.loop-row-init
+loop-row-init c =
+    let trips : length c.items.result.now ≡ length c.args.timetable.now.trips =
+    ap length (c.items.ensures.value ∙ ap (λ (f : FeedRows). f.trips) (c.feed.view_is ∙ c.feed-feed.ensures.value)) in
+    let marks = c.in_ok-marks.ensures.items_if_clones_equal (λ y clone. search rules) in
+    none_boarded _ _ _ _ (marks ∙ ap (λ n. replicate n false) trips) c.new-trips.ensures.items
 
-pub loop-number-preserved : goal.loop-number-preserved
-loop-number-preserved c =
-    let feed = c.args.timetable.now in
-    let sought = c.args.sought.now in
-    let number = c.loop-number.number in
-    let inside : number < length feed.trips = omega arith in
-    elim c.if-has_boarding.branch [
-      | then-has_boarding+in_ok-push w ↦ rw w.trips-is (boarded_kept _ _ _ _ _ inside w.in_ok-push.ensures.items c.loop-number.invariant)
-      | else-has_boarding w ↦
-          let never : false ≡ list_any (λ (call : Call). is_boarding sought call) (calls_of feed (trip_id number)) = sym w.if-has_boarding.false ∙ c.has_boarding.ensures ∙ ap (list_any (λ (call : Call). is_boarding sought call)) c.calls_of.ensures.value in
-          rw w.trips-is (boarded_past _ _ _ _ never c.loop-number.invariant)
+pub list_once-requires-clause-inside : goal.list_once-requires-clause-inside
+list_once-requires-clause-inside c =
+    let rows = c.items-rows.ensures.value ∙ ap (λ (f : FeedRows). f.stop_times) (c.feed.view_is ∙ c.feed-feed.ensures.value) in
+    rw (c.deref_mut.ensures.value, c.loop-row.invariant.many)
+    (row_trip _ _ _ _ c.feed-feed.ensures.sound rows c.loop-row-test.true)
+
+pub list_once-requires-clause-listed : goal.list_once-requires-clause-listed
+list_once-requires-clause-listed c = rw c.deref_mut.ensures.value c.loop-row.invariant.listed
+
+pub loop-row-preserved : goal.loop-row-preserved
+loop-row-preserved c =
+    let rows = c.items-rows.ensures.value ∙ ap (λ (f : FeedRows). f.stop_times) (c.feed.view_is ∙ c.feed-feed.ensures.value) in
+    elim c.if-is_boarding.branch [
+      | then-is_boarding+in_ok-list_once w ↦
+          (let done = w.in_ok-list_once.ensures in
+          let ok = c.loop-row.marks.ok.0 in
+          let many = done.many ∙ ap length w.deref_mut.ensures.value in
+          let back = marks_back c.loop-row.marks.items w.list_once.new.marks c.loop-row.marks.len (omega (arith, ok)) many in
+          rw (w.marks-is, w.trips-is, back) (boarded_more _ _ _ _ _ _ _ _ _ c.feed-feed.ensures.sound rows c.loop-row-test.true many done.listed done.adds c.loop-row.invariant))
+      | else-is_boarding w ↦
+          rw (w.marks-is, w.trips-is) (boarded_past _ _ _ _ _ _ _ rows c.loop-row-test.true (sym w.if-is_boarding.false ∙ c.is_boarding.ensures) c.loop-row.invariant)
     ]
+
+pub returns : goal.returns
+returns c =
+    let rows = ap length (c.items-rows.ensures.value ∙ ap (λ (f : FeedRows). f.stop_times) (c.feed.view_is ∙ c.feed-feed.ensures.value)) in
+    boarded_all _ _ _ _ _ c.feed-feed.ensures.sound (omega (arith, rows, c.loop-row-test.false)) c.loop-row.invariant

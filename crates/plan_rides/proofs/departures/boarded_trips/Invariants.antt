@@ -1,5 +1,5 @@
-use Rattle.plan_rides.specs.Departures.{AreBoarded}
+use Rattle.plan_rides.proofs.DepartureLaws.{ListsBoarded}
 use Rattle.plan_rides.proofs.departures.boarded_trips.Given as goal
 
-abbrev pub invariant-loop-number : goal.invariant-loop-number
-invariant-loop-number l = AreBoarded l.timetable l.sought l.number l.trips.items
+abbrev pub invariant-loop-row : goal.invariant-loop-row
+invariant-loop-row l = ListsBoarded l.timetable l.sought l.row-index l.marks.items l.trips.items
