@@ -5,6 +5,7 @@ ghost use Rattle.std.specs.Prelude.{◌≡◌, IfOk};
 ghost use Rattle.feed_rows.specs.FeedRows.{FeedRows};
 ghost use Rattle.feed_rows.specs.Queries.{find_stop, has_stop_id};
 ghost use Rattle.feed_rows.specs.StopLinks.{stop_set};
+ghost use Rattle.feed_rows.specs.StopSets.{stop_sets};
 ghost use Rattle.feed_stops.specs.BuiltStops.{AreStopsOf};
 
 mod sets;
@@ -57,6 +58,13 @@ impl<'f> Stops<'f> {
         ensures { (feed : FeedRows) → AreStopsOf feed self.now → result.now ≡ stop_set feed stop }
     {
         self.sets.get(stop.0 as usize)
+    }
+
+    /// The platforms that each stop stands for, one group a stop.
+    pub fn sets(&self) -> &Groups<StopId>
+        ensures { (feed : FeedRows) → AreStopsOf feed self.now → result.now ≡ stop_sets feed }
+    {
+        &self.sets
     }
 }
 

@@ -74,7 +74,7 @@ impl<'f> Timetable<'f> {
     {
         let stops = Stops::build(alloc, feed)?;
         let trips = Trips::build(alloc, feed)?;
-        let walks = Walks::build(alloc, feed)?;
+        let walks = Walks::build_with(alloc, feed, stops.sets())?;
         let calendar = Calendar::build(alloc, feed)?;
         Ok(Timetable {
             feed,

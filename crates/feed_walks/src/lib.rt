@@ -5,6 +5,7 @@
 ghost use Rattle.std.specs.Prelude.{◌≡◌, IfOk, option_map};
 ghost use Rattle.feed_rows.specs.FeedRows.{FeedRows};
 ghost use Rattle.feed_rows.specs.StopLinks.{link};
+ghost use Rattle.feed_rows.specs.StopSets.{stop_sets};
 ghost use Rattle.feed_walks.specs.OutOf.{out_of};
 ghost use Rattle.feed_walks.specs.BuiltWalks.{AreWalksOf};
 
@@ -49,10 +50,25 @@ impl Walks {
     pub fn build(alloc: Global, feed: &Feed) -> Result<Walks, AllocError>
         ensures { IfOk result (λ walks. AreWalksOf feed.now walks) }
     {
+        let sets = stop_sets(alloc, feed)?;
+        Walks::build_with(alloc, feed, &sets)
+    }
+
+    /// The walks of the feed, where the platforms that each stop stands for are at hand.
+    ///
+    /// # Errors
+    /// Want of memory.
+    pub fn build_with(
+        alloc: Global,
+        feed: &Feed,
+        sets: &Groups<StopId>,
+    ) -> Result<Walks, AllocError>
+        requires { sets.now ≡ stop_sets feed.now }
+        ensures { IfOk result (λ walks. AreWalksOf feed.now walks) }
+    {
         let count = feed.stops.items().len() as u32;
         let rules = rules_of(alloc, feed.links.items(), count)?;
-        let sets = stop_sets(alloc, feed)?;
-        let reached = reached_of(alloc, feed, &rules, &sets)?;
+        let reached = reached_of(alloc, feed, &rules, sets)?;
         let steps = steps_of(alloc, feed, &rules, &reached)?;
         Ok(Walks { steps })
     }

@@ -1,5 +1,5 @@
 //! The platforms near each platform, between which there may be walks.
-ghost use Rattle.std.specs.Prelude.{◌≡◌, ◌<◌, length, map, filter, not, IfOk};
+ghost use Rattle.std.specs.Prelude.{◌≡◌, ◌<◌, length, map, filter, not, IfOk, OnOk};
 ghost use Rattle.feed_rows.specs.FeedRows.{FeedRows};
 ghost use Rattle.feed_rows.specs.SoundTimetable.{AreSoundStops};
 ghost use Rattle.feed_rows.specs.StopSets.{stop_sets};
@@ -25,28 +25,30 @@ pub fn reached_of(
 {
     let count = feed.stops.items().len() as u32;
     let mut reached = Groups::empty(alloc);
+    let mut platforms = Vec::new(alloc);
     for stop in 0..count {
-        let platforms = reached_from(alloc, rules, sets, StopId(stop))?;
+        reached_from(alloc, rules, sets, StopId(stop), &mut platforms)?;
         reached.push(platforms.as_slice())?;
     }
     Ok(reached)
 }
 
-/// The platforms of all that the stop leads to.
+/// Replaces what `reached` holds by the platforms of all that the stop leads to.
 fn reached_from(
     alloc: Global,
     rules: &Groups<LinkRow>,
     sets: &Groups<StopId>,
     stop: StopId,
-) -> Result<Vec<StopId>, AllocError>
-    ensures { (feed : FeedRows) → AreRules feed.links rules.now → sets.now ≡ stop_sets feed → IfOk result (λ reached. Reaches feed stop reached.items) }
+    reached: &mut Vec<StopId>,
+) -> Result<(), AllocError>
+    ensures { (feed : FeedRows) → AreRules feed.links rules.now → sets.now ≡ stop_sets feed → OnOk result (Reaches feed stop reached.new.items) }
 {
     let leads = leads_from(alloc, rules, stop)?;
-    let mut reached = Vec::new(alloc);
+    reached.clear();
     for lead in leads.as_slice() {
         reached.extend_from_slice(sets.get(lead.0 as usize))?;
     }
-    Ok(reached)
+    Ok(())
 }
 
 /// The stops that the stop leads to, each once: by a row that allows the change, and itself where no row says otherwise.
@@ -78,28 +80,28 @@ fn allowed_by(alloc: Global, rows: &[LinkRow]) -> Result<Vec<StopId>, AllocError
         .collect(alloc)
 }
 
-/// The platforms to which there may be a walk from this one, in order: those that it or its station leads to. There are
-/// none where the stop is no platform.
+/// Replaces what `near` holds by the platforms to which there may be a walk from this one, in order: those that it or its
+/// station leads to. There are none where the stop is no platform.
 pub fn near_of(
-    alloc: Global,
     feed: &Feed,
     reached: &Groups<StopId>,
     from: StopId,
-) -> Result<Vec<StopId>, AllocError>
+    near: &mut Vec<StopId>,
+) -> Result<(), AllocError>
     requires sound { AreSoundStops feed.now }
     requires reached { AreReached feed.now reached.now }
-    ensures { IfOk result (λ near. AreNear feed.now from near.items) }
+    ensures { OnOk result (AreNear feed.now from near.new.items) }
 {
-    let mut near = Vec::new(alloc);
+    near.clear();
     if !is_platform(feed, from) {
-        return Ok(near);
+        return Ok(());
     }
     near.extend_from_slice(reached.get(from.0 as usize))?;
     if let Some(station) = station_of(feed, from) {
         near.extend_from_slice(reached.get(station.0 as usize))?;
     }
-    put_in_order(&mut near);
-    Ok(near)
+    put_in_order(near);
+    Ok(())
 }
 
 /// Puts stops in file order, each once.

@@ -36,31 +36,33 @@ pub fn steps_of(
 {
     let count = feed.stops.items().len() as u32;
     let mut steps = Groups::empty(alloc);
+    let mut near = Vec::new(alloc);
+    let mut out = Vec::new(alloc);
     for from in 0..count {
-        let near = near_of(alloc, feed, reached, StopId(from))?;
-        let out = steps_to(alloc, feed, rules, StopId(from), near.as_slice())?;
+        near_of(feed, reached, StopId(from), &mut near)?;
+        steps_to(feed, rules, StopId(from), near.as_slice(), &mut out)?;
         steps.push(out.as_slice())?;
     }
     Ok(steps)
 }
 
-/// The walks to those of the platforms near a stop that there is a walk to.
+/// Replaces what `steps` holds by the walks to those of the platforms near a stop that there is a walk to.
 fn steps_to(
-    alloc: Global,
     feed: &Feed,
     rules: &Groups<LinkRow>,
     from: StopId,
     near: &[StopId],
-) -> Result<Vec<Step>, AllocError>
+    steps: &mut Vec<Step>,
+) -> Result<(), AllocError>
     requires rules { AreRules feed.now.links rules.now }
     requires near { AreNear feed.now from near.now }
-    ensures { IfOk result (λ steps. steps.items ≡ out_of feed.now from) }
+    ensures { OnOk result (steps.new.items ≡ out_of feed.now from) }
 {
-    let mut steps = Vec::new(alloc);
+    steps.clear();
     for to in near {
-        push_step(&mut steps, feed, rules, from, *to)?;
+        push_step(steps, feed, rules, from, *to)?;
     }
-    Ok(steps)
+    Ok(())
 }
 
 /// Adds the step from the one stop to the other, where there is a walk.

@@ -11,7 +11,7 @@ loop-stop-preserved c =
     record {
       long = omega (arith, is.long, simp length-append at (ap length added));
       each = groups_more (λ i. Reaches c.args.feed.now (record { 0 = i })) c.loop-stop.reached _ _ c.loop-stop.stop is.long is.each added
-          (rw c.as_slice.ensures.value (c.in_ok-platforms.ensures c.args.feed.now c.requires.rules c.requires.sets));
+          (rw c.as_slice.ensures.value (c.in_ok-reached_from.ensures c.args.feed.now c.requires.rules c.requires.sets));
     }
 
 pub returns : goal.returns
