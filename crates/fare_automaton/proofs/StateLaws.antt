@@ -1,19 +1,23 @@
 -- The state after a leg, by its parts.
 use Rattle.std.proofs.Common.{◌≡◌, refl, sym, ◌∙◌, ap, ℕ, ◌+◌, Bool, true, false, not, ◌&&◌, Option, Some, None}
-use Rattle.std.specs.Prelude.{if◌then◌else◌, ◌==◌, is_none, min}
+use Rattle.std.specs.Prelude.{if◌then◌else◌, ◌==◌, is_none, min, ℤ, pos, ◌+ℤ◌}
 use Rattle.std.specs.Option.{is_some, option_map_or}
 use Rattle.std.proofs.lemmas.Bool.{and_parts}
 use Rattle.std.proofs.lemmas.Bool.Decides.{nat_tests}
+use Rattle.std.proofs.lemmas.Int.{ints}
+use Rattle.std.proofs.Math.Bool.{and-false}
 use Rattle.std.proofs.Common.{arith}
 use Rattle.transit_base.specs.declared.moments.Moment.{Moment}
 use Rattle.transit_base.specs.declared.numbers.LegGroupId.{LegGroupId}
 use Rattle.feed_rows.specs.declared.fares.ChangeChoice.{ChangeChoice}
+use Rattle.feed_rows.specs.declared.fares.LegChoice.{LegChoice}
 use Rattle.feed_rows.specs.declared.states.FareState.{FareState}
 use Rattle.feed_rows.specs.FeedRows.{FeedRows}
 use Rattle.feed_rows.specs.TransferRules.{FareLeg, same_group}
 use Rattle.feed_rows.specs.FareStates.{greatest_count, capped_count, is_clock_read, counts_from_departure, counts_from_arrival, state_of_run}
-use Rattle.feed_rows.specs.FareSteps.{next_state}
+use Rattle.feed_rows.specs.FareSteps.{first_move, next_move, next_state}
 use Rattle.plain_laws.specs.Plain.{filled_and, when}
+use Rattle.fare_laws.specs.BareMoves.{bare}
 use Rattle.fare_automaton.specs.declared.reads.GroupReads.{GroupReads}
 
 -- groups that are the same are equal
@@ -100,3 +104,18 @@ module _ (feed : FeedRows) (state : FareState) (next : FareLeg) (place : Option 
       → record { group = next.group; count = count; departure = departure; arrival = arrival; first = first } ≡ next_state feed state next place
   state_is goes_on reads count departure arrival first greatest reads_departure reads_arrival test is_count is_departure is_arrival is_first =
       rw (is_count, is_departure, is_arrival, none_where place first is_first) (by_parts goes_on reads greatest reads_departure reads_arrival test ∙ ap either test)
+
+-- where the place of a change is empty, what was held is paid, and the leg is as a first one
+pub unarranged : (feed : FeedRows) (state : FareState) (held : ℤ) (next : FareLeg) (pick : LegChoice)
+    → record (first_move feed next (bare pick None)) { paid = record { 0 = held } } ≡ next_move feed state held next (bare pick None)
+unarranged feed state held next pick =
+    ap (λ (b : Bool). record (first_move feed next (bare pick None)) {
+      state = if b
+          then record state { count = capped_count feed state.group (state.count + 1); first = false }
+          else state_of_run feed next.group 0 next true;
+      paid = record { 0 = held };
+    }) (sym (and-false (same_group state.group next.group)))
+    ∙ ap (λ (z : ℤ). record (next_move feed state held next (bare pick None)) { paid = record { 0 = z } }) paid
+  where
+    paid : held ≡ pos 0 +ℤ held +ℤ pos 0 +ℤ pos 0
+    paid = omega (arith, ints)

@@ -1,7 +1,8 @@
 //! All moves of a leg.
-ghost use Rattle.std.specs.Prelude.{◌≡◌, ◌≤◌, ◌^◌, ◌++◌, length, map, nat_abs, IfOk, OnOk, IsTrue, Some};
+ghost use Rattle.std.specs.Prelude.{◌≡◌, ◌≤◌, ◌^◌, ◌++◌, length, map, nat_abs, IfOk, OnOk, IsTrue, Some, None, [], ◌∷◌};
 ghost use Rattle.std.specs.Option.{ForSome};
 ghost use Rattle.plain_laws.specs.Plain.{joined_below};
+ghost use Rattle.feed_rows.specs.declared.states.FareState.{FareState};
 ghost use Rattle.feed_rows.specs.FareSteps.{next_move};
 ghost use Rattle.fare_automaton.specs.Steps.{AreStarts, AreSteps};
 ghost use Rattle.fare_automaton.specs.Changes.{leg_of};
@@ -203,9 +204,39 @@ impl<'f> Automaton<'f> {
         ensures { OnOk result (moves.new.items ≡ moves.old.items ++ map (λ place. next_move self.now.feed state.now held.0 (leg_of next.now) (bare pick.now place)) places.now) }
     {
         for place in places {
-            moves.push(self.next_move(state, held, next, &bare(pick, *place)))?;
+            self.push_move(state, held, next, pick, *place, moves)?;
         }
         Ok(())
+    }
+
+    /// Adds the move of the leg by this place of the change to it.
+    fn push_move(
+        &self,
+        state: &FareState,
+        held: Money,
+        next: &GroupedLeg,
+        pick: &LegChoice,
+        place: Option<ChangeChoice>,
+        moves: &mut Vec<Move>,
+    ) -> Result<(), AllocError>
+        requires held { nat_abs held.0 ≤ 10 ^ 16 }
+        ensures { OnOk result (moves.new.items ≡ moves.old.items ++ next_move self.now.feed state.now held.0 (leg_of next.now) (bare pick.now place) ∷ []) }
+    {
+        match place {
+            Some(_) => moves.push(self.next_move(state, held, next, &bare(pick, place)))?,
+            None => moves.push(self.unarranged_move(held, next, pick))?,
+        }
+        Ok(())
+    }
+
+    /// The move of a leg to which the change isn't arranged: what was held is paid, and the leg is held as a first one is.
+    fn unarranged_move(&self, held: Money, next: &GroupedLeg, pick: &LegChoice) -> Move
+        ensures { (state : FareState) → result ≡ next_move self.now.feed state held.0 (leg_of next.now) (bare pick.now None) }
+    {
+        Move {
+            paid: held,
+            ..self.first_move(next, &bare(pick, None))
+        }
     }
 }
 
