@@ -16,6 +16,8 @@ use Rattle.plain_laws.specs.Plain.{at_and, empty_or, filled_and, list_below, whe
 use Rattle.fare_transfer_rules.specs.declared.groups.ClassedRow.{ClassedRow}
 use Rattle.fare_transfer_rules.specs.BuiltTransferRules.{AreRowsBetween}
 use Rattle.fare_transfer_rules.specs.Counts.{is_within}
+use Rattle.fare_automaton.specs.declared.reads.Clock.{Clock}
+use Rattle.fare_automaton.specs.declared.reads.Clock.TheVariants.{Departure, Arrival}
 use Rattle.fare_automaton.specs.declared.reads.GroupReads.{GroupReads}
 
 -- ---- leg groups
@@ -36,6 +38,11 @@ AreReads feed reads = reads ≡ list_below (length feed.group_names) (λ group. 
 -- the count of the row with this number, where it is a number; else 0
 abbrev pub count_at : List TransferRuleRow → XferId → ℕ
 count_at rows row = option_map_or (λ (r : TransferRuleRow). unwrap_or r.count 0) (slice_get rows row.0) 0
+
+-- limits of this type count from the clock
+abbrev pub counts_from : Clock → ℕ → Bool
+counts_from Departure = counts_from_departure
+counts_from Arrival = counts_from_arrival
 
 -- the row has a limit of such a type
 abbrev pub has_limit : (ℕ → Bool) → TransferRuleRow → Bool

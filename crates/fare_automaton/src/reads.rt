@@ -1,16 +1,23 @@
 //! What the rows of `fare_transfer_rules.txt` read of changes from each leg group, found once.
 ghost use Rattle.std.specs.Prelude.{◌≡◌, IfOk, fold, map, max};
-ghost use Rattle.feed_rows.specs.FareStates.{greatest_count, is_clock_read, counts_from_departure, counts_from_arrival};
+ghost use Rattle.feed_rows.specs.FareStates.{greatest_count, is_clock_read};
 ghost use Rattle.plain_laws.specs.Plain.{at_and, filled_and};
 ghost use Rattle.fare_transfer_rules.specs.declared.groups.ClassedRow.{ClassedRow};
 ghost use Rattle.fare_transfer_rules.specs.BuiltTransferRules.{AreXferRulesOf};
-ghost use Rattle.fare_automaton.specs.Compiled.{reads_of, AreReads, count_at, has_limit, some_limit};
+ghost use Rattle.fare_automaton.specs.Compiled.{reads_of, AreReads, count_at, counts_from, has_limit, some_limit};
 
 use crate::changes::counts_from_departure;
 use fare_transfer_rules::{ClassedRow, XferRules};
 use feed_rows::{Feed, Limit, TransferRuleRow};
 use std::alloc::{AllocError, Global};
 use transit_base::{LegGroupId, XferId};
+
+/// A moment of a run's first leg.
+#[derive(Clone, Copy)]
+pub enum Clock {
+    Departure,
+    Arrival,
+}
 
 /// What rows read of changes from a leg group.
 #[derive(Clone, Copy)]
@@ -50,8 +57,8 @@ pub fn reads_of(feed: &Feed, rules: &XferRules, group: LegGroupId) -> GroupReads
 {
     GroupReads {
         greatest_count: greatest_count(feed, rules, group),
-        departure: reads_departure(feed, rules, group),
-        arrival: reads_arrival(feed, rules, group),
+        departure: reads_clock(feed, rules, group, Clock::Departure),
+        arrival: reads_clock(feed, rules, group, Clock::Arrival),
     }
 }
 
@@ -84,77 +91,50 @@ fn count_at(rows: &[TransferRuleRow], row: XferId) -> u32
     }
 }
 
-/// Whether a row from the group has a limit that counts from a departure.
-fn reads_departure(feed: &Feed, rules: &XferRules, group: LegGroupId) -> bool
+/// Whether a row from the group has a limit that counts from this clock.
+fn reads_clock(feed: &Feed, rules: &XferRules, group: LegGroupId, clock: Clock) -> bool
     requires { AreXferRulesOf feed.now rules.now }
-    ensures { result ≡ is_clock_read feed.now counts_from_departure group }
+    ensures { result ≡ is_clock_read feed.now (counts_from clock) group }
 {
-    some_departure_limit(transfer_rows(feed), rules.rows_from(group))
+    some_limit(transfer_rows(feed), rules.rows_from(group), clock)
 }
 
-/// Whether a row from the group has a limit that counts from an arrival.
-fn reads_arrival(feed: &Feed, rules: &XferRules, group: LegGroupId) -> bool
-    requires { AreXferRulesOf feed.now rules.now }
-    ensures { result ≡ is_clock_read feed.now counts_from_arrival group }
-{
-    some_arrival_limit(transfer_rows(feed), rules.rows_from(group))
-}
-
-/// Whether one of the rows has a limit that counts from a departure.
-fn some_departure_limit(rows: &[TransferRuleRow], among: &[ClassedRow]) -> bool
-    ensures { result ≡ some_limit counts_from_departure rows.now among.now }
+/// Whether one of the rows has a limit that counts from the clock.
+fn some_limit(rows: &[TransferRuleRow], among: &[ClassedRow], clock: Clock) -> bool
+    ensures { result ≡ some_limit (counts_from clock) rows.now among.now }
 {
     among
         .iter()
-        .any(|classed| departure_limit_at(rows, classed.row))
+        .any(|classed| limit_at(rows, classed.row, clock))
 }
 
-/// Whether one of the rows has a limit that counts from an arrival.
-fn some_arrival_limit(rows: &[TransferRuleRow], among: &[ClassedRow]) -> bool
-    ensures { result ≡ some_limit counts_from_arrival rows.now among.now }
-{
-    among
-        .iter()
-        .any(|classed| arrival_limit_at(rows, classed.row))
-}
-
-/// Whether the row has a limit that counts from a departure.
-fn departure_limit_at(rows: &[TransferRuleRow], row: XferId) -> bool
-    ensures { result ≡ at_and rows.now row.0 (has_limit counts_from_departure) }
+/// Whether the row has a limit that counts from the clock.
+fn limit_at(rows: &[TransferRuleRow], row: XferId, clock: Clock) -> bool
+    ensures { result ≡ at_and rows.now row.0 (has_limit (counts_from clock)) }
 {
     match rows.get(row.0 as usize) {
-        Some(own) => has_departure_limit(own.limit),
+        Some(own) => has_limit(own.limit, clock),
         None => false,
     }
 }
 
-/// Whether the row has a limit that counts from an arrival.
-fn arrival_limit_at(rows: &[TransferRuleRow], row: XferId) -> bool
-    ensures { result ≡ at_and rows.now row.0 (has_limit counts_from_arrival) }
-{
-    match rows.get(row.0 as usize) {
-        Some(own) => has_arrival_limit(own.limit),
-        None => false,
-    }
-}
-
-/// Whether there is a limit, and it counts from a departure.
-fn has_departure_limit(limit: Option<Limit>) -> bool
-    ensures { result ≡ filled_and limit (λ l. counts_from_departure l.kind) }
+/// Whether there is a limit, and it counts from the clock.
+fn has_limit(limit: Option<Limit>, clock: Clock) -> bool
+    ensures { result ≡ filled_and limit (λ l. counts_from clock l.kind) }
 {
     match limit {
-        Some(limit) => counts_from_departure(limit.kind),
+        Some(limit) => counts_from(limit.kind, clock),
         None => false,
     }
 }
 
-/// Whether there is a limit, and it counts from an arrival.
-fn has_arrival_limit(limit: Option<Limit>) -> bool
-    ensures { result ≡ filled_and limit (λ l. counts_from_arrival l.kind) }
+/// Whether limits of this type count from the clock.
+fn counts_from(kind: u8, clock: Clock) -> bool
+    ensures { result ≡ counts_from clock kind }
 {
-    match limit {
-        Some(limit) => !counts_from_departure(limit.kind),
-        None => false,
+    match clock {
+        Clock::Departure => counts_from_departure(kind),
+        Clock::Arrival => !counts_from_departure(kind),
     }
 }
 
