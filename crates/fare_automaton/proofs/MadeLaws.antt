@@ -4,6 +4,7 @@ use Rattle.std.specs.Prelude.{if◌then◌else◌, Option, Some, None, is_none, 
 use Rattle.std.specs.Option.{option_map_or}
 use Rattle.std.proofs.lemmas.Option.{same_Some, none-some, slice_get_within, slice_get-map, slice_get-get_or}
 use Rattle.std.proofs.lemmas.List.{length-map}
+use Rattle.transit_base.specs.declared.numbers.LegGroupId.{LegGroupId}
 use Rattle.transit_base.specs.declared.numbers.ProductRowId.{ProductRowId}
 use Rattle.transit_base.specs.declared.numbers.RiderId.{RiderId}
 use Rattle.transit_base.specs.declared.numbers.XferId.{XferId}
@@ -247,21 +248,27 @@ module _ (feed : FeedRows) (rider : Option RiderId) (state : FareState) (held : 
       (let all = all_made feed rider leg picks are (move_of_next feed rider state held leg) (next_made feed rider state held leg) next_of (λ move e. (next_tells feed rider state held leg move e).paid_leg) in
       record { right = all.right; all = all.all; once = all.once })
 
+  -- the leg by a rule of this group
+  abbrev of_group : Option LegGroupId → FareLeg
+  of_group group = record { group = group; departure = leg.departure; arrival = leg.arrival }
+
   -- a leg that was chosen has its own moments
   pub chosen_moments : (pick : LegChoice) (next : GroupedLeg) → Some (leg_of next) ≡ chosen_leg feed leg pick →
-      leg_of next ≡ record { group = next.group; departure = leg.departure; arrival = leg.arrival }
+      leg_of next ≡ of_group next.group
   chosen_moments pick next is = by (slice_get feed.leg_rules pick.rule.0) is
     where
-      by : (o : Option LegRuleRow) → Some (leg_of next) ≡ option_map (λ (rule : LegRuleRow). record { group = rule.group; departure = leg.departure; arrival = leg.arrival }) o →
-          leg_of next ≡ record { group = next.group; departure = leg.departure; arrival = leg.arrival }
+      by : (o : Option LegRuleRow) → Some (leg_of next) ≡ option_map (λ (rule : LegRuleRow). of_group rule.group) o →
+          leg_of next ≡ of_group next.group
       by None e = absurd (cc)
       by (Some rule) e =
-          let same : leg_of next ≡ record { group = rule.group; departure = leg.departure; arrival = leg.arrival } = same_Some _ _ e in
-          same ∙ ap (λ g. record { group = g; departure = leg.departure; arrival = leg.arrival }) (sym (ap (λ (l : FareLeg). l.group) same))
+          let same : leg_of next ≡ of_group rule.group = same_Some _ _ e in
+          same ∙ ap of_group (sym (ap (λ (l : FareLeg). l.group) same))
 
   -- the moves by the places of the change to it
-  pub made_by_places : (pick : LegChoice) (next : GroupedLeg) (places : List (Option ChangeChoice)) → Some (leg_of next) ≡ chosen_leg feed leg pick →
-      HasPlaces feed rider state leg places next.group → map (full (leg_of next) pick) places ≡ next_made feed rider state held leg pick
+  pub made_by_places : (pick : LegChoice) (next : GroupedLeg) (places : List (Option ChangeChoice)) →
+      Some (leg_of next) ≡ chosen_leg feed leg pick → HasPlaces feed rider state leg places next.group →
+      map (full (leg_of next) pick) places ≡ next_made feed rider state held leg pick
   made_by_places pick next places chosen has =
-      ap (map (full (leg_of next) pick)) (has ∙ ap (λ (l : FareLeg). place_list feed rider (asked_after state l)) (sym (chosen_moments pick next chosen)))
-      ∙ ap (λ (o : Option FareLeg). option_map_or (λ l. map (full l pick) (place_list feed rider (asked_after state l))) o []) chosen
+      let places_of = λ (l : FareLeg). place_list feed rider (asked_after state l) in
+      ap (map (full (leg_of next) pick)) (has ∙ ap places_of (sym (chosen_moments pick next chosen)))
+      ∙ ap (λ (o : Option FareLeg). option_map_or (λ l. map (full l pick) (places_of l)) o []) chosen

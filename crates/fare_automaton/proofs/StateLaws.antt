@@ -1,6 +1,6 @@
 -- The state after a leg, by its parts.
 use Rattle.std.proofs.Common.{◌≡◌, refl, sym, ◌∙◌, ap, ℕ, ◌+◌, Bool, true, false, not, ◌&&◌, Option, Some, None}
-use Rattle.std.specs.Prelude.{if◌then◌else◌, ◌==◌, is_none, min, ℤ, pos, ◌+ℤ◌}
+use Rattle.std.specs.Prelude.{if◌then◌else◌, is_none, min, ℤ, pos, ◌+ℤ◌}
 use Rattle.std.specs.Option.{is_some, option_map_or}
 use Rattle.std.proofs.lemmas.Bool.{and_parts}
 use Rattle.std.proofs.lemmas.Bool.Decides.{nat_tests}
@@ -24,7 +24,9 @@ use Rattle.fare_automaton.specs.declared.reads.GroupReads.{GroupReads}
 one_group : (a b : Option LegGroupId) → same_group a b ≡ true → b ≡ a
 one_group None b e = absurd (let no : false ≡ true = e in cc)
 one_group (Some g) None e = absurd (let no : false ≡ true = e in cc)
-one_group (Some g) (Some h) e = let same : h.0 ≡ g.0 = grind (arith, nat_tests, e) in ap (λ k. Some (record { 0 = k })) same
+one_group (Some g) (Some h) e =
+    let same : h.0 ≡ g.0 = grind (arith, nat_tests, e) in
+    ap (λ k. Some (record { 0 = k })) same
 
 group_there : (a b : Option LegGroupId) → same_group a b ≡ true → is_some a ≡ true
 group_there None b e = e
@@ -48,7 +50,8 @@ no_change feed (Some g) = omega arith
 
 -- one change more, up to the greatest count
 one_more : (feed : FeedRows) (group : Option LegGroupId) (count greatest : ℕ) → is_some group ≡ true
-    → greatest ≡ option_map_or (greatest_count feed) group 0 → min greatest count + 1 ≡ capped_count feed group (count + 1)
+    → greatest ≡ option_map_or (greatest_count feed) group 0
+    → min greatest count + 1 ≡ capped_count feed group (count + 1)
 one_more feed None count greatest some is = absurd (let no : false ≡ true = some in cc)
 one_more feed (Some g) count greatest some is = rw is (omega arith)
 
@@ -62,11 +65,17 @@ module _ (feed : FeedRows) (state : FareState) (next : FareLeg) (place : Option 
 
   -- a state of the run, and one of a run that starts
   abbrev run_with : Option LegGroupId → ℕ → Bool → FareState
-  run_with group count first = record { group = group; count = count; departure = state.departure; arrival = state.arrival; first = first }
+  run_with group count first = record state { group = group; count = count; first = first }
 
   abbrev start_with : ℕ → Bool → Bool → FareState
   start_with count departure arrival =
-      record { group = next.group; count = count; departure = when departure next.departure; arrival = when arrival next.arrival; first = is_none place }
+      record {
+        group = next.group;
+        count = count;
+        departure = when departure next.departure;
+        arrival = when arrival next.arrival;
+        first = is_none place;
+      }
 
   by_parts : (b : Bool) (reads : GroupReads) → reads.greatest_count ≡ option_map_or (greatest_count feed) next.group 0
       → reads.departure ≡ filled_and next.group (is_clock_read feed counts_from_departure)
@@ -82,15 +91,17 @@ module _ (feed : FeedRows) (state : FareState) (next : FareLeg) (place : Option 
   by_parts true reads count departure arrival test =
       let both = and_parts (same_group state.group next.group) (is_some place) (sym test) in
       let group = one_group state.group next.group both.0 in
-      let changes = one_more feed state.group state.count reads.greatest_count (group_there state.group next.group both.0)
-      (count ∙ ap (λ (g : Option LegGroupId). option_map_or (greatest_count feed) g 0) group) in
+      let greatest = count ∙ ap (λ (g : Option LegGroupId). option_map_or (greatest_count feed) g 0) group in
+      let there = group_there state.group next.group both.0 in
+      let changes = one_more feed state.group state.count reads.greatest_count there greatest in
       ap (λ (g : Option LegGroupId). run_with g (min reads.greatest_count state.count + 1) (is_none place)) group
       ∙ ap (λ (n : ℕ). run_with state.group n (is_none place)) changes
       ∙ ap (run_with state.group (capped_count feed state.group (state.count + 1))) (not_none place both.1)
   by_parts false reads count departure arrival test =
+      let none = capped_count feed next.group 0 in
+      let read = filled_and next.group (is_clock_read feed counts_from_departure) in
       ap (λ (n : ℕ). start_with n reads.departure reads.arrival) (no_change feed next.group)
-      ∙ ap (λ (d : Bool). start_with (capped_count feed next.group 0) d reads.arrival) departure
-      ∙ ap (start_with (capped_count feed next.group 0) (filled_and next.group (is_clock_read feed counts_from_departure))) arrival
+      ∙ ap (λ (d : Bool). start_with none d reads.arrival) departure ∙ ap (start_with none read) arrival
 
   pub state_is : (goes_on : Bool) (reads : GroupReads) (count : ℕ) (departure arrival : Option Moment) (first : Bool)
       → reads.greatest_count ≡ option_map_or (greatest_count feed) next.group 0
@@ -101,13 +112,16 @@ module _ (feed : FeedRows) (state : FareState) (next : FareLeg) (place : Option 
       → departure ≡ (if goes_on then state.departure else when reads.departure next.departure)
       → arrival ≡ (if goes_on then state.arrival else when reads.arrival next.arrival)
       → is_some place ≡ not first
-      → record { group = next.group; count = count; departure = departure; arrival = arrival; first = first } ≡ next_state feed state next place
-  state_is goes_on reads count departure arrival first greatest reads_departure reads_arrival test is_count is_departure is_arrival is_first =
-      rw (is_count, is_departure, is_arrival, none_where place first is_first) (by_parts goes_on reads greatest reads_departure reads_arrival test ∙ ap either test)
+      → record { group = next.group; count = count; departure = departure; arrival = arrival; first = first }
+      ≡ next_state feed state next place
+  state_is goes_on reads count departure arrival first greatest dep arr test is_count is_departure is_arrival is_first =
+      rw (is_count, is_departure, is_arrival, none_where place first is_first)
+      (by_parts goes_on reads greatest dep arr test ∙ ap either test)
 
 -- where the place of a change is empty, what was held is paid, and the leg is as a first one
 pub unarranged : (feed : FeedRows) (state : FareState) (held : ℤ) (next : FareLeg) (pick : LegChoice)
-    → record (first_move feed next (bare pick None)) { paid = record { 0 = held } } ≡ next_move feed state held next (bare pick None)
+    → record (first_move feed next (bare pick None)) { paid = record { 0 = held } }
+    ≡ next_move feed state held next (bare pick None)
 unarranged feed state held next pick =
     ap (λ (b : Bool). record (first_move feed next (bare pick None)) {
       state = if b

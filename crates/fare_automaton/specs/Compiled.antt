@@ -54,15 +54,16 @@ some_limit counts rows among = list_any (λ (r : ClassedRow). at_and rows r.row.
 
 -- ---- pairs of leg groups
 
--- the place of the pair in a table of 64 places for each group before a change; none where the group after it is past those
+-- the place of the pair in a table of 64 places for each group before a change; none where the group after it is past
+-- those
 abbrev pub place_of : LegGroupId → LegGroupId → Option ℕ
 place_of from to = when (nat_lt to.0 64) (from.0 * 64 + to.0)
 
 -- the rows at the place of a pair are those for changes between its two groups
 abbrev pub ArePairRows : FeedRows → List (List ClassedRow) → Type 0
 ArePairRows feed pairs =
-    (from to : LegGroupId) (place : ℕ) (rows : List ClassedRow) → place_of from to ≡ Some place → slice_get pairs place ≡ Some rows
-    → AreRowsBetween feed from to rows
+    (from to : LegGroupId) (place : ℕ) (rows : List ClassedRow) → place_of from to ≡ Some place
+    → slice_get pairs place ≡ Some rows → AreRowsBetween feed from to rows
 
 -- ---- products
 

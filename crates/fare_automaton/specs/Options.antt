@@ -104,9 +104,12 @@ next_made feed rider state held leg pick =
     (chosen_leg feed leg pick) []
 
 -- these are the places of the change from the state to the leg, where its rule is of this group
-abbrev pub HasPlaces : FeedRows → Option RiderId → FareState → LegFacts → List (Option ChangeChoice) → Option LegGroupId → Type 0
+abbrev pub HasPlaces : FeedRows → Option RiderId → FareState → LegFacts → List (Option ChangeChoice)
+    → Option LegGroupId → Type 0
 HasPlaces feed rider state leg places group =
-    places ≡ place_list feed rider (asked_after state (record { group = group; departure = leg.departure; arrival = leg.arrival }))
+    places
+    ≡ place_list feed rider
+    (asked_after state (record { group = group; departure = leg.departure; arrival = leg.arrival }))
 
 -- the lists of all choices, one after another
 abbrev pub made_at : (LegChoice → List Move) → List LegChoice → ℕ → List Move

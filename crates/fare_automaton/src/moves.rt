@@ -119,7 +119,8 @@ impl<'f> Automaton<'f> {
         }
     }
 
-    /// The state after the next leg. It is put together at one place: what comes from one of two places is copied by way of memory.
+    /// The state after the next leg. It is put together at one place: what comes from one of two places is copied by way
+    /// of memory.
     fn next_state(
         &self,
         state: &FareState,
@@ -216,7 +217,8 @@ fn goes_on(state: &FareState, next: &GroupedLeg, place: Option<ChangeChoice>) ->
     same_group(state.group, next.group) && place.is_some()
 }
 
-/// One change more where the leg goes on with the run, where all numbers past the greatest count of the group are one; else 0.
+/// One change more where the leg goes on with the run, where all numbers past the greatest count of the group are one;
+/// else 0.
 fn count_after(goes_on: bool, count: u32, greatest: u32) -> u32
     requires { greatest < 2 ^ 31 }
     ensures { result ≡ (if goes_on then min greatest count + 1 else 0) }

@@ -9,8 +9,8 @@ use plain_laws::Groups;
 use std::alloc::{AllocError, Global};
 use transit_base::LegGroupId;
 
-/// So many leg groups have a table of the rows for changes between each two, which grows with the square of their number.
-/// Rows for others are searched for.
+/// So many leg groups have a table of the rows for changes between each two, which grows with the square of their
+/// number. Rows for others are searched for.
 const GROUPS: usize = 64;
 
 /// The rows for changes from each of the first leg groups to each.

@@ -143,8 +143,8 @@ impl<'f> Automaton<'f> {
         Ok(())
     }
 
-    /// Adds the moves of a leg after the state that is paid so. Where a leg group is known, `places` has the places of the change
-    /// to this leg where its rule is of that group, and so it has for the group that is answered.
+    /// Adds the moves of a leg after the state that is paid so. Where a leg group is known, `places` has the places of the
+    /// change to this leg where its rule is of that group, and so it has for the group that is answered.
     fn push_next(
         &self,
         state: &FareState,
@@ -229,7 +229,8 @@ impl<'f> Automaton<'f> {
         Ok(())
     }
 
-    /// The move of a leg to which the change isn't arranged: what was held is paid, and the leg is held as a first one is.
+    /// The move of a leg to which the change isn't arranged: what was held is paid, and the leg is held as a first one
+    /// is.
     fn unarranged_move(&self, held: Money, next: &GroupedLeg, pick: &LegChoice) -> Move
         ensures { (state : FareState) → result ≡ next_move self.now.feed state held.0 (leg_of next.now) (bare pick.now None) }
     {

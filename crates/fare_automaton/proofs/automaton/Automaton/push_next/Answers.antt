@@ -11,15 +11,19 @@ use Rattle.fare_automaton.proofs.automaton.Automaton.push_next.Goals as goal
 
 pub keep_places-requires-clause-next : goal.keep_places-requires-clause-next
 keep_places-requires-clause-next c =
-    chosen_moments c.args.self.now.feed c.args.self.now.rider c.args.state.now c.args.held.0 c.args.leg.now c.args.pick.now c.in-Some.next c.in-Some.ensures
+    chosen_moments c.args.self.now.feed c.args.self.now.rider c.args.state.now c.args.held.0 c.args.leg.now c.args.pick.now
+    c.in-Some.next c.in-Some.ensures
 
 pub returns-in_ok-push_moves-in-Some-clause-moves : goal.returns-in_ok-push_moves-in-Some-clause-moves
 returns-in_ok-push_moves-in-Some-clause-moves c =
     let feed = c.args.self.now.feed in
+    let state = c.args.state.now in
+    let held = c.args.held.0 in
     let next = c.in-Some.next in
+    let pick = c.args.pick.now in
     c.in_ok-push_moves-in-Some.ensures
     ∙ ap (λ (places : List (Option ChangeChoice)). c.args.moves.now.items
-    ++ map (λ place. next_move feed c.args.state.now c.args.held.0 (leg_of next) (bare c.args.pick.now place)) places) c.deref.ensures.value
+    ++ map (λ place. next_move feed state held (leg_of next) (bare pick place)) places) c.deref.ensures.value
     ∙ ap (λ (xs : List Move). c.args.moves.now.items ++ xs)
-    (made_by_places feed c.args.self.now.rider c.args.state.now c.args.held.0 c.args.leg.now c.args.pick.now next c.keep_places.new.places.items
+    (made_by_places feed c.args.self.now.rider state held c.args.leg.now pick next c.keep_places.new.places.items
     c.in-Some.ensures c.in_ok-keep_places-in-Some.ensures)

@@ -6,6 +6,8 @@ use Rattle.fare_automaton.proofs.automaton.Automaton.push_steps.Goals as goal
 
 pub loop-number-preserved : goal.loop-number-preserved
 loop-number-preserved c = record {
-  moves = added_made _ _ _ (next_made c.args.self.now.feed c.args.self.now.rider c.args.state.now c.args.held.0 c.args.leg.now) c.args.options.now c.loop-number.number _ (omega arith) c.loop-number.invariant.moves c.in_ok-known.ensures.moves;
+  moves = added_made _ _ _
+      (next_made c.args.self.now.feed c.args.self.now.rider c.args.state.now c.args.held.0 c.args.leg.now)
+      c.args.options.now c.loop-number.number _ (omega arith) c.loop-number.invariant.moves c.in_ok-known.ensures.moves;
   known = c.in_ok-known.ensures.known;
 }

@@ -7,6 +7,8 @@ use Rattle.fare_automaton.proofs.automaton.Automaton.push_steps.Given as goal
 
 abbrev pub invariant-loop-number : goal.invariant-loop-number
 invariant-loop-number l = record {
-  moves : l.moves.items ≡ l.fn.moves.items ++ joined_below l.number (made_at (next_made l.self.feed l.self.rider l.state l.held.0 l.leg) l.options);
+  moves : l.moves.items
+      ≡ l.fn.moves.items
+      ++ joined_below l.number (made_at (next_made l.self.feed l.self.rider l.state l.held.0 l.leg) l.options);
   known : ForSome l.known (HasPlaces l.self.feed l.self.rider l.state l.leg l.places.items);
 }

@@ -7,6 +7,8 @@ use Rattle.fare_automaton.proofs.automaton.Automaton.reads_in.Goals as goal
 
 pub returns-in-Some-clause-low : goal.returns-in-Some-clause-low
 returns-in-Some-clause-low c =
-    let known = greatest_count-low c.args.self.now.feed c.in-Some.own c.feed-feed.ensures.sound.transfer_rules in
-    let is : c.reads.result.greatest_count ≡ greatest_count c.args.self.now.feed c.in-Some.own = ap (λ (r : GroupReads). r.greatest_count) c.reads.ensures in
+    let feed = c.args.self.now.feed in
+    let known = greatest_count-low feed c.in-Some.own c.feed-feed.ensures.sound.transfer_rules in
+    let is : c.reads.result.greatest_count ≡ greatest_count feed c.in-Some.own =
+    ap (λ (r : GroupReads). r.greatest_count) c.reads.ensures in
     omega (arith, known, is)

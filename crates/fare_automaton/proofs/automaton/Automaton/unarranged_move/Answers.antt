@@ -9,5 +9,6 @@ use Rattle.fare_automaton.proofs.automaton.Automaton.unarranged_move.Goals as go
 pub returns : goal.returns
 returns c = λ state.
     let next = leg_of c.args.next.now in
-    ap (λ (m : Move). record m { paid = c.args.held }) (c.first_move.ensures ∙ ap (first_move c.args.self.now.feed next) c.bare.ensures)
+    ap (λ (m : Move). record m { paid = c.args.held })
+    (c.first_move.ensures ∙ ap (first_move c.args.self.now.feed next) c.bare.ensures)
     ∙ unarranged c.args.self.now.feed state c.args.held.0 next c.args.pick.now
