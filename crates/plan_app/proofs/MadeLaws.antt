@@ -1,5 +1,6 @@
 -- What is due over a folder, and for a task.
-use Rattle.std.proofs.Common.{◌≡◌, ◌∙◌, ap, arith, ℕ, Bool, true, false, List, map, Option, refl, sym, subst}
+use Rattle.std.proofs.Common.{◌≡◌, ◌∙◌, ap, arith, ℕ, Bool, true, false, List, [], ◌∷◌, ◌++◌, length, map, Option, refl, sym, subst}
+use Rattle.std.proofs.lemmas.Option.{same_Some}
 use Rattle.std.proofs.lemmas.List.{get_or-map, length-map}
 use Rattle.std.specs.Prelude.{Any, IsTrue, Some, None, Ok, IfSome}
 use Rattle.feed_rows.specs.FeedRows.{FeedRows}
@@ -8,8 +9,13 @@ use Rattle.feed_rows.specs.GeneratedFeed.{generated_plan}
 use Rattle.feed_rows.specs.JourneyEntries.{IsExactAnswer, CoversOffers}
 use Rattle.feed_rows.specs.ParetoTriples.{at_most}
 use Rattle.feed_rows.specs.PriceQueries.{PriceQuery, price_query_of}
+use Rattle.feed_rows.specs.ClosedTable.{IsClosedTable}
+use Rattle.feed_rows.specs.CommandTexts.{stats_line}
+use Rattle.feed_rows.specs.EntryText.{lines_of_entries}
+use Rattle.feed_rows.specs.RoundTables.{RoundTable, entries_of}
+use Rattle.feed_rows.specs.SoundTable.{IsSoundTable}
 use Rattle.feed_rows.specs.Queries.{query_of}
-use Rattle.feed_rows.specs.Requests.{PlanRequest, PriceRequest}
+use Rattle.feed_rows.specs.Requests.{PlanRequest, PriceRequest, Request}
 use Rattle.feed_rows.specs.declared.fares.Entry.{Entry}
 use Rattle.feed_rows.specs.declared.journeys.Query.{Query}
 use Rattle.feed_rows.specs.declared.names.FileName.{FileName}
@@ -19,7 +25,8 @@ use Rattle.folder_io.specs.FolderCalls.{Contents, FolderState}
 use Rattle.folder_io.proofs.LogLaws.{makes_none}
 use Rattle.feed_check.specs.LoadErrors.{StopsReading}
 use Rattle.ticket_explain.specs.CommandLines.{gen_lines}
-use Rattle.plan_app.specs.Due.{Task, task_by, ArePriceLines, IsDue}
+use Rattle.plan_rounds.specs.Tables.{CoversAllOffers}
+use Rattle.plan_app.specs.Due.{Task, task_by, task_of, ArePriceLines, AreTableLines, DoTask, IsDue}
 use Rattle.plan_app.specs.Run.{ReadsIf}
 use Rattle.plan_app.specs.declared.status.Status.{Status}
 use Rattle.plan_app.specs.declared.status.Status.TheVariants as status
@@ -48,6 +55,36 @@ price_due timetable feed request query told text lines same named answered whole
     let joined = priced_rides_join feed request query over_feed in
     subst (λ q. IsDue (task_by (Task.Prices feed) q) told text) (sym over_feed)
     (answered, (joined, subst (ArePriceLines feed query.rides query.rider) (sym whole) are))
+
+-- the entries by which the finals of a sound table end, and its size, make the lines of a plan with statistics
+pub table_lines : (feed : FeedRows) (query : Query) (table : RoundTable) (entries : List Entry) (size : ℕ)
+    (lines : List (List ℕ))
+    → IsSoundTable feed query table → IsClosedTable feed query table → CoversAllOffers feed query table
+    → entries_of table ≡ Some entries → size ≡ length table.labels
+    → lines ≡ lines_of_entries feed entries ++ stats_line size ∷ [] → AreTableLines feed query lines
+table_lines feed query table entries size lines sound closed offers come counted are = record {
+  table = table;
+  sound = sound;
+  closed = closed;
+  entries = entries;
+  come = come;
+  exact = subst (IsExactAnswer feed query) (same_Some _ _ (sym sound.exact.1 ∙ come)) sound.exact.2;
+  covers = offers entries come;
+  are_lines = are ∙ ap (λ n. lines_of_entries feed entries ++ stats_line n ∷ []) counted;
+}
+
+-- such lines are due for the plan
+pub plan_due : (timetable feed : FeedRows) (request : PlanRequest) (query : Query) (told : Status)
+    (text lines : List (List ℕ))
+    → timetable ≡ feed → Ok query ≡ query_of timetable request → told ≡ status.Answered → text ≡ lines
+    → DoTask (Task.Plans timetable query request.stats) lines → IsDue (task_of feed (Request.Plan request)) told text
+plan_due timetable feed request query told text lines same named answered whole done =
+    let over_feed : Ok query ≡ query_of feed request = named ∙ ap (λ (f : FeedRows). query_of f request) same in
+    subst (λ q. IsDue (task_by (λ query. Task.Plans feed query request.stats) q) told text) over_feed (
+      answered,
+      subst (λ f. DoTask (Task.Plans f query request.stats) text) same
+          (subst (DoTask (Task.Plans timetable query request.stats)) (sym whole) done),
+    )
 
 -- some item of a list of values is such where the value of some item is
 any_map : {X Y : Type 0} (such : Y → Type 0) (value : X → Y) (items : List X) → Any (λ item. such (value item)) items

@@ -1,9 +1,10 @@
 -- What a command's words and the files of its folder make due: a task, or what refuses it; and the answer and the lines that
 -- come of that.
-use Rattle.std.specs.Prelude.{◌≡◌, ◌⊎◌, List, [], ◌∷◌, length, Any, ℕ, ℤ, IsTrue, Option, None, Some, Result, Ok, Err}
+use Rattle.std.specs.Prelude.{◌≡◌, ◌⊎◌, Bool, true, false, List, [], ◌∷◌, ◌++◌, length, Any, ℕ, ℤ, IsTrue, Option, None, Some, Result, Ok, Err}
 use Rattle.feed_rows.specs.FeedRows.{FeedRows}
 use Rattle.feed_rows.specs.HeldFiles.{HeldFile}
-use Rattle.feed_rows.specs.CommandTexts.{usage_line, refused_line, check_text}
+use Rattle.feed_rows.specs.ClosedTable.{IsClosedTable}
+use Rattle.feed_rows.specs.CommandTexts.{usage_line, refused_line, check_text, stats_line}
 use Rattle.feed_rows.specs.EntryText.{lines_of_entries}
 use Rattle.feed_rows.specs.JourneyEntries.{IsExactAnswer, CoversOffers, IsOffered}
 use Rattle.feed_rows.specs.ParetoTriples.{at_most}
@@ -12,6 +13,8 @@ use Rattle.feed_rows.specs.PriceQueries.{PriceQuery, price_query_of}
 use Rattle.feed_rows.specs.PriceTexts.{AreJoinedRides, IsLeastPrice, IsUncovered}
 use Rattle.feed_rows.specs.GeneratedFeed.{generated, generated_plan}
 use Rattle.feed_rows.specs.GeneratedTexts.{AreMinimalTriples}
+use Rattle.feed_rows.specs.RoundTables.{RoundTable, entries_of}
+use Rattle.feed_rows.specs.SoundTable.{IsSoundTable}
 use Rattle.transit_base.specs.declared.numbers.RiderId.{RiderId}
 use Rattle.feed_rows.specs.declared.journeys.Ride.{Ride}
 use Rattle.feed_rows.specs.declared.fares.Choice.{Choice}
@@ -33,10 +36,11 @@ use Rattle.plan_app.specs.declared.refusal.Refusal.TheVariants as refusal
 use Rattle.plan_app.specs.declared.status.Status.{Status}
 use Rattle.plan_app.specs.declared.status.Status.TheVariants as status
 
--- what is left to do where words, files and names have no fault
+-- what is left to do where words, files and names have no fault; of a plan also whether a last line tells the size of
+-- its table
 pub data Task : Type 0 where
   Checks : FeedRows → Task
-  Plans : FeedRows → Query → Task
+  Plans : FeedRows → Query → Bool → Task
   Prices : FeedRows → PriceQuery → Task
   Generates : FeedRows → Query → Task
 
@@ -47,7 +51,7 @@ task_by make (Err fault) = Err (refusal.Usage fault)
 
 -- what is asked for over a feed that has no fault
 abbrev pub task_of : FeedRows → Request → Result Task Refusal
-task_of feed (Request.Plan request) = task_by (Task.Plans feed) (query_of feed request)
+task_of feed (Request.Plan request) = task_by (λ query. Task.Plans feed query request.stats) (query_of feed request)
 task_of feed (Request.Price request) = task_by (Task.Prices feed) (price_query_of feed request)
 task_of feed Request.Check = Ok (Task.Checks feed)
 task_of feed (Request.Gen request) = task_by (Task.Generates feed) (query_of feed (generated_plan request.lines))
@@ -82,6 +86,18 @@ pub record ArePlanLines (feed : FeedRows) (query : Query) (lines : List (List �
   pub covers : CoversOffers feed query entries
   pub are_lines : lines ≡ lines_of_entries feed entries
 
+-- the lines are those of such entries, which come from the finals of a sound and closed table of the query, and behind
+-- them the one that tells how many labels this table has
+pub record AreTableLines (feed : FeedRows) (query : Query) (lines : List (List ℕ)) : Type 0 where
+  pub table : RoundTable
+  pub sound : IsSoundTable feed query table
+  pub closed : IsClosedTable feed query table
+  pub entries : List Entry
+  pub come : entries_of table ≡ Some entries
+  pub exact : IsExactAnswer feed query entries
+  pub covers : CoversOffers feed query entries
+  pub are_lines : lines ≡ lines_of_entries feed entries ++ stats_line (length table.labels) ∷ []
+
 -- the lines are those of a choice of the least price that the rides have for the rider, or tell that no choice pays them
 abbrev pub ArePriceLines : FeedRows → List Ride → Option RiderId → List (List ℕ) → Type 0
 ArePriceLines feed rides rider lines =
@@ -101,7 +117,8 @@ pub record AreGenLines (feed : FeedRows) (query : Query) (lines : List (List ℕ
 -- rides of the feed, each caught from the one before
 abbrev pub DoTask : Task → List (List ℕ) → Type 0
 DoTask (Task.Checks feed) lines = lines ≡ check_text feed ∷ []
-DoTask (Task.Plans feed query) lines = ArePlanLines feed query lines
+DoTask (Task.Plans feed query false) lines = ArePlanLines feed query lines
+DoTask (Task.Plans feed query true) lines = AreTableLines feed query lines
 DoTask (Task.Prices feed query) lines = AreJoinedRides feed query.rides × ArePriceLines feed query.rides query.rider lines
 DoTask (Task.Generates feed query) lines = AreGenLines feed query lines
 

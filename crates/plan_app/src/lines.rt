@@ -1,6 +1,6 @@
 //! The lines that are written.
 ghost use Rattle.std.specs.Prelude.{◌≡◌, IfOk, string_bytes};
-ghost use Rattle.feed_rows.specs.CommandTexts.{usage_line, refused_line, place_text, check_text};
+ghost use Rattle.feed_rows.specs.CommandTexts.{usage_line, refused_line, place_text, check_text, stats_line};
 ghost use Rattle.feed_rows.specs.UsageFaults.{usage_argument, stop_word_text};
 ghost use Rattle.plan_app.specs.Written.{WritesLines};
 
@@ -85,6 +85,17 @@ pub(crate) fn check_line_of(alloc: Global, feed: &Feed) -> Result<Line, AllocErr
     line.number(feed.stop_times.items().len() as u64)?;
     line.number(feed.leg_rules.items().len() as u64)?;
     line.number(feed.transfer_rules.items().len() as u64)?;
+    line.end()?;
+    Ok(line)
+}
+
+/// The last line of a plan with statistics: how many labels its table has.
+pub(crate) fn stats_line_of(alloc: Global, labels: usize) -> Result<Line, AllocError>
+    ensures { IfOk result (λ line. line ≡ stats_line labels) }
+{
+    let mut line = Line::empty(alloc);
+    line.start(b"stats")?;
+    line.number(labels as u64)?;
     line.end()?;
     Ok(line)
 }

@@ -3,21 +3,23 @@ ghost use Rattle.std.specs.Prelude.{◌≡◌, ℕ, ◌-◌, ◌≤◌, length, 
 ghost use Rattle.feed_rows.specs.GeneratedFeed.{generated_plan, stop_name};
 ghost use Rattle.feed_rows.specs.PriceQueries.{price_query_of};
 ghost use Rattle.feed_rows.specs.Queries.{query_of};
-ghost use Rattle.plan_app.specs.Due.{Task, task_by, task_of, ArePriceLines};
+ghost use Rattle.feed_rows.specs.Requests.{Request};
+ghost use Rattle.plan_app.specs.Due.{Task, task_by, task_of, ArePlanLines, ArePriceLines, AreTableLines, DoTask};
+ghost use Rattle.plan_rides.specs.InTime.{IsUsualQuery};
 ghost use Rattle.ride_prices.specs.NamedRides.{AreKnown, rides_of};
 ghost use Rattle.plan_app.specs.Made.{IsOutcome};
 ghost use Rattle.plan_words.specs.Request.{request_of, price_request, asked_request, IsUsualPlan, IsUsualGen, IsUsualRequest};
 ghost use Rattle.plan_words.specs.Rides.{AreUsualRides};
 
-use crate::lines::check_line_of;
+use crate::lines::{check_line_of, stats_line_of};
 use crate::outcome::{Outcome, answered, behind_line, refused};
 use crate::query::query_of;
 use crate::refusal::Refusal;
 use crate::status::Status;
 use feed_maker::stop_id;
-use feed_rows::{Feed, USUAL_WINDOW};
+use feed_rows::{Feed, Query, USUAL_WINDOW};
 use feed_timetable::Timetable;
-use plan_rounds::round_entries;
+use plan_rounds::{round_entries, rounds};
 use plan_words::{Asked, GenWords, PlanWords, PriceWords};
 use ride_prices::{PriceQuery, PriceQueryError, price_of, price_query_of};
 use std::alloc::{AllocError, Global};
@@ -32,18 +34,56 @@ fn check_outcome(alloc: Global, feed: &Feed) -> Result<Outcome, AllocError>
     behind_line(alloc, line.bytes(), Status::Answered)
 }
 
+// The text of the exact entries of a query.
+fn entries_text(alloc: Global, timetable: &Timetable, query: &Query) -> Result<Text, AllocError>
+    requires usual { IsUsualQuery query.now }
+    ensures { IfOk result (ArePlanLines timetable.now query.now) }
+{
+    let entries = round_entries(alloc, timetable, query)?;
+    text_of(alloc, timetable, &entries)
+}
+
+// The text of the exact entries of a query, and behind it the size of the table from which they come.
+fn table_text(alloc: Global, timetable: &Timetable, query: &Query) -> Result<Text, AllocError>
+    requires usual { IsUsualQuery query.now }
+    ensures { IfOk result (AreTableLines timetable.now query.now) }
+{
+    let table = rounds(alloc, timetable, query)?;
+    let entries = table.entries(alloc)?;
+    let mut text = text_of(alloc, timetable, &entries)?;
+    let line = stats_line_of(alloc, table.size())?;
+    text.push(line.bytes())?;
+    Ok(text)
+}
+
+// The text of a plan, with the size of its table where that is asked for.
+fn plan_text(
+    alloc: Global,
+    timetable: &Timetable,
+    query: &Query,
+    stats: bool,
+) -> Result<Text, AllocError>
+    requires usual { IsUsualQuery query.now }
+    ensures { IfOk result (DoTask (Task.Plans timetable.now query.now stats)) }
+{
+    if stats {
+        table_text(alloc, timetable, query)
+    } else {
+        entries_text(alloc, timetable, query)
+    }
+}
+
 // What a plan answers.
 fn plan_outcome(alloc: Global, feed: &Feed, plan: &PlanWords) -> Result<Outcome, AllocError>
     requires usual { IsUsualPlan plan.now }
-    ensures { IfOk result (IsOutcome (task_by (Task.Plans feed.now) (query_of feed.now (request_of plan.now)))) }
+    ensures { IfOk result (IsOutcome (task_of feed.now (Request.Plan (request_of plan.now)))) }
 {
     let timetable = Timetable::build(alloc, feed)?;
     let query = match query_of(&timetable, plan) {
         Ok(query) => query,
         Err(fault) => return refused(alloc, Refusal::Usage(fault)),
     };
-    let entries = round_entries(alloc, &timetable, &query)?;
-    let text = text_of(alloc, &timetable, &entries)?;
+    let text = plan_text(alloc, &timetable, &query, plan.stats)?;
     Ok(answered(text))
 }
 
@@ -86,6 +126,7 @@ fn generated_plan(last: &str) -> PlanWords<'_>
         rides: 4,
         rider: None,
         window: USUAL_WINDOW,
+        stats: false,
     }
 }
 

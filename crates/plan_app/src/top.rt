@@ -20,7 +20,9 @@ use std::alloc::Global;
 ///
 /// An answered plan lists in order exactly the minimal triples of arrival, rides and price among all fare-covered
 /// journeys of the query, one entry for each, with such a journey and with tickets of exactly that price; without an
-/// entry there is no such journey. A price is the least of all choices of rules and products that pay the rides.
+/// entry there is no such journey. With `--stats` a last line tells how many labels the table has from whose finals the
+/// entries come, which is sound and closed. A price is the least of all choices of rules and products that pay the
+/// rides.
 pub fn run<F: Folder, S: Sink>(
     alloc: Global,
     words: &WordList,

@@ -4,7 +4,7 @@ use Rattle.std.specs.Prelude.{codes, bytes_eq, is_some, unwrap_or, ◌||◌}
 use Rattle.std.specs.List.{list_all, list_any}
 use Rattle.plain_laws.specs.Plain.{all_below}
 use Rattle.plain_laws.proofs.Laws.{bytes_eq-true, eq-bytes_eq}
-use Rattle.feed_rows.specs.CommandWords.{is_one_of, joined_value, role_at, is_taken, option_value, fits_form}
+use Rattle.feed_rows.specs.CommandWords.{has_flag, is_one_of, joined_value, role_at, is_taken, option_value, fits_form}
 use Rattle.clap.specs.Matches.{first_value, found_of}
 use Rattle.clap.specs.Simple.{built, is_simple, matches_of}
 use Rattle.clap.specs.Walk.{Rule, Text, arg_by_id, arg_by_index, arg_by_long, first_of, is_empty, rows_after, rows_of}
@@ -14,9 +14,9 @@ use Rattle.plan_words.specs.Found.{IsFound, known_as}
 use Rattle.plan_words.specs.Words.{behind, form_of}
 use Rattle.plan_words.specs.declared.grammar.Form.{Form}
 use Rattle.plan_words.specs.declared.grammar.Form.TheVariants as form
-use Rattle.plan_words.proofs.OptionLaws.{Named, rides, rider, within, id_of, name_of, option_taken, words_taken}
+use Rattle.plan_words.proofs.OptionLaws.{Named, rides, rider, within, flag_id, flag_name, flag_taken, id_of, name_of, option_taken, words_taken}
 use Rattle.plan_words.proofs.RowLaws.{values_in}
-use Rattle.plan_words.proofs.WalkLaws.{IsKnown, option_found, words_found}
+use Rattle.plan_words.proofs.WalkLaws.{IsKnown, flag_found, option_found, words_found}
 use Rattle.plan_words.proofs.WordLaws.{first_of_two}
 
 none_takes : {X : Type 0} → false ≡ true → X
@@ -35,11 +35,15 @@ options_are form.Price = refl
 options_are form.Check = refl
 options_are form.Gen = refl
 
-no_flags : (f : Form) (word : Text) → is_one_of (form_of f).flags word ≡ false
-no_flags form.Plan word = refl
-no_flags form.Price word = refl
-no_flags form.Check word = refl
-no_flags form.Gen word = refl
+or_none : (a : Bool) → (a || false) ≡ true → a ≡ true
+or_none true e = refl
+or_none false e = e
+
+flag_is : (f : Form) (word : Text) → is_one_of (form_of f).flags word ≡ true → word ≡ flag_id
+flag_is form.Plan word takes = bytes_eq-true word flag_id (or_none (bytes_eq word flag_id) takes)
+flag_is form.Price word takes = none_takes takes
+flag_is form.Check word takes = none_takes takes
+flag_is form.Gen word takes = none_takes takes
 
 named_among : (ks : List Named) (word : Text) → is_one_of (map id_of ks) word ≡ true → (k : Named) × (word ≡ id_of k)
 named_among [] word any = none_takes any
@@ -90,6 +94,14 @@ kept form.Price within takes = none_takes takes
 kept form.Check k takes = none_takes takes
 kept form.Gen k takes = none_takes takes
 
+-- the flag is found by its name
+flag_kept : (f : Form) → is_one_of (form_of f).flags flag_id ≡ true → arg_by_long
+    (rules_of f) flag_name ≡ Some flag_taken
+flag_kept form.Plan takes = refl
+flag_kept form.Price takes = none_takes takes
+flag_kept form.Check takes = none_takes takes
+flag_kept form.Gen takes = none_takes takes
+
 -- the positional words are found by their place and by their id
 words_kept : (f : Form)
     → (arg_by_index (rules_of f) 1 ≡ Some words_taken) × (arg_by_id (rules_of f) (codes "WORDS") ≡ Some words_taken)
@@ -111,7 +123,8 @@ JoinsOne names word =
 
 known : (f : Form) → IsKnown (form_of f) (rules_of f)
 known f = record {
-  flags = no_flags f;
+  flags = flag_is f;
+  by_flag = flag_kept f;
   named = λ word any.
       named_among (options_in f) word (subst (λ names. is_one_of names word ≡ true) (options_are f) any);
   joined = λ word any.
@@ -164,4 +177,8 @@ is_found f all m fits rows =
           subst (λ o. first_value (found_of m) o ≡ option_value words o) (sym which.1)
           (first_value-rows (found_of m) (id_of which.0) ∙ ap (first_of (id_of which.0)) are ∙ option_found
           (form_of f) (rules_of f) (known f) words taken which.0 is_k);
+      flags = λ flag takes.
+          subst (λ o. is_some (first_value (found_of m) o) ≡ has_flag words o) (sym ((known f).flags flag takes))
+          (ap is_some (first_value-rows (found_of m) flag_id ∙ ap (first_of flag_id) are)
+          ∙ flag_found (form_of f) (rules_of f) (known f) words taken);
     }

@@ -8,7 +8,7 @@ use Rattle.feed_rows.specs.CommandWords.{is_dashed, joined_value}
 use Rattle.clap.specs.Lexer.{long_of, short_of}
 use Rattle.clap.specs.Simple.{filled, with_index}
 use Rattle.clap.specs.Walk.{Rule, Text}
-use Rattle.plan_words.specs.Found.{option_rule, words_rule}
+use Rattle.plan_words.specs.Found.{flag_rule, option_rule, words_rule}
 
 -- the options that commands take
 pub data Named : Type 0 where
@@ -26,9 +26,23 @@ name_of rides = codes "rides"
 name_of rider = codes "rider"
 name_of within = codes "within"
 
+-- the flag that commands take
+abbrev pub flag_id : Text
+flag_id = codes "--stats"
+
+abbrev pub flag_name : Text
+flag_name = codes "stats"
+
+-- what stands for a use of it
+abbrev pub flag_value : Text
+flag_value = codes "set"
+
 -- what `clap` makes of them
 abbrev pub option_taken : Named → Rule
 option_taken k = filled (option_rule (id_of k) (name_of k))
+
+abbrev pub flag_taken : Rule
+flag_taken = filled (flag_rule flag_id flag_name)
 
 abbrev pub words_taken : Rule
 words_taken = with_index 1 (filled words_rule)
@@ -43,6 +57,9 @@ is_long_joined rides value = refl
 is_long_joined rider value = refl
 is_long_joined within value = refl
 
+pub flag_long : long_of flag_id ≡ Some (flag_name, None)
+flag_long = refl
+
 -- none is `--`
 pub no_end : (k : Named) → bytes_eq (id_of k) (45 ∷ 45 ∷ []) ≡ false
 no_end rides = refl
@@ -54,6 +71,9 @@ no_end_joined rides value = refl
 no_end_joined rider value = refl
 no_end_joined within value = refl
 
+pub flag_no_end : bytes_eq flag_id (45 ∷ 45 ∷ []) ≡ false
+flag_no_end = refl
+
 -- none is the id of the positional words
 pub no_words : (k : Named) → bytes_eq (id_of k) (codes "WORDS") ≡ false
 no_words rides = refl
@@ -64,6 +84,27 @@ pub words_none : (k : Named) → bytes_eq (codes "WORDS") (id_of k) ≡ false
 words_none rides = refl
 words_none rider = refl
 words_none within = refl
+
+-- none is the flag
+pub no_flag : (k : Named) → bytes_eq (id_of k) flag_id ≡ false
+no_flag rides = refl
+no_flag rider = refl
+no_flag within = refl
+
+pub no_flag_joined : (k : Named) (value : Text) → bytes_eq (id_of k ++ 61 ∷ value) flag_id ≡ false
+no_flag_joined rides value = refl
+no_flag_joined rider value = refl
+no_flag_joined within value = refl
+
+pub flag_none : (k : Named) → bytes_eq flag_id (id_of k) ≡ false
+flag_none rides = refl
+flag_none rider = refl
+flag_none within = refl
+
+pub flag_no_join : (k : Named) → joined_value (id_of k) flag_id ≡ None
+flag_no_join rides = refl
+flag_no_join rider = refl
+flag_no_join within = refl
 
 -- the name of an option joins no value
 pub no_join : (k j : Named) → joined_value (id_of j) (id_of k) ≡ None
@@ -115,6 +156,11 @@ undashed within [] plain = (refl, refl)
 undashed rides (x ∷ xs) plain = (rw plain refl, rw plain refl)
 undashed rider (x ∷ xs) plain = (rw plain refl, rw plain refl)
 undashed within (x ∷ xs) plain = (rw plain refl, rw plain refl)
+
+-- nor is it the flag
+pub undashed_flag : (word : Text) → is_dashed word ≡ false → bytes_eq word flag_id ≡ false
+undashed_flag [] plain = refl
+undashed_flag (x ∷ xs) plain = rw plain refl
 
 -- ---- the parts of a word that joins a value
 

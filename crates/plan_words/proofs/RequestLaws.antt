@@ -69,14 +69,16 @@ module _ (named words : List (List ℕ)) where
   bad_window day seconds rides date time rides_is window_is =
       to_rides day seconds date time ∙ given rides_word rides usage.BadRides (behind_rides day seconds) rides_is ∙ missing window_word usage.BadWindow (behind_window day seconds rides) window_is
 
-  pub plan_read : (day departure : ℤ) (seconds rides window : ℕ) (from to : List ℕ) (rider : Option (List ℕ)) → Some day ≡ word_date (word_at named 2) → Some seconds ≡ word_time (word_at named 3)
+  pub plan_read : (day departure : ℤ) (seconds rides window : ℕ) (from to : List ℕ) (rider : Option (List ℕ))
+      (stats : Bool) → Some day ≡ word_date (word_at named 2) → Some seconds ≡ word_time (word_at named 3)
       → Some rides ≡ rides_word → Some window ≡ window_word → from ≡ word_at named 0 → to ≡ word_at named 1 → departure ≡ moment_at day (pos seconds)
-      → rider ≡ option_value words (codes "--rider") → has_flag words (codes "--stats") ≡ false
-      → Ok (Request.Plan (record { from = from; to = to; departure = departure; rides = rides; rider = rider; window = window; stats = false })) ≡ read_plan named words
-  plan_read day departure seconds rides window from to rider date time rides_is window_is from_is to_is at rider_is no_stats =
+      → rider ≡ option_value words (codes "--rider") → stats ≡ has_flag words (codes "--stats")
+      → Ok (Request.Plan (record { from = from; to = to; departure = departure; rides = rides; rider = rider; window = window; stats = stats })) ≡ read_plan named words
+  plan_read day departure seconds rides window from to rider stats date time rides_is window_is from_is to_is at rider_is stats_is =
       let read = to_rides day seconds date time ∙ given rides_word rides usage.BadRides (behind_rides day seconds) rides_is ∙ given window_word window usage.BadWindow (behind_window day seconds rides) window_is in
       let ok : Request → Result Request UsageFault = λ request. Ok request in
-      let same : ok (Request.Plan (record { from = from; to = to; departure = departure; rides = rides; rider = rider; window = window; stats = false })) ≡ behind_window day seconds rides window = rw (from_is, to_is, at, rider_is, no_stats) refl in
+      let same : ok (Request.Plan
+      (record { from = from; to = to; departure = departure; rides = rides; rider = rider; window = window; stats = stats })) ≡ behind_window day seconds rides window = rw (from_is, to_is, at, rider_is, stats_is) refl in
       same ∙ sym read
 
 -- a number of words, as an integer without sign

@@ -1,8 +1,8 @@
 -- What `clap` keeps of the values that are used.
 use Rattle.std.proofs.Common.{◌≡◌, ℕ, zero, suc, Bool, true, false, List, [], ◌∷◌, ◌++◌, Some, None, Option, refl, sym, ap, ◌∙◌, append-nil}
-use Rattle.std.specs.Prelude.{bytes_eq, unwrap_or, slice_get}
+use Rattle.std.specs.Prelude.{bytes_eq, is_some, unwrap_or, slice_get, ◌||◌}
 use Rattle.std.specs.Option.{option_or, option_to_list}
-use Rattle.plain_laws.specs.Plain.{joined_below, first_below}
+use Rattle.plain_laws.specs.Plain.{any_below, joined_below, first_below}
 use Rattle.plain_laws.proofs.Laws.{one_where, bytes_eq-true, eq-bytes_eq}
 use Rattle.clap.specs.Walk.{Row, Text, all_of, first_of, with_values}
 use Rattle.clap.specs.declared.builder.value_parser.Reading.TheVariants as reading
@@ -68,4 +68,17 @@ first-joined_below {X} (suc n) f = step (joined_below n (λ i. option_to_list (f
         → slice_get (before ++ option_to_list next) 0 ≡ option_or (first_below n f) next
     step [] e None = rw (sym e) refl
     step [] e (Some x) = rw (sym e) refl
+    step (y ∷ ys) e next = rw (sym e) refl
+
+-- there is a first of the values where the test passes some number below n
+pub some-joined_below : {X : Type 0} (n : ℕ) (test : ℕ → Bool) (x : X)
+    → is_some (slice_get (joined_below n (λ i. one_where (test i) x)) 0) ≡ any_below n test
+some-joined_below zero test x = refl
+some-joined_below {X} (suc n) test x =
+    step (joined_below n (λ i. one_where (test i) x)) (some-joined_below n test x) (test n)
+  where
+    step : (before : List X) → is_some (slice_get before 0) ≡ any_below n test → (next : Bool)
+        → is_some (slice_get (before ++ one_where next x) 0) ≡ (any_below n test || next)
+    step [] e true = rw (sym e) refl
+    step [] e false = rw (sym e) refl
     step (y ∷ ys) e next = rw (sym e) refl

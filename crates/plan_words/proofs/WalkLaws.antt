@@ -7,12 +7,15 @@ use Rattle.std.proofs.lemmas.List.Sums.{fold_more}
 use Rattle.std.proofs.lemmas.Bool.Decides.{nat_tests}
 use Rattle.plain_laws.specs.Plain.{all_below, joined_below, when}
 use Rattle.plain_laws.proofs.Laws.{all_below-at, bytes_eq-true, eq-bytes_eq, joined_below-picks, one_where}
-use Rattle.feed_rows.specs.CommandWords.{CommandForm, word_at, is_one_of, is_dashed, joined_value, follows_option, role_at, is_taken, is_positional, positional_words, value_at, option_value}
+use Rattle.feed_rows.specs.CommandWords.{CommandForm, word_at, is_one_of, is_dashed, joined_value, follows_option, role_at, is_taken, is_positional, positional_words, value_at, option_value, has_flag}
 use Rattle.feed_rows.specs.declared.usage.WordRole.TheVariants as role
+use Rattle.clap.specs.Lexer.{long_of}
+use Rattle.clap.specs.Simple.{filled}
 use Rattle.clap.specs.Walk.{Row, Rule, Text, Waiting, Walk, arg_by_id, arg_by_index, arg_by_long, default_rows, finished, first_of, idle, is_empty, is_pending, nothing_held, option, positional, reading_by, rows_after, settled_rows, walk_from, walked, with_default, has_row}
 use Rattle.clap.specs.declared.builder.value_parser.Reading.{Reading}
-use Rattle.plan_words.proofs.OptionLaws.{Named, both, id_of, is_long, is_long_joined, joined_parts, joins_alone, name_of, no_end, no_end_joined, no_join, no_words, option_taken, undashed, undashed_end, undashed_long, undashed_short, words_none, words_taken}
-use Rattle.plan_words.proofs.RowLaws.{first-joined_below, first_of-values_in, values_in, values_in-with_one, with_one}
+use Rattle.plan_words.specs.Found.{flag_rule}
+use Rattle.plan_words.proofs.OptionLaws.{Named, both, flag_id, flag_long, flag_name, flag_no_end, flag_no_join, flag_none, flag_taken, flag_value, id_of, is_long, is_long_joined, joined_parts, joins_alone, name_of, no_end, no_end_joined, no_flag, no_flag_joined, no_join, no_words, option_taken, undashed, undashed_end, undashed_flag, undashed_long, undashed_short, words_none, words_taken}
+use Rattle.plan_words.proofs.RowLaws.{first-joined_below, first_of-values_in, some-joined_below, values_in, values_in-with_one, with_one}
 use Rattle.plan_words.proofs.WordLaws.{role_by_word, role_of_word, word_there}
 
 -- ---- one word
@@ -58,6 +61,16 @@ module _ (rules : List Rule) (pending : Option (Text × List Text)) (rows : List
   joined_step idle free k value by = rw (no_end_joined k value, is_long_joined k value, by) refl
   joined_step (option id) free k value by = absurd free
   joined_step positional free k value by = rw (no_end_joined k value, is_long_joined k value, by) refl
+
+  -- a flag
+  pub flag_step : (waiting : Waiting) → IsFree waiting → (id name : Text) → bytes_eq id (45 ∷ 45 ∷ []) ≡ false
+      → long_of id ≡ Some (name, None) → arg_by_long rules name ≡ Some (filled (flag_rule id name))
+      → walked rules [] (between pending rows waiting) id ≡ between None
+      (with_one id flag_value (settled_rows rules pending rows)) idle
+  unfolding walked
+  flag_step idle free id name no_end long by = rw (no_end, long, by) refl
+  flag_step (option other) free id name no_end long by = absurd free
+  flag_step positional free id name no_end long by = rw (no_end, long, by) refl
 
   -- a positional word
   pub word_step : (waiting : Waiting) → IsFree waiting → (word : Text) → is_dashed word ≡ false
@@ -124,7 +137,8 @@ unfilled (rule ∷ rules) none rows =
 -- ---- a command that `clap` knows
 
 pub record IsKnown (taken : CommandForm) (rules : List Rule) : Type 0 where
-  pub flags : (word : Text) → is_one_of taken.flags word ≡ false
+  pub flags : (word : Text) → is_one_of taken.flags word ≡ true → word ≡ flag_id
+  pub by_flag : is_one_of taken.flags flag_id ≡ true → arg_by_long rules flag_name ≡ Some flag_taken
   pub named : (word : Text) → is_one_of taken.options word ≡ true → (k : Named) × (word ≡ id_of k)
   pub joined : (word : Text) → list_any (λ name. is_some (joined_value name word)) taken.options ≡ true
       → (k : Named) × (is_one_of taken.options (id_of k) ≡ true) × (is_some (joined_value (id_of k) word) ≡ true)
@@ -135,20 +149,28 @@ pub record IsKnown (taken : CommandForm) (rules : List Rule) : Type 0 where
   pub words_by_id : arg_by_id rules (codes "WORDS") ≡ Some words_taken
   pub no_defaults : list_all (λ rule. is_empty rule.defaults) rules ≡ true
 
--- what an id gets: an option, or, as none, the positional words
-abbrev pub slot_id : Option Named → Text
-slot_id None = codes "WORDS"
-slot_id (Some k) = id_of k
+-- what an id gets: the positional words, an option, or the flag
+pub data Slot : Type 0 where
+  words_slot : Slot
+  option_slot : Named → Slot
+  flag_slot : Slot
+
+abbrev pub slot_id : Slot → Text
+slot_id words_slot = codes "WORDS"
+slot_id (option_slot k) = id_of k
+slot_id flag_slot = flag_id
 
 module _ (taken : CommandForm) (rules : List Rule) (known : IsKnown taken rules) (words : List Text) where
-  abbrev IsSlot : Option Named → Type 0
-  IsSlot None = Unit {0}
-  IsSlot (Some k) = is_one_of taken.options (id_of k) ≡ true
+  abbrev IsSlot : Slot → Type 0
+  IsSlot words_slot = Unit {0}
+  IsSlot (option_slot k) = is_one_of taken.options (id_of k) ≡ true
+  IsSlot flag_slot = Unit {0}
 
   -- what word i gives to an id
-  abbrev gives : Option Named → ℕ → List Text
-  gives None i = one_where (is_positional (role_at taken words i)) (word_at words i)
-  gives (Some k) i = option_to_list (value_at words (id_of k) i)
+  abbrev gives : Slot → ℕ → List Text
+  gives words_slot i = one_where (is_positional (role_at taken words i)) (word_at words i)
+  gives (option_slot k) i = option_to_list (value_at words (id_of k) i)
+  gives flag_slot i = one_where (bytes_eq (word_at words i) flag_id) flag_value
 
   -- ---- what a word is
 
@@ -166,6 +188,9 @@ module _ (taken : CommandForm) (rules : List Rule) (known : IsKnown taken rules)
         → is_one_of taken.options (word_at words i) ≡ false → word_at words i ≡ id_of k ++ 61 ∷ value
         → joined_value (id_of k) (word_at words i) ≡ Some value
         → role_at taken words i ≡ role.OptionWithValue → Seen i
+    sets : is_one_of taken.flags flag_id ≡ true → follows_option taken words i ≡ false
+        → is_one_of taken.options (word_at words i) ≡ false → word_at words i ≡ flag_id
+        → role_at taken words i ≡ role.Flag → Seen i
     stands : follows_option taken words i ≡ false → is_one_of taken.options (word_at words i) ≡ false
         → is_dashed (word_at words i) ≡ false
         → role_at taken words i ≡ role.Positional → Seen i
@@ -185,9 +210,18 @@ module _ (taken : CommandForm) (rules : List Rule) (known : IsKnown taken rules)
       plain_or : never_taken word ≡ false → follows_option taken words i ≡ false
           → is_one_of taken.options word ≡ false
           → list_any (λ name. is_some (joined_value name word)) taken.options ≡ false
-          → (dashed : Bool) → is_dashed word ≡ dashed → Seen i
-      plain_or e f g h true p = absurd (let bad : false ≡ true = rw (e, f, g, h, known.flags word, p) at fit in cc)
-      plain_or e f g h false p = stands f g p (is ∙ rw (e, f, g, h, known.flags word, p) refl)
+          → is_one_of taken.flags word ≡ false → (dashed : Bool) → is_dashed word ≡ dashed → Seen i
+      plain_or e f g h n true p = absurd (let bad : false ≡ true = rw (e, f, g, h, n, p) at fit in cc)
+      plain_or e f g h n false p = stands f g p (is ∙ rw (e, f, g, h, n, p) refl)
+
+      flag_or : never_taken word ≡ false → follows_option taken words i ≡ false
+          → is_one_of taken.options word ≡ false
+          → list_any (λ name. is_some (joined_value name word)) taken.options ≡ false
+          → (flag : Bool) → is_one_of taken.flags word ≡ flag → Seen i
+      flag_or e f g h true n =
+          let same = known.flags word n in
+          sets (subst (λ w. is_one_of taken.flags w ≡ true) same n) f g same (is ∙ rw (e, f, g, h, n) refl)
+      flag_or e f g h false n = plain_or e f g h n (is_dashed word) refl
 
       joined_or : never_taken word ≡ false → follows_option taken words i ≡ false
           → is_one_of taken.options word ≡ false
@@ -196,7 +230,7 @@ module _ (taken : CommandForm) (rules : List Rule) (known : IsKnown taken rules)
           let which = known.joined word h in
           let parts = joined_parts (id_of which.0) word which.2 in
           joins which.0 parts.0 which.1 f g parts.2 parts.1 (is ∙ rw (e, f, g, h) refl)
-      joined_or e f g false h = plain_or e f g h (is_dashed word) refl
+      joined_or e f g false h = flag_or e f g h (is_one_of taken.flags word) refl
 
       name_or : never_taken word ≡ false → follows_option taken words i ≡ false
           → (named : Bool) → is_one_of taken.options word ≡ named → Seen i
@@ -251,10 +285,11 @@ module _ (taken : CommandForm) (rules : List Rule) (known : IsKnown taken rules)
       (if_value (bytes_eq (id_of k) (id_of j)) (word_at words (i + 1)))
 
   name_gives : (i : ℕ) (k : Named) → word_at words i ≡ id_of k → i + 1 < length words
-      → role_at taken words i ≡ role.OptionName → (slot : Option Named)
+      → role_at taken words i ≡ role.OptionName → (slot : Slot)
       → gives slot i ≡ one_where (bytes_eq (id_of k) (slot_id slot)) (word_at words (i + 1))
-  name_gives i k is inside role None = rw (role, no_words k) refl
-  name_gives i k is inside role (Some j) = named_value i k j is inside
+  name_gives i k is inside role words_slot = rw (role, no_words k) refl
+  name_gives i k is inside role (option_slot j) = named_value i k j is inside
+  name_gives i k is inside role flag_slot = rw (is, no_flag k) refl
 
   -- a word that doesn't begin with `-` gives no option a value
   plain_gives : (i : ℕ) → is_dashed (word_at words i) ≡ false → (j : Named) → value_at words (id_of j) i ≡ None
@@ -262,15 +297,17 @@ module _ (taken : CommandForm) (rules : List Rule) (known : IsKnown taken rules)
   plain_gives i plain j = let none = undashed j (word_at words i) plain in rw (none.0, none.1) refl
 
   value_gives : (i : ℕ) → is_dashed (word_at words i) ≡ false → role_at taken words i ≡ role.OptionValue
-      → (slot : Option Named) → gives slot i ≡ []
-  value_gives i plain role None = rw role refl
-  value_gives i plain role (Some j) = rw (plain_gives i plain j) refl
+      → (slot : Slot) → gives slot i ≡ []
+  value_gives i plain role words_slot = rw role refl
+  value_gives i plain role (option_slot j) = rw (plain_gives i plain j) refl
+  value_gives i plain role flag_slot = rw (undashed_flag (word_at words i) plain) refl
 
   word_gives : (i : ℕ) → is_dashed (word_at words i) ≡ false → role_at taken words i ≡ role.Positional
-      → (slot : Option Named)
+      → (slot : Slot)
       → gives slot i ≡ one_where (bytes_eq (codes "WORDS") (slot_id slot)) (word_at words i)
-  word_gives i plain role None = rw role refl
-  word_gives i plain role (Some j) = rw (plain_gives i plain j, words_none j) refl
+  word_gives i plain role words_slot = rw role refl
+  word_gives i plain role (option_slot j) = rw (plain_gives i plain j, words_none j) refl
+  word_gives i plain role flag_slot = rw (undashed_flag (word_at words i) plain) refl
 
   value_joined : (i : ℕ) (k j : Named) (value : Text) → bytes_eq (word_at words i) (id_of j) ≡ false
       → joined_value (id_of j) (word_at words i) ≡ when (bytes_eq (id_of k) (id_of j)) value
@@ -281,13 +318,24 @@ module _ (taken : CommandForm) (rules : List Rule) (known : IsKnown taken rules)
   joined_gives : (i : ℕ) (k : Named) (value : Text) → is_one_of taken.options (word_at words i) ≡ false
       → word_at words i ≡ id_of k ++ 61 ∷ value
       → joined_value (id_of k) (word_at words i) ≡ Some value → role_at taken words i ≡ role.OptionWithValue
-      → (slot : Option Named) → IsSlot slot
+      → (slot : Slot) → IsSlot slot
       → gives slot i ≡ one_where (bytes_eq (id_of k) (slot_id slot)) value
-  joined_gives i k value unnamed is joined role None slot = rw (role, no_words k) refl
-  joined_gives i k value unnamed is joined role (Some j) slot =
+  joined_gives i k value unnamed is joined role words_slot slot = rw (role, no_words k) refl
+  joined_gives i k value unnamed is joined role flag_slot slot = rw (is, no_flag_joined k value, no_flag k) refl
+  joined_gives i k value unnamed is joined role (option_slot j) slot =
       value_joined i k j value (differs (word_at words i) (id_of j) unnamed slot)
       (subst (λ w. joined_value (id_of j) w ≡ when (bytes_eq (id_of k) (id_of j)) value) (sym is)
       (joins_alone k j value (subst (λ w. joined_value (id_of k) w ≡ Some value) is joined)))
+
+  flag_value_none : (i : ℕ) (k : Named) → word_at words i ≡ flag_id → value_at words (id_of k) i ≡ None
+  unfolding value_at
+  flag_value_none i k is = rw (is, flag_none k, flag_no_join k) refl
+
+  flag_gives : (i : ℕ) → word_at words i ≡ flag_id → role_at taken words i ≡ role.Flag → (slot : Slot)
+      → gives slot i ≡ one_where (bytes_eq flag_id (slot_id slot)) flag_value
+  flag_gives i is role words_slot = rw role refl
+  flag_gives i is role (option_slot k) = rw (flag_value_none i k is, flag_none k) refl
+  flag_gives i is role flag_slot = rw is refl
 
   -- ---- the walk
 
@@ -299,7 +347,7 @@ module _ (taken : CommandForm) (rules : List Rule) (known : IsKnown taken rules)
 
   -- the rows have what the first so many words give
   abbrev HasGiven : List Row → ℕ → Type 0
-  HasGiven rows i = (slot : Option Named) → IsSlot slot → values_in (slot_id slot) rows ≡ joined_below i (gives slot)
+  HasGiven rows i = (slot : Slot) → IsSlot slot → values_in (slot_id slot) rows ≡ joined_below i (gives slot)
 
   -- where the walk stands before word i: at rest, or behind the name of an option
   data Stand (i : ℕ) : Type 0 where
@@ -309,7 +357,7 @@ module _ (taken : CommandForm) (rules : List Rule) (known : IsKnown taken rules)
     waits : (j : ℕ) (k : Named) (rows : List Row) → i ≡ j + 1 → i < length words → follows_option taken words i ≡ true
         → is_one_of taken.options (id_of k) ≡ true
         → walk_to i ≡ between (Some (id_of k, [])) rows (option (id_of k)) → HasGiven rows j
-        → ((slot : Option Named) → gives slot j ≡ one_where (bytes_eq (id_of k) (slot_id slot))
+        → ((slot : Slot) → gives slot j ≡ one_where (bytes_eq (id_of k) (slot_id slot))
         (word_at words i)) → Stand i
 
   -- what follows an option's name is told by the word before
@@ -320,7 +368,7 @@ module _ (taken : CommandForm) (rules : List Rule) (known : IsKnown taken rules)
       (later, back) e
 
   more_given : (rows : List Row) (i : ℕ) (id value : Text) → HasGiven rows i
-      → ((slot : Option Named) → IsSlot slot → gives slot i ≡ one_where (bytes_eq id (slot_id slot)) value)
+      → ((slot : Slot) → IsSlot slot → gives slot i ≡ one_where (bytes_eq id (slot_id slot)) value)
       → HasGiven (with_one id value rows) (i + 1)
   more_given rows i id value before here slot is =
       values_in-with_one id (slot_id slot) value rows ∙ ap₂ (λ (xs ys : List Text). xs ++ ys) (before slot is)
@@ -344,6 +392,12 @@ module _ (taken : CommandForm) (rules : List Rule) (known : IsKnown taken rules)
       (known.by_long k takes))
       (more_given (settled_rows rules pending rows) i (id_of k) value given
       (joined_gives i k value unnamed is joined role))
+  step i lt (sets takes follows unnamed is role) (rests pending rows waiting free rest at given) =
+      rests None (with_one flag_id flag_value (settled_rows rules pending rows)) idle tt (followed i false unnamed)
+      (walk_next i lt ∙ ap₂ (walked rules []) at is ∙ flag_step rules pending rows waiting free flag_id flag_name
+      flag_no_end flag_long (known.by_flag takes))
+      (more_given (settled_rows rules pending rows) i flag_id flag_value given
+      (λ slot is_slot. flag_gives i is role slot))
   step i lt (stands follows unnamed plain role) (rests pending rows waiting free rest at given) =
       rests (Some (codes "WORDS", word_at words i ∷ [])) (settled_rows rules pending rows) positional tt
       (followed i false unnamed)
@@ -355,6 +409,8 @@ module _ (taken : CommandForm) (rules : List Rule) (known : IsKnown taken rules)
   step i lt (names k takes follows is inside role) (waits j l rows next within behind named at given last) =
       clash i behind follows
   step i lt (joins k value takes follows unnamed is joined role) (waits j l rows next within behind named at given last) =
+      clash i behind follows
+  step i lt (sets takes follows unnamed is role) (waits j l rows next within behind named at given last) =
       clash i behind follows
   step i lt (stands follows unnamed plain role) (waits j l rows next within behind named at given last) =
       clash i behind follows
@@ -390,7 +446,7 @@ module _ (taken : CommandForm) (rules : List Rule) (known : IsKnown taken rules)
         (step i lt (seen i (all_below-at (length words) (λ k. is_taken (role_at taken words k)) fits i lt))
         (stand i (omega (arith, within))))
 
-    end : (n : ℕ) → n ≡ length words → Stand n → (slot : Option Named) → IsSlot slot
+    end : (n : ℕ) → n ≡ length words → Stand n → (slot : Slot) → IsSlot slot
         → values_in (slot_id slot) (rows_after rules [] words) ≡ joined_below n (gives slot)
     end n all (rests pending rows waiting free rest at given) slot is =
         let whole = ap (fold (walked rules []) (walk_from nothing_held)) (sym (take_all n words (omega (arith, all))))
@@ -401,18 +457,24 @@ module _ (taken : CommandForm) (rules : List Rule) (known : IsKnown taken rules)
     end n all (waits j k rows next within follow takes at given last) slot is = absurd (omega (arith, all, within))
 
     -- what is found of each id is what the words give
-    pub all_found : (slot : Option Named) → IsSlot slot
+    pub all_found : (slot : Slot) → IsSlot slot
         → values_in (slot_id slot) (rows_after rules [] words) ≡ joined_below (length words) (gives slot)
     all_found slot is = end (length words) refl (stand (length words) (le_refl (length words))) slot is
 
     pub words_found : values_in (codes "WORDS") (rows_after rules [] words) ≡ positional_words taken words
     words_found =
-        all_found None tt ∙ joined_below-picks (length words) (λ i. is_positional (role_at taken words i))
+        all_found words_slot tt ∙ joined_below-picks (length words) (λ i. is_positional (role_at taken words i))
         (word_at words)
 
     pub option_found : (k : Named) → is_one_of taken.options (id_of k) ≡ true
         → first_of (id_of k) (rows_after rules [] words) ≡ option_value words (id_of k)
     option_found k takes =
         first_of-values_in (id_of k) (rows_after rules [] words) ∙ ap (λ (xs : List Text). slice_get xs 0)
-        (all_found (Some k) takes)
+        (all_found (option_slot k) takes)
         ∙ first-joined_below (length words) (value_at words (id_of k))
+
+    pub flag_found : is_some (first_of flag_id (rows_after rules [] words)) ≡ has_flag words flag_id
+    flag_found =
+        ap is_some (first_of-values_in flag_id (rows_after rules [] words))
+        ∙ ap (λ (xs : List Text). is_some (slice_get xs 0)) (all_found flag_slot tt)
+        ∙ some-joined_below (length words) (λ i. bytes_eq (word_at words i) flag_id) flag_value

@@ -1,15 +1,14 @@
 -- Words behind a command, and what is counted and picked of them.
-use Rattle.std.proofs.Common.{◌≡◌, ℕ, zero, suc, ◌+◌, ◌-◌, ◌<◌, ◌≤◌, Bool, true, false, List, [], ◌∷◌, ◌++◌, length, slice_get, Some, None, refl, sym, subst, ◌∙◌, arith, add-one, length-append, nat_lt, ◌&&◌}
-use Rattle.std.specs.Prelude.{if◌then◌else◌, is_some, codes, bytes_eq}
+use Rattle.std.proofs.Common.{◌≡◌, ℕ, zero, suc, ◌+◌, ◌-◌, ◌<◌, ◌≤◌, Bool, true, false, List, [], ◌∷◌, ◌++◌, length, slice_get, Some, None, refl, arith, add-one, length-append, nat_lt, ◌&&◌}
+use Rattle.std.specs.Prelude.{if◌then◌else◌, is_some, codes}
 use Rattle.std.specs.List.{list_any}
 use Rattle.std.proofs.lemmas.Option.{slice_get-get_or}
 use Rattle.plain_laws.specs.Plain.{count_below, picks_below, all_below, any_below}
-use Rattle.plain_laws.proofs.Laws.{all_below-at, bytes_eq-true}
-use Rattle.feed_rows.specs.CommandWords.{CommandForm, word_at, is_one_of, is_dashed, joined_value, follows_option, role_at, is_taken, has_flag, fits_form}
+use Rattle.plain_laws.proofs.Laws.{all_below-at}
+use Rattle.feed_rows.specs.CommandWords.{CommandForm, word_at, is_one_of, is_dashed, joined_value, follows_option, role_at}
 use Rattle.feed_rows.specs.declared.usage.WordRole.{WordRole}
 use Rattle.feed_rows.specs.declared.usage.WordRole.TheVariants as role
-use Rattle.plan_words.specs.declared.grammar.Form.TheVariants as form
-use Rattle.plan_words.specs.Words.{behind, form_of}
+use Rattle.plan_words.specs.Words.{behind}
 
 pub length_behind : (words : List (List ℕ)) → length (behind words) ≡ length words - 1
 length_behind [] = refl
@@ -71,31 +70,6 @@ pub role_by_word : (form : CommandForm) (words : List (List ℕ)) (i : ℕ) → 
 unfolding role_at
 role_by_word form words i = refl
 
--- the flag that isn't taken yet
-stats_refused : (words : List (List ℕ)) (i : ℕ) → role_of_word (form_of form.Plan) words i (codes "--stats") ≡ role.Refused
-stats_refused words i = step (follows_option (form_of form.Plan) words i)
-  where
-    step : (follows : Bool) → (if follows then role.Refused else role.Refused) ≡ role.Refused
-    step true = refl
-    step false = refl
-
 pub first_of_two : (a b : Bool) → (a && b) ≡ true → a ≡ true
 first_of_two true b e = refl
 first_of_two false b e = e
-
-pub no_stats : (words : List (List ℕ)) → fits_form (form_of form.Plan) words ≡ true → has_flag words (codes "--stats") ≡ false
-unfolding fits_form
-no_stats words fits =
-    any_below_none (length words) (λ i. bytes_eq (word_at words i) (codes "--stats")) (λ i lt. step i lt (bytes_eq (word_at words i) (codes "--stats")) refl)
-  where
-    taken : all_below (length words) (λ i. is_taken (role_at (form_of form.Plan) words i)) ≡ true
-    taken = first_of_two _ _ (first_of_two _ _ (first_of_two _ _ (first_of_two _ _ fits)))
-
-    step : (i : ℕ) → i < length words → (is : Bool) → bytes_eq (word_at words i) (codes "--stats") ≡ is → bytes_eq (word_at words i) (codes "--stats") ≡ false
-    step i lt false e = e
-    step i lt true e =
-        let same = bytes_eq-true (word_at words i) (codes "--stats") e in
-        let refused = role_by_word (form_of form.Plan) words i ∙ subst (λ w. role_of_word (form_of form.Plan) words i w ≡ role.Refused) (sym same) (stats_refused words i) in
-        let passes = all_below-at (length words) (λ i. is_taken (role_at (form_of form.Plan) words i)) taken i lt in
-        let no : is_taken role.Refused ≡ true = subst (λ r. is_taken r ≡ true) refused passes in
-        absurd (cc)

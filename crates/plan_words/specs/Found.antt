@@ -1,6 +1,6 @@
 -- What `clap` finds in the words of a command that fit its form.
-use Rattle.std.specs.Prelude.{◌≡◌, true, List, [], ℕ, Some, unwrap_or, option_map, codes}
-use Rattle.feed_rows.specs.CommandWords.{CommandForm, is_one_of, positional_words, option_value}
+use Rattle.std.specs.Prelude.{◌≡◌, true, List, [], ◌∷◌, ℕ, Some, is_some, unwrap_or, option_map, codes}
+use Rattle.feed_rows.specs.CommandWords.{CommandForm, has_flag, is_one_of, positional_words, option_value}
 use Rattle.clap.specs.Matches.{found_of, first_value, matched_of, raw_values}
 use Rattle.clap.specs.Simple.{App, new_app, new_rule, on_top, with_rule}
 use Rattle.clap.specs.Walk.{Rule}
@@ -12,6 +12,16 @@ use Rattle.plan_words.specs.declared.grammar.Form.TheVariants as form
 -- the option of that id, which words name so
 abbrev pub option_rule : List ℕ → List ℕ → Rule
 option_rule id name = record (new_rule id) { long = Some name; action = Some Append }
+
+-- the flag of that id, which words name so: each use of it is kept as a value that stands for it
+abbrev pub flag_rule : List ℕ → List ℕ → Rule
+flag_rule id name =
+    record (new_rule id) {
+      long = Some name;
+      action = Some Append;
+      range = Some (record { start_inclusive = 0; end_inclusive = 0 });
+      missing = codes "set" ∷ [];
+    }
 
 -- the positional words
 abbrev pub words_rule : Rule
@@ -26,9 +36,10 @@ plain_command =
 -- the command as `clap` knows it
 abbrev pub known_as : Form → App
 known_as form.Plan =
-    with_rule (with_rule (with_rule plain_command (option_rule (codes "--rides") (codes "rides")))
+    with_rule (with_rule (with_rule (with_rule plain_command (option_rule (codes "--rides") (codes "rides")))
     (option_rule (codes "--rider") (codes "rider")))
-    (option_rule (codes "--within") (codes "within"))
+    (option_rule (codes "--within") (codes "within")))
+    (flag_rule (codes "--stats") (codes "stats"))
 known_as form.Price = with_rule plain_command (option_rule (codes "--rider") (codes "rider"))
 known_as form.Check = plain_command
 known_as form.Gen = plain_command
@@ -42,3 +53,5 @@ pub record IsFound (taken : CommandForm) (words : List (List ℕ)) (found : ArgM
   pub named : named_in found ≡ positional_words taken words
   pub options : (option : List ℕ) → is_one_of taken.options option ≡ true
       → first_value (found_of found) option ≡ option_value words option
+  pub flags : (flag : List ℕ) → is_one_of taken.flags flag ≡ true
+      → is_some (first_value (found_of found) flag) ≡ has_flag words flag

@@ -1,5 +1,5 @@
 -- What the words of a command ask for.
-use Rattle.std.specs.Prelude.{◌≤ℤ◌, ◌≤◌, false, pos, negsuc}
+use Rattle.std.specs.Prelude.{◌≤ℤ◌, ◌≤◌, pos, negsuc}
 use Rattle.std.specs.Option.{option_copied}
 use Rattle.feed_rows.specs.Limits.{most_window}
 use Rattle.feed_rows.specs.Requests.{PlanRequest, PriceRequest, GenRequest, Request}
@@ -20,7 +20,7 @@ request_of plan =
       rides = plan.rides;
       rider = option_copied plan.rider;
       window = plan.window;
-      stats = false;
+      stats = plan.stats;
     }
 
 -- the request of a price

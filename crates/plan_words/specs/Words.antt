@@ -1,23 +1,19 @@
 -- The words that the program takes.
-use Rattle.std.specs.Prelude.{ℕ, List, [], ◌∷◌, Option, find, Result, codes, bytes_eq}
+use Rattle.std.specs.Prelude.{ℕ, List, [], ◌∷◌, Option, find, Result, bytes_eq}
 use Rattle.feed_rows.specs.CommandWords.{CommandForm}
-use Rattle.feed_rows.specs.Commands.{Command, plan, price, check, gen, without, read_words}
+use Rattle.feed_rows.specs.Commands.{Command, plan, price, check, gen, read_words}
 use Rattle.feed_rows.specs.Requests.{Request}
 use Rattle.feed_rows.specs.declared.usage.UsageFault.{UsageFault}
 use Rattle.plan_words.specs.declared.grammar.Form.{Form}
 use Rattle.plan_words.specs.declared.grammar.Form.TheVariants as form
 
--- the command `plan`, which doesn't know the flag `--stats` yet
-abbrev pub taken_plan : Command
-taken_plan = without (codes "--stats" ∷ []) plan
-
 -- the commands that the program takes
 abbrev pub taken_commands : List Command
-taken_commands = taken_plan ∷ price ∷ check ∷ gen ∷ []
+taken_commands = plan ∷ price ∷ check ∷ gen ∷ []
 
 -- the command of that form
 abbrev pub command_of : Form → Command
-command_of form.Plan = taken_plan
+command_of form.Plan = plan
 command_of form.Price = price
 command_of form.Check = check
 command_of form.Gen = gen

@@ -1,12 +1,12 @@
 //! What `clap` finds in the words of a command.
 //!
 //! The words are judged before, by the definitions of the commands; what it finds in words that fit is what they give.
-ghost use Rattle.std.specs.Prelude.{◌≡◌, true, IfOk};
+ghost use Rattle.std.specs.Prelude.{◌≡◌, true, IfOk, is_some};
 ghost use Rattle.std.specs.Option.{option_copied};
 ghost use Rattle.clap.specs.Matches.{found_of, first_value};
 ghost use Rattle.clap.specs.Simple.{app_of, with_rule};
 ghost use Rattle.feed_rows.specs.CommandWords.{fits_form, word_at};
-ghost use Rattle.plan_words.specs.Found.{option_rule, known_as, named_in, IsFound};
+ghost use Rattle.plan_words.specs.Found.{flag_rule, option_rule, known_as, named_in, IsFound};
 ghost use Rattle.plan_words.specs.Rides.{texts_of};
 ghost use Rattle.plan_words.specs.Words.{behind, form_of};
 
@@ -28,6 +28,24 @@ fn with_option<'a>(
     command.arg(option)
 }
 
+// The command with one flag more. Each use of it is kept, as a value that stands for it: whether it stands once is
+// judged before.
+fn with_flag<'a>(
+    command: Command<'a>,
+    alloc: Global,
+    id: &'a str,
+    name: &'a str,
+) -> Result<Command<'a>, AllocError>
+    ensures { IfOk result (λ more. app_of more ≡ with_rule (app_of command.entry) (flag_rule id.now name.now)) }
+{
+    let flag = Arg::new(alloc, id)
+        .long(name)
+        .action(ArgAction::Append)
+        .num_args(0_usize)
+        .default_missing_value("set");
+    command.arg(flag)
+}
+
 // The command as `clap` knows it.
 fn command_of<'a>(alloc: Global, form: Form) -> Result<Command<'a>, AllocError>
     ensures { IfOk result (λ command. app_of command ≡ known_as form) }
@@ -41,7 +59,8 @@ fn command_of<'a>(alloc: Global, form: Form) -> Result<Command<'a>, AllocError>
         Form::Plan => {
             let command = with_option(command, alloc, "--rides", "rides")?;
             let command = with_option(command, alloc, "--rider", "rider")?;
-            with_option(command, alloc, "--within", "within")
+            let command = with_option(command, alloc, "--within", "within")?;
+            with_flag(command, alloc, "--stats", "stats")
         }
         Form::Price => with_option(command, alloc, "--rider", "rider"),
         Form::Check | Form::Gen => Ok(command),
@@ -101,4 +120,11 @@ pub(crate) fn value_of<'a>(found: &ArgMatches<'a>, option: &str) -> Option<&'a [
         Some(value) => Some(value.as_bytes()),
         None => None,
     }
+}
+
+/// Whether a flag was found.
+pub(crate) fn is_set(found: &ArgMatches, flag: &str) -> bool
+    ensures { result ≡ is_some (first_value (found_of found.now) flag.now) }
+{
+    found.get_str(flag).is_some()
 }

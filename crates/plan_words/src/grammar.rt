@@ -1,9 +1,9 @@
 //! The grammar of the words behind a command: options with values, flags and positional words, in any order.
-ghost use Rattle.std.specs.Prelude.{◌≡◌, ◌<◌, if◌then◌else◌, length, is_some, [], ◌∷◌, codes};
+ghost use Rattle.std.specs.Prelude.{◌≡◌, ◌<◌, if◌then◌else◌, length, is_some, [], ◌∷◌, bytes_eq, codes};
 ghost use Rattle.std.specs.List.{list_any, list_all};
 ghost use Rattle.std.specs.Option.{option_copied};
 ghost use Rattle.plain_laws.specs.Plain.{all_below, count_below};
-ghost use Rattle.feed_rows.specs.CommandWords.{is_one_of, is_dashed, joined_value, follows_option, role_at, is_taken, is_positional, positional_words, value_at, is_single_option, fits_form, word_at};
+ghost use Rattle.feed_rows.specs.CommandWords.{is_one_of, is_dashed, joined_value, follows_option, role_at, is_taken, is_positional, positional_words, value_at, is_single_flag, is_single_option, fits_form, word_at};
 ghost use Rattle.plan_words.specs.Words.{behind};
 
 use crate::words::WordList;
@@ -12,7 +12,7 @@ use feed_rows::WordRole;
 /// The words that a command takes behind its name.
 #[derive(Clone, Copy)]
 pub(crate) enum Form {
-    /// `FROM TO DATE TIME [--rides N] [--rider ID] [--within SECONDS]`
+    /// `FROM TO DATE TIME [--rides N] [--rider ID] [--within SECONDS] [--stats]`
     Plan,
     /// `[--rider ID] RIDE ..`, one to eight rides
     Price,
@@ -55,9 +55,9 @@ impl Form {
     fn is_flag(self, word: &str) -> bool
         ensures { result ≡ is_one_of (form_of self).flags word.now }
     {
-        let _ = word;
         match self {
-            Form::Plan | Form::Price | Form::Check | Form::Gen => false,
+            Form::Plan => word == "--stats",
+            Form::Price | Form::Check | Form::Gen => false,
         }
     }
 
@@ -73,6 +73,16 @@ impl Form {
             }
             Form::Price => is_single(words, "--rider"),
             Form::Check | Form::Gen => true,
+        }
+    }
+
+    // Whether each flag stands at most once among the words behind the command.
+    fn has_single_flags(self, words: &WordList) -> bool
+        ensures { result ≡ list_all (is_single_flag (behind words.now)) (form_of self).flags }
+    {
+        match self {
+            Form::Plan => count_uses(words, "--stats") <= 1,
+            Form::Price | Form::Check | Form::Gen => true,
         }
     }
 
@@ -204,7 +214,10 @@ impl Form {
     pub(crate) fn fits(self, words: &WordList) -> bool
         ensures { result ≡ fits_form (form_of self) (behind words.now) }
     {
-        if !self.are_taken(words) || !self.has_single_options(words) {
+        if !self.are_taken(words)
+            || !self.has_single_options(words)
+            || !self.has_single_flags(words)
+        {
             return false;
         }
         let count = self.count_positional(words);
@@ -285,6 +298,20 @@ fn count_values(words: &WordList, option: &str) -> usize
     let mut count = 0;
     for i in 0..words.count_behind() {
         if value_at(words, option, i).is_some() {
+            count += 1;
+        }
+    }
+    count
+}
+
+// How often the flag stands among the words behind the command.
+#[tactic(auto, using(crate::proofs::WordLaws::count_below_next))]
+fn count_uses(words: &WordList, flag: &str) -> usize
+    ensures { result ≡ count_below (length (behind words.now)) (λ i. bytes_eq (word_at (behind words.now) i) flag.now) }
+{
+    let mut count = 0;
+    for i in 0..words.count_behind() {
+        if words.behind(i) == flag {
             count += 1;
         }
     }

@@ -9,7 +9,7 @@ ghost use Rattle.plan_words.specs.Request.{request_of, price_request, gen_reques
 ghost use Rattle.plan_words.specs.Rides.{AreUsualRides};
 
 use crate::error::WordsError;
-use crate::found::{all_named, found_in, named, value_of};
+use crate::found::{all_named, found_in, is_set, named, value_of};
 use crate::grammar::Form;
 use crate::rides::{RideWords, rides_in};
 use crate::values::{date_in, number_in, option_number};
@@ -48,6 +48,8 @@ pub struct PlanWords<'a> {
     pub rider: Option<&'a [u8]>,
     /// The seconds after the departure within which a journey arrives.
     pub window: u32,
+    /// Whether a last line tells the size of the table.
+    pub stats: bool,
 }
 
 /// The rides of which the price is asked, as words say it.
@@ -96,6 +98,7 @@ fn plan_of(words: &WordList) -> Result<PlanWords<'_>, WordsError>
         rides: rides as u8,
         rider: value_of(&found, "--rider"),
         window,
+        stats: is_set(&found, "--stats"),
     })
 }
 

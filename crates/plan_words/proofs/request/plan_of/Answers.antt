@@ -6,7 +6,6 @@ use Rattle.feed_rows.specs.WordValues.{word_date, word_time, option_number}
 use Rattle.plan_words.specs.Words.{behind, form_of}
 use Rattle.plan_words.specs.declared.grammar.Form.TheVariants as form
 use Rattle.plan_words.proofs.RequestLaws.{bad_date, bad_time, bad_rides, bad_window, plan_read, wide}
-use Rattle.plan_words.proofs.WordLaws.{no_stats}
 use Rattle.plan_words.proofs.request.plan_of.Goals as goal
 
 -- a word of the same number in the same list
@@ -76,6 +75,6 @@ returns-clause-value c =
     let rider = c.value_of-2.ensures ∙ found.options (codes "--rider") refl in
     plan_read (positional_words (form_of form.Plan) words) words c.in-Some.day.0 c.at.result.0
     c.in-Some-time_of.seconds c.in-Some-option_number.rides c.in-Some-option_number-2.window _ _
-    (option_map (λ v. v.now) c.value_of-2.result) date time rides window
+    (option_map (λ v. v.now) c.value_of-2.result) c.is_set.result date time rides window
     (c.named-3.ensures ∙ word_of 0 _ _ found.named) (c.named-4.ensures ∙ word_of 1 _ _ found.named) at rider
-    (no_stats words c.requires)
+    (c.is_set.ensures ∙ found.flags (codes "--stats") refl)

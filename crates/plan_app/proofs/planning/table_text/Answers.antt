@@ -1,0 +1,17 @@
+use Rattle.std.proofs.Common.{◌∙◌, ap, ap₂, ℕ, List, ◌++◌, ◌∷◌, []}
+use Rattle.std.specs.Prelude.{is_some}
+use Rattle.feed_rows.specs.EntryText.{lines_of_entries}
+use Rattle.plan_rounds.specs.Tables.{table_by}
+use Rattle.plan_app.proofs.MadeLaws.{table_lines}
+use Rattle.plan_app.proofs.planning.table_text.Goals as goal
+
+pub entries-requires : goal.entries-requires
+entries-requires c = ap is_some c.in_ok-table.ensures.sound.exact.1
+
+pub returns : goal.returns
+returns c =
+    table_lines c.args.timetable.now c.args.query.now (table_by c.in_ok-table.table) _ _ _ c.in_ok-table.ensures.sound
+    c.in_ok-table.ensures.closed c.in_ok-table.ensures.offers c.in_ok-entries.ensures c.size.ensures
+    (c.in_ok-push.ensures.ok ∙ ap₂ (λ (text : List (List ℕ)) (line : List ℕ). text ++ line ∷ [])
+    (c.in_ok-text.ensures ∙ ap (lines_of_entries c.args.timetable.now) c.deref.ensures.value)
+    (c.bytes.ensures ∙ c.in_ok-line.ensures))
