@@ -31,20 +31,79 @@ traced_inside labels rides number some = by (slice_get labels number) refl
     by (Some l) is = slice_get_within labels number l is
 
 -- so it is where the program finds it
-pub label_there : (labels : List Label) (rides number : ℕ) (d : Label) → IsSome (traced (labels_of labels) rides number) →
+pub label_there : (labels : List Label) (rides number : ℕ) (d : Label) → IsSome
+    (traced (labels_of labels) rides number) →
     slice_get labels number ≡ Some (get_or labels number d)
 label_there labels rides number d some =
     let lt = traced_inside (labels_of labels) rides number some in
     let long = length-map labels label_of in
     slice_get-get_or labels number d (omega (arith, lt, long))
 
+-- a label that leads back leads to its parent, which leads back by one ride less
+pub traced_parent : (labels : List Label) (rides number : ℕ) (label : Label) (parent : ℕ) (ride : Ride) (taken : Move) →
+    (rides ≡ 0 → ⊥) → slice_get labels number ≡ Some label → label.parent ≡ Some parent → label.ride ≡ Some ride →
+    label.taken ≡ Some taken →
+    IsSome (traced (labels_of labels) rides number) → IsSome (traced (labels_of labels) (rides - 1) parent)
+traced_parent labels zero number label parent ride taken some at p r t known = absurd (some refl)
+traced_parent labels (suc n) number label parent ride taken some at p r t known = by (cases_Bool (is_whole taken))
+  where
+    there : slice_get (labels_of labels) number ≡ Some (label_of label)
+    there = slice_get-map label_of labels number ∙ ap (option_map label_of) at
+
+    traced_some : (o : Option PartialJourney) → IsSome (option_map (λ part. with_ride part ride taken) o) → IsSome o
+    traced_some None nothing = nothing
+    traced_some (Some part) there_is = there_is
+
+    by : (is_whole taken ≡ true) ⊎ (is_whole taken ≡ false) → IsSome (traced (labels_of labels) (suc n - 1) parent)
+    by (inl whole) =
+        let is : traced (labels_of labels) (suc n) number ≡ option_map (λ part. with_ride part ride taken)
+        (traced (labels_of labels) n parent) = rw (there, p, r, t, whole) refl in
+        let less : n ≡ suc n - 1 = omega arith in
+        subst (λ (k : ℕ). IsSome (traced (labels_of labels) k parent)) less
+        (traced_some (traced (labels_of labels) n parent) (subst IsSome is known))
+    by (inr broken) = absurd (let no : false ≡ true = subst IsSome nothing known in cc)
+      where
+        nothing : traced (labels_of labels) (suc n) number ≡ None
+        nothing = rw (there, p, r, t, broken) refl
+
+-- so it has a parent, a ride and a move
+module _ (labels : List Label) (number : ℕ) (label : Label) (at : slice_get labels number ≡ Some label) where
+  there : slice_get (labels_of labels) number ≡ Some (label_of label)
+  there = slice_get-map label_of labels number ∙ ap (option_map label_of) at
+
+  pub has_parent : (rides : ℕ) → (rides ≡ 0 → ⊥) → label.parent ≡ None → IsSome
+      (traced (labels_of labels) rides number) → ⊥
+  has_parent zero some p known = some refl
+  has_parent (suc n) some p known =
+      let nothing : traced (labels_of labels) (suc n) number ≡ None = rw (there, p) refl in
+      let wrong : false ≡ true = subst IsSome nothing known in absurd (cc)
+
+  pub has_ride : (rides parent : ℕ) → (rides ≡ 0 → ⊥) → label.parent ≡ Some parent → label.ride ≡ None →
+      IsSome (traced (labels_of labels) rides number) → ⊥
+  has_ride zero parent some p r known = some refl
+  has_ride (suc n) parent some p r known =
+      let nothing : traced (labels_of labels) (suc n) number ≡ None = rw (there, p, r) refl in
+      let wrong : false ≡ true = subst IsSome nothing known in absurd (cc)
+
+  pub has_move : (rides parent : ℕ) (ride : Ride) → (rides ≡ 0 → ⊥) → label.parent ≡ Some parent →
+      label.ride ≡ Some ride → label.taken ≡ None →
+      IsSome (traced (labels_of labels) rides number) → ⊥
+  has_move zero parent ride some p r t known = some refl
+  has_move (suc n) parent ride some p r t known =
+      let nothing : traced (labels_of labels) (suc n) number ≡ None = rw (there, p, r, t) refl in
+      let wrong : false ≡ true = subst IsSome nothing known in absurd (cc)
+
 -- the partial journey of a label is that of its parent with its ride
-pub traced_more : (labels : List Label) (rides number : ℕ) (label : Label) (parent : ℕ) (ride : Ride) (taken : Move) (part longer : PartialJourney) →
-    (rides ≡ 0 → ⊥) → slice_get labels number ≡ Some label → label.parent ≡ Some parent → label.ride ≡ Some ride → label.taken ≡ Some taken →
-    IsSome (traced (labels_of labels) rides number) → traced (labels_of labels) (rides - 1) parent ≡ Some part → longer ≡ with_ride part ride taken →
+pub traced_more : (labels : List Label) (rides number : ℕ) (label : Label) (parent : ℕ) (ride : Ride) (taken : Move)
+    (part longer : PartialJourney) →
+    (rides ≡ 0 → ⊥) → slice_get labels number ≡ Some label → label.parent ≡ Some parent → label.ride ≡ Some ride →
+    label.taken ≡ Some taken →
+    IsSome (traced (labels_of labels) rides number) → traced (labels_of labels) (rides - 1) parent ≡ Some part →
+    longer ≡ with_ride part ride taken →
     traced (labels_of labels) rides number ≡ Some longer
 traced_more labels zero number label parent ride taken part longer some at p r t known before is = absurd (some refl)
-traced_more labels (suc n) number label parent ride taken part longer some at p r t known before is = by (cases_Bool (is_whole taken))
+traced_more labels (suc n) number label parent ride taken part longer some at p r t known before is =
+    by (cases_Bool (is_whole taken))
   where
     there : slice_get (labels_of labels) number ≡ Some (label_of label)
     there = slice_get-map label_of labels number ∙ ap (option_map label_of) at
@@ -61,10 +120,13 @@ traced_more labels (suc n) number label parent ride taken part longer some at p 
 
 -- a final that has an entry leads back
 pub final_traced : (labels : List Kept) (final : KeptFinal) (bag : ℕ → StopId → List ℕ) (finals : List KeptFinal) →
-    IsSome (entry_of_final (record { labels = labels; bag = bag; finals = finals }) final) → IsSome (traced labels final.triple.rides final.label)
+    IsSome (entry_of_final (record { labels = labels; bag = bag; finals = finals }) final) → IsSome
+    (traced labels final.triple.rides final.label)
 final_traced labels final bag finals some = by (traced labels final.triple.rides final.label) some
   where
-    by : (o : Option PartialJourney) → IsSome {T = Entry} (option_map (λ part. record { triple = final.triple; journey = journey_to final.last part; choice = part.choice }) o) → IsSome o
+    by : (o : Option PartialJourney) → IsSome {T = Entry} (option_map
+        (λ part. record { triple = final.triple; journey = journey_to final.last part; choice = part.choice }) o) →
+        IsSome o
     by None none = none
     by (Some part) known = refl
 
@@ -75,23 +137,29 @@ some_within (x ∷ xs) zero lt = refl
 some_within (x ∷ xs) (suc i) lt = some_within xs i (omega (arith, lt))
 
 -- where all finals have entries, each has
-pub entry_given : (table : RoundTable) (n : ℕ) (final : KeptFinal) → IsSome (entries_of table) → slice_get table.finals n ≡ Some final →
+pub entry_given : (table : RoundTable) (n : ℕ) (final : KeptFinal) → IsSome (entries_of table) →
+    slice_get table.finals n ≡ Some final →
     IsSome (entry_of_final table final)
 entry_given table n final some at = by (entries_of table) refl some
   where
     by : (o : Option (List Entry)) → entries_of table ≡ o → IsSome o → IsSome (entry_of_final table final)
     by None is none = absurd (let no : false ≡ true = none in cc)
     by (Some entries) is known =
-        let all = collect_below_tells (length table.finals) (λ i. option_and_then (entry_of_final table) (slice_get table.finals i)) entries is in
+        let all = collect_below_tells (length table.finals) (λ i. option_and_then (entry_of_final table)
+        (slice_get table.finals i)) entries is in
         let lt = slice_get_within table.finals n final at in
         let long = all.length_is in
-        subst IsSome (all.items n lt ∙ ap (option_and_then (entry_of_final table)) at) (some_within entries n (omega (arith, lt, long)))
+        subst IsSome (all.items n lt ∙ ap (option_and_then (entry_of_final table)) at)
+        (some_within entries n (omega (arith, lt, long)))
 
 -- one entry more
-pub entries_more : (table : RoundTable) (finals : List Final) (n : ℕ) (d : Final) (entries : List Entry) (entry : Entry) → n < length finals →
+pub entries_more : (table : RoundTable) (finals : List Final) (n : ℕ) (d : Final) (entries : List Entry)
+    (entry : Entry) → n < length finals →
     collect_below n (λ i. option_and_then (entry_of_final table) (slice_get (finals_of finals) i)) ≡ Some entries →
     entry_of_final table (final_of (get_or finals n d)) ≡ Some entry →
-    collect_below (n + 1) (λ i. option_and_then (entry_of_final table) (slice_get (finals_of finals) i)) ≡ Some (entries ++ entry ∷ [])
+    collect_below (n + 1) (λ i. option_and_then (entry_of_final table) (slice_get (finals_of finals) i)) ≡ Some
+    (entries ++ entry ∷ [])
 entries_more table finals n d entries entry lt before is =
     collect_below_more n _ entries entry before
-    (ap (option_and_then (entry_of_final table)) (slice_get-map final_of finals n ∙ ap (option_map final_of) (slice_get-get_or finals n d lt)) ∙ is)
+    (ap (option_and_then (entry_of_final table)) (slice_get-map final_of finals n ∙ ap (option_map final_of)
+    (slice_get-get_or finals n d lt)) ∙ is)

@@ -139,7 +139,7 @@ impl Stair for Label {
 
 /// Whether the one is as good as the other for all that may come after, or better.
 #[tactic(auto, unfolding(crate::specs::Labels::covers))]
-fn covers(a: &Label, b: &Label) -> bool
+pub(crate) fn covers(a: &Label, b: &Label) -> bool
     ensures { result ≡ covers a.now b.now }
 {
     is_no_later(a, b) && costs_no_more(a, b) && same_state(&a.state, &b.state)

@@ -5,6 +5,7 @@
 mod bounds;
 mod entries;
 mod finals;
+mod kept_label;
 mod label;
 mod label_class;
 mod moves;
@@ -15,6 +16,7 @@ mod stop_bags;
 mod table;
 
 pub use finals::Final;
+pub use kept_label::KeptLabel;
 pub use label::Label;
 pub use plan::{round_entries, rounds};
 pub use table::RoundTable;

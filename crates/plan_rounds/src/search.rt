@@ -21,6 +21,7 @@ ghost use Rattle.plan_rounds.specs.Stores.{AreStored, AreWhole, IsNever, gathere
 
 use crate::bounds::takes_back;
 use crate::finals::Final;
+use crate::kept_label::KeptLabel;
 use crate::label::Label;
 use crate::moves::is_bettered;
 use crate::prospects::prospects_of;
@@ -83,7 +84,7 @@ impl<'s, 'f> Model for Search<'s, 'f> {
 
 /// A label with its number among those so far, from which a round goes on.
 pub struct Source<'l> {
-    pub(crate) labels: &'l [Label],
+    pub(crate) labels: &'l [KeptLabel],
     pub(crate) number: u32,
     pub(crate) label: &'l Label,
 }
@@ -205,7 +206,7 @@ impl<'s, 'f> Search<'s, 'f> {
         requires { IsTrue (stands_for self.now.feed self.now.query.from first) }
         ensures { OnOk result (Spreads self.now.feed self.now.query IsNever [] 0 (λ b. b ≡ start_facts self.now.query first) bags.old bags.new) }
     {
-        bags.offer(Label::start(self.rides.query(), first))
+        bags.offer(&Label::start(self.rides.query(), first))
     }
 
     /// Offers the labels without rides.
@@ -292,7 +293,7 @@ impl<'s, 'f> Search<'s, 'f> {
         if self.is_overtaken(&label, finals) {
             return Ok(());
         }
-        bags.offer(label)
+        bags.offer(&label)
     }
 
     /// Replaces what `rides` holds by the rides that are caught from the label, where the search may lack what leads nowhere by
@@ -333,7 +334,7 @@ impl<'s, 'f> Search<'s, 'f> {
     /// Offers what one more ride leads to from the labels with so many rides. What `rides` holds is lost.
     fn spread(
         &self,
-        labels: &[Label],
+        labels: &[KeptLabel],
         count: u8,
         finals: &[Final],
         rides: &mut Vec<CaughtRide>,
@@ -350,12 +351,13 @@ impl<'s, 'f> Search<'s, 'f> {
     {
         let _limit = self.limit();
         for number in 0..labels.len() {
-            let label = &labels[number];
-            if label.rides == count {
+            let kept = &labels[number];
+            if kept.rides() == count {
+                let label = kept.whole();
                 let source = Source {
                     labels,
                     number: number as u32,
-                    label,
+                    label: &label,
                 };
                 self.offer_rides(&source, finals, rides, found, bags)?;
             }
@@ -371,7 +373,7 @@ impl<'s, 'f> Search<'s, 'f> {
         &self,
         rides: u8,
         bags: &StopBags,
-        labels: &mut Vec<Label>,
+        labels: &mut Vec<KeptLabel>,
         front: &mut Front<Final>,
     ) -> Result<(), AllocError>
         requires ending { AreEnding self.now.query (labels.old.items ++ gathered rides bags.now) }
@@ -394,7 +396,7 @@ impl<'s, 'f> Search<'s, 'f> {
     ///
     /// # Errors
     /// Want of memory; so counts that there would be 2^32 labels or more.
-    pub fn labels(&self) -> Result<(Vec<Label>, Front<Final>), AllocError>
+    pub fn labels(&self) -> Result<(Vec<KeptLabel>, Front<Final>), AllocError>
         ensures whole { IfOk result (λ all. AreWhole self.now.feed self.now.query (Lacks self.now all.1) all.0.items) }
         ensures numbers { IfOk result (λ all. length all.0.items < 2 ^ 32) }
         ensures ended { IfOk result (λ all. AddsEnds self.now.feed self.now.query all.0.items (EndsBelow self.now.feed self.now.query all.0.items (length all.0.items)) [] all.1) }

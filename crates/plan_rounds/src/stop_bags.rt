@@ -1,9 +1,11 @@
 //! The bags of labels of a search, for each stop and state of fares one.
 ghost use Rattle.std.specs.Prelude.{◌≡◌, ◌++◌, ◌∷◌, [], false, filter, Contains, IfOk, OnOk};
 ghost use Rattle.label_bag.specs.Bags.{AreApart, Gathers};
+ghost use Rattle.plan_rounds.specs.Kept.{IsKeepable};
 ghost use Rattle.plan_rounds.specs.Labels.{class_of, covers};
 ghost use Rattle.plan_rounds.specs.Stores.{IsBagOf, Takes, gathered, has_rides, in_bags};
 
+use crate::kept_label::KeptLabel;
 use crate::label::Label;
 use crate::label_class::LabelClass;
 use indexmap::IndexMap;
@@ -14,7 +16,7 @@ use std::marker::Model;
 
 /// Labels of one stop and state of fares, in ascending order of arrival, of which none covers another. Contracts see a list.
 pub struct StopBag {
-    labels: Vec<Label>,
+    labels: Vec<KeptLabel>,
 }
 
 // Written out, so that what holds one needn't look into it to let go of it.
@@ -38,7 +40,7 @@ impl StopBag {
     ///
     /// # Errors
     /// Want of memory.
-    fn of(alloc: Global, label: Label) -> Result<StopBag, AllocError>
+    fn of(alloc: Global, label: KeptLabel) -> Result<StopBag, AllocError>
         ensures { IfOk result (λ bag. bag ≡ label ∷ []) }
     {
         let mut labels = Vec::with_capacity(alloc, 1)?;
@@ -50,7 +52,7 @@ impl StopBag {
     ///
     /// # Errors
     /// Want of memory.
-    fn offer(&mut self, label: Label) -> Result<(), AllocError>
+    fn offer(&mut self, label: KeptLabel) -> Result<(), AllocError>
         requires { IsBagOf (class_of label) self.old }
         ensures gathers { OnOk result (Gathers covers self.old (label ∷ []) self.new) }
         ensures keeps { OnOk result ((x : Label) → Contains self.old x → covers label x ≡ false → Contains self.new x) }
@@ -60,14 +62,14 @@ impl StopBag {
     }
 
     /// Adds the labels that have so many rides.
-    fn push_into(&self, rides: u8, labels: &mut Vec<Label>) -> Result<(), AllocError>
+    fn push_into(&self, rides: u8, labels: &mut Vec<KeptLabel>) -> Result<(), AllocError>
         ensures { OnOk result (labels.new.items ≡ labels.old.items ++ filter (has_rides rides) self.now) }
     {
         let held = self.labels.as_slice();
         for number in 0..held.len() {
             let label = &held[number];
-            if label.rides == rides {
-                labels.push(*label)?;
+            if label.rides() == rides {
+                labels.push(label.again())?;
             }
         }
         Ok(())
@@ -114,10 +116,18 @@ impl StopBags {
     ///
     /// # Errors
     /// Want of memory.
-    pub fn offer(&mut self, label: Label) -> Result<(), AllocError>
+    pub fn offer(&mut self, label: &Label) -> Result<(), AllocError>
+        requires { IsKeepable label.now }
+        ensures { OnOk result (Takes self.old label.now self.new) }
+    {
+        self.take(label.class(), KeptLabel::of(label))
+    }
+
+    /// The same, of a label of the class.
+    fn take(&mut self, class: LabelClass, label: KeptLabel) -> Result<(), AllocError>
+        requires { class ≡ class_of label }
         ensures { OnOk result (Takes self.old label self.new) }
     {
-        let class = label.class();
         match self.bags.get_index_of(&class) {
             Some(number) => self.bags[number].offer(label),
             None => {
@@ -132,7 +142,7 @@ impl StopBags {
     ///
     /// # Errors
     /// Want of memory.
-    pub fn gather(&self, rides: u8, labels: &mut Vec<Label>) -> Result<(), AllocError>
+    pub fn gather(&self, rides: u8, labels: &mut Vec<KeptLabel>) -> Result<(), AllocError>
         ensures value { OnOk result (labels.new.items ≡ labels.old.items ++ gathered rides self.now) }
         ensures apart { AreApart covers self.now }
     {
@@ -144,7 +154,7 @@ impl StopBags {
 fn push_bags(
     bags: &IndexMap<LabelClass, StopBag>,
     rides: u8,
-    labels: &mut Vec<Label>,
+    labels: &mut Vec<KeptLabel>,
 ) -> Result<(), AllocError>
     ensures { OnOk result (labels.new.items ≡ labels.old.items ++ gathered rides (in_bags bags.now.entries)) }
 {

@@ -6,7 +6,7 @@ ghost use Rattle.plan_rounds.specs.Labels.{label_of, labels_of};
 ghost use Rattle.plan_rounds.specs.Tables.{group_of_label, numbered, table_by, table_in};
 
 use crate::finals::Final;
-use crate::label::Label;
+use crate::kept_label::KeptLabel;
 use plain_laws::{Grouped, Groups};
 use std::alloc::{AllocError, Global};
 use std::marker::Model;
@@ -15,7 +15,7 @@ use transit_base::StopId;
 /// The labels of a search by number, the numbers of those of each round at each stop, and what is found. Contracts see it as
 /// such a table.
 pub struct RoundTable {
-    labels: Vec<Label>,
+    labels: Vec<KeptLabel>,
     finals: Vec<Final>,
     /// The numbers of the labels, by rides and then by stop.
     numbers: Groups<u32>,
@@ -49,7 +49,7 @@ impl RoundTable {
     /// Want of memory.
     pub(crate) fn of(
         alloc: Global,
-        labels: Vec<Label>,
+        labels: Vec<KeptLabel>,
         finals: Vec<Final>,
         stops: u32,
         limit: u8,
@@ -57,8 +57,8 @@ impl RoundTable {
         requires limit { limit ≤ 8 }
         requires stops { stops ≤ 4_000_000 }
         requires numbers { length labels.items < 2 ^ 32 }
-        requires few { All (λ (x : Label). x.rides ≤ limit) labels.items }
-        requires inside { All (λ (x : Label). x.stop.0 < stops) labels.items }
+        requires few { All (λ (x : KeptLabel). x.rides ≤ limit) labels.items }
+        requires inside { All (λ (x : KeptLabel). x.stop.0 < stops) labels.items }
         ensures { IfOk result (λ table. table_by table ≡ table_in labels.items stops (groups_below ((limit + 1) * stops) (list_below (length labels.items) (numbered stops labels.items))) finals.items) }
     {
         let members = members_of(alloc, &labels, stops)?;
@@ -73,7 +73,7 @@ impl RoundTable {
     }
 
     /// The label with this number.
-    pub fn label(&self, number: usize) -> &Label
+    pub fn label(&self, number: usize) -> &KeptLabel
         requires { number < length self.now.labels }
         ensures { slice_get (table_by self.now).labels number ≡ Some (label_of result.now) }
     {
@@ -81,7 +81,7 @@ impl RoundTable {
     }
 
     /// All labels, by number.
-    pub(crate) fn labels(&self) -> &[Label]
+    pub(crate) fn labels(&self) -> &[KeptLabel]
         ensures { labels_of result.now ≡ (table_by self.now).labels }
     {
         self.labels.as_slice()
@@ -115,11 +115,15 @@ impl RoundTable {
 }
 
 // The number of each label, in the group of its rides and its stop.
-fn members_of(alloc: Global, labels: &[Label], stops: u32) -> Result<Vec<Grouped<u32>>, AllocError>
+fn members_of(
+    alloc: Global,
+    labels: &[KeptLabel],
+    stops: u32,
+) -> Result<Vec<Grouped<u32>>, AllocError>
     requires stops { stops ≤ 4_000_000 }
     requires numbers { length labels.now < 2 ^ 32 }
-    requires few { All (λ (x : Label). x.rides ≤ 8) labels.now }
-    requires inside { All (λ (x : Label). x.stop.0 < stops) labels.now }
+    requires few { All (λ (x : KeptLabel). x.rides ≤ 8) labels.now }
+    requires inside { All (λ (x : KeptLabel). x.stop.0 < stops) labels.now }
     ensures { IfOk result (λ members. members.items ≡ list_below (length labels.now) (numbered stops labels.now)) }
 {
     let mut members = Vec::with_capacity(alloc, labels.len())?;
@@ -134,11 +138,11 @@ fn members_of(alloc: Global, labels: &[Label], stops: u32) -> Result<Vec<Grouped
 }
 
 // The group of the label, of so many stops.
-fn group_of(label: &Label, stops: u32) -> u32
+fn group_of(label: &KeptLabel, stops: u32) -> u32
     requires stops { stops ≤ 4_000_000 }
     requires few { label.now.rides ≤ 8 }
     requires inside { label.now.stop.0 < stops }
     ensures { result ≡ group_of_label stops label.now }
 {
-    u32::from(label.rides) * stops + label.stop.0
+    u32::from(label.rides()) * stops + label.stop().0
 }

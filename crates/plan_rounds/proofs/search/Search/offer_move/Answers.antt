@@ -1,17 +1,31 @@
 use Rattle.std.proofs.Common.{◌≡◌, ◌∙◌, true, false, sym, subst}
 use Rattle.plan_rounds.specs.declared.label.Label.{Label}
-use Rattle.plan_rounds.specs.Labels.{IsBounded, went_on}
+use Rattle.plan_rounds.specs.Kept.{IsKeepable}
+use Rattle.plan_rounds.specs.Labels.{IsBounded, stand_of_label, went_on}
+use Rattle.plan_rounds.proofs.KeptLaws.{keep_after, narrow_caught}
 use Rattle.plan_rounds.specs.Searched.{Lacks, is_overtaken_by}
 use Rattle.plan_rounds.proofs.FutileLaws.{overtaken, not_outdone}
 use Rattle.plan_rounds.proofs.RideSteps.{fresh_after}
 use Rattle.plan_rounds.proofs.SpreadLaws.{spreads_none, spreads_taken}
 use Rattle.plan_rounds.proofs.search.Search.offer_move.Goals as goal
 
+pub offer-requires : goal.offer-requires
+offer-requires c =
+    let source = c.args.source.now in
+    let is = c.requires.source in
+    subst IsKeepable (sym c.after-label.ensures.value)
+    (keep_after source.label.now source.number c.args.caught.now c.args.taken.now
+    (narrow_caught c.args.self.now.feed c.args.self.now.query
+    (stand_of_label source.label.now) c.args.caught.now c.feed-feed.ensures.sound
+    is.usual is.within c.requires.right))
+
 pub returns-then-is_overtaken : goal.returns-then-is_overtaken
 returns-then-is_overtaken c =
-    spreads_none c.args.self.now.feed c.args.self.now.query (Lacks c.args.self.now c.args.finals.now) c.args.source.now.labels.now _ _
+    spreads_none c.args.self.now.feed c.args.self.now.query
+    (Lacks c.args.self.now c.args.finals.now) c.args.source.now.labels.now _ _
     c.args.bags.now (λ b same.
-    overtaken c.args.self.now c.args.finals.now (went_on c.args.source.now.label.now c.args.source.now.number c.args.caught.now c.args.taken.now)
+    overtaken c.args.self.now c.args.finals.now
+    (went_on c.args.source.now.label.now c.args.source.now.number c.args.caught.now c.args.taken.now)
     b c.feed-feed.ensures.sound same
     (subst (λ (x : Label). is_overtaken_by c.args.self.now c.args.finals.now x ≡ true) c.after-label.ensures.value
     (sym c.is_overtaken.ensures ∙ c.if-is_overtaken.true)))
@@ -21,7 +35,8 @@ returns c =
     let source = c.args.source.now in
     let caught = c.args.caught.now in
     let taken = c.args.taken.now in
-    spreads_taken c.args.self.now.feed c.args.self.now.query (Lacks c.args.self.now c.args.finals.now) source.labels.now _ c.offer.result c.args.bags.now c.offer.new.self c.after-label.result
+    spreads_taken c.args.self.now.feed c.args.self.now.query
+    (Lacks c.args.self.now c.args.finals.now) source.labels.now _ c.offer.result c.args.bags.now c.offer.new.self c.after-label.result
     (went_on source.label.now source.number caught taken) c.offer.ensures c.after-label.ensures.value
     (fresh_after c.args.self.now.feed c.args.self.now.query source c.requires.source caught c.requires.right taken c.feed-feed.ensures.sound
     c.requires.pays (subst IsBounded c.after-label.ensures.value c.after-label.ensures.bounded)

@@ -1,11 +1,16 @@
-use Rattle.std.proofs.Common.{◌∙◌, ap}
+use Rattle.std.proofs.Common.{◌∙◌, ap, subst, sym}
 use Rattle.feed_rows.specs.declared.journeys.Query.{Query}
 use Rattle.plan_rounds.specs.Searched.{Searched}
 use Rattle.plan_rounds.specs.Stores.{IsNever}
+use Rattle.plan_rounds.specs.Kept.{IsKeepable}
 use Rattle.plan_rounds.specs.Labels.{started}
+use Rattle.plan_rounds.proofs.KeptLaws.{keep_start}
 use Rattle.plan_rounds.proofs.RideSteps.{fresh_start}
 use Rattle.plan_rounds.proofs.SpreadLaws.{spreads_taken}
 use Rattle.plan_rounds.proofs.search.Search.offer_start.Goals as goal
+
+pub offer-requires : goal.offer-requires
+offer-requires c = subst IsKeepable (sym c.start.ensures) (keep_start c.query.result.now c.args.first)
 
 pub returns : goal.returns
 returns c =
