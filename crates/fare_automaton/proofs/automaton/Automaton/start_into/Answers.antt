@@ -10,12 +10,15 @@ use Rattle.fare_automaton.proofs.automaton.Automaton.start_into.Goals as goal
 
 pub returns : goal.returns
 returns c =
+    let feed = c.args.self.now.feed in
+    let rider = c.args.self.now.rider in
+    let leg = c.args.leg.now in
+    let options = c.args.options.now in
+    let moves = c.push_starts.new.moves.items in
+    let made = joined_below (length options) (made_at (first_made feed leg) options) in
     on_ok_weaker c.push_starts.result
-    (λ is. record {
-      exact = starts_are c.args.self.now.feed c.args.self.now.rider c.args.leg.now c.args.options.now c.push_starts.new.moves.items c.requires.options
-          (is ∙ ap (λ (xs : List Move). xs ++ joined_below (length c.args.options.now) (made_at (first_made c.args.self.now.feed c.args.leg.now) c.args.options.now)) c.clear.ensures.items);
-      extends = λ choice pays. start_extends c.args.self.now.feed c.args.self.now.rider c.args.leg.now choice c.push_starts.new.moves.items pays
-          (starts_are c.args.self.now.feed c.args.self.now.rider c.args.leg.now c.args.options.now c.push_starts.new.moves.items c.requires.options
-          (is ∙ ap (λ (xs : List Move). xs ++ joined_below (length c.args.options.now) (made_at (first_made c.args.self.now.feed c.args.leg.now) c.args.options.now)) c.clear.ensures.items));
-    })
+    (λ is.
+    let are = starts_are feed rider leg options moves c.requires.options
+    (is ∙ ap (λ (xs : List Move). xs ++ made) c.clear.ensures.items) in
+    record { exact = are; extends = λ choice pays. start_extends feed rider leg choice moves pays are })
     c.push_starts.ensures

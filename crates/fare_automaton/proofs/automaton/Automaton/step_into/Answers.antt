@@ -10,12 +10,21 @@ use Rattle.fare_automaton.proofs.automaton.Automaton.step_into.Goals as goal
 
 pub returns : goal.returns
 returns c =
+    let feed = c.args.self.now.feed in
+    let rider = c.args.self.now.rider in
+    let state = c.args.state.now in
+    let held = c.args.held.0 in
+    let leg = c.args.leg.now in
+    let options = c.args.options.now in
+    let moves = c.push_steps.new.moves.items in
+    let made = joined_below (length options) (made_at (next_made feed rider state held leg) options) in
     on_ok_weaker c.push_steps.result
-    (λ is. record {
-      exact = steps_are c.args.self.now.feed c.args.self.now.rider c.args.state.now c.args.held.0 c.args.leg.now c.args.options.now c.push_steps.new.moves.items c.requires.options
-          (is ∙ ap (λ (xs : List Move). xs ++ joined_below (length c.args.options.now) (made_at (next_made c.args.self.now.feed c.args.self.now.rider c.args.state.now c.args.held.0 c.args.leg.now) c.args.options.now)) c.clear.ensures.items);
-      extends = λ legs choice pays has_state has_held. step_extends c.args.self.now.feed c.args.self.now.rider legs choice c.args.leg.now c.args.state.now c.args.held.0 c.push_steps.new.moves.items pays has_state has_held
-          (steps_are c.args.self.now.feed c.args.self.now.rider c.args.state.now c.args.held.0 c.args.leg.now c.args.options.now c.push_steps.new.moves.items c.requires.options
-          (is ∙ ap (λ (xs : List Move). xs ++ joined_below (length c.args.options.now) (made_at (next_made c.args.self.now.feed c.args.self.now.rider c.args.state.now c.args.held.0 c.args.leg.now) c.args.options.now)) c.clear.ensures.items));
+    (λ is.
+    let are = steps_are feed rider state held leg options moves c.requires.options
+    (is ∙ ap (λ (xs : List Move). xs ++ made) c.clear.ensures.items) in
+    record {
+      exact = are;
+      extends = λ legs choice pays has_state has_held.
+          step_extends feed rider legs choice leg state held moves pays has_state has_held are;
     })
     c.push_steps.ensures
