@@ -1,10 +1,10 @@
 -- Legs that stand alike in the order differ in their moments at most, and lists are kept by that.
 use Rattle.std.proofs.Common.{◌≡◌, refl, sym, ◌∙◌, ap, ℕ, ◌+◌, true, List, [], ◌∷◌, ◌++◌, length, Option, Some, None, arith}
-use Rattle.std.specs.Prelude.{slice_get, option_map}
+use Rattle.std.specs.Prelude.{◌==◌, slice_get, option_map}
 use Rattle.std.specs.Cmp.Lexicographic.{slice_cmp}
 use Rattle.std.specs.FinMap.{IsAntisymmetric, nat_cmp-IsAntisymmetric, slice_cmp-IsAntisymmetric}
 use Rattle.std.specs.Option.{option_map_or}
-use Rattle.std.specs.Ordering.{nat_cmp, ordering_then, is_eq}
+use Rattle.std.specs.Ordering.{nat_cmp, ordering_then, ordering_index}
 use Rattle.std.specs.declared.cmp.Ordering.{Ordering}
 use Rattle.std.specs.declared.cmp.Ordering.TheVariants.{Less, Equal, Greater}
 use Rattle.std.proofs.lemmas.List.{length-map, map-append}
@@ -13,10 +13,8 @@ use Rattle.transit_base.specs.declared.numbers.AreaId.{AreaId}
 use Rattle.transit_base.specs.declared.numbers.FrameId.{FrameId}
 use Rattle.transit_base.specs.declared.numbers.NetworkId.{NetworkId}
 use Rattle.feed_rows.specs.declared.journeys.LegFacts.{LegFacts}
-use Rattle.plain_laws.specs.Plain.{filled_and}
-use Rattle.plain_laws.proofs.Laws.{filled_and-true}
 use Rattle.leg_kinds.specs.declared.kept.KeptList.{KeptList}
-use Rattle.leg_kinds.specs.Kinds.{timeless, kept_leg, network_place, frames_cmp, areas_cmp, facts_cmp, KindList, kept_for, kind_lists, items_at, IsOfKind}
+use Rattle.leg_kinds.specs.Kinds.{timeless, kept_leg, network_place, frames_cmp, areas_cmp, facts_cmp, KindList, kept_for, kind_lists, items_at, IsOfKind, rank}
 
 both_equal : (a b : Ordering) → ordering_then a b ≡ Equal → (a ≡ Equal) × (b ≡ Equal)
 both_equal Less b e = absurd (let no : Less ≡ Equal = e in cc)
@@ -54,17 +52,23 @@ module _ {T : Type 0} where
   as_list kept = record { kind = kept_leg kept; items = kept.items.items }
 
   -- what is found for a leg is kept for one that differs in its moments at most
-  pub found : (kept : List (KeptList T)) (leg : LegFacts) (number : ℕ)
-      → filled_and (slice_get kept number) (λ (k : KeptList T). is_eq (facts_cmp (kept_leg k) leg)) ≡ true → IsOfKind (kind_lists kept) leg number
+  pub found : (kept : List (KeptList T)) (leg : LegFacts) (number : ℕ) → (rank kept leg number == 1) ≡ true
+      → IsOfKind (kind_lists kept) leg number
   found kept leg number e =
-      let own = filled_and-true (slice_get kept number) (λ (k : KeptList T). is_eq (facts_cmp (kept_leg k) leg)) e in
-      let same = same_facts (kept_leg own.value) leg (equal (facts_cmp (kept_leg own.value) leg) own.passes) in
-      ap (option_map (λ (l : KindList T). l.kind)) (slice_get-map as_list kept number ∙ ap (option_map as_list) own.is) ∙ ap Some same
+      at (slice_get kept number) (slice_get-map as_list kept number) e
     where
-      equal : (o : Ordering) → is_eq o ≡ true → o ≡ Equal
-      equal Less e = absurd (cc)
-      equal Equal e = refl
-      equal Greater e = absurd (cc)
+      same : (o : Ordering) → (ordering_index o == 1) ≡ true → o ≡ Equal
+      same Less e = absurd (cc)
+      same Equal e = refl
+      same Greater e = absurd (cc)
+
+      at : (o : Option (KeptList T)) → slice_get (kind_lists kept) number ≡ option_map as_list o
+          → (option_map_or (λ (k : KeptList T). ordering_index (facts_cmp (kept_leg k) leg)) o 2 == 1) ≡ true
+          → IsOfKind (kind_lists kept) leg number
+      at None is e = absurd (cc)
+      at (Some own) is e =
+          ap (option_map (λ (l : KindList T). l.kind)) is
+          ∙ ap Some (same_facts (kept_leg own) leg (same (facts_cmp (kept_leg own) leg) e))
 
   -- one list more
   pub kept_more : (kept more : List (KeptList T)) (own : KeptList T) (leg : LegFacts) (items : List T) → more ≡ kept ++ own ∷ []

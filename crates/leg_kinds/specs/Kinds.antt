@@ -1,8 +1,11 @@
 -- Lists that are kept by the kind of a leg: all that fare rules look at in it, which is all but its moments.
-use Rattle.std.specs.Prelude.{◌≡◌, ℕ, ◌+◌, List, [], Option, Some, map, pos, slice_get, option_map}
+use Rattle.std.specs.Prelude.{◌≡◌, ◌==◌, ℕ, ◌+◌, ◌<◌, true, false, List, [], length, All, Contains, Option, Some}
+use Rattle.std.specs.Prelude.{map, pos, slice_get, option_map}
 use Rattle.std.specs.Cmp.Lexicographic.{slice_cmp}
 use Rattle.std.specs.Option.{option_map_or}
-use Rattle.std.specs.Ordering.{nat_cmp, ordering_then}
+use Rattle.std.specs.List.{slice_index_or}
+use Rattle.std.specs.List.Sorted.{IsNonDecreasingBy, IsPartitionPoint}
+use Rattle.std.specs.Ordering.{nat_cmp, ordering_then, ordering_index}
 use Rattle.std.specs.declared.cmp.Ordering.{Ordering}
 use Rattle.transit_base.specs.declared.numbers.AreaId.{AreaId}
 use Rattle.transit_base.specs.declared.numbers.FrameId.{FrameId}
@@ -66,3 +69,25 @@ areas_cmp a b =
 
 abbrev pub facts_cmp : LegFacts → LegFacts → Ordering
 facts_cmp a b = ordering_then (nat_cmp (network_place a.network) (network_place b.network)) (areas_cmp a b)
+
+-- how the leg for which the list with a number is kept stands to another: 0 before it, 1 where they are ordered alike,
+-- 2 behind it, and where there is no such list
+abbrev pub rank : {T : Type 0} → List (KeptList T) → LegFacts → ℕ → ℕ
+rank {T} kept leg number =
+    option_map_or (λ (k : KeptList T). ordering_index (facts_cmp (kept_leg k) leg)) (slice_get kept number) 2
+
+-- the numbers of all lists, by the order of their legs
+pub record IsInOrder {T : Type 0} (kept : List (KeptList T)) (order : List ℕ) : Type 0 where
+  pub within : All (λ n. n < length kept) order
+  pub every : (n : ℕ) → n < length kept → Contains order n
+  pub sorted : (leg : LegFacts) → IsNonDecreasingBy (rank kept leg) order
+
+-- the place parts the numbers of the lists that come before the leg from the others
+abbrev pub IsPlaceFor : {T : Type 0} → List (KeptList T) → List ℕ → LegFacts → ℕ → Type 0
+IsPlaceFor kept order leg place =
+    IsPartitionPoint (λ n. (rank kept leg n == 0) ≡ true) (λ n. (rank kept leg n == 0) ≡ false) order place
+
+-- the list whose number stands at the place, if one does, is kept for no leg that is ordered like this one
+abbrev pub IsForOther : {T : Type 0} → List (KeptList T) → List ℕ → LegFacts → ℕ → Type 0
+IsForOther kept order leg place =
+    (d : ℕ) → place < length order → (rank kept leg (slice_index_or order place d) == 1) ≡ false

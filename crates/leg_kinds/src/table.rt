@@ -1,8 +1,8 @@
 //! The table of what is kept.
-ghost use Rattle.std.specs.Prelude.{◌≡◌, ◌≤◌, ◌∷◌, [], ◌++◌, true, length, slice_get, IfOk, IfSome, OnErr};
-ghost use Rattle.std.specs.Ordering.{is_eq, is_lt};
-ghost use Rattle.plain_laws.specs.Plain.{filled_and};
-ghost use Rattle.leg_kinds.specs.Kinds.{kept_leg, facts_cmp, kept_for, items_at, IsOfKind};
+ghost use Rattle.std.specs.Prelude.{◌≡◌, ◌==◌, ◌≤◌, ◌∷◌, [], ◌++◌, ℕ, true, length};
+ghost use Rattle.std.specs.Prelude.{IfOk, IfSome, IfNone, IsSome, OnErr};
+ghost use Rattle.std.specs.List.{insert};
+ghost use Rattle.leg_kinds.specs.Kinds.{rank, kept_for, items_at, IsForOther, IsInOrder, IsOfKind, IsPlaceFor};
 
 use crate::kept::KeptList;
 use feed_rows::LegFacts;
@@ -24,9 +24,11 @@ impl<T: Drop> Drop for KeptTable<T> {
 }
 
 impl<T: Drop> KeptTable<T> {
-    /// Where what is kept for the leg stands in the order, or would stand.
+    /// Where what is kept for the leg stands in the order, or would stand: behind all that comes before it.
     fn place_of(&self, leg: &LegFacts) -> usize
-        ensures { result ≤ length self.now.order.items }
+        requires { IsInOrder self.now.kept.items self.now.order.items }
+        ensures bound { result ≤ length self.now.order.items }
+        ensures place { IsPlaceFor self.now.kept.items self.now.order.items leg.now result }
     {
         self.order
             .partition_point(|number| self.is_before(*number, leg))
@@ -34,7 +36,7 @@ impl<T: Drop> KeptTable<T> {
 
     /// Whether what is kept under the number comes before what is kept for the leg.
     fn is_before(&self, number: usize, leg: &LegFacts) -> bool
-        ensures { result ≡ filled_and (slice_get self.now.kept.items number) (λ kept. is_lt (facts_cmp (kept_leg kept) leg.now)) }
+        ensures { result ≡ (rank self.now.kept.items leg.now number == 0) }
     {
         match self.kept.get(number) {
             Some(kept) => kept.order(leg).is_lt(),
@@ -42,28 +44,47 @@ impl<T: Drop> KeptTable<T> {
         }
     }
 
+    /// Whether what is kept under the number is kept for the leg.
+    fn is_for(&self, number: usize, leg: &LegFacts) -> bool
+        ensures { result ≡ (rank self.now.kept.items leg.now number == 1) }
+    {
+        match self.kept.get(number) {
+            Some(kept) => kept.order(leg).is_eq(),
+            None => false,
+        }
+    }
+
     /// The number at this place of the order, where what is kept under it is kept for the leg.
     fn number_at(&self, place: usize, leg: &LegFacts) -> Option<usize>
-        ensures { IfSome result (λ number. filled_and (slice_get self.now.kept.items number) (λ kept. is_eq (facts_cmp (kept_leg kept) leg.now)) ≡ true) }
+        ensures some { IfSome result (λ number. (rank self.now.kept.items leg.now number == 1) ≡ true) }
+        ensures none { IfNone result (IsForOther self.now.kept.items self.now.order.items leg.now place) }
     {
-        let number = *self.order.get(place)?;
-        let kept = self.kept.get(number)?;
-        if kept.order(leg).is_eq() {
+        if place >= self.order.len() {
+            return None;
+        }
+        let number = self.order[place];
+        if self.is_for(number, leg) {
             Some(number)
         } else {
             None
         }
     }
 
-    /// Keeps it, at this place of the order.
+    /// Keeps it, at this place of the order. After a refusal all is as before.
     fn keep(&mut self, place: usize, kept: KeptList<T>) -> Result<usize, AllocError>
         requires { place ≤ length self.old.order.items }
-        ensures ok { IfOk result (λ number. (number ≡ length self.old.kept.items) × (self.new.kept.items ≡ self.old.kept.items ++ kept ∷ [])) }
-        ensures err { OnErr result (self.new.kept.items ≡ self.old.kept.items) }
+        ensures number { IfOk result (λ number. number ≡ length self.old.kept.items) }
+        ensures kept { IfOk result (λ number. self.new.kept.items ≡ self.old.kept.items ++ kept ∷ []) }
+        ensures order { IfOk result (λ number. self.new.order.items ≡ insert self.old.order.items place number) }
+        ensures same_kept { OnErr result (self.new.kept.items ≡ self.old.kept.items) }
+        ensures same_order { OnErr result (self.new.order.items ≡ self.old.order.items) }
     {
         let number = self.kept.len();
-        self.order.insert(place, number)?;
         self.kept.push(kept)?;
+        if self.order.insert(place, number).is_err() {
+            self.kept.pop();
+            return Err(AllocError);
+        }
         Ok(number)
     }
 }
@@ -83,11 +104,13 @@ impl<T: Drop> Drop for KindTable<T> {
 
 impl<T> Model for KindTable<T> {
     ghost use Rattle.std.specs.Prelude.{List};
-    ghost use Rattle.leg_kinds.specs.Kinds.{KindList, kind_lists};
+    ghost use Rattle.leg_kinds.specs.Kinds.{KindList, kind_lists, IsInOrder};
 
     ghost Value = { List (KindList T) };
 
     ghost view = { λ s. kind_lists s.table.kept.items };
+
+    ghost invariant = { λ s. IsInOrder s.table.kept.items s.table.order.items };
 }
 
 impl<T: Drop> KindTable<T> {
@@ -103,9 +126,11 @@ impl<T: Drop> KindTable<T> {
         }
     }
 
-    /// The number of a list that is kept for a leg which differs from this one in its moments at most.
+    /// The number of a list that is kept for a leg which differs from this one in its moments at most; none exactly where
+    /// there is no such list.
     pub fn find(&self, leg: &LegFacts) -> Option<usize>
-        ensures { IfSome result (IsOfKind self.now leg.now) }
+        ensures kept { IfSome result (IsOfKind self.now leg.now) }
+        ensures known { (number : ℕ) → IsOfKind self.now leg.now number → IsSome result }
     {
         let place = self.table.place_of(leg);
         self.table.number_at(place, leg)

@@ -7,7 +7,8 @@ use Rattle.fare_automaton.proofs.KnownLaws.{without_moments, kind_last, kind_sti
 use Rattle.fare_automaton.proofs.known.KnownOptions.know.Goals as goal
 
 pub returns-in-Some-clause-known : goal.returns-in-Some-clause-known
-returns-in-Some-clause-known c = subst (λ (k : KnownPicks). IsOfKind k.lists c.args.leg.now c.in-Some.number) c.self.view_is c.in-Some.ensures
+returns-in-Some-clause-known c =
+    subst (λ (k : KnownPicks). IsOfKind k.lists c.args.leg.now c.in-Some.number) c.self.view_is c.in-Some.ensures.kept
 
 pub invariant_of-self : goal.invariant_of-self
 invariant_of-self c = rw (c.in_err-number.ensures.err) c.self.invariant

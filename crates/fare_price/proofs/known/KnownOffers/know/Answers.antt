@@ -8,7 +8,8 @@ use Rattle.fare_price.proofs.known.KnownOffers.know.Goals as goal
 pub returns-in-Some-clause-known : goal.returns-in-Some-clause-known
 returns-in-Some-clause-known c =
     subst (λ (k : Known). IsKept k c.args.leg.now c.in-Some.number) c.self.view_is
-    (kept_here c.self.inside.fares.now c.self.inside.table c.args.leg.now c.in-Some.number c.self.invariant c.in-Some.ensures)
+    (kept_here c.self.inside.fares.now c.self.inside.table c.args.leg.now c.in-Some.number c.self.invariant
+    c.in-Some.ensures.kept)
 
 pub invariant_of-self-2 : goal.invariant_of-self-2
 invariant_of-self-2 c =
