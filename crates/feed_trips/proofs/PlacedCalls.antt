@@ -52,17 +52,22 @@ range_grown xs ys from to begins ends =
     ap (λ n. take (to - from) (drop n (xs ++ ys))) begins ∙ ap (take (to - from)) (drop-append_seam xs ys)
     ∙ take_all (to - from) ys (omega (arith, begins, ends))
 
-module _ (rows : List StopTimeRow) (stretches : List Stretch) (calls : List Call) (timed : AreTimed rows stretches) (before : AreMade rows stretches calls) where
+module _ (rows : List StopTimeRow) (stretches : List Stretch) (calls : List Call) (timed : AreTimed rows stretches)
+    (before : AreMade rows stretches calls) where
   -- the row of the next call is the first of its trip
   begins : (d : StopTimeRow) → length calls < length rows →
       (stretch_around rows stretches (length calls) d).from ≡ length calls
   begins d more = step (cases_lt (stretch_around rows stretches (length calls) d).from (length calls))
     where
-      step : ((stretch_around rows stretches (length calls) d).from < length calls) ⊎ (length calls ≤ (stretch_around rows stretches (length calls) d).from) →
+      step : ((stretch_around rows stretches (length calls) d).from < length calls)
+          ⊎ (length calls ≤ (stretch_around rows stretches (length calls) d).from) →
           (stretch_around rows stretches (length calls) d).from ≡ length calls
       step (inl earlier) =
           let high = (timed.around (length calls) d more).1 in
-          let own = timed.own (get_or rows (length calls) d).trip.0 (length calls - 1) d (timed.inside (length calls) d more) (omega (arith, earlier)) (omega (arith, high)) in
+          let inside = timed.inside (length calls) d more in
+          let own =
+          timed.own (get_or rows (length calls) d).trip.0 (length calls - 1) d inside (omega (arith, earlier))
+          (omega (arith, high)) in
           let end = before.ends (length calls - 1) d (omega (arith, earlier)) in
           let far = rw own at end in
           absurd (omega (arith, high, far))
@@ -81,7 +86,8 @@ module _ (rows : List StopTimeRow) (stretches : List Stretch) (calls : List Call
       let ends = timed.ends trip inside in
       let made = pass (rows_at rows stretches trip) in
       let size : length made ≡ s.to - s.from =
-      pass_length (rows_at rows stretches trip) (timed.timed trip inside) ∙ length-take (s.to - s.from) (drop s.from rows)
+      pass_length (rows_at rows stretches trip) (timed.timed trip inside)
+      ∙ length-take (s.to - s.from) (drop s.from rows)
       ∙ (let left = length-drop s.from rows in omega (arith, left, ends)) in
       let long : length new ≡ s.to = ap length grown ∙ length-append calls made ∙ omega (arith, size, from, high) in
       let whole : s.to ≡ length calls + length made = omega (arith, size, from, high) in (
@@ -97,7 +103,8 @@ module _ (rows : List StopTimeRow) (stretches : List Stretch) (calls : List Call
           (get_or rows k e).trip.0 ≡ (get_or rows (length calls) d).trip.0
       own k e lt later =
           let from = begins d more in
-          timed.own (get_or rows (length calls) d).trip.0 k e (timed.inside (length calls) d more) (omega (arith, from, later)) lt
+          timed.own (get_or rows (length calls) d).trip.0 k e (timed.inside (length calls) d more)
+          (omega (arith, from, later)) lt
 
       end : (k : ℕ) (e : StopTimeRow) → k < (stretch_around rows stretches (length calls) d).to →
           length new ≡ (stretch_around rows stretches (length calls) d).to →
@@ -108,7 +115,8 @@ module _ (rows : List StopTimeRow) (stretches : List Stretch) (calls : List Call
       end k e lt long high from (inr later) = rw (own k e lt later) (omega (arith, long))
 
       at : (k : ℕ) (e : StopTimeRow) → k < (stretch_around rows stretches (length calls) d).to →
-          (stretch_around rows stretches (length calls) d).to ≡ length calls + length (pass (rows_at rows stretches (get_or rows (length calls) d).trip.0)) →
+          (stretch_around rows stretches (length calls) d).to ≡
+          length calls + length (pass (rows_at rows stretches (get_or rows (length calls) d).trip.0)) →
           (stretch_around rows stretches (length calls) d).from ≡ length calls →
           (k < length calls) ⊎ (length calls ≤ k) →
           calls_at new stretches (get_or rows k e).trip.0 ≡ pass (rows_at rows stretches (get_or rows k e).trip.0)
@@ -120,14 +128,16 @@ module _ (rows : List StopTimeRow) (stretches : List Stretch) (calls : List Call
           ∙ before.made k e earlier
       at k e lt whole from (inr later) =
           let s = stretch_around rows stretches (length calls) d in
-          rw (own k e lt later) (ap (λ cs. slice_range cs s.from s.to) grown ∙ range_grown calls _ s.from s.to from whole)
+          rw (own k e lt later)
+          (ap (λ cs. slice_range cs s.from s.to) grown ∙ range_grown calls _ s.from s.to from whole)
 
   -- where each row has its call, the calls of each trip stand at its stretch
   all_made : length rows ≤ length calls → (t : ℕ) → t < length stretches →
       calls_at calls stretches t ≡ pass (rows_at rows stretches t)
   all_made all t lt = step (cases_lt (get_or stretches t no_stretch).from (get_or stretches t no_stretch).to)
     where
-      step : ((get_or stretches t no_stretch).from < (get_or stretches t no_stretch).to) ⊎ ((get_or stretches t no_stretch).to ≤ (get_or stretches t no_stretch).from) →
+      step : ((get_or stretches t no_stretch).from < (get_or stretches t no_stretch).to)
+          ⊎ ((get_or stretches t no_stretch).to ≤ (get_or stretches t no_stretch).from) →
           calls_at calls stretches t ≡ pass (rows_at rows stretches t)
       step (inl some) =
           let s = get_or stretches t no_stretch in
@@ -142,8 +152,10 @@ module _ (rows : List StopTimeRow) (stretches : List Stretch) (calls : List Call
           rw (same, range_none calls s.to, range_none rows s.to) refl
 
   pub placed : length rows ≤ length calls →
-      list_below (length stretches) (calls_at calls stretches) ≡ list_below (length stretches) (λ t. pass (rows_at rows stretches t))
-  placed all = list_below-same (length stretches) (calls_at calls stretches) (λ t. pass (rows_at rows stretches t)) (all_made all)
+      list_below (length stretches) (calls_at calls stretches) ≡
+      list_below (length stretches) (λ t. pass (rows_at rows stretches t))
+  placed all =
+      list_below-same (length stretches) (calls_at calls stretches) (λ t. pass (rows_at rows stretches t)) (all_made all)
 
 -- the stretch of a trip lies within the places
 pub lies : (stretches : List Stretch) (size trip : ℕ) (s : Stretch) → LieWithin stretches size →

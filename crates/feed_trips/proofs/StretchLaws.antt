@@ -29,7 +29,13 @@ use Rattle.trip_order.specs.Order.{no_time}
 pub none_yet : (rows : List StopTimeRow) (trips : ℕ) → AreStretches rows 0 trips (replicate trips no_stretch)
 none_yet rows trips = record {
   count = length-replicate trips no_stretch;
-  each = λ t lt. subst (IsStretch rows 0 t) (sym (get_or-replicate trips t no_stretch no_stretch lt)) (record { forward = omega arith; ends = omega arith; are = refl; has = λ k d lt own. absurd (omega arith); rise = λ k d low lt. absurd (omega arith) });
+  each = λ t lt. subst (IsStretch rows 0 t) (sym (get_or-replicate trips t no_stretch no_stretch lt)) (record {
+    forward = omega arith;
+    ends = omega arith;
+    are = refl;
+    has = λ k d lt own. absurd (omega arith);
+    rise = λ k d low lt. absurd (omega arith);
+  });
 }
 
 -- the first rows of a trip with one more, and where that is of another
@@ -73,7 +79,13 @@ module _ (rows : List StopTimeRow) (n : ℕ) (d : StopTimeRow) (lt : n < length 
 
   -- the stretch of another trip stays
   other_stays : (trip : ℕ) (s : Stretch) → ((get_or rows n d).trip.0 ≡ trip → ⊥) → IsStretch rows n trip s → IsStretch rows (n + 1) trip s
-  other_stays trip s other is = record { forward = is.forward; ends = let le = is.ends in omega arith; are = is.are ∙ sym (filter_other rows n trip d lt other); has = has_more trip s s (λ k at. at) (λ own. absurd (other own)) is; rise = is.rise }
+  other_stays trip s other is = record {
+    forward = is.forward;
+    ends = let le = is.ends in omega arith;
+    are = is.are ∙ sym (filter_other rows n trip d lt other);
+    has = has_more trip s s (λ k at. at) (λ own. absurd (other own)) is;
+    rise = is.rise;
+  }
 
   -- a stretch begins
   begins : (trip : ℕ) (s : Stretch) → (get_or rows n d).trip.0 ≡ trip → s.from ≡ s.to → IsStretch rows n trip s → IsStretch rows (n + 1) trip (record { from = n; to = n + 1 })
@@ -84,7 +96,9 @@ module _ (rows : List StopTimeRow) (n : ℕ) (d : StopTimeRow) (lt : n < length 
         forward = omega arith;
         ends = omega arith;
         are = range_more rows n n d le lt ∙ rw (range_none rows n) (sym (filter_here rows n trip d lt same ∙ rw none refl));
-        has = has_more trip s (record { from = n; to = n + 1 }) (λ k at. let low = at.0 in let high = at.1 in absurd (omega (arith, low, high, empty))) (λ own. (omega arith, omega arith)) is;
+        has = has_more trip s (record { from = n; to = n + 1 })
+            (λ k at. let low = at.0 in let high = at.1 in absurd (omega (arith, low, high, empty)))
+            (λ own. (omega arith, omega arith)) is;
         rise = λ k e low below. absurd (omega arith);
       }
 
@@ -96,7 +110,8 @@ module _ (rows : List StopTimeRow) (n : ℕ) (d : StopTimeRow) (lt : n < length 
         forward = omega arith;
         ends = omega arith;
         are = range_more rows s.from n d forward lt ∙ ap (λ xs. xs ++ get_or rows n d ∷ []) (ap (slice_range rows s.from) (sym here) ∙ is.are) ∙ sym (filter_here rows n trip d lt same);
-        has = has_more trip s (record { from = s.from; to = n + 1 }) (λ k at. let high = at.1 in (at.0, omega (arith, high, here))) (λ own. (forward, omega arith)) is;
+        has = has_more trip s (record { from = s.from; to = n + 1 })
+            (λ k at. let high = at.1 in (at.0, omega (arith, high, here))) (λ own. (forward, omega arith)) is;
         rise = λ k e low below. rises k e low (omega arith) (cases_eq (k + 1) n);
       }
     where
@@ -325,7 +340,8 @@ module _ (feed : FeedRows) (rows : List StopTimeRow) (stretches : List Stretch) 
     ends = λ t lt. (are.each t (within t lt)).ends;
     inside = λ k d lt. rw are.count (few k d lt);
     around = λ k d lt. (are.each (get_or rows k d).trip.0 (few k d lt)).has k d lt refl;
-    own = λ t k d lt. row_own rows (length rows) t (get_or stretches t no_stretch) (are.each t (within t lt)) (omega arith) k d;
+    own = λ t k d lt. row_own rows (length rows) t (get_or stretches t no_stretch) (are.each t (within t lt))
+        (omega arith) k d;
     timed = λ t lt. subst HasTimedEnds (sym (own t (within t lt))) (sound_ends feed (record { 0 = t }) sound.calls);
     rise = λ t lt. subst DoTimesRise (sym (own t (within t lt))) (sound_rise feed (record { 0 = t }) sound.calls);
   }
@@ -345,18 +361,26 @@ pub file_stretches : (feed : FeedRows) (stretches : List Stretch) → IsSoundFee
 file_stretches feed stretches sound are =
     let own = λ (t : ℕ) (lt : t < length feed.trips). rows_are feed (length feed.trips) t stretches are lt in
     let few = sound.stop_times.trips in
-    record { timed_rows = timed feed feed.stop_times stretches sound are few own; calls = stretch_calls feed feed.stop_times stretches sound are few own }
+    record {
+      timed_rows = timed feed feed.stop_times stretches sound are few own;
+      calls = stretch_calls feed feed.stop_times stretches sound are few own;
+    }
 
 -- sorted rows are of the feed's trips
-pub sorted_within : (feed : FeedRows) (rows : List StopTimeRow) → IsSoundFeed feed → IsPermutation feed.stop_times rows → All (λ r. r.trip.0 < length feed.trips) rows
-sorted_within feed rows sound moved = All-permutation (λ (r : StopTimeRow). r.trip.0 < length feed.trips) feed.stop_times rows moved sound.stop_times.trips
+pub sorted_within : (feed : FeedRows) (rows : List StopTimeRow) → IsSoundFeed feed → IsPermutation feed.stop_times rows →
+    All (λ r. r.trip.0 < length feed.trips) rows
+sorted_within feed rows sound moved =
+    All-permutation (λ (r : StopTimeRow). r.trip.0 < length feed.trips) feed.stop_times rows moved sound.stop_times.trips
 
 pub sorted_stretches : (feed : FeedRows) (rows : List StopTimeRow) (stretches : List Stretch) → IsSoundFeed feed → IsPermutation feed.stop_times rows → AllPairs IsInOrder rows → AreStretches rows (length rows) (length feed.trips) stretches
     → AreTripStretches feed rows stretches
 sorted_stretches feed rows stretches sound moved up are =
     let own = λ (t : ℕ) (lt : t < length feed.trips). sorted_are feed rows (length feed.trips) t stretches sound moved up are lt in
     let few = sorted_within feed rows sound moved in
-    record { timed_rows = timed feed rows stretches sound are few own; calls = stretch_calls feed rows stretches sound are few own }
+    record {
+      timed_rows = timed feed rows stretches sound are few own;
+      calls = stretch_calls feed rows stretches sound are few own;
+    }
 
 -- and few
 pub sorted_few : (feed : FeedRows) (rows : List StopTimeRow) → IsSoundFeed feed → IsPermutation feed.stop_times rows → length rows < 2 ^ 32
@@ -389,11 +413,14 @@ lies_apart rows from to trips stretches d s piece few are at some =
 
     falls : (e : StopTimeRow) → s.to ≡ from → (get_or rows from e).sequence < (get_or rows (from - 1) e).sequence
     falls e here =
-        let last = row_own rows from (get_or rows from d).trip.0 s is (let le = lt in omega arith) (s.to - 1) e (let low = begun in omega (arith, low)) (let low = begun in omega (arith, low)) in
+        let low = begun in
+        let last =
+        row_own rows from (get_or rows from d).trip.0 s is (let le = lt in omega arith) (s.to - 1) e (omega (arith, low))
+        (omega (arith, low)) in
         let before : (get_or rows (from - 1) e).trip.0 ≡ (get_or rows from d).trip.0 = rw here at last in
         let one = get_or_default rows from e d lt in
         let own : (get_or rows from e).trip.0 ≡ (get_or rows from d).trip.0 = ap (λ (r : StopTimeRow). r.trip.0) one in
-        piece.anew (let low = begun in omega (arith, low, here)) e (own ∙ sym before)
+        piece.anew (omega (arith, low, here)) e (own ∙ sym before)
 
 -- where rows are sorted, none lies apart from those of its trip
 module _ (rows : List StopTimeRow) (trips : ℕ) (up : AllPairs IsInOrder rows) (few : All (λ (r : StopTimeRow). r.trip.0 < trips) rows) (scattered : IsScattered rows trips) where
@@ -415,7 +442,8 @@ module _ (rows : List StopTimeRow) (trips : ℕ) (up : AllPairs IsInOrder rows) 
   last =
       let inside = scattered.inside in
       let low = begun in
-      row_own rows scattered.place here.trip.0 s is_stretch (omega arith) (s.to - 1) no_time (omega (arith, low)) (omega (arith, low))
+      row_own rows scattered.place here.trip.0 s is_stretch (omega arith) (s.to - 1) no_time (omega (arith, low))
+      (omega (arith, low))
 
   -- a row between it and its trip's is of the trip too
   between : (a b c : StopTimeRow) → a.trip.0 ≡ c.trip.0 → IsInOrder a b → IsInOrder b c → b.trip.0 ≡ c.trip.0

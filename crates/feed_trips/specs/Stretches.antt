@@ -23,7 +23,8 @@ calls_at calls stretches trip =
 
 -- the stretches lie within so many places
 pub record LieWithin (stretches : List Stretch) (size : ℕ) : Type 0 where
-  pub forward : (t : ℕ) → t < length stretches → (slice_index_or stretches t no_stretch).from ≤ (slice_index_or stretches t no_stretch).to
+  pub forward : (t : ℕ) → t < length stretches →
+      (slice_index_or stretches t no_stretch).from ≤ (slice_index_or stretches t no_stretch).to
   pub ends : (t : ℕ) → t < length stretches → (slice_index_or stretches t no_stretch).to ≤ size
 
 -- the stretch of the trip of the row at a place
@@ -82,7 +83,9 @@ pub record AreTimed (rows : List StopTimeRow) (stretches : List Stretch) : Type 
   pub forward : (t : ℕ) → t < length stretches → (slice_index_or stretches t no_stretch).from ≤ (slice_index_or stretches t no_stretch).to
   pub ends : (t : ℕ) → t < length stretches → (slice_index_or stretches t no_stretch).to ≤ length rows
   pub inside : (k : ℕ) (d : StopTimeRow) → k < length rows → (slice_index_or rows k d).trip.0 < length stretches
-  pub around : (k : ℕ) (d : StopTimeRow) → k < length rows → ((stretch_around rows stretches k d).from ≤ k) × (k < (stretch_around rows stretches k d).to)
-  pub own : (t k : ℕ) (d : StopTimeRow) → t < length stretches → (slice_index_or stretches t no_stretch).from ≤ k → k < (slice_index_or stretches t no_stretch).to → (slice_index_or rows k d).trip.0 ≡ t
+  pub around : (k : ℕ) (d : StopTimeRow) → k < length rows →
+      ((stretch_around rows stretches k d).from ≤ k) × (k < (stretch_around rows stretches k d).to)
+  pub own : (t k : ℕ) (d : StopTimeRow) → t < length stretches → (slice_index_or stretches t no_stretch).from ≤ k →
+      k < (slice_index_or stretches t no_stretch).to → (slice_index_or rows k d).trip.0 ≡ t
   pub timed : (t : ℕ) → t < length stretches → HasTimedEnds (rows_at rows stretches t)
   pub rise : (t : ℕ) → t < length stretches → DoTimesRise (rows_at rows stretches t)

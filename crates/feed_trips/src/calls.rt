@@ -7,7 +7,8 @@ use crate::together::Stretch;
 use feed_rows::Call;
 use std::marker::Model;
 
-/// The calls of each trip, in the order of the rows that they are made of. Contracts see it as the list of the trips' calls.
+/// The calls of each trip, in the order of the rows that they are made of. Contracts see it as the list of the trips'
+/// calls.
 pub struct TripCalls {
     /// Where the calls of each trip stand.
     stretches: Vec<Stretch>,
@@ -52,6 +53,6 @@ impl TripCalls {
         ensures { slice_get self.now trip ≡ Some result.now }
     {
         let stretch = self.stretches[trip];
-        &self.calls[stretch.from..stretch.to]
+        &self.calls[stretch.from as usize..stretch.to as usize]
     }
 }

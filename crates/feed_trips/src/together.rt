@@ -15,8 +15,8 @@ use std::alloc::{AllocError, Global};
 /// Where the rows of a trip stand: from a place, and up to the place after the last.
 #[derive(Clone, Copy)]
 pub struct Stretch {
-    pub from: usize,
-    pub to: usize,
+    pub from: u32,
+    pub to: u32,
 }
 
 // Whether the row at a place goes on with the row before it: it is of the same trip, and its sequence isn't less. The
@@ -44,6 +44,7 @@ fn put_piece(
     trips: usize,
 ) -> bool
     requires within { All (λ (r : StopTimeRow). r.trip.0 < trips) rows.now }
+    requires few { length rows.now < 2 ^ 32 }
     requires piece { IsPiece rows.now from to }
     requires before { AreStretches rows.now from trips stretches.old.items }
     ensures put { OnTrue result (AreStretches rows.now to trips stretches.new.items) }
@@ -54,7 +55,10 @@ fn put_piece(
     if stretch.from != stretch.to {
         return false;
     }
-    stretches[trip] = Stretch { from, to };
+    stretches[trip] = Stretch {
+        from: from as u32,
+        to: to as u32,
+    };
     true
 }
 
@@ -68,7 +72,8 @@ pub fn stretches_of(
     rows: &[StopTimeRow],
     trips: usize,
 ) -> Result<Option<Vec<Stretch>>, AllocError>
-    requires { All (λ (r : StopTimeRow). r.trip.0 < trips) rows.now }
+    requires within { All (λ (r : StopTimeRow). r.trip.0 < trips) rows.now }
+    requires few { length rows.now < 2 ^ 32 }
     ensures together { IfOk result (λ found. IfSome found (λ stretches. AreStretches rows.now (length rows.now) trips stretches.items)) }
     ensures scattered { IfOk result (λ found. IfNone found (IsScattered rows.now trips)) }
 {
@@ -101,7 +106,7 @@ fn push_stretch(
     ensures { OnOk result (calls.new.items ≡ calls.old.items ++ pass (rows_at rows.now stretches.now trip)) }
 {
     let stretch = stretches[trip];
-    push_calls(calls, &rows[stretch.from..stretch.to])
+    push_calls(calls, &rows[stretch.from as usize..stretch.to as usize])
 }
 
 /// The calls of the rows at each of these stretches, in the order of the rows.

@@ -9,11 +9,16 @@ use Rattle.feed_trips.specs.Tables.{IsInOrder}
 use Rattle.feed_trips.proofs.StretchLaws.{file_within, file_few, file_stretches}
 use Rattle.feed_trips.proofs.order.calls_by_trip.Goals as goal
 
-pub stretches_of-requires : goal.stretches_of-requires
-stretches_of-requires c =
+pub stretches_of-requires-clause-within : goal.stretches_of-requires-clause-within
+stretches_of-requires-clause-within c =
     let rows : c.items-rows.result.now ≡ c.args.feed.now.stop_times = c.items-rows.ensures.value ∙ ap (λ (f : FeedRows). f.stop_times) c.feed.view_is in
     let trips : length c.items-trips.result.now ≡ length c.args.feed.now.trips = ap length (c.items-trips.ensures.value ∙ ap (λ (f : FeedRows). f.trips) c.feed.view_is) in
     file_within c.args.feed.now c.items-rows.result.now (length c.items-trips.result.now) (subst IsSoundFeed c.feed.view_is c.feed.invariant) rows trips
+
+pub stretches_of-requires-clause-few : goal.stretches_of-requires-clause-few
+stretches_of-requires-clause-few c =
+    let rows : c.items-rows.result.now ≡ c.args.feed.now.stop_times = c.items-rows.ensures.value ∙ ap (λ (f : FeedRows). f.stop_times) c.feed.view_is in
+    file_few c.args.feed.now c.items-rows.result.now (subst IsSoundFeed c.feed.view_is c.feed.invariant) rows
 
 pub calls_of_stretches-requires-clause-few : goal.calls_of_stretches-requires-clause-few
 calls_of_stretches-requires-clause-few c =

@@ -6,10 +6,13 @@ use Rattle.feed_trips.specs.Stretches.{AreStretches}
 use Rattle.feed_trips.proofs.StretchLaws.{sorted_stretches, sorted_within, sorted_few, sorted_together}
 use Rattle.feed_trips.proofs.order.calls_of_sorted.Goals as goal
 
-pub stretches_of-requires : goal.stretches_of-requires
-stretches_of-requires c =
+pub stretches_of-requires-clause-within : goal.stretches_of-requires-clause-within
+stretches_of-requires-clause-within c =
     let trips : length c.items-trips.result.now ≡ length c.args.feed.now.trips = ap length (c.items-trips.ensures.value ∙ ap (λ (f : FeedRows). f.trips) c.feed.view_is) in
     subst (λ n. All (λ (r : StopTimeRow). r.trip.0 < n) c.args.rows.now) (sym trips) (sorted_within c.args.feed.now c.args.rows.now (subst IsSoundFeed c.feed.view_is c.feed.invariant) c.requires.moved)
+
+pub stretches_of-requires-clause-few : goal.stretches_of-requires-clause-few
+stretches_of-requires-clause-few c = sorted_few c.args.feed.now c.args.rows.now (subst IsSoundFeed c.feed.view_is c.feed.invariant) c.requires.moved
 
 pub unreachable-requires : goal.unreachable-requires
 unreachable-requires c =

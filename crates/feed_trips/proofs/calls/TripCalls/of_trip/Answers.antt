@@ -43,4 +43,5 @@ pub returns : goal.returns
 returns c =
     let lt = has_stretch _ _ _ _ c.self.view_is c.requires in
     calls_there _ _ _ _ _ c.self.view_is lt c.index-stretch.ensures
-    ∙ ap (λ cs. Some (slice_range cs c.index-stretch.result.now.from c.index-stretch.result.now.to)) (sym c.deref.ensures.value)
+    ∙ ap (λ cs. Some (slice_range cs c.index-stretch.result.now.from c.index-stretch.result.now.to))
+    (sym c.deref.ensures.value)
