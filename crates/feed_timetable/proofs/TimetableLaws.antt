@@ -55,7 +55,8 @@ trip_service feed i row sound is lt = subst (λ (r : TripRow). r.service.0 < len
 
 -- a trip runs on the days of its service
 pub trip_runs : (feed : FeedRows) (day : ℤ) (active : List Bool) (trips : List TripRow) (i : ℕ) (row : TripRow) →
-    IsSoundFeed feed → trips ≡ feed.trips → active ≡ services_on feed day → row ≡ get_or trips i row → i < length trips →
+    IsSoundFeed feed → trips ≡ feed.trips → active ≡ services_on feed day → row ≡ get_or trips i row →
+    i < length trips →
     get_or active (get_or trips i row).service.0 false ≡ runs_on feed (record { 0 = i }) day
 trip_runs feed day active trips i row sound rows all is lt =
     let row_is = is ∙ ap (λ (ts : List TripRow). get_or ts i row) rows in

@@ -225,9 +225,10 @@ lists_whole_run sought run n old new all adds =
     let last : ride.to < length (calls_of run.feed run.trip) = subst (λ t. ride.to < length (calls_of run.feed t)) (ap trip_id of.trip) calls.1 in
     (of, omega arith))
 
--- the trips are of the feed, those that are marked are among them, and of the first n stop times those at which riders may
--- board at a stop that is marked
-pub record ListsBoarded (feed : FeedRows) (sought : Seeking) (n : ℕ) (marks : List Bool) (trips : List TripId) : Type 0 where
+-- the trips are of the feed, those that are marked are among them, and of the first n stop times those at which riders
+-- may board at a stop that is marked
+pub record ListsBoarded (feed : FeedRows) (sought : Seeking) (n : ℕ) (marks : List Bool)
+    (trips : List TripId) : Type 0 where
   pub many : length marks ≡ length feed.trips
   pub listed : AreListed marks trips
   pub inside : All (λ (trip : TripId). trip.0 < length feed.trips) trips
@@ -298,7 +299,8 @@ boarded_past feed sought rows n d marks trips same lt never before = record {
 
 -- all stop times: a ride that may be caught boards at one of them
 pub boarded_all : (feed : FeedRows) (sought : Seeking) (n : ℕ) (marks : List Bool) (trips : List TripId) →
-    IsSoundFeed feed → length feed.stop_times ≤ n → ListsBoarded feed sought n marks trips → AreBoarded feed sought trips
+    IsSoundFeed feed → length feed.stop_times ≤ n → ListsBoarded feed sought n marks trips →
+    AreBoarded feed sought trips
 boarded_all feed sought n marks trips sound whole lists = record {
   inside = lists.inside;
   all = λ ride facts e. boards ride facts e;

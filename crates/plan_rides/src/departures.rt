@@ -7,7 +7,8 @@ ghost use Rattle.feed_rows.specs.Shifts.{shifts_of};
 ghost use Rattle.feed_rows.specs.declared.journeys.Ride.{Ride};
 ghost use Rattle.feed_timetable.specs.Standings.{AreShifts};
 ghost use Rattle.plan_rides.specs.Boarding.{is_boarding};
-ghost use Rattle.plan_rides.specs.Departures.{AddsTrip, AreBoarded, AreDepartures, AreListed, HasDepartures, AreInOrder, IsDeparture, Lists, facts_in_time, is_listed, ride_to};
+ghost use Rattle.plan_rides.specs.Departures.{AddsTrip, AreBoarded, AreDepartures, AreListed, HasDepartures, AreInOrder};
+ghost use Rattle.plan_rides.specs.Departures.{IsDeparture, Lists, facts_in_time, is_listed, ride_to};
 ghost use Rattle.plan_rides.specs.InTime.{deadline, IsUsualQuery, HasShift, IsOnTrip, IsOnDay, IsOnDays, first_day, day_after};
 ghost use Rattle.plan_rides.specs.Runs.{IsServed, run_of};
 ghost use Rattle.transit_base.specs.Limits.{most_time};
@@ -172,8 +173,8 @@ fn list_once(marks: &mut [bool], trips: &mut Vec<TripId>, trip: TripId) -> Resul
     Ok(())
 }
 
-// The trips that riders may board at a stop that is marked, in the order of the file. A query of one ride has few of them, and
-// looks at no other trip again, whatever the days.
+// The trips that riders may board at a stop that is marked, in the order of the file. A query of one ride has few of them,
+// and looks at no other trip again, whatever the days.
 fn boarded_trips(
     alloc: Global,
     timetable: &Timetable,

@@ -15,7 +15,8 @@ loop-row-init c =
 
 pub list_once-requires-clause-inside : goal.list_once-requires-clause-inside
 list_once-requires-clause-inside c =
-    let rows = c.items-rows.ensures.value ∙ ap (λ (f : FeedRows). f.stop_times) (c.feed.view_is ∙ c.feed-feed.ensures.value) in
+    let same = c.feed.view_is ∙ c.feed-feed.ensures.value in
+    let rows = c.items-rows.ensures.value ∙ ap (λ (f : FeedRows). f.stop_times) same in
     rw (c.deref_mut.ensures.value, c.loop-row.invariant.many)
     (row_trip _ _ _ _ c.feed-feed.ensures.sound rows c.loop-row-test.true)
 
@@ -24,19 +25,26 @@ list_once-requires-clause-listed c = rw c.deref_mut.ensures.value c.loop-row.inv
 
 pub loop-row-preserved : goal.loop-row-preserved
 loop-row-preserved c =
-    let rows = c.items-rows.ensures.value ∙ ap (λ (f : FeedRows). f.stop_times) (c.feed.view_is ∙ c.feed-feed.ensures.value) in
+    let same = c.feed.view_is ∙ c.feed-feed.ensures.value in
+    let rows = c.items-rows.ensures.value ∙ ap (λ (f : FeedRows). f.stop_times) same in
     elim c.if-is_boarding.branch [
       | then-is_boarding+in_ok-list_once w ↦
           (let done = w.in_ok-list_once.ensures in
           let ok = c.loop-row.marks.ok.0 in
           let many = done.many ∙ ap length w.deref_mut.ensures.value in
-          let back = marks_back c.loop-row.marks.items w.list_once.new.marks c.loop-row.marks.len (omega (arith, ok)) many in
-          rw (w.marks-is, w.trips-is, back) (boarded_more _ _ _ _ _ _ _ _ _ c.feed-feed.ensures.sound rows c.loop-row-test.true many done.listed done.adds c.loop-row.invariant))
+          let back =
+          marks_back c.loop-row.marks.items w.list_once.new.marks c.loop-row.marks.len (omega (arith, ok)) many in
+          rw (w.marks-is, w.trips-is, back)
+          (boarded_more _ _ _ _ _ _ _ _ _ c.feed-feed.ensures.sound rows c.loop-row-test.true many done.listed
+          done.adds c.loop-row.invariant))
       | else-is_boarding w ↦
-          rw (w.marks-is, w.trips-is) (boarded_past _ _ _ _ _ _ _ rows c.loop-row-test.true (sym w.if-is_boarding.false ∙ c.is_boarding.ensures) c.loop-row.invariant)
+          rw (w.marks-is, w.trips-is)
+          (boarded_past _ _ _ _ _ _ _ rows c.loop-row-test.true (sym w.if-is_boarding.false ∙ c.is_boarding.ensures)
+          c.loop-row.invariant)
     ]
 
 pub returns : goal.returns
 returns c =
-    let rows = ap length (c.items-rows.ensures.value ∙ ap (λ (f : FeedRows). f.stop_times) (c.feed.view_is ∙ c.feed-feed.ensures.value)) in
+    let same = c.feed.view_is ∙ c.feed-feed.ensures.value in
+    let rows = ap length (c.items-rows.ensures.value ∙ ap (λ (f : FeedRows). f.stop_times) same) in
     boarded_all _ _ _ _ _ c.feed-feed.ensures.sound (omega (arith, rows, c.loop-row-test.false)) c.loop-row.invariant

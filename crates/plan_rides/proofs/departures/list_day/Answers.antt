@@ -18,7 +18,12 @@ pub list_trip-requires-clause-served : goal.list_trip-requires-clause-served
 list_trip-requires-clause-served c =
     let inside = c.requires.trips.inside c.loop-k.k _ c.loop-k-test.true in
     let runs = c.runs_with.ensures c.args.day.0 (c.deref.ensures.value ∙ c.in_ok-active.ensures) in
-    record { inside = inside; low = c.requires.day_low; high = c.requires.day_high; runs = sym runs ∙ c.if-runs_with.true }
+    record {
+      inside = inside;
+      low = c.requires.day_low;
+      high = c.requires.day_high;
+      runs = sym runs ∙ c.if-runs_with.true;
+    }
 
 pub returns : goal.returns
 returns c = lists_whole_day _ _ _ _ _ _ _ c.requires.trips (omega arith) c.loop-k.invariant
@@ -27,8 +32,12 @@ pub loop-k-preserved : goal.loop-k-preserved
 loop-k-preserved c =
     let runs = c.runs_with.ensures c.args.day.0 (c.deref.ensures.value ∙ c.in_ok-active.ensures) in
     elim c.if-runs_with.branch [
-      | then-runs_with+in_ok-list_trip w ↦ rw w.listed-is (lists_trip _ _ _ _ _ _ _ _ _ c.loop-k-test.true c.loop-k.invariant w.in_ok-list_trip.ensures)
-      | else-runs_with w ↦ rw w.listed-is (lists_trip _ _ _ _ _ _ _ _ _ c.loop-k-test.true c.loop-k.invariant (lists_no_trip _ _ _ _ _ (sym w.if-runs_with.false ∙ runs)))
+      | then-runs_with+in_ok-list_trip w ↦
+          rw w.listed-is
+          (lists_trip _ _ _ _ _ _ _ _ _ c.loop-k-test.true c.loop-k.invariant w.in_ok-list_trip.ensures)
+      | else-runs_with w ↦
+          (let none = lists_no_trip _ _ _ _ _ (sym w.if-runs_with.false ∙ runs) in
+          rw w.listed-is (lists_trip _ _ _ _ _ _ _ _ _ c.loop-k-test.true c.loop-k.invariant none))
     ]
 
 pub loop-k-init : goal.loop-k-init
