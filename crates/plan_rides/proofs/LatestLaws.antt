@@ -1,10 +1,10 @@
 -- How late one may be where one more ride is taken first.
-use Rattle.std.proofs.Common.{◌≡◌, refl, sym, ◌∙◌, ap, subst, ℕ, ◌+◌, ◌-◌, ◌<◌, ◌≤◌, ◌⊎◌, inl, inr, ⊎_elim, Bool, true, false, List, [], ◌∷◌, ◌++◌, length, get_or, arith, ℤ, pos, ◌+ℤ◌, ◌≤ℤ◌, ◌<ℤ◌}
+use Rattle.std.proofs.Common.{◌≡◌, refl, sym, ◌∙◌, ap, subst, ℕ, ◌+◌, ◌-◌, ◌<◌, ◌≤◌, ◌⊎◌, ⊎_elim, true, false, List, [], ◌∷◌, ◌++◌, length, get_or, arith, ℤ, pos, ◌+ℤ◌, ◌≤ℤ◌, ◌<ℤ◌}
 use Rattle.std.specs.Prelude.{◌&&◌, if◌then◌else◌, Option, Some, None, slice_get, unwrap_or, Contains, int_le}
 use Rattle.std.proofs.lemmas.Int.{ints}
-use Rattle.std.proofs.lemmas.Bool.{cases_lt, both_ways}
+use Rattle.std.proofs.lemmas.Bool.{cases_lt}
 use Rattle.std.proofs.lemmas.List.{get_or_default}
-use Rattle.std.proofs.lemmas.Option.{same_Some, none-some, slice_get_within, slice_get_past, slice_get-get_or}
+use Rattle.std.proofs.lemmas.Option.{same_Some, slice_get_past, slice_get-get_or}
 use Rattle.transit_base.specs.Moments.{moment_at}
 use Rattle.transit_base.specs.declared.moments.Moment.{Moment}
 use Rattle.transit_base.specs.declared.numbers.StopId.{StopId}
@@ -14,10 +14,9 @@ use Rattle.feed_rows.specs.declared.journeys.Ride.{Ride}
 use Rattle.feed_rows.specs.declared.journeys.RideFacts.{RideFacts}
 use Rattle.feed_rows.specs.FeedRows.{FeedRows}
 use Rattle.feed_rows.specs.SoundFeed.{IsSoundFeed}
-use Rattle.feed_rows.specs.Calls.{calls_of}
 use Rattle.feed_rows.specs.StopLinks.{link}
 use Rattle.feed_rows.specs.Journeys.{access}
-use Rattle.feed_rows.specs.JourneyStands.{Stand, stand_at_end, way_to}
+use Rattle.feed_rows.specs.JourneyStands.{Stand}
 use Rattle.feed_walks.specs.OutOf.{out_of}
 use Rattle.feed_walks.specs.declared.steps.Step.{Step}
 use Rattle.plain_laws.specs.Plain.{when}

@@ -1,15 +1,13 @@
 //! The departures of a query's window, listed once by platform.
-ghost use Rattle.std.specs.Prelude.{◌≡◌, ◌<◌, ◌≤◌, ◌+◌, ◌-◌, ◌^◌, ◌≤ℤ◌, ◌<ℤ◌, ◌+ℤ◌, pos, negsuc, length, All, IfOk, OnOk, slice_get, slice_index_or, true, false};
+ghost use Rattle.std.specs.Prelude.{◌≡◌, ◌<◌, ◌≤◌, ◌+◌, ◌-◌, ◌≤ℤ◌, pos, negsuc, length, IfOk, OnOk, slice_index_or, true, false};
 ghost use Rattle.std.specs.List.Sorted.{IsPermutation};
-ghost use Rattle.feed_rows.specs.Calls.{calls_of};
-ghost use Rattle.feed_rows.specs.Rides.{runs_on};
 ghost use Rattle.feed_rows.specs.Shifts.{shifts_of};
 ghost use Rattle.feed_rows.specs.declared.journeys.Ride.{Ride};
 ghost use Rattle.feed_timetable.specs.Standings.{AreShifts};
 ghost use Rattle.plan_rides.specs.Boarding.{is_boarding};
 ghost use Rattle.plan_rides.specs.Departures.{AddsTrip, AreBoarded, AreDepartures, AreListed, HasDepartures, AreInOrder};
 ghost use Rattle.plan_rides.specs.Departures.{IsDeparture, Lists, facts_in_time, is_listed, ride_to};
-ghost use Rattle.plan_rides.specs.InTime.{deadline, IsUsualQuery, HasShift, IsOnTrip, IsOnDay, IsOnDays, first_day, day_after};
+ghost use Rattle.plan_rides.specs.InTime.{deadline, IsUsualQuery, IsOnTrip, first_day, day_after};
 ghost use Rattle.plan_rides.specs.Runs.{IsServed, run_of};
 ghost use Rattle.transit_base.specs.Limits.{most_time};
 

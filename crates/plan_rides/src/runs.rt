@@ -4,7 +4,7 @@ ghost use Rattle.feed_rows.specs.Calls.{calls_of};
 ghost use Rattle.feed_rows.specs.SoundFeed.{IsSoundFeed};
 ghost use Rattle.feed_rows.specs.declared.journeys.Call.{Call};
 ghost use Rattle.plan_rides.specs.Departures.{Lists, departure_from};
-ghost use Rattle.plan_rides.specs.InTime.{IsUsualQuery, IsAt, IsBefore, IsOfRun};
+ghost use Rattle.plan_rides.specs.InTime.{IsUsualQuery, IsAt, IsOfRun};
 ghost use Rattle.plan_rides.specs.Runs.{run_of, IsRun};
 ghost use Rattle.transit_base.specs.Limits.{most_time};
 ghost use Rattle.transit_base.specs.Moments.{moment_at};

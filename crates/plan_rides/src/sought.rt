@@ -4,7 +4,6 @@ ghost use Rattle.feed_rows.specs.JourneyStands.{first_stand};
 ghost use Rattle.feed_rows.specs.Journeys.{stands_for};
 ghost use Rattle.feed_rows.specs.declared.journeys.Query.{Query};
 ghost use Rattle.plan_rides.specs.Boarding.{AddsMarks, AreMarks, MarksFirsts, MarksFrom, is_marked, seeking};
-ghost use Rattle.plan_rides.specs.InTime.{IsUsualQuery};
 ghost use Rattle.transit_base.specs.declared.numbers.StopId.{StopId};
 
 use feed_rows::Query;

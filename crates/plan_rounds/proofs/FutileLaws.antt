@@ -5,11 +5,9 @@ use Rattle.std.proofs.lemmas.Int.{ints}
 use Rattle.std.proofs.lemmas.Bool.{both_ways, cases_lt, and_parts, false_from_ne_true, ne_eqb}
 use Rattle.std.proofs.lemmas.List.Folds.{list_any-from_Any}
 use Rattle.std.proofs.lemmas.Option.{same_Some, slice_get_within}
-use Rattle.feed_rows.specs.declared.journeys.Query.{Query}
 use Rattle.feed_rows.specs.declared.journeys.RideFacts.{RideFacts}
 use Rattle.feed_rows.specs.declared.states.Move.{Move}
 use Rattle.feed_rows.specs.FareFloor.{is_outdone}
-use Rattle.feed_rows.specs.FeedRows.{FeedRows}
 use Rattle.feed_rows.specs.LabelCover.{Covers}
 use Rattle.feed_rows.specs.ParetoTriples.{at_most}
 use Rattle.feed_rows.specs.PartialJourneys.{LabelFacts}
@@ -18,7 +16,7 @@ use Rattle.feed_laws.proofs.ParetoLaws.{at_most-refl}
 use Rattle.plain_laws.proofs.Laws.{list_any_tells, int_le-true, slice_get-Contains}
 use Rattle.plan_rides.specs.InTime.{IsRight}
 use Rattle.plan_rides.specs.declared.caught.CaughtRide.{CaughtRide}
-use Rattle.round_laws.specs.Futility.{IsFutile, is_within, least_end}
+use Rattle.round_laws.specs.Futility.{is_within, least_end}
 use Rattle.round_laws.specs.LabelSteps.{facts_after, IsStated}
 use Rattle.round_laws.proofs.BoundLaws.{ahead_of_ride}
 use Rattle.round_laws.proofs.OutdoneLaws.{ahead_of_outdone, ahead_lacks, lack_below}
@@ -27,7 +25,7 @@ use Rattle.plan_rounds.specs.declared.label.Label.{Label}
 use Rattle.plan_rounds.specs.Finals.{HasEnds, is_bettered}
 use Rattle.plan_rounds.specs.Labels.{facts_of, stand_of_label}
 use Rattle.plan_rounds.specs.Searched.{Searched, Lacks, has_ahead, is_overtaken_by}
-use Rattle.plan_rounds.specs.Stores.{IsHeldBelow, IsPrunedBy, StepsBy, StepsTo}
+use Rattle.plan_rounds.specs.Stores.{IsHeldBelow, IsPrunedBy, StepsBy}
 use Rattle.plan_rounds.specs.declared.search.Source.{Source}
 use Rattle.plan_rounds.specs.Moves.{betters, HasBetter}
 use Rattle.plan_rounds.specs.CoverLaws.{same_parts-equal}

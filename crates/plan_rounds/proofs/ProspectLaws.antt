@@ -1,6 +1,6 @@
 -- How late rides may arrive at stops, for a journey to end by a few more.
-use Rattle.std.proofs.Common.{◌≡◌, refl, sym, ◌∙◌, ap, subst, ℕ, zero, suc, ◌+◌, ◌<◌, ◌≤◌, ◌⊎◌, inl, inr, ⊎_elim, Bool, true, false, List, [], ◌∷◌, ◌++◌, length, arith, ℤ, pos, ◌+ℤ◌, ◌≤ℤ◌}
-use Rattle.std.specs.Prelude.{◌==◌, Option, Some, None, slice_get, unwrap_or, option_map, int_le}
+use Rattle.std.proofs.Common.{◌≡◌, refl, sym, ◌∙◌, ap, subst, ℕ, zero, suc, ◌+◌, ◌<◌, ◌≤◌, ◌⊎◌, inl, inr, ⊎_elim, true, false, List, [], ◌∷◌, ◌++◌, length, arith, ℤ, pos, ◌+ℤ◌}
+use Rattle.std.specs.Prelude.{◌==◌, Option, Some, None, slice_get, unwrap_or, option_map}
 use Rattle.std.specs.Option.{is_some}
 use Rattle.std.proofs.lemmas.Bool.{both_ways, cases_lt, ne_eqb}
 use Rattle.std.proofs.lemmas.Int.{ints}
@@ -12,9 +12,8 @@ use Rattle.feed_rows.specs.declared.fares.Triple.{Triple}
 use Rattle.feed_rows.specs.declared.journeys.Query.{Query}
 use Rattle.feed_rows.specs.declared.journeys.Ride.{Ride}
 use Rattle.feed_rows.specs.declared.journeys.RideFacts.{RideFacts}
-use Rattle.feed_rows.specs.declared.states.Move.{Move}
 use Rattle.feed_rows.specs.FeedRows.{FeedRows}
-use Rattle.feed_rows.specs.JourneyStands.{Stand, end_arrival, next_stand, stand_at_end, way_out}
+use Rattle.feed_rows.specs.JourneyStands.{end_arrival, next_stand, stand_at_end, way_out}
 use Rattle.feed_rows.specs.PartialJourneys.{LabelFacts}
 use Rattle.feed_rows.specs.SoundFeed.{IsSoundFeed}
 use Rattle.plain_laws.proofs.Laws.{le-int_le, none_map, slice_get-push_before, slice_get-push_last}
@@ -22,7 +21,7 @@ use Rattle.plan_rides.specs.InTime.{IsDeadline, IsWithinWindow, is_by, is_by_any
 use Rattle.plan_rides.specs.Latest.{IsOneMore}
 use Rattle.plan_rides.proofs.CaughtLaws.{caught_within}
 use Rattle.round_laws.specs.Futility.{IsFutile, LeadsBy}
-use Rattle.round_laws.specs.LabelSteps.{IsCaughtRide, IsLabelStep, facts_after, stand_of_facts}
+use Rattle.round_laws.specs.LabelSteps.{IsCaughtRide, stand_of_facts}
 use Rattle.plan_rounds.specs.Finals.{is_bettered}
 use Rattle.plan_rounds.specs.Prospects.{IsEndless, IsNoEnd, IsEndBy, AreEnds, AreLatest, AreProspects}
 use Rattle.plan_rounds.specs.Stores.{StepsTo}

@@ -1,9 +1,8 @@
 -- The rides that are caught from a label, and the labels that they lead to.
 use Rattle.std.proofs.Common.{◌≡◌, refl, sym, ◌∙◌, ap, subst, ℕ, ◌+◌, ◌<◌, ◌≤◌, ◌⊎◌, inl, inr, ⊎_elim, Bool, true, false, List, [], length, arith}
-use Rattle.std.specs.Prelude.{IsTrue, Result, OnOk, Option, Some, None, slice_get, unwrap_or, option_map}
+use Rattle.std.specs.Prelude.{IsTrue, Option, Some, slice_get, unwrap_or, option_map}
 use Rattle.std.proofs.lemmas.Bool.{both_ways, cases_lt}
 use Rattle.std.proofs.lemmas.Int.{ints}
-use Rattle.std.proofs.lemmas.Result.{on_ok_weaker}
 use Rattle.std.proofs.lemmas.Option.{same_Some, slice_get-map, slice_get_within}
 use Rattle.transit_base.specs.declared.moments.Moment.{Moment}
 use Rattle.transit_base.specs.declared.numbers.StopId.{StopId}
@@ -16,7 +15,7 @@ use Rattle.feed_rows.specs.declared.states.Move.{Move}
 use Rattle.feed_rows.specs.FareSteps.{move_after}
 use Rattle.feed_rows.specs.FeedRows.{FeedRows}
 use Rattle.feed_rows.specs.Journeys.{is_caught}
-use Rattle.feed_rows.specs.JourneyStands.{stand_at_end, way_to, next_stand}
+use Rattle.feed_rows.specs.JourneyStands.{stand_at_end, way_to}
 use Rattle.feed_rows.specs.Legs.{leg_facts}
 use Rattle.feed_rows.specs.PartialJourneys.{LabelFacts}
 use Rattle.feed_rows.specs.SoundFeed.{IsSoundFeed}
@@ -31,7 +30,7 @@ use Rattle.feed_rows.specs.StopLinks.{stop_set}
 use Rattle.plan_rides.proofs.DepartureLaws.{ride_end}
 use Rattle.plan_rides.proofs.MarkLaws.{member_of_stands_for}
 use Rattle.plan_rides.proofs.CaughtLaws.{caught_ride, caught_within}
-use Rattle.round_laws.specs.LabelSteps.{IsCaughtRide, IsLabelStep, facts_after, stand_of_facts, start_facts}
+use Rattle.round_laws.specs.LabelSteps.{IsCaughtRide, IsLabelStep, facts_after, start_facts}
 use Rattle.plan_rounds.specs.declared.label.Label.{Label}
 use Rattle.plan_rounds.specs.declared.search.Source.{Source}
 use Rattle.plan_rounds.specs.Labels.{IsBounded, facts_of, label_of, stand_of_label, started, went_on}

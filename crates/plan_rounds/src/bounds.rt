@@ -1,13 +1,8 @@
 //! What a search needn't look at, since whatever it leads to is found already.
-ghost use Rattle.std.specs.Prelude.{◌≡◌, ◌||◌, ◌+◌, ◌<◌, ◌≤◌, true, false, None, IsTrue, pos, ◌*ℤ◌, ◌*◌, ◌^◌, nat_abs};
-ghost use Rattle.std.specs.List.{list_any};
-ghost use Rattle.feed_rows.specs.Codes.{change_alone};
+ghost use Rattle.std.specs.Prelude.{◌≡◌, ◌||◌, ◌+◌, ◌<◌, ◌≤◌, true, pos, ◌*ℤ◌, ◌*◌, ◌^◌, nat_abs};
 ghost use Rattle.feed_rows.specs.FareFloor.{fare_floor};
-ghost use Rattle.feed_rows.specs.JourneyStands.{stand_at_end};
-ghost use Rattle.feed_rows.specs.Journeys.{stands_for};
 ghost use Rattle.feed_rows.specs.PartialJourneys.{LabelFacts};
-ghost use Rattle.plan_rides.specs.Asked.{arrival_in_time};
-ghost use Rattle.plan_rides.specs.InTime.{IsRight, IsWithinWindow};
+ghost use Rattle.plan_rides.specs.InTime.{IsRight};
 ghost use Rattle.round_laws.specs.Futility.{is_within, least_end, least_price, some_takes_back};
 ghost use Rattle.plan_rounds.specs.Labels.{facts_of, stand_of_label};
 ghost use Rattle.plan_rounds.specs.Searched.{Lacks, has_ahead, is_overtaken_by};

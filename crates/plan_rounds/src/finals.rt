@@ -1,5 +1,5 @@
 //! What the labels of a search end in.
-ghost use Rattle.std.specs.Prelude.{◌≡◌, ◌<◌, ◌^◌, [], length, IsTrue, OnOk};
+ghost use Rattle.std.specs.Prelude.{◌<◌, ◌^◌, [], length, IsTrue, OnOk};
 ghost use Rattle.feed_rows.specs.Journeys.{stands_for};
 ghost use Rattle.feed_rows.specs.declared.fares.Triple.{Triple};
 ghost use Rattle.plan_rounds.specs.Finals.{AddsEnds, EndsBelow, EndsIn, is_bettered};

@@ -1,5 +1,5 @@
 //! What a search by rounds keeps of a partial journey.
-ghost use Rattle.std.specs.Prelude.{◌≡◌, ◌+◌, ◌+ℤ◌, ◌<◌, ◌≤◌, ◌^◌, Some, pos, nat_abs};
+ghost use Rattle.std.specs.Prelude.{◌≡◌, ◌+◌, ◌+ℤ◌, ◌<◌, ◌≤◌, ◌^◌, Some, nat_abs};
 ghost use Rattle.feed_timetable.specs.Standings.{stand_of};
 ghost use Rattle.plan_rounds.specs.Labels.{IsBounded, IsSmall, costs_no_more, covers, is_no_later, same_flag, same_group, same_moment, same_parts, same_state, stand_of_label, started, went_on};
 

@@ -1,4 +1,4 @@
-use Rattle.std.proofs.Common.{◌≤ℤ◌, ◌<ℤ◌, ◌+ℤ◌, ◌-ℤ◌, pos, arith}
+use Rattle.std.proofs.Common.{◌<ℤ◌, ◌+ℤ◌, pos, arith}
 use Rattle.std.proofs.lemmas.Int.{ints}
 use Rattle.plan_rides.proofs.LatestLaws.{by_none, by_walk, by_no_walk}
 use Rattle.plan_rides.proofs.latest.before_walk.Goals as goal

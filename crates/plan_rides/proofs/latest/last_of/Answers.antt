@@ -1,4 +1,4 @@
-use Rattle.std.proofs.Common.{◌≤◌, subst, sym, arith}
+use Rattle.std.proofs.Common.{subst, sym, arith}
 use Rattle.std.proofs.lemmas.Bool.{both_ways}
 use Rattle.plan_rides.specs.Latest.{LeadsOn}
 use Rattle.plan_rides.proofs.LatestLaws.{last_leads, none_more}
