@@ -1,8 +1,9 @@
 -- How late one may be where one more ride is taken first.
 use Rattle.std.proofs.Common.{◌≡◌, refl, sym, ◌∙◌, ap, subst, ℕ, ◌+◌, ◌-◌, ◌<◌, ◌≤◌, ◌⊎◌, ⊎_elim, true, false, List, [], ◌∷◌, ◌++◌, length, get_or, arith, ℤ, pos, ◌+ℤ◌, ◌≤ℤ◌, ◌<ℤ◌}
-use Rattle.std.specs.Prelude.{◌&&◌, if◌then◌else◌, Option, Some, None, slice_get, unwrap_or, Contains, int_le}
+use Rattle.std.specs.Prelude.{◌&&◌, if◌then◌else◌, Option, Some, None, slice_get, unwrap_or, All, Contains, int_le}
+use Rattle.std.specs.List.Sorted.{IsPartitionedBy}
 use Rattle.std.proofs.lemmas.Int.{ints}
-use Rattle.std.proofs.lemmas.Bool.{cases_lt}
+use Rattle.std.proofs.lemmas.Bool.{both_ways, cases_lt}
 use Rattle.std.proofs.lemmas.List.{get_or_default}
 use Rattle.std.proofs.lemmas.Option.{same_Some, slice_get_past, slice_get-get_or}
 use Rattle.transit_base.specs.Moments.{moment_at}
@@ -13,6 +14,7 @@ use Rattle.feed_rows.specs.declared.journeys.Query.{Query}
 use Rattle.feed_rows.specs.declared.journeys.Ride.{Ride}
 use Rattle.feed_rows.specs.declared.journeys.RideFacts.{RideFacts}
 use Rattle.feed_rows.specs.FeedRows.{FeedRows}
+use Rattle.feed_rows.specs.Rides.{ride_facts}
 use Rattle.feed_rows.specs.SoundFeed.{IsSoundFeed}
 use Rattle.feed_rows.specs.StopLinks.{link}
 use Rattle.feed_rows.specs.Journeys.{access}
@@ -22,12 +24,13 @@ use Rattle.feed_walks.specs.declared.steps.Step.{Step}
 use Rattle.plain_laws.specs.Plain.{when}
 use Rattle.plain_laws.proofs.Laws.{int_le-true, le-int_le, slice_get-push_before, slice_get-push_last}
 use Rattle.feed_laws.proofs.RideLaws.{ride_facts_tells}
+use Rattle.plan_rides.specs.declared.caught.CaughtRide.{CaughtRide}
 use Rattle.plan_rides.specs.declared.departures.Departure.{Departure}
-use Rattle.plan_rides.specs.Boarding.{Seeking, AreMarks, MayBoard}
-use Rattle.plan_rides.specs.Departures.{AreDepartures, departure_with, departures_at, DoRise, facts_in_time, facts_to}
-use Rattle.plan_rides.specs.InTime.{deadline, next_in_time, IsWithinWindow, is_by, is_by_any, is_early}
-use Rattle.plan_rides.specs.Latest.{latest_at, gets_early, LeadsOn, AreLastOnes, HasEarlyWalks, IsLatestBefore, AreLatestBefore, AreAllBefore, IsOneMore}
-use Rattle.plan_rides.proofs.CaughtLaws.{IsCaughtRide, caught_ride, caught_spanned, in_walks}
+use Rattle.plan_rides.specs.Boarding.{Seeking, AreMarks}
+use Rattle.plan_rides.specs.Departures.{AreDepartures, departure_with, departures_at, DoRise, IsByAmong, IsFirstLate, IsFromStop, facts_in_time, facts_to}
+use Rattle.plan_rides.specs.InTime.{AddsCaught, AreLastDepartures, deadline, next_in_time, IsWithinWindow, is_by, is_by_any, is_early}
+use Rattle.plan_rides.specs.Latest.{latest_at, gets_early, LeadsOn, AreLastOnes, HasEarlyWalks, IsLatestBefore, AreLatestBefore, AreAllBefore, AreAllLast, AreLasts, IsOneMore}
+use Rattle.plan_rides.proofs.CaughtLaws.{IsCaughtRide, caught_ride, in_walks}
 use Rattle.plan_rides.proofs.DepartureLaws.{ride_stop}
 
 -- whoever is earlier is early enough too
@@ -102,23 +105,20 @@ facts_again feed ride facts call stops arrives =
     ∙ ap (λ (z : ℤ). record { from = facts.from; to = facts.to; network = facts.network; departure = facts.departure; arrival = record { 0 = z } }) arrives
 
 -- the departure of a ride that gets somewhere early enough leads on
-pub leads_by : (feed : FeedRows) (query : Query) (latest : List (Option Moment)) (stand : Stand) (ride : Ride) (next : Stand)
-    (c : IsCaughtRide feed query stand ride next) → is_early latest next.stop.0 next.at ≡ true →
-    LeadsOn feed query latest (departure_with ride c.facts)
+leads_by : (feed : FeedRows) (query : Query) (latest : List (Option Moment)) (ride : Ride) (facts : RideFacts) →
+    ride_facts feed ride ≡ Some facts → facts.arrival.0 ≤ℤ deadline query → is_early latest facts.to.0 facts.arrival.0 ≡ true →
+    LeadsOn feed query latest (departure_with ride facts)
 unfolding facts_in_time
-leads_by feed query latest stand ride next c early =
-    let r = ride_facts_tells feed ride c.facts c.is in
-    let stops : r.alighting.stop ≡ c.facts.to = ap (λ (f : RideFacts). f.to) r.facts_are in
-    let arrives : moment_at ride.day.0 (ride.shift +ℤ pos r.alighting.arrival) ≡ c.facts.arrival.0 = ap (λ (f : RideFacts). f.arrival.0) r.facts_are in
-    let same = facts_again feed ride c.facts r.alighting stops arrives in
-    let until : c.facts.arrival.0 ≤ℤ deadline query = subst (λ (s : Stand). s.at ≤ℤ deadline query) (sym c.ends) c.in_time in
-    let there : is_early latest c.facts.to.0 c.facts.arrival.0 ≡ true =
-    subst (λ (s : Stand). is_early latest s.stop.0 s.at ≡ true) (sym c.ends) early in
-    (ride.to, r.forward, r.alighting, r.alights, ap (gets_early latest) (goes r.alighting same r.drop_off until) ∙ there)
+leads_by feed query latest ride facts is until early =
+    let r = ride_facts_tells feed ride facts is in
+    let stops : r.alighting.stop ≡ facts.to = ap (λ (f : RideFacts). f.to) r.facts_are in
+    let arrives : moment_at ride.day.0 (ride.shift +ℤ pos r.alighting.arrival) ≡ facts.arrival.0 = ap (λ (f : RideFacts). f.arrival.0) r.facts_are in
+    let same = facts_again feed ride facts r.alighting stops arrives in
+    (ride.to, r.forward, r.alighting, r.alights, ap (gets_early latest) (goes r.alighting same r.drop_off) ∙ early)
   where
-    goes : (call : Call) → facts_to (departure_with ride c.facts) call ≡ c.facts → call.drop_off ≡ true → c.facts.arrival.0 ≤ℤ deadline query →
-        facts_in_time query (departure_with ride c.facts) call ≡ Some c.facts
-    goes call same off until =
+    goes : (call : Call) → facts_to (departure_with ride facts) call ≡ facts → call.drop_off ≡ true →
+        facts_in_time query (departure_with ride facts) call ≡ Some facts
+    goes call same off =
         ap (λ (f : RideFacts). when (call.drop_off && int_le f.arrival.0 (deadline query)) f) same ∙ rw (off, le-int_le _ _ until) refl
 
 -- the last of the departures that leads on departs no earlier than any that does
@@ -205,20 +205,43 @@ walks_more query lasts walks k x latest new lt still one before i step at below 
 
 -- ---- one more ride
 
-module _ (feed : FeedRows) (sought : Seeking) (latest : List (Option Moment)) (departures : List (List Departure))
-    (lasts new : List (Option Moment)) (sound : IsSoundFeed feed) (marks : AreMarks feed sought) (more : 1 < sought.query.rides)
-    (are : AreDepartures feed sought departures)
-    (last : AreLastOnes feed sought.query latest departures (length departures) lasts)
-    (before : AreAllBefore feed sought.query latest lasts new) where
+-- no ride that gets somewhere early enough departs after the last that leads on
+pub last_departures : (feed : FeedRows) (sought : Seeking) (latest : List (Option Moment)) (departures : List (List Departure))
+    (lasts : List (Option Moment)) → AreMarks feed sought → 1 < sought.query.rides → AreDepartures feed sought departures →
+    AreAllLast feed sought.query latest departures lasts → AreLasts feed sought.query latest lasts
+last_departures feed sought latest departures lasts marks more are last = record {
+  many = last.many;
+  all = λ ride facts is since until early. ⊎_elim
+      (λ lt. early_at lasts facts.from.0 facts.departure.0 lt
+      ∙ last.all facts.from.0 (departure_with ride facts) (subst (λ n. facts.from.0 < n) last.many lt)
+      (are.all ride facts (record { some = omega (arith, more); is = is; boards = marks.all more facts.from.0; since = since; until = until }))
+      (leads_by feed sought.query latest ride facts is until early))
+      (λ past. early_past lasts facts.from.0 facts.departure.0 past)
+      (cases_lt facts.from.0 (length lasts));
+}
+
+-- any moment is early enough where no list says, and no ride is too late then
+pub no_lasts : (feed : FeedRows) (query : Query) → AreLastDepartures feed query [] []
+no_lasts feed query ride facts is since until early = early_past [] facts.from.0 facts.departure.0 (omega arith)
+
+-- since when a ride that is caught departs, until when it arrives, and that it gets there early enough
+caught_parts : (feed : FeedRows) (query : Query) (latest : List (Option Moment)) (stand : Stand) (ride : Ride) (next : Stand) →
+    IsWithinWindow query stand.at → is_early latest next.stop.0 next.at ≡ true → (c : IsCaughtRide feed query stand ride next) →
+    (query.departure.0 ≤ℤ c.facts.departure.0) × (c.facts.arrival.0 ≤ℤ deadline query)
+    × (is_early latest c.facts.to.0 c.facts.arrival.0 ≡ true)
+caught_parts feed query latest stand ride next within early c = (
+  onward query.departure.0 stand.at c.facts.departure.0 c.way within.since c.catches,
+  subst (λ (s : Stand). s.at ≤ℤ deadline query) (sym c.ends) c.in_time,
+  subst (λ (s : Stand). is_early latest s.stop.0 s.at ≡ true) (sym c.ends) early,
+)
+  where
+    onward : (from at departs : ℤ) (way : ℕ) → from ≤ℤ at → (at +ℤ pos way) ≤ℤ departs → from ≤ℤ departs
+    onward from at departs way a b = omega (arith, ints)
+
+module _ (feed : FeedRows) (query : Query) (latest lasts new : List (Option Moment)) (sound : IsSoundFeed feed)
+    (last : AreLasts feed query latest lasts) (before : AreAllBefore feed query latest lasts new) where
   abbrev as_many : length new ≡ length latest
   as_many = before.many
-
-  -- the departures from a stop that has one are within the list
-  has_stop : (stop : ℕ) (d : Departure) → Contains (departures_at departures stop) d → stop < length departures
-  has_stop stop d has = ⊎_elim (λ lt. lt)
-      (λ past. let none = subst (λ o. Contains (unwrap_or o []) d) (slice_get_past departures stop past) has in
-      let below = none.1 in absurd (omega (arith, below)))
-      (cases_lt stop (length departures))
 
   still : (stop : ℕ) (at : ℤ) → is_early latest stop at ≡ true → is_early new stop at ≡ true
   still stop at early = ⊎_elim
@@ -227,30 +250,26 @@ module _ (feed : FeedRows) (sought : Seeking) (latest : List (Option Moment)) (d
       (λ past. early_past new stop at (subst (λ n. n ≤ stop) (sym as_many) past))
       (cases_lt stop (length latest))
 
-  rides : (stand : Stand) (ride : Ride) (next : Stand) → stand.fresh ≡ false → IsWithinWindow sought.query stand.at →
-      next_in_time feed sought.query stand ride ≡ Some next → is_early latest next.stop.0 next.at ≡ true →
+  rides : (stand : Stand) (ride : Ride) (next : Stand) → stand.fresh ≡ false → IsWithinWindow query stand.at →
+      next_in_time feed query stand ride ≡ Some next → is_early latest next.stop.0 next.at ≡ true →
       is_early new stand.stop.0 stand.at ≡ true
   rides stand ride next gone within e early = ⊎_elim here (λ past. early_past new stand.stop.0 stand.at (subst (λ n. n ≤ stand.stop.0) (sym as_many) past))
       (cases_lt stand.stop.0 (length latest))
     where
-      c : IsCaughtRide feed sought.query stand ride next
-      c = caught_ride feed sought.query stand ride next e
+      c : IsCaughtRide feed query stand ride next
+      c = caught_ride feed query stand ride next e
+
+      from : c.facts.from.0 < length lasts
+      from = subst (λ n. c.facts.from.0 < n) (sym last.many) (ride_stop feed ride c.facts sound c.is)
 
       linked : link feed stand.stop c.facts.from ≡ Some c.way
-      linked = subst (λ b. (if b then access feed sought.query stand.stop c.facts.from else link feed stand.stop c.facts.from) ≡ Some c.way) gone c.way_is
-
-      board : MayBoard feed sought stand
-      board = record { some = omega (arith, more); marked = λ stop way is. marks.all more stop.0 }
-
-      d : Departure
-      d = departure_with ride c.facts
-
-      has : Contains (departures_at departures c.facts.from.0) d
-      has = are.all ride c.facts (caught_spanned feed sought stand ride next within board c)
+      linked = subst (λ b. (if b then access feed query stand.stop c.facts.from else link feed stand.stop c.facts.from) ≡ Some c.way) gone c.way_is
 
       by_last : is_by (latest_at lasts c.facts.from.0) (stand.at +ℤ pos c.way) ≡ true
-      by_last = by_earlier (latest_at lasts c.facts.from.0) (stand.at +ℤ pos c.way) c.facts.departure.0 c.catches
-          (last c.facts.from.0 d (has_stop c.facts.from.0 d has) has (leads_by feed sought.query latest stand ride next c early))
+      by_last =
+          let parts = caught_parts feed query latest stand ride next within early c in
+          by_earlier (latest_at lasts c.facts.from.0) (stand.at +ℤ pos c.way) c.facts.departure.0 c.catches
+          (sym (early_at lasts c.facts.from.0 c.facts.departure.0 from) ∙ last.all ride c.facts c.is parts.0 parts.1 parts.2)
 
       step : Step
       step = record { to = c.facts.from; seconds = record { 0 = c.way } }
@@ -264,5 +283,48 @@ module _ (feed : FeedRows) (sought : Seeking) (latest : List (Option Moment)) (d
           early_at new stand.stop.0 stand.at (subst (λ n. stand.stop.0 < n) (sym as_many) lt)
           ∙ (before.all stand.stop.0 lt).walks walk.0 step stand.at walk.1 is within.since by_last
 
-  pub one_more : IsOneMore feed sought.query latest new
+  pub one_more : IsOneMore feed query latest new
   one_more = record { many = as_many; still = still; rides = rides }
+
+-- ---- departures that are too late
+
+-- departures that stand in the order of their moments are parted by what is early enough
+pub parted_early : (departures : List Departure) (lasts : List (Option Moment)) (stop : ℕ) → DoRise departures →
+    IsPartitionedBy (λ (d : Departure). is_early lasts stop d.at.0) departures
+unfolding is_by_any
+parted_early departures lasts stop rises i j d le lt after = ⊎_elim
+    (λ (earlier : i < j). earlier_any (slice_get lasts stop) (get_or departures i d).at.0 (get_or departures j d).at.0 (rises i j d earlier lt) after)
+    (λ (later : j ≤ i). let same : j ≡ i = omega (arith, le, later) in subst (λ k. is_early lasts stop (get_or departures k d).at.0 ≡ true) same after)
+    (cases_lt i j)
+  where
+    earlier_any : (o : Option (Option Moment)) (x y : ℤ) → x ≤ℤ y → is_by_any o y ≡ true → is_by_any o x ≡ true
+    earlier_any None x y le is = refl
+    earlier_any (Some latest) x y le is = by_earlier latest x y le is
+
+-- where the departures from one on are too late, those before it are all that get somewhere
+pub adds_until : (feed : FeedRows) (query : Query) (latest lasts : List (Option Moment)) (stand : Stand) (stop : StopId)
+    (departures : List Departure) (n k : ℕ) (old new : List CaughtRide) → IsWithinWindow query stand.at →
+    AreLastDepartures feed query latest lasts → All (IsFromStop feed stop.0) departures → IsFirstLate departures lasts stop.0 n → n ≤ k →
+    AddsCaught feed query latest stand (IsByAmong feed departures k) old new →
+    AddsCaught feed query latest stand (IsByAmong feed departures (length departures)) old new
+adds_until feed query latest lasts stand stop departures n k old new within last right first past adds = record {
+  still = adds.still;
+  all = λ ride next e wanted among. ⊎_elim
+      (λ lt. adds.all ride next e wanted (among.0, lt, among.2, among.3, among.4))
+      (λ le.
+      let c = caught_ride feed query stand ride next e in
+      let d = among.2 in
+      let is : get_or departures among.0 d ≡ d = same_Some _ _ (sym (slice_get-get_or departures among.0 d among.1) ∙ among.3) in
+      let same : departure_with ride c.facts ≡ d = ap (departure_with ride) (same_Some _ _ (sym c.is ∙ among.4.is)) ∙ among.4.made in
+      let from : d.stop.0 ≡ stop.0 = subst (λ (x : Departure). x.stop.0 ≡ stop.0) is (right among.0 d among.1).1 in
+      let boards : c.facts.from.0 ≡ stop.0 = ap (λ (x : Departure). x.stop.0) same ∙ from in
+      let leaves : c.facts.departure.0 ≡ d.at.0 = ap (λ (x : Departure). x.at.0) same in
+      let late : is_early lasts stop.0 d.at.0 ≡ false =
+      subst (λ (x : Departure). is_early lasts stop.0 x.at.0 ≡ false) is (first.late among.0 d (omega (arith, past, le)) among.1) in
+      let parts = caught_parts feed query latest stand ride next within wanted c in
+      let early = last ride c.facts c.is parts.0 parts.1 parts.2 in
+      absurd (both_ways (is_early lasts stop.0 d.at.0) late
+      (subst (λ s. is_early lasts s d.at.0 ≡ true) boards (subst (λ z. is_early lasts c.facts.from.0 z ≡ true) leaves early))))
+      (cases_lt among.0 k);
+  right = adds.right;
+}

@@ -2,6 +2,7 @@
 use Rattle.std.specs.Prelude.{◌≡◌, Bool, true, false, ◌&&◌, ℕ, ◌<◌, ◌≤◌, List, [], length, slice_get, slice_index_or, unwrap_or, All, Contains, Option, Some, ℤ, pos, ◌+ℤ◌, ◌≤ℤ◌, ◌<ℤ◌, int_le}
 use Rattle.std.specs.List.{AllPairs, AllWithin}
 use Rattle.transit_base.specs.Moments.{moment_at}
+use Rattle.transit_base.specs.declared.moments.Moment.{Moment}
 use Rattle.transit_base.specs.declared.numbers.TripId.{TripId}
 use Rattle.feed_rows.specs.declared.journeys.Call.{Call}
 use Rattle.feed_rows.specs.declared.journeys.Query.{Query}
@@ -15,7 +16,7 @@ use Rattle.plain_laws.specs.declared.groups.Grouped.{Grouped}
 use Rattle.plain_laws.specs.Plain.{when}
 use Rattle.plan_rides.specs.declared.departures.Departure.{Departure}
 use Rattle.plan_rides.specs.Boarding.{Seeking, is_marked}
-use Rattle.plan_rides.specs.InTime.{deadline, departure_of}
+use Rattle.plan_rides.specs.InTime.{deadline, departure_of, is_early}
 use Rattle.plan_rides.specs.Runs.{RunOf, run_of, IsRun}
 
 -- the query has rides, and the ride goes so, boards at a stop that is marked, departs no earlier than the query, and
@@ -154,6 +155,11 @@ pub record IsFirstSince (departures : List Departure) (moment : ℤ) (n : ℕ) :
   pub within : n ≤ length departures
   pub before : AllWithin (λ (d : Departure). d.at.0 <ℤ moment) departures 0 n
   pub since : AllWithin (λ (d : Departure). moment ≤ℤ d.at.0) departures n (length departures)
+
+-- the departures from the n-th on are later than the last moment at the stop
+pub record IsFirstLate (departures : List Departure) (lasts : List (Option Moment)) (stop n : ℕ) : Type 0 where
+  pub within : n ≤ length departures
+  pub late : AllWithin (λ (d : Departure). is_early lasts stop d.at.0 ≡ false) departures n (length departures)
 
 -- the departure is one of the feed, and one gets to its stop in time
 pub record IsReached (feed : FeedRows) (query : Query) (stand : Stand) (d : Departure) : Type 0 where

@@ -6,6 +6,7 @@ use Rattle.transit_base.specs.declared.numbers.TripId.{TripId}
 use Rattle.feed_rows.specs.declared.journeys.Call.{Call}
 use Rattle.feed_rows.specs.declared.journeys.Query.{Query}
 use Rattle.feed_rows.specs.declared.journeys.Ride.{Ride}
+use Rattle.feed_rows.specs.declared.journeys.RideFacts.{RideFacts}
 use Rattle.feed_rows.specs.FeedRows.{FeedRows}
 use Rattle.feed_rows.specs.Limits.{most_window}
 use Rattle.feed_rows.specs.JourneyStands.{Stand, stand_at_end, next_stand}
@@ -68,6 +69,14 @@ is_by_any None at = true
 -- the moment is no later than the latest at the stop; any will do at a stop past the end of the list
 abbrev pub is_early : List (Option Moment) → ℕ → ℤ → Bool
 is_early latest stop at = is_by_any (slice_get latest stop) at
+
+-- no ride that departs since the query and arrives in time gets somewhere early enough that departs from its stop later than
+-- the last moment there
+abbrev pub AreLastDepartures : FeedRows → Query → List (Option Moment) → List (Option Moment) → Type 0
+AreLastDepartures feed query latest lasts =
+    (ride : Ride) (facts : RideFacts) → ride_facts feed ride ≡ Some facts → query.departure.0 ≤ℤ facts.departure.0 →
+    facts.arrival.0 ≤ℤ deadline query → is_early latest facts.to.0 facts.arrival.0 ≡ true →
+    is_early lasts facts.from.0 facts.departure.0 ≡ true
 
 -- the list has what it had, and each ride of this part that is caught from here in time and arrives early enough, and stays
 -- right

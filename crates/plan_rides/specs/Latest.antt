@@ -13,7 +13,7 @@ use Rattle.feed_walks.specs.OutOf.{out_of}
 use Rattle.feed_walks.specs.declared.steps.Step.{Step}
 use Rattle.plan_rides.specs.declared.departures.Departure.{Departure}
 use Rattle.plan_rides.specs.Departures.{departures_at, facts_in_time}
-use Rattle.plan_rides.specs.InTime.{IsWithinWindow, next_in_time, is_by, is_early}
+use Rattle.plan_rides.specs.InTime.{AreLastDepartures, IsWithinWindow, next_in_time, is_by, is_early}
 
 -- the latest moment at the stop; none where there is none, and past the last stop
 abbrev pub latest_at : List (Option Moment) → ℕ → Option Moment
@@ -33,11 +33,22 @@ abbrev pub LeadsOn : FeedRows → Query → List (Option Moment) → Departure �
 LeadsOn feed query latest d =
     (to : ℕ) × (d.from < to) × (call : Call) × (slice_get (calls_of feed d.trip) to ≡ Some call) × (leads_to query latest d call ≡ true)
 
--- no departure from a stop leads on after the latest one there
+-- no departure from one of the first n stops leads on after the last one there
 abbrev pub AreLastOnes : FeedRows → Query → List (Option Moment) → List (List Departure) → ℕ → List (Option Moment) → Type 0
-AreLastOnes feed query latest departures stops lasts =
-    (stop : ℕ) (d : Departure) → stop < stops → Contains (departures_at departures stop) d → LeadsOn feed query latest d →
+AreLastOnes feed query latest departures n lasts =
+    (stop : ℕ) (d : Departure) → stop < n → Contains (departures_at departures stop) d → LeadsOn feed query latest d →
     is_by (latest_at lasts stop) d.at.0 ≡ true
+
+-- they are as many as the stops
+pub record AreAllLast (feed : FeedRows) (query : Query) (latest : List (Option Moment)) (departures : List (List Departure))
+    (lasts : List (Option Moment)) : Type 0 where
+  pub many : length lasts ≡ length feed.stops
+  pub all : AreLastOnes feed query latest departures (length feed.stops) lasts
+
+-- there is one for each stop, and no ride of the query gets somewhere early enough that departs later
+pub record AreLasts (feed : FeedRows) (query : Query) (latest lasts : List (Option Moment)) : Type 0 where
+  pub many : length lasts ≡ length feed.stops
+  pub all : AreLastDepartures feed query latest lasts
 
 -- one is early enough to walk along one of the first n walks to where it leads by the last moment there
 abbrev pub HasEarlyWalks : Query → List (Option Moment) → List Step → ℕ → Option Moment → Type 0

@@ -4,8 +4,8 @@ ghost use Rattle.feed_rows.specs.Calls.{calls_of};
 ghost use Rattle.feed_rows.specs.declared.journeys.Call.{Call};
 ghost use Rattle.feed_timetable.specs.Standings.{stand_of};
 ghost use Rattle.plan_rides.specs.Boarding.{MayBoard};
-ghost use Rattle.plan_rides.specs.Departures.{AreDepartures, BoardsAt, DoRise, IsBy, IsDeparture, IsByTo, IsFirstSince, IsReached, facts_in_time};
-ghost use Rattle.plan_rides.specs.InTime.{IsUsualQuery, IsWithinWindow, AddsCaught, HasCaughtBy, IsRight, is_early};
+ghost use Rattle.plan_rides.specs.Departures.{AreDepartures, BoardsAt, DoRise, IsBy, IsDeparture, IsByTo, IsFirstLate, IsFirstSince, IsReached, facts_in_time};
+ghost use Rattle.plan_rides.specs.InTime.{AreLastDepartures, IsUsualQuery, IsWithinWindow, AddsCaught, HasCaughtBy, IsRight, is_early};
 ghost use Rattle.plan_rides.specs.Travelling.{IsBarred, travelling};
 ghost use Rattle.transit_base.specs.Limits.{most_time};
 
@@ -34,6 +34,14 @@ fn first_since(departures: &[Departure], moment: Moment) -> usize
     departures.partition_point(|departure| departure.at.0 < moment.0)
 }
 
+// How many of the departures from the stop are no later than the last moment there.
+fn first_late(departures: &[Departure], lasts: &[Option<Moment>], stop: StopId) -> usize
+    requires { DoRise departures.now }
+    ensures { IsFirstLate departures.now lasts.now stop.0 result }
+{
+    departures.partition_point(|departure| is_early(lasts, stop, departure.at))
+}
+
 /// A traveller of a query, how late they may arrive at stops, and where they stand. Contracts see it as the feed, the query,
 /// the latest moments by stop, and the stand.
 #[derive(Drop)]
@@ -44,6 +52,8 @@ pub struct Traveller<'s, 'f> {
     departures: &'s Groups<Departure>,
     /// By stop; none where they needn't arrive at all. At a stop past their end any moment will do.
     latest: &'s [Option<Moment>],
+    /// When the last departure from each stop gets somewhere early enough.
+    lasts: &'s [Option<Moment>],
     standing: Standing,
 }
 
@@ -52,14 +62,14 @@ impl<'s, 'f> Model for Traveller<'s, 'f> {
     ghost use Rattle.feed_timetable.specs.Standings.{stand_of};
     ghost use Rattle.plan_rides.specs.Boarding.{MayBoard};
     ghost use Rattle.plan_rides.specs.Departures.{AreDepartures};
-    ghost use Rattle.plan_rides.specs.InTime.{IsUsualQuery, IsWithinWindow};
+    ghost use Rattle.plan_rides.specs.InTime.{AreLastDepartures, IsUsualQuery, IsWithinWindow};
     ghost use Rattle.plan_rides.specs.Travelling.{Travelling, travelling};
 
     ghost Value = { Travelling };
 
     ghost view = { λ s. travelling s.timetable.now s.query.now s.latest.now (stand_of s.standing) };
 
-    ghost invariant = { λ s. IsUsualQuery s.query.now × IsWithinWindow s.query.now s.standing.at.0 × AreDepartures s.timetable.now s.sought.now s.departures.now × (s.sought.now.query ≡ s.query.now) × MayBoard s.timetable.now s.sought.now (stand_of s.standing) };
+    ghost invariant = { λ s. IsUsualQuery s.query.now × IsWithinWindow s.query.now s.standing.at.0 × AreDepartures s.timetable.now s.sought.now s.departures.now × (s.sought.now.query ≡ s.query.now) × MayBoard s.timetable.now s.sought.now (stand_of s.standing) × AreLastDepartures s.timetable.now s.query.now s.latest.now s.lasts.now };
 }
 
 impl<'s, 'f> Traveller<'s, 'f> {
@@ -69,12 +79,14 @@ impl<'s, 'f> Traveller<'s, 'f> {
         sought: &'s Sought<'s>,
         departures: &'s Groups<Departure>,
         latest: &'s [Option<Moment>],
+        lasts: &'s [Option<Moment>],
         standing: Standing,
     ) -> Traveller<'s, 'f>
         requires usual { IsUsualQuery sought.now.query }
         requires within { IsWithinWindow sought.now.query standing.at.0 }
         requires listed { AreDepartures timetable.now sought.now departures.now }
         requires boards { MayBoard timetable.now sought.now (stand_of standing) }
+        requires lasts { AreLastDepartures timetable.now sought.now.query latest.now lasts.now }
         ensures { result ≡ travelling timetable.now sought.now.query latest.now (stand_of standing) }
     {
         Traveller {
@@ -83,6 +95,7 @@ impl<'s, 'f> Traveller<'s, 'f> {
             query: sought.query(),
             departures,
             latest,
+            lasts,
             standing,
         }
     }
@@ -156,7 +169,7 @@ impl<'s, 'f> Traveller<'s, 'f> {
         Ok(())
     }
 
-    // Adds the rides from a stop: by the departures since one gets there.
+    // Adds the rides from a stop: by the departures since one gets there, but for those that are too late to get somewhere.
     fn add_stop(&self, stop: StopId, rides: &mut Vec<CaughtRide>) -> Result<(), AllocError>
         ensures { OnOk result (AddsCaught self.now.feed self.now.query self.now.latest self.now.stand (BoardsAt self.now.feed stop.0) rides.old.items rides.new.items) }
     {
@@ -166,7 +179,7 @@ impl<'s, 'f> Traveller<'s, 'f> {
         let earliest = self.standing.at.plus(Secs(seconds));
         let departures = self.departures.get(stop.0 as usize);
         let first = first_since(departures, earliest);
-        for k in first..departures.len() {
+        for k in first..first_late(departures, self.lasts, stop) {
             self.add_departure(&departures[k], rides)?;
         }
         Ok(())

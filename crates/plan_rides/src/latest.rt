@@ -2,7 +2,7 @@
 ghost use Rattle.std.specs.Prelude.{◌≡◌, ℤ, ◌<◌, ◌≤◌, ◌≤ℤ◌, ◌+ℤ◌, pos, true, false, length, All, Contains, IfOk};
 ghost use Rattle.plan_rides.specs.Departures.{AreDepartures, DoRise, IsDeparture};
 ghost use Rattle.plan_rides.specs.InTime.{IsUsualQuery, is_by, is_early};
-ghost use Rattle.plan_rides.specs.Latest.{AreAllBefore, AreLastOnes, IsLatestBefore, LeadsOn, latest_at, leads_to};
+ghost use Rattle.plan_rides.specs.Latest.{AreAllBefore, AreAllLast, IsLatestBefore, LeadsOn, latest_at, leads_to};
 ghost use Rattle.plan_rides.specs.declared.departures.Departure.{Departure};
 ghost use Rattle.transit_base.specs.Limits.{most_time};
 
@@ -108,10 +108,11 @@ pub fn last_departures(
 ) -> Result<Vec<Option<Moment>>, AllocError>
     requires usual { IsUsualQuery sought.now.query }
     requires listed { AreDepartures timetable.now sought.now departures.now }
-    ensures { IfOk result (λ lasts. AreLastOnes timetable.now sought.now.query latest.now departures.now (length departures.now) lasts.items) }
+    ensures { IfOk result (λ lasts. AreAllLast timetable.now sought.now.query latest.now departures.now lasts.items) }
 {
-    let mut lasts = Vec::with_capacity(alloc, departures.count())?;
-    for stop in 0..departures.count() {
+    let stops = timetable.feed().stops.items().len();
+    let mut lasts = Vec::with_capacity(alloc, stops)?;
+    for stop in 0..stops {
         let last = last_of(timetable, sought.query(), latest, departures.get(stop));
         lasts.push(last)?;
     }

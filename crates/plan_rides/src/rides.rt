@@ -5,8 +5,8 @@ ghost use Rattle.feed_rows.specs.SoundFeed.{IsSoundFeed};
 ghost use Rattle.feed_timetable.specs.Standings.{stand_of};
 ghost use Rattle.plan_rides.specs.Asked.{asked, arrival_in_time};
 ghost use Rattle.plan_rides.specs.Boarding.{MayRide};
-ghost use Rattle.plan_rides.specs.InTime.{IsUsualQuery, IsDeadline, IsWithinWindow, HasCaught, HasCaughtBy, IsRight};
-ghost use Rattle.plan_rides.specs.Latest.{IsOneMore};
+ghost use Rattle.plan_rides.specs.InTime.{AreLastDepartures, IsUsualQuery, IsDeadline, IsWithinWindow, HasCaught, HasCaughtBy, IsRight};
+ghost use Rattle.plan_rides.specs.Latest.{AreLasts, IsOneMore};
 
 use crate::caught::{CaughtRide, Traveller};
 use crate::departures::{Departure, deadline, departures_of};
@@ -130,18 +130,21 @@ impl<'s, 'f> Rides<'s, 'f> {
     }
 
     /// Replaces what `rides` holds by the rides that are caught from where one stands, end within the window and arrive at a stop
-    /// no later than the latest moment there: at none where that is none, and at any at a stop past their end.
+    /// no later than the latest moment there: at none where that is none, and at any at a stop past their end. `lasts` says
+    /// when the last of them departs from each stop, so that no later ones are looked at.
     ///
     /// # Errors
     /// Want of memory.
     pub fn next_by(
         &self,
         latest: &[Option<Moment>],
+        lasts: &[Option<Moment>],
         standing: Standing,
         rides: &mut Vec<CaughtRide>,
     ) -> Result<(), AllocError>
         requires within { IsWithinWindow self.now.query standing.at.0 }
         requires may { MayRide self.now.feed self.now.query (stand_of standing) }
+        requires lasts { AreLastDepartures self.now.feed self.now.query latest.now lasts.now }
         ensures all { OnOk result (HasCaughtBy self.now.feed self.now.query latest.now (stand_of standing) rides.new.items) }
         ensures right { OnOk result (All (IsRight self.now.feed self.now.query (stand_of standing)) rides.new.items) }
         ensures sound { IsSoundFeed self.now.feed }
@@ -152,33 +155,50 @@ impl<'s, 'f> Rides<'s, 'f> {
             &self.sought,
             &self.departures,
             latest,
+            lasts,
             standing,
         )
         .rides_into(rides)
     }
 
-    /// How late one may stand at each stop, where one may be as late as this or take one more ride first.
+    /// When the last ride departs from each stop that gets somewhere no later than the latest moment there.
     ///
     /// # Errors
     /// Want of memory.
-    pub fn with_one_more(
+    pub fn last_departures(
         &self,
         alloc: Global,
         latest: &[Option<Moment>],
     ) -> Result<Vec<Option<Moment>>, AllocError>
-        requires rides { 1 < self.now.query.rides }
-        requires stops { length latest.now ≡ length self.now.feed.stops }
-        ensures { IfOk result (λ new. IsOneMore self.now.feed self.now.query latest.now new.items) }
+        requires { 1 < self.now.query.rides }
+        ensures { IfOk result (λ lasts. AreLasts self.now.feed self.now.query latest.now lasts.items) }
     {
-        let _feed = self.timetable.feed();
-        let lasts = last_departures(
+        last_departures(
             alloc,
             self.timetable,
             &self.sought,
             &self.departures,
             latest,
-        )?;
-        latest_before(alloc, self.timetable, self.query, latest, &lasts)
+        )
+    }
+
+    /// How late one may stand at each stop, where one may be as late as this, or take one more ride first: by these last
+    /// departures.
+    ///
+    /// # Errors
+    /// Want of memory.
+    pub fn latest_before(
+        &self,
+        alloc: Global,
+        latest: &[Option<Moment>],
+        lasts: &[Option<Moment>],
+    ) -> Result<Vec<Option<Moment>>, AllocError>
+        requires stops { length latest.now ≡ length self.now.feed.stops }
+        requires lasts { AreLasts self.now.feed self.now.query latest.now lasts.now }
+        ensures { IfOk result (λ new. IsOneMore self.now.feed self.now.query latest.now new.items) }
+    {
+        let _feed = self.timetable.feed();
+        latest_before(alloc, self.timetable, self.query, latest, lasts)
     }
 
     /// Replaces what `rides` holds by the rides that are caught from where one stands and end within the window.
@@ -196,7 +216,7 @@ impl<'s, 'f> Rides<'s, 'f> {
         ensures right { OnOk result (All (IsRight self.now.feed self.now.query (stand_of standing)) rides.new.items) }
         ensures sound { IsSoundFeed self.now.feed }
     {
-        self.next_by(&[], standing, rides)
+        self.next_by(&[], &[], standing, rides)
     }
 
     /// The same rides in a list of their own.

@@ -33,11 +33,10 @@ use Rattle.plan_rounds.specs.Labels.{same_parts}
 use Rattle.plan_rounds.specs.Sources.{SpreadsFrom, LeadsByFirst}
 use Rattle.plan_rounds.proofs.FinalSteps.{bettered_up}
 use Rattle.round_laws.proofs.CoverLaws.{covers-trans}
-use Rattle.round_laws.proofs.FutilityLaws.{lack_more}
 use Rattle.round_laws.proofs.IntLaws.{as_much}
 
 -- the triple of a final is bettered
-bettered_itself : (finals : List Final) (final : Final) → Contains finals final → is_bettered finals final.triple
+pub bettered_itself : (finals : List Final) (final : Final) → Contains finals final → is_bettered finals final.triple
 bettered_itself finals final at =
     list_any-from_Any (λ (f : Final). at_most f.triple final.triple) finals
     (at.0, final, at.1, at.2, at_most-refl final.triple)
@@ -99,11 +98,6 @@ module _ (task : Searched) (finals : List Final) (x : Label) (caught : CaughtRid
       ahead_lacks task.feed task.query sound (is_bettered finals)
       (λ s t below h. bettered_up finals s t h below) task.whole
       ahead.0.triple b (bettered_itself finals ahead.0 ahead.1) before
-
--- what is futile though nothing is found is so whatever is
-pub lacks_any : (task : Searched) (finals : List Final) (b : LabelFacts) → Lacks task [] b → Lacks task finals b
-lacks_any task finals b =
-    lack_more task.feed task.query task.whole (is_bettered []) (is_bettered finals) b (λ t none. absurd (cc))
 
 -- ---- moves of one ride
 

@@ -2,6 +2,7 @@ pub mod BagLaws
 pub mod EntryLaws
 pub mod FinalSteps
 pub mod FutileLaws
+pub mod HorizonLaws
 pub mod KeptLaws
 pub mod MoveBounds
 pub mod MoveLaws

@@ -22,9 +22,12 @@ use Rattle.feed_rows.specs.SoundFeed.{IsSoundFeed}
 use Rattle.plain_laws.proofs.Laws.{le-int_le, slice_get-Contains}
 use Rattle.plan_rides.specs.InTime.{IsRight, HasCaughtBy, HasRide, is_early, next_in_time}
 use Rattle.round_laws.specs.Futility.{MayLack}
-use Rattle.plan_rounds.specs.Prospects.{AreProspects}
+use Rattle.plan_rounds.specs.Horizons.{IsFair}
+use Rattle.plan_rounds.specs.Prospects.{ProspectLists, latest_of}
+use Rattle.plan_rounds.specs.Searched.{Searched, Lacks}
+use Rattle.plan_rounds.specs.declared.finals.Final.{Final}
 use Rattle.plan_rounds.specs.Finals.{is_bettered}
-use Rattle.plan_rounds.proofs.ProspectLaws.{any_early, in_time_of, overdue}
+use Rattle.plan_rounds.proofs.ProspectLaws.{in_time_of}
 use Rattle.plan_rides.specs.declared.caught.CaughtRide.{CaughtRide}
 use Rattle.feed_rows.specs.StopLinks.{stop_set}
 use Rattle.plan_rides.proofs.DepartureLaws.{ride_end}
@@ -144,33 +147,20 @@ module _ (feed : FeedRows) (query : Query) (source : Source) (rides : List Caugh
       let lt = slice_get_within rides at.0 some.0 at.1 in
       (at.0, omega (arith, lt, all), some.0, at.1, (to.1, subst (λ (r : Ride). IsLabelStep feed query (facts_of source.label.now) r to.1 b) (sym some.2) to.2))
 
-  -- each step is by one of the rides that arrive early enough, or leads to nothing
-  module _ (whole : Bool) (all : List (List (Option Moment))) (more : ℕ) (sound : IsSoundFeed feed)
-      (is : IsSource feed query source) (left : source.label.now.rides + 1 + more ≡ query.rides)
-      (prospects : AreProspects feed query all) (lean : whole ≡ true → all ≡ [])
-      (has : HasCaughtBy feed query (unwrap_or (slice_get all more) []) (stand_of_label source.label.now) rides) where
-    abbrev latest : List (Option Moment)
-    latest = unwrap_or (slice_get all more) []
-
-    pub steps_by : (b : LabelFacts) → StepsTo feed query (facts_of source.label.now) b →
-        StepsByFirst feed query source rides (length rides) b ⊎ MayLack feed query whole (is_bettered []) b
-    steps_by b to = by (is_early latest to.2.facts.to.0 to.2.facts.arrival.0) refl
-      where
-        in_time : next_in_time feed query (stand_of_label source.label.now) to.0 ≡ Some (stand_at_end to.2.facts)
-        in_time = in_time_of feed query (facts_of source.label.now) to.0 to.2.facts to.2.rides
-
-        by : (early : Bool) → is_early latest to.2.facts.to.0 to.2.facts.arrival.0 ≡ early →
-            StepsByFirst feed query source rides (length rides) b ⊎ MayLack feed query whole (is_bettered []) b
-        by true early = inl (by_some (length rides) b to (has to.0 (stand_at_end to.2.facts) in_time early) (omega arith))
-        by false late =
-            let futile = overdue feed query latest more (facts_of source.label.now) b (omega (arith, left)) sound is.within to (prospects more) late in
-            inr (subst (λ w. MayLack feed query w (is_bettered []) b) (sym (lack whole refl)) futile)
-          where
-            lack : (w : Bool) → whole ≡ w → whole ≡ false
-            lack false same = same
-            lack true same =
-                let none = ap (λ (ls : List (List (Option Moment))). is_early (unwrap_or (slice_get ls more) []) to.2.facts.to.0 to.2.facts.arrival.0) (lean same) in
-                absurd (both_ways (is_early latest to.2.facts.to.0 to.2.facts.arrival.0) late (none ∙ any_early to.2.facts.to.0 to.2.facts.arrival.0))
+-- each step is by one of the rides that arrive early enough, or leads to what the search may lack
+pub steps_by : (task : Searched) (finals : List Final) (source : Source) (rides : List CaughtRide) (lists : ProspectLists) (more : ℕ) →
+    IsFair task finals source.label.now lists → source.label.now.rides + 1 + more ≡ task.query.rides →
+    HasCaughtBy task.feed task.query (latest_of lists more) (stand_of_label source.label.now) rides →
+    (b : LabelFacts) → StepsTo task.feed task.query (facts_of source.label.now) b →
+    StepsByFirst task.feed task.query source rides (length rides) b ⊎ Lacks task finals b
+steps_by task finals source rides lists more fair left has b to =
+    by (is_early (latest_of lists more) to.2.facts.to.0 to.2.facts.arrival.0) refl
+  where
+    by : (early : Bool) → is_early (latest_of lists more) to.2.facts.to.0 to.2.facts.arrival.0 ≡ early →
+        StepsByFirst task.feed task.query source rides (length rides) b ⊎ Lacks task finals b
+    by true early = inl (by_some task.feed task.query source rides (length rides) b to
+        (has to.0 (stand_at_end to.2.facts) (in_time_of task.feed task.query (facts_of source.label.now) to.0 to.2.facts to.2.rides) early) (omega arith))
+    by false late = inr (fair.rules more b to left late)
 
 -- what is by one of the first rides is by one of more
 pub by_first : (feed : FeedRows) (query : Query) (source : Source) (rides : List CaughtRide) (m n : ℕ) (b : LabelFacts) → m ≤ n →

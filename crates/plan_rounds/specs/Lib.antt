@@ -2,6 +2,7 @@ pub mod CoverLaws
 pub mod Entries
 pub mod FinalLaws
 pub mod Finals
+pub mod Horizons
 pub mod Kept
 pub mod Labels
 pub mod Moves

@@ -45,7 +45,7 @@ fn times(amount: Money, count: u8) -> i128
 
 impl Final {
     /// Whether it arrives no later than this moment, with no more rides than so many, and costs no more than this.
-    fn is_ahead(&self, at: Moment, rides: u8, price: i128) -> bool
+    pub(crate) fn is_ahead(&self, at: Moment, rides: u8, price: i128) -> bool
         ensures { result ≡ is_within at.0 rides price self.now.triple }
     {
         self.triple.arrival.0 <= at.0
@@ -91,7 +91,7 @@ impl<'s, 'f> Search<'s, 'f> {
 
     /// The least price at which a journey can end that goes on from the label.
     #[tactic(auto, unfolding(round_laws::specs::Futility::least_end))]
-    fn least_end(&self, label: &Label) -> i128
+    pub(crate) fn least_end(&self, label: &Label) -> i128
         ensures { result ≡ least_end self.now.feed self.now.query self.now.whole (facts_of label.now) }
     {
         let more = self.limit().saturating_sub(label.rides);

@@ -5,6 +5,7 @@
 mod bounds;
 mod entries;
 mod finals;
+mod horizon;
 mod kept_label;
 mod label;
 mod label_class;

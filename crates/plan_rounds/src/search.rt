@@ -1,5 +1,5 @@
 //! The search: each round goes on by one more ride from the labels of the round before.
-ghost use Rattle.std.specs.Prelude.{◌≡◌, ◌⊎◌, ◌+◌, ◌<◌, ◌≤◌, ◌^◌, ◌++◌, [], All, length, IfOk, IsTrue, OnOk, Some};
+ghost use Rattle.std.specs.Prelude.{◌≡◌, ◌⊎◌, ◌+◌, ◌<◌, ◌≤◌, ◌^◌, ◌++◌, [], true, All, length, IfOk, IfSome, IsTrue, OnOk, Some};
 ghost use Rattle.feed_rows.specs.FareSteps.{move_after};
 ghost use Rattle.feed_rows.specs.Journeys.{stands_for};
 ghost use Rattle.feed_rows.specs.Legs.{leg_facts};
@@ -7,13 +7,15 @@ ghost use Rattle.round_laws.specs.LabelSteps.{facts_after, start_facts};
 ghost use Rattle.feed_rows.specs.SoundFeed.{IsSoundFeed};
 ghost use Rattle.feed_rows.specs.StopLinks.{stop_set};
 ghost use Rattle.plan_rides.specs.Asked.{asked};
-ghost use Rattle.plan_rides.specs.InTime.{IsRight, IsUsualQuery};
+ghost use Rattle.plan_rides.specs.InTime.{IsRight, IsUsualQuery, deadline};
 ghost use Rattle.plan_rounds.specs.Labels.{IsBounded, IsSmall, facts_of, stand_of_label};
 ghost use Rattle.plan_rounds.specs.Moves.{AreMovesOf, HasFares};
 ghost use Rattle.feed_rows.specs.declared.fares.Triple.{Triple};
 ghost use Rattle.plan_rounds.specs.Finals.{AddsEnds, EndsBelow, HasEnds, is_bettered};
 ghost use Rattle.plan_rounds.specs.Searched.{Lacks, searched};
 ghost use Rattle.feed_rows.specs.PartialJourneys.{LabelFacts};
+ghost use Rattle.plan_rounds.specs.Horizons.{IsHorizon};
+ghost use Rattle.plan_rounds.specs.Prospects.{AreProspects, no_prospects};
 ghost use Rattle.plan_rounds.specs.Sources.{AreEnding, IsSource, SpreadsFrom, StepsByFirst};
 ghost use Rattle.label_bag.specs.Bags.{AreApart};
 ghost use Rattle.plan_rounds.specs.Labels.{covers};
@@ -21,17 +23,17 @@ ghost use Rattle.plan_rounds.specs.Stores.{AreStored, AreWhole, IsNever, gathere
 
 use crate::bounds::takes_back;
 use crate::finals::Final;
+use crate::horizon::Horizon;
 use crate::kept_label::KeptLabel;
 use crate::label::Label;
 use crate::moves::is_bettered;
-use crate::prospects::prospects_of;
+use crate::prospects::Prospects;
 use crate::stop_bags::StopBags;
 use fare_automaton::{Automaton, KnownOptions};
 use fare_timeframes::Timeframes;
 use feed_rows::{ChangeChoice, Feed, LegFacts, Move, Query};
 use feed_timetable::Timetable;
 use pareto_front::Front;
-use plain_laws::Groups;
 use plan_rides::{CaughtRide, Rides};
 use std::alloc::{AllocError, Global};
 use std::marker::Model;
@@ -45,8 +47,8 @@ pub struct Search<'s, 'f> {
     timeframes: Timeframes,
     /// The fares for the query's rider.
     pub(crate) automaton: Automaton<'f>,
-    /// How late rides may arrive at stops, by the number of rides that may follow; no lists where the search is to be whole.
-    prospects: Groups<Option<Moment>>,
+    /// Those of journeys that end in time; none where the search is to be whole.
+    prospects: Prospects,
     /// Whether some change takes back what a leg before it cost.
     pub(crate) takes_back: bool,
     pub(crate) whole: bool,
@@ -68,10 +70,11 @@ impl<'s, 'f> Drop for Search<'s, 'f> {
 }
 
 impl<'s, 'f> Model for Search<'s, 'f> {
-    ghost use Rattle.std.specs.Prelude.{◌≡◌, true, []};
+    ghost use Rattle.std.specs.Prelude.{◌≡◌, true};
     ghost use Rattle.fare_automaton.specs.Terms.{terms};
     ghost use Rattle.fare_timeframes.specs.BuiltTimeframes.{AreTimeframesOf};
-    ghost use Rattle.plan_rounds.specs.Prospects.{AreProspects};
+    ghost use Rattle.plan_rides.specs.InTime.{deadline};
+    ghost use Rattle.plan_rounds.specs.Prospects.{AreProspects, no_prospects};
     ghost use Rattle.plan_rounds.specs.Searched.{Searched, searched};
     ghost use Rattle.round_laws.specs.Futility.{some_takes_back};
 
@@ -79,7 +82,7 @@ impl<'s, 'f> Model for Search<'s, 'f> {
 
     ghost view = { λ s. searched s.rides s.whole };
 
-    ghost invariant = { λ s. AreTimeframesOf s.rides.feed s.timeframes × (s.automaton ≡ terms s.rides.feed s.rides.query.rider) × (s.takes_back ≡ some_takes_back s.rides.feed) × AreProspects s.rides.feed s.rides.query s.prospects × (s.whole ≡ true → s.prospects ≡ []) };
+    ghost invariant = { λ s. AreTimeframesOf s.rides.feed s.timeframes × (s.automaton ≡ terms s.rides.feed s.rides.query.rider) × (s.takes_back ≡ some_takes_back s.rides.feed) × AreProspects s.rides.feed s.rides.query (deadline s.rides.query) s.prospects × (s.whole ≡ true → s.prospects ≡ no_prospects) };
 }
 
 /// A label with its number among those so far, from which a round goes on.
@@ -118,6 +121,20 @@ impl<'a, 'f> Drop for Found<'a, 'f> {
     }
 }
 
+/// The prospects of journeys that end in time; none for a search that is to be whole: it tries each ride.
+///
+/// # Errors
+/// Want of memory.
+fn first_prospects(alloc: Global, rides: &Rides, whole: bool) -> Result<Prospects, AllocError>
+    ensures are { IfOk result (AreProspects rides.now.feed rides.now.query (deadline rides.now.query)) }
+    ensures none { IfOk result (λ prospects. whole ≡ true → prospects ≡ no_prospects) }
+{
+    if whole {
+        return Ok(Prospects::none(alloc));
+    }
+    Prospects::of(alloc, rides, rides.deadline())
+}
+
 impl<'s, 'f> Search<'s, 'f> {
     /// The search for the query over the timetable: for labels that cover all partial journeys but those that a final
     /// outdoes, where it is to be whole, and else for those that matter for the answer.
@@ -141,7 +158,7 @@ impl<'s, 'f> Search<'s, 'f> {
             rides.deadline(),
         )?;
         let automaton = Automaton::compile(alloc, timetable.feed(), query.rider)?;
-        let prospects = prospects_of(alloc, &rides, whole)?;
+        let prospects = first_prospects(alloc, &rides, whole)?;
         Ok(Search {
             alloc,
             rides,
@@ -296,17 +313,47 @@ impl<'s, 'f> Search<'s, 'f> {
         bags.offer(&label)
     }
 
-    /// Replaces what `rides` holds by the rides that are caught from the label, where the search may lack what leads nowhere by
-    /// those of them behind which a journey can end by the rides that are left.
-    fn find_rides(&self, source: &Source, rides: &mut Vec<CaughtRide>) -> Result<(), AllocError>
-        requires { IsSource self.now.feed self.now.query source.now }
-        ensures all { OnOk result ((b : LabelFacts) → StepsTo self.now.feed self.now.query (facts_of source.now.label.now) b → StepsByFirst self.now.feed self.now.query source.now rides.new.items (length rides.new.items) b ⊎ Lacks self.now [] b) }
+    /// The prospects of journeys that end by the moment.
+    ///
+    /// # Errors
+    /// Want of memory.
+    pub(crate) fn prospects_by(&self, deadline: Moment) -> Result<Prospects, AllocError>
+        ensures { IfOk result (AreProspects self.now.feed self.now.query deadline.0) }
+    {
+        Prospects::of(self.alloc, &self.rides, deadline)
+    }
+
+    /// The prospects of journeys that end in time; none where the search is to be whole.
+    pub(crate) fn prospects(&self) -> &Prospects
+        ensures are { AreProspects self.now.feed self.now.query (deadline self.now.query) result.now }
+        ensures none { self.now.whole ≡ true → result.now ≡ no_prospects }
+    {
+        &self.prospects
+    }
+
+    /// Replaces what `rides` holds by the rides that are caught from the label, where the search may lack what leads to nothing
+    /// new by those of them behind which a journey can end early enough by the rides that are left.
+    fn find_rides(
+        &self,
+        source: &Source,
+        finals: &[Final],
+        horizon: &Option<Horizon>,
+        rides: &mut Vec<CaughtRide>,
+    ) -> Result<(), AllocError>
+        requires source { IsSource self.now.feed self.now.query source.now }
+        requires horizon { IfSome horizon.now (IsHorizon self.now finals.now) }
+        ensures all { OnOk result ((b : LabelFacts) → StepsTo self.now.feed self.now.query (facts_of source.now.label.now) b → StepsByFirst self.now.feed self.now.query source.now rides.new.items (length rides.new.items) b ⊎ Lacks self.now finals.now b) }
         ensures right { OnOk result (All (IsRight self.now.feed self.now.query (stand_of_label source.now.label.now)) rides.new.items) }
     {
         let _feed = self.feed();
-        let more = self.limit() - source.label.rides - 1;
-        let latest = self.prospects.get(usize::from(more));
-        self.rides.next_by(latest, source.label.standing(), rides)
+        let more = usize::from(self.limit() - source.label.rides - 1);
+        let prospects = self.prospects_for(source, finals, horizon);
+        self.rides.next_by(
+            prospects.latest(more),
+            prospects.lasts(more),
+            source.label.standing(),
+            rides,
+        )
     }
 
     /// Offers what one more ride leads to from the label. What `rides` holds is lost.
@@ -314,17 +361,19 @@ impl<'s, 'f> Search<'s, 'f> {
         &self,
         source: &Source,
         finals: &[Final],
+        horizon: &Option<Horizon>,
         rides: &mut Vec<CaughtRide>,
         found: &mut Found<'_, 'f>,
         bags: &mut StopBags,
     ) -> Result<(), AllocError>
         requires source { IsSource self.now.feed self.now.query source.now }
+        requires horizon { IfSome horizon.now (IsHorizon self.now finals.now) }
         requires ended { HasEnds self.now.feed self.now.query source.now.labels.now finals.now }
         requires fares { HasFares self.now found.old }
         ensures fares { HasFares self.now found.new }
         ensures spreads { OnOk result (SpreadsFrom self.now finals.now source.now (StepsTo self.now.feed self.now.query (facts_of source.now.label.now)) bags.old bags.new) }
     {
-        self.find_rides(source, rides)?;
+        self.find_rides(source, finals, horizon, rides)?;
         for k in 0..rides.len() {
             self.offer_ride(source, finals, &rides[k], found, bags)?;
         }
@@ -350,6 +399,7 @@ impl<'s, 'f> Search<'s, 'f> {
         ensures spreads { OnOk result (Spreads self.now.feed self.now.query (Lacks self.now finals.now) labels.now (count + 1) (StepsFrom self.now.feed self.now.query labels.now count) bags.old bags.new) }
     {
         let _limit = self.limit();
+        let horizon = self.horizon(finals)?;
         for number in 0..labels.len() {
             let kept = &labels[number];
             if kept.rides() == count {
@@ -359,7 +409,7 @@ impl<'s, 'f> Search<'s, 'f> {
                     number: number as u32,
                     label: &label,
                 };
-                self.offer_rides(&source, finals, rides, found, bags)?;
+                self.offer_rides(&source, finals, &horizon, rides, found, bags)?;
             }
         }
         Ok(())

@@ -6,7 +6,7 @@ use Rattle.plan_rounds.proofs.prospects.ends_of.Goals as goal
 
 pub loop-stop-init : goal.loop-stop-init
 loop-stop-init c = record {
-  are = no_ends c.args.rides.now.feed c.args.rides.now.query c.in_ok-ends.ends.items c.in_ok-ends.ensures.items;
+  are = no_ends c.args.rides.now.feed c.args.rides.now.query c.args.deadline.0 c.in_ok-ends.ends.items c.in_ok-ends.ensures.items;
   many = ap length c.in_ok-ends.ensures.items;
 }
 
@@ -16,12 +16,12 @@ loop-stop-preserved c =
     let pushed = c.in_ok-push.ensures.items in
     let feed = c.args.rides.now.feed in
     let query = c.args.rides.now.query in
-    let deadline = c.deadline-deadline.result in
+    let deadline = c.args.deadline.0 in
     let by =
     subst (λ f. IsEndBy f query (record { 0 = c.loop-stop.stop }) deadline c.end_from.result) c.timetable-timetable.ensures
     (subst (λ q. IsEndBy c.timetable-timetable.result.now q (record { 0 = c.loop-stop.stop }) deadline c.end_from.result) c.query-query.ensures.is c.end_from.ensures) in
     record {
-      are = subst (AreEnds feed query) (sym pushed)
-          (ends_more feed query c.loop-stop.ends.items (record { 0 = c.loop-stop.stop }) c.end_from.result deadline was.many c.deadline-deadline.ensures by was.are);
+      are = subst (AreEnds feed query deadline) (sym pushed)
+          (ends_more feed query deadline c.loop-stop.ends.items (record { 0 = c.loop-stop.stop }) c.end_from.result was.many by was.are);
       many = ap length pushed ∙ length_push c.loop-stop.ends.items c.end_from.result ∙ ap (λ n. n + 1) was.many;
     }

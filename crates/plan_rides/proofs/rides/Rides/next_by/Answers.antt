@@ -3,7 +3,7 @@ use Rattle.std.specs.Prelude.{All, OnOk}
 use Rattle.feed_timetable.specs.Standings.{stand_of}
 use Rattle.plan_rides.specs.Asked.{Asked}
 use Rattle.plan_rides.specs.Boarding.{MayRide}
-use Rattle.plan_rides.specs.InTime.{HasCaughtBy, IsRight, IsUsualQuery, IsWithinWindow}
+use Rattle.plan_rides.specs.InTime.{AreLastDepartures, HasCaughtBy, IsRight, IsUsualQuery, IsWithinWindow}
 use Rattle.plan_rides.specs.Travelling.{Travelling, travelling}
 use Rattle.plan_rides.proofs.MarkLaws.{may_board}
 use Rattle.plan_rides.proofs.rides.Rides.next_by.Goals as goal
@@ -21,6 +21,11 @@ new-requires-clause-boards c =
     may_board c.self.inside.timetable.now c.self.inside.sought (stand_of c.args.standing) c.self.invariant.4
     (subst (λ q. MayRide c.self.inside.timetable.now q (stand_of c.args.standing)) (sym c.self.invariant.3)
     (subst (λ (a : Asked). MayRide a.feed a.query (stand_of c.args.standing)) (sym c.self.view_is) c.requires.may))
+
+pub new-requires-clause-lasts : goal.new-requires-clause-lasts
+new-requires-clause-lasts c =
+    subst (λ q. AreLastDepartures c.self.inside.timetable.now q c.args.latest.now c.args.lasts.now) (sym c.self.invariant.3)
+    (subst (λ (a : Asked). AreLastDepartures a.feed a.query c.args.latest.now c.args.lasts.now) (sym c.self.view_is) c.requires.lasts)
 
 pub returns-clause-all : goal.returns-clause-all
 returns-clause-all c =

@@ -4,7 +4,6 @@ use Rattle.plan_rounds.specs.Searched.{Lacks}
 use Rattle.plan_rides.specs.InTime.{IsRight}
 use Rattle.plan_rounds.specs.Labels.{stand_of_label}
 use Rattle.plan_rounds.proofs.RideSteps.{rides_more, by_first}
-use Rattle.plan_rounds.proofs.FutileLaws.{lacks_any}
 use Rattle.plan_rounds.proofs.SpreadLaws.{spreads_more, spreads_but}
 use Rattle.plan_rounds.proofs.search.Search.offer_rides.Goals as goal
 
@@ -38,4 +37,4 @@ returns-clause-spreads c =
     let all : length rides.items ≤ c.loop-k.k = omega (arith, c.loop-k-test.false, c.len-k-end.ensures, rides.ok.0) in
     spreads_but feed query (Lacks c.args.self.now c.args.finals.now) source.labels.now _ _ _ _ _ c.loop-k.invariant.spreads
     (λ b to. ⊎_elim (λ by. inl (by_first feed query source rides.items (length rides.items) c.loop-k.k b all by))
-    (λ lack. inr (lacks_any c.args.self.now c.args.finals.now b lack)) (c.in_ok-find_rides.ensures.all b to))
+    inr (c.in_ok-find_rides.ensures.all b to))

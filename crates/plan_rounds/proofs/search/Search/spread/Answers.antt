@@ -15,6 +15,9 @@ offer_rides-requires-clause-source c =
     (sym c.index-labels-number.is) ∙ ap Some (sym c.whole-label.ensures))
     (ap (λ (x : Label). x.rides) c.whole-label.ensures ∙ sym c.rides.ensures ∙ c.if-rides-count.true)
 
+pub offer_rides-requires-clause-horizon : goal.offer_rides-requires-clause-horizon
+offer_rides-requires-clause-horizon c = c.loop-number.invariant.near
+
 pub loop-number-preserved : goal.loop-number-preserved
 loop-number-preserved c =
     let feed = c.args.self.now.feed in
@@ -33,6 +36,7 @@ loop-number-preserved c =
                 (Lacks c.args.self.now c.args.finals.now) c.args.labels.now _ _ _ _ _ counts w.in_ok-offer_rides.ensures.spreads)
                 (λ b. from_more feed query c.args.labels.now c.args.count c.loop-number.number _ b at));
             fares = rw w.found-is w.in_ok-offer_rides.ensures.fares;
+            near = c.loop-number.invariant.near;
           }
       | else-rides-count w ↦
           record {
@@ -43,6 +47,7 @@ loop-number-preserved c =
                 (slice_get-get_or c.args.labels.now c.loop-number.number _ c.loop-number-test.true ∙ ap Some
                 (sym c.index-labels-number.is)) (λ same. w.if-rides-count.false (c.rides.ensures ∙ same))));
             fares = rw w.found-is c.loop-number.invariant.fares;
+            near = c.loop-number.invariant.near;
           }
     ]
 

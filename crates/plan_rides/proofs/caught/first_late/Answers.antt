@@ -1,0 +1,13 @@
+use Rattle.std.proofs.Common.{rules}
+use Rattle.std.proofs.lemmas.List.Sorted.{IsPartitionPoint-from_clause}
+use Rattle.plan_rides.specs.InTime.{is_early}
+use Rattle.plan_rides.proofs.LatestLaws.{parted_early}
+use Rattle.plan_rides.proofs.caught.first_late.Goals as goal
+
+pub returns : goal.returns
+returns c =
+    let point = IsPartitionPoint-from_clause (λ d. is_early c.args.lasts.now c.args.stop.0 d.at.0) _ _ c.partition_point.ensures.partitioned (parted_early _ c.args.lasts.now c.args.stop.0 c.requires) (λ a r q k. search rules) in
+    record {
+      within = c.partition_point.ensures.bound;
+      late = λ k d low lt. point.1 k d low lt;
+    }
