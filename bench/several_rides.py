@@ -4,8 +4,9 @@
   several_rides.py FOLDER PROGRAM [STOP_TIMES ..]
 
 For each number of stop times (10,000, 100,000 and 1,000,000, where none is named) it makes a feed in FOLDER as whole_feed.py
-does, but with leg rules for all areas, and times `check`, plans of no and of one ride, and plans of up to four rides with a
-window of two hours. Each command runs three times, and the least time counts; it is ended after five minutes.
+does, but with leg rules for all areas, and times `check`, plans of no and of one ride, plans of up to four rides with a window
+of two hours, and the plain words of a plan. Each command runs three times, and the least time counts; it is ended after five
+minutes.
 """
 import subprocess
 import sys
@@ -42,9 +43,10 @@ def main():
         make(feed, rows)
         checked, _ = seconds_of(program, feed, ["check"])
         print(f"{rows}\tcheck\t{checked:.2f} s")
-        for words in (["--rides", "0"], ["--rides", "1"], *(["--rides", str(n), "--within", "7200"] for n in (2, 3, 4))):
+        for words in (["--rides", "0"], ["--rides", "1"], *(["--rides", str(n), "--within", "7200"] for n in (2, 3, 4)), []):
             took, journeys = seconds_of(program, feed, [*PLAN, *words])
-            print(f"{rows}\t{' '.join(words)}\t{took:.2f} s\t{took / checked:.2f} times check\t{journeys} journeys")
+            said = " ".join(words) or "four rides within a day"
+            print(f"{rows}\t{said}\t{took:.2f} s\t{took / checked:.2f} times check\t{journeys} journeys")
 
 
 if __name__ == "__main__":
