@@ -23,7 +23,8 @@ fn price(taken: &Move) -> i128
 /// Whether a move before this one is as good as it.
 pub fn is_bettered(moves: &[Move], number: usize) -> bool
     requires { number < length moves.now }
-    ensures { result ≡ true → HasBetter moves.now number }
+    ensures better { result ≡ true → HasBetter moves.now number }
+    ensures none { HasBetter moves.now number → result ≡ true }
 {
     for earlier in 0..number {
         if betters(&moves[earlier], &moves[number]) {

@@ -24,7 +24,7 @@ loop-k-preserved c =
           (λ b. leads_more feed query source c.requires.source c.args.caught.now c.requires.right moves.items c.loop-k.k w.index.result.now b at))
       | else-not-is_bettered w ↦
           rw w.bags-is (leads_without c.args.self.now c.args.finals.now source c.args.caught.now moves.items c.loop-k.k _ _
-          (subst (λ ms. HasBetter ms c.loop-k.k) c.deref.ensures.value (c.is_bettered.ensures w.if-not-is_bettered.false)) c.loop-k.invariant)
+          (subst (λ ms. HasBetter ms c.loop-k.k) c.deref.ensures.value (c.is_bettered.ensures.better w.if-not-is_bettered.false)) c.loop-k.invariant)
     ]
 
 pub returns-then-is_futile-clause-spreads : goal.returns-then-is_futile-clause-spreads
