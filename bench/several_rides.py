@@ -6,7 +6,8 @@
 For each number of stop times (10,000, 100,000 and 1,000,000, where none is named) it makes a feed in FOLDER as whole_feed.py
 does, but with leg rules for all areas, and times `check`, plans of no and of one ride, plans of up to four rides with a window
 of two hours, and the plain words of a plan. Each command runs three times, and the least time counts; it is ended after five
-minutes.
+minutes. Behind these come the same plans of three and of four rides with `--stats`: how many labels the table of all rounds has,
+and how many of them a second are found, where the time of the check is taken off.
 """
 import subprocess
 import sys
@@ -33,7 +34,14 @@ def seconds_of(program, folder, words):
         times.append(time.perf_counter() - start)
         if ended.returncode != 0:
             sys.exit(f"{' '.join(words)} ended with {ended.returncode}: {ended.stdout.decode()[:200]}")
-    return min(times), ended.stdout.decode().count("journey\t")
+    return min(times), ended.stdout.decode()
+
+
+def print_labels(program, feed, rows, rides, checked):
+    took, text = seconds_of(program, feed, [*PLAN, "--rides", str(rides), "--within", "7200", "--stats"])
+    labels = int(text.splitlines()[-1].split("\t")[1])
+    each = labels / max(took - checked, 0.001)
+    print(f"{rows}\t--rides {rides} --within 7200 --stats\t{took:.2f} s\t{labels} labels\t{each:.0f} labels a second")
 
 
 def main():
@@ -44,9 +52,12 @@ def main():
         checked, _ = seconds_of(program, feed, ["check"])
         print(f"{rows}\tcheck\t{checked:.2f} s")
         for words in (["--rides", "0"], ["--rides", "1"], *(["--rides", str(n), "--within", "7200"] for n in (2, 3, 4)), []):
-            took, journeys = seconds_of(program, feed, [*PLAN, *words])
+            took, text = seconds_of(program, feed, [*PLAN, *words])
             said = " ".join(words) or "four rides within a day"
+            journeys = text.count("journey\t")
             print(f"{rows}\t{said}\t{took:.2f} s\t{took / checked:.2f} times check\t{journeys} journeys")
+        for rides in (3, 4) if rows <= 100_000 else ():
+            print_labels(program, feed, rows, rides, checked)
 
 
 if __name__ == "__main__":
