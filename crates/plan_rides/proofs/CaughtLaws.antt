@@ -137,7 +137,7 @@ next_by feed query stand d to call reached later is = rw (facts_by feed d to cal
     step true false is = rw (caught, is) refl
 
 -- so it has its facts
-caught_facts : (feed : FeedRows) (query : Query) (d : Departure) (to : ℕ) (call : Call) (facts : RideFacts) → IsDeparture feed d → d.from < to → slice_get (calls_of feed d.trip) to ≡ Some call →
+pub caught_facts : (feed : FeedRows) (query : Query) (d : Departure) (to : ℕ) (call : Call) (facts : RideFacts) → IsDeparture feed d → d.from < to → slice_get (calls_of feed d.trip) to ≡ Some call →
     facts_in_time query d call ≡ Some facts → ride_facts feed (ride_to d to) ≡ Some facts
 unfolding facts_in_time
 caught_facts feed query d to call facts right later is goes =

@@ -39,7 +39,7 @@ use Rattle.plain_laws.specs.declared.groups.Grouped.{Grouped}
 use Rattle.plain_laws.specs.Plain.{group_of, groups_below}
 use Rattle.plain_laws.proofs.Laws.{int_le-true, le-int_le, Contains-group_of, group_of-tells, groups_below-at, groups_below-past, All-from}
 use Rattle.plan_rides.specs.declared.departures.Departure.{Departure}
-use Rattle.plan_rides.specs.Departures.{IsSpanned, AddsTrip, AreBoarded, AreListed, departure_with, departure_from, grouped, IsDeparture, IsGrouped, IsFromStop, is_listed, Lists, HasDepartures, AreInOrder, DoRise, AreDepartures}
+use Rattle.plan_rides.specs.Departures.{IsSpanned, AddsTrip, AreBoarded, AreListed, departure_with, departure_from, grouped, IsDeparture, IsGrouped, IsSince, IsFromStop, is_listed, Lists, HasDepartures, AreInOrder, DoRise, AreDepartures, departures_at}
 use Rattle.plan_rides.specs.Boarding.{Seeking, is_boarding, is_marked}
 use Rattle.plan_rides.specs.InTime.{deadline, IsUsualQuery, IsOfRun, IsAt, IsBefore, HasShift, IsOnTrip, IsOnDay, IsOnDays, departure_of, first_day, day_after}
 use Rattle.plan_rides.specs.Runs.{RunOf, run_of, IsServed, IsRun}
@@ -166,10 +166,15 @@ lists_no_call sought run from call listed sound is never =
     true≢false (sym (spanned_listed sought run ride facts call sound e
     (spanned_boards sought run ride facts call e at.0 here)) ∙ sym never))
 
--- riders may board where a departure is listed
-listed_pickup : (sought : Seeking) (call : Call) (at : ℤ) → is_listed sought call at ≡ true → call.pickup ≡ true
+-- riders may board where a departure is listed, and it departs no earlier than the query
+listed_tells : (sought : Seeking) (call : Call) (at : ℤ) → is_listed sought call at ≡ true →
+    (call.pickup ≡ true) × (sought.query.departure.0 ≤ℤ at)
 unfolding is_listed
-listed_pickup sought call at e = let whole = and_parts _ _ e in let timed = and_parts _ _ whole.0 in let parts = and_parts _ _ timed.0 in parts.0
+listed_tells sought call at e =
+    let whole = and_parts _ _ e in
+    let timed = and_parts _ _ whole.0 in
+    let parts = and_parts _ _ timed.0 in
+    (parts.0, int_le-true _ _ parts.1)
 
 -- a departure is listed
 pub lists_call : (sought : Seeking) (run : RunOf) (from : ℕ) (call : Call) (old new : List (Grouped Departure)) →
@@ -178,7 +183,9 @@ pub lists_call : (sought : Seeking) (run : RunOf) (from : ℕ) (call : Call) (ol
     Lists run.feed sought (IsAt run from) old new
 lists_call sought run from call old new runs is listed pushed =
     let made = departure_from run call from in
-    let here : IsDeparture run.feed made = record { run = runs; call = call; is = is; pickup = listed_pickup sought call (departure_of run call) (sym listed); made = refl } in
+    let tells = listed_tells sought call (departure_of run call) (sym listed) in
+    let here : IsDeparture run.feed made = record { run = runs; call = call; is = is; pickup = tells.0; made = refl } in
+    let Right = IsGrouped run.feed sought.query in
     subst (Lists run.feed sought (IsAt run from) old) (sym pushed) (record {
       still = λ other h. Contains-append_left old (grouped made ∷ []) other h;
       all = λ ride facts e at.
@@ -186,7 +193,8 @@ lists_call sought run from call old new runs is listed pushed =
           (ap (slice_get (calls_of run.feed run.trip)) at.1 ∙ is) in
           let same : departure_with ride facts ≡ made = boards.made ∙ ap (departure_from run call) at.1 in
           subst (λ d. Contains (old ++ grouped made ∷ []) (grouped d)) (sym same) (Contains-push old (grouped made));
-      right = λ h. All-append (IsGrouped run.feed) old (grouped made ∷ []) h (All-cons (IsGrouped run.feed) (grouped made) [] (here, refl) (All-nil (IsGrouped run.feed)));
+      right = λ h. All-append Right old (grouped made ∷ []) h
+          (All-cons Right (grouped made) [] (here, refl, tells.1) (All-nil Right));
     })
 
 -- the ride leaves its trip at a later call of it
@@ -428,7 +436,7 @@ has_departures feed sought day listed sound past lists = record {
   all = λ ride facts e.
       let days = spanned_day feed sought ride facts sound e in
       lists.all ride facts e (days.0, before ride.day.0 (day_after sought.query) day days.1 past);
-  right = lists.right (All-nil (IsGrouped feed));
+  right = lists.right (All-nil (IsGrouped feed sought.query));
 }
   where
     before : (d after day : ℤ) → d <ℤ after → after ≤ℤ day → d <ℤ day
@@ -470,7 +478,7 @@ pub departures_moved : (feed : FeedRows) (sought : Seeking) (old new : List (Gro
     HasDepartures feed sought old → IsPermutation old new → HasDepartures feed sought new
 departures_moved feed sought old new has moved = record {
   all = λ ride facts e. Contains-permutation old new (grouped (departure_with ride facts)) moved (has.all ride facts e);
-  right = All-permutation (IsGrouped feed) old new moved has.right;
+  right = All-permutation (IsGrouped feed sought.query) old new moved has.right;
 }
 
 -- the departures of a group stand as they did among all
@@ -489,6 +497,14 @@ group_in_order ms stop rises i j d lt within =
 none_rise : DoRise []
 none_rise i j d lt within = absurd (omega arith)
 
+-- what holds of the departures of a group, and of none, holds of those from a stop
+at_stop : (P : List Departure → Type 0) (listed : List (Grouped Departure)) (n stop : ℕ) → P (group_of listed stop) →
+    P [] → P (departures_at (groups_below n listed) stop)
+at_stop P listed n stop here none = ⊎_elim
+    (λ below. subst P (sym (groups_below-at n listed stop below)) here)
+    (λ past. subst P (sym (groups_below-past n listed stop past)) none)
+    (cases_lt stop n)
+
 -- the departures by stop
 pub are_departures : (feed : FeedRows) (sought : Seeking) (listed : List (Grouped Departure)) (n : ℕ)
     (departures : List (List Departure)) → IsSoundFeed feed → n ≡ length feed.stops →
@@ -501,16 +517,21 @@ are_departures feed sought listed n departures sound all_stops has rises is =
           let lt : facts.from.0 < n = subst (λ k. facts.from.0 < k) (sym all_stops)
           (ride_stop feed ride facts sound e.is) in
           subst (λ xs. Contains xs (departure_with ride facts)) (sym (groups_below-at n listed facts.from.0 lt)) (Contains-group_of listed facts.from.0 (departure_with ride facts) (has.all ride facts e));
-      right = λ stop. ⊎_elim
-          (λ (below : stop < n). subst (All (IsFromStop feed stop)) (sym (groups_below-at n listed stop below))
-          (All-from (IsFromStop feed stop) (group_of listed stop) (λ d at. All-contains (IsGrouped feed) listed (record { group = stop; item = d }) has.right (group_of-tells listed stop d at))))
-          (λ (past : n ≤ stop). subst (All (IsFromStop feed stop)) (sym (groups_below-past n listed stop past)) (All-nil (IsFromStop feed stop)))
-          (cases_lt stop n);
-      rises = λ stop. ⊎_elim
-          (λ (below : stop < n). subst DoRise (sym (groups_below-at n listed stop below)) (group_in_order listed stop rises))
-          (λ (past : n ≤ stop). subst DoRise (sym (groups_below-past n listed stop past)) none_rise)
-          (cases_lt stop n);
+      right = λ stop. at_stop (All (IsFromStop feed stop)) listed n stop
+          (All-from (IsFromStop feed stop) (group_of listed stop)
+          (λ d at. ((grouped_so stop d at).0, (grouped_so stop d at).1)))
+          (All-nil (IsFromStop feed stop));
+      since = λ stop. at_stop (All (IsSince sought.query)) listed n stop
+          (All-from (IsSince sought.query) (group_of listed stop) (λ d at. (grouped_so stop d at).2))
+          (All-nil (IsSince sought.query));
+      rises = λ stop. at_stop DoRise listed n stop (group_in_order listed stop rises) none_rise;
     })
+  where
+    grouped_so : (stop : ℕ) (d : Departure) → Contains (group_of listed stop) d →
+        IsGrouped feed sought.query (record { group = stop; item = d })
+    grouped_so stop d at =
+        All-contains (IsGrouped feed sought.query) listed (record { group = stop; item = d }) has.right
+        (group_of-tells listed stop d at)
 
 -- where a query has no rides, none departs
 pub no_departures : (feed : FeedRows) (sought : Seeking) (departures : List (List Departure)) → departures ≡ [] →
@@ -519,5 +540,6 @@ pub no_departures : (feed : FeedRows) (sought : Seeking) (departures : List (Lis
 no_departures feed sought departures empty none = subst (AreDepartures feed sought) (sym empty) (record {
   all = λ ride facts e. let some = e.some in absurd (omega (arith, some, none));
   right = λ stop. All-nil (IsFromStop feed stop);
+  since = λ stop. All-nil (IsSince sought.query);
   rises = λ stop. none_rise;
 })

@@ -1,11 +1,12 @@
 -- How late one may be where one more ride is taken first.
-use Rattle.std.proofs.Common.{◌≡◌, refl, sym, ◌∙◌, ap, subst, ℕ, ◌+◌, ◌-◌, ◌<◌, ◌≤◌, ◌⊎◌, ⊎_elim, true, false, List, [], ◌∷◌, ◌++◌, length, get_or, arith, ℤ, pos, ◌+ℤ◌, ◌≤ℤ◌, ◌<ℤ◌}
+use Rattle.std.proofs.Common.{◌≡◌, refl, sym, ◌∙◌, ap, subst, ℕ, ◌+◌, ◌-◌, ◌<◌, ◌≤◌, ⊎_elim, Bool, true, false, List, [], ◌∷◌, ◌++◌, length, get_or, arith, ℤ, pos, ◌+ℤ◌, ◌≤ℤ◌, ◌<ℤ◌}
 use Rattle.std.specs.Prelude.{◌&&◌, if◌then◌else◌, Option, Some, None, slice_get, unwrap_or, All, Contains, int_le}
 use Rattle.std.specs.List.Sorted.{IsPartitionedBy}
 use Rattle.std.proofs.lemmas.Int.{ints}
-use Rattle.std.proofs.lemmas.Bool.{both_ways, cases_lt}
+use Rattle.std.proofs.lemmas.Bool.{and_parts, both_ways, cases_lt}
 use Rattle.std.proofs.lemmas.List.{get_or_default}
-use Rattle.std.proofs.lemmas.Option.{same_Some, slice_get_past, slice_get-get_or}
+use Rattle.std.proofs.lemmas.List.Elements.{All-contains}
+use Rattle.std.proofs.lemmas.Option.{none-some, same_Some, slice_get_past, slice_get-get_or}
 use Rattle.transit_base.specs.Moments.{moment_at}
 use Rattle.transit_base.specs.declared.moments.Moment.{Moment}
 use Rattle.transit_base.specs.declared.numbers.StopId.{StopId}
@@ -27,10 +28,10 @@ use Rattle.feed_laws.proofs.RideLaws.{ride_facts_tells}
 use Rattle.plan_rides.specs.declared.caught.CaughtRide.{CaughtRide}
 use Rattle.plan_rides.specs.declared.departures.Departure.{Departure}
 use Rattle.plan_rides.specs.Boarding.{Seeking, AreMarks}
-use Rattle.plan_rides.specs.Departures.{AreDepartures, departure_with, departures_at, DoRise, IsByAmong, IsFirstLate, IsFromStop, facts_in_time, facts_to}
+use Rattle.plan_rides.specs.Departures.{AreDepartures, departure_with, departures_at, DoRise, IsByAmong, IsFirstLate, IsFromStop, IsSince, facts_in_time, facts_to, ride_to}
 use Rattle.plan_rides.specs.InTime.{AddsCaught, AreLastDepartures, deadline, next_in_time, IsWithinWindow, is_by, is_by_any, is_early}
-use Rattle.plan_rides.specs.Latest.{latest_at, gets_early, LeadsOn, AreLastOnes, HasEarlyWalks, IsLatestBefore, AreLatestBefore, AreAllBefore, AreAllLast, AreLasts, IsOneMore}
-use Rattle.plan_rides.proofs.CaughtLaws.{IsCaughtRide, caught_ride, in_walks}
+use Rattle.plan_rides.specs.Latest.{latest_at, gets_early, LeadsOn, HasEarlyRide, HasEarlyWalks, AreAllBefore, AreAllLast, AreLasts, IsOneMore}
+use Rattle.plan_rides.proofs.CaughtLaws.{IsCaughtRide, caught_facts, caught_ride, in_walks}
 use Rattle.plan_rides.proofs.DepartureLaws.{ride_stop}
 
 -- whoever is earlier is early enough too
@@ -121,6 +122,29 @@ leads_by feed query latest ride facts is until early =
     goes call same off =
         ap (λ (f : RideFacts). when (call.drop_off && int_le f.arrival.0 (deadline query)) f) same ∙ rw (off, le-int_le _ _ until) refl
 
+-- a departure that leads on is that of a ride that gets somewhere early enough
+has_early_ride : (feed : FeedRows) (query : Query) (latest : List (Option Moment)) (stop : ℕ) (d : Departure) →
+    IsFromStop feed stop d → IsSince query d → LeadsOn feed query latest d → HasEarlyRide feed query latest stop d.at
+unfolding facts_in_time
+has_early_ride feed query latest stop d from since leads =
+    let got = goes (leads.2.drop_off && int_le (facts_to d leads.2).arrival.0 (deadline query)) leads.4 in
+    let is = ap (λ b. when b (facts_to d leads.2)) got.0 in
+    record {
+      ride = ride_to d leads.0;
+      facts = facts_to d leads.2;
+      is = caught_facts feed query d leads.0 leads.2 (facts_to d leads.2) from.0 leads.1 leads.3 is;
+      from = from.1;
+      leaves = refl;
+      since = since;
+      until = int_le-true _ _ (and_parts _ _ got.0).1;
+      early = got.1;
+    }
+  where
+    goes : (b : Bool) → gets_early latest (when b (facts_to d leads.2)) ≡ true →
+        (b ≡ true) × (is_early latest leads.2.stop.0 (facts_to d leads.2).arrival.0 ≡ true)
+    goes true early = (refl, early)
+    goes false early = absurd (let no : false ≡ true = early in cc)
+
 -- the last of the departures that leads on departs no earlier than any that does
 pub last_leads : (feed : FeedRows) (query : Query) (latest : List (Option Moment)) (departures : List Departure) (k : ℕ)
     (x d : Departure) → DoRise departures → 0 < k → k ≤ length departures →
@@ -160,32 +184,18 @@ none_more feed query latest departures k x never none i y from lt leads =
 
 -- ---- lists of latest moments
 
--- one more of them
-pub lasts_more : (feed : FeedRows) (query : Query) (latest : List (Option Moment)) (departures : List (List Departure)) (n : ℕ)
-    (lasts : List (Option Moment)) (last : Option Moment) → length lasts ≡ n →
-    ((d : Departure) → Contains (departures_at departures n) d → LeadsOn feed query latest d → is_by last d.at.0 ≡ true) →
-    AreLastOnes feed query latest departures n lasts → AreLastOnes feed query latest departures (n + 1) (lasts ++ last ∷ [])
-lasts_more feed query latest departures n lasts last many here before stop d below has leads =
+-- what holds of the moment at each of the first n stops, with one more of them
+pub moments_more : (Holds : ℕ → Option Moment → Type 0) (n : ℕ) (moments : List (Option Moment)) (one : Option Moment) →
+    length moments ≡ n → Holds n one → ((stop : ℕ) → stop < n → Holds stop (latest_at moments stop)) →
+    (stop : ℕ) → stop < n + 1 → Holds stop (latest_at (moments ++ one ∷ []) stop)
+moments_more Holds n moments one many here before stop below =
     ⊎_elim
-    (λ lt. subst (λ o. is_by (unwrap_or o None) d.at.0 ≡ true) (sym (slice_get-push_before lasts last stop (subst (λ m. stop < m) (sym many) lt)))
-    (before stop d lt has leads))
-    (λ le. let same : stop ≡ n = omega (arith, le, below) in
-    subst (λ o. is_by (unwrap_or o None) d.at.0 ≡ true) (sym (slice_get-push_last lasts last stop (same ∙ sym many)))
-    (here d (subst (λ s. Contains (departures_at departures s) d) same has) leads))
-    (cases_lt stop n)
-
-pub befores_more : (feed : FeedRows) (query : Query) (latest lasts : List (Option Moment)) (n : ℕ) (new : List (Option Moment))
-    (one : Option Moment) → length new ≡ n →
-    IsLatestBefore feed query lasts (record { 0 = n }) (latest_at latest n) one →
-    AreLatestBefore feed query latest lasts n new → AreLatestBefore feed query latest lasts (n + 1) (new ++ one ∷ [])
-befores_more feed query latest lasts n new one many here before stop below =
-    ⊎_elim
-    (λ lt. subst (λ o. IsLatestBefore feed query lasts (record { 0 = stop }) (latest_at latest stop) (unwrap_or o None))
-    (sym (slice_get-push_before new one stop (subst (λ m. stop < m) (sym many) lt))) (before stop lt))
-    (λ le. let same : stop ≡ n = omega (arith, le, below) in
-    subst (λ o. IsLatestBefore feed query lasts (record { 0 = stop }) (latest_at latest stop) (unwrap_or o None))
-    (sym (slice_get-push_last new one stop (same ∙ sym many)))
-    (subst (λ s. IsLatestBefore feed query lasts (record { 0 = s }) (latest_at latest s) one) (sym same) here))
+    (λ lt. subst (λ o. Holds stop (unwrap_or o None))
+    (sym (slice_get-push_before moments one stop (subst (λ m. stop < m) (sym many) lt))) (before stop lt))
+    (λ le.
+    let same : stop ≡ n = omega (arith, le, below) in
+    subst (λ o. Holds stop (unwrap_or o None)) (sym (slice_get-push_last moments one stop (same ∙ sym many)))
+    (subst (λ s. Holds s one) (sym same) here))
     (cases_lt stop n)
 
 -- one walk more
@@ -205,19 +215,35 @@ walks_more query lasts walks k x latest new lt still one before i step at below 
 
 -- ---- one more ride
 
--- no ride that gets somewhere early enough departs after the last that leads on
-pub last_departures : (feed : FeedRows) (sought : Seeking) (latest : List (Option Moment)) (departures : List (List Departure))
-    (lasts : List (Option Moment)) → AreMarks feed sought → 1 < sought.query.rides → AreDepartures feed sought departures →
+-- no ride that gets somewhere early enough departs after the last that leads on, which is such a ride's
+pub last_departures : (feed : FeedRows) (sought : Seeking) (latest : List (Option Moment))
+    (departures : List (List Departure)) (lasts : List (Option Moment)) → AreMarks feed sought →
+    1 < sought.query.rides → AreDepartures feed sought departures →
     AreAllLast feed sought.query latest departures lasts → AreLasts feed sought.query latest lasts
 last_departures feed sought latest departures lasts marks more are last = record {
   many = last.many;
   all = λ ride facts is since until early. ⊎_elim
       (λ lt. early_at lasts facts.from.0 facts.departure.0 lt
-      ∙ last.all facts.from.0 (departure_with ride facts) (subst (λ n. facts.from.0 < n) last.many lt)
-      (are.all ride facts (record { some = omega (arith, more); is = is; boards = marks.all more facts.from.0; since = since; until = until }))
+      ∙ (last.all facts.from.0 (subst (λ n. facts.from.0 < n) last.many lt)).all (departure_with ride facts)
+      (are.all ride facts (record {
+        some = omega (arith, more);
+        is = is;
+        boards = marks.all more facts.from.0;
+        since = since;
+        until = until;
+      }))
       (leads_by feed sought.query latest ride facts is until early))
       (λ past. early_past lasts facts.from.0 facts.departure.0 past)
       (cases_lt facts.from.0 (length lasts));
+  attained = λ stop moment is. ⊎_elim
+      (λ lt.
+      let led = (last.all stop (subst (λ n. stop < n) last.many lt)).attained moment is in
+      let here = departures_at departures stop in
+      subst (HasEarlyRide feed sought.query latest stop) led.3 (has_early_ride feed sought.query latest stop led.0
+      (All-contains (IsFromStop feed stop) here led.0 (are.right stop) led.1)
+      (All-contains (IsSince sought.query) here led.0 (are.since stop) led.1) led.2))
+      (λ past. absurd (none-some moment (sym (ap (λ o. unwrap_or o None) (slice_get_past lasts stop past)) ∙ is)))
+      (cases_lt stop (length lasts));
 }
 
 -- any moment is early enough where no list says, and no ride is too late then

@@ -65,9 +65,13 @@ pub record IsDeparture (feed : FeedRows) (d : Departure) : Type 0 where
 abbrev pub grouped : Departure → Grouped Departure
 grouped d = record { group = d.stop.0; item = d }
 
--- it is one of the feed, with the number of its stop
-abbrev pub IsGrouped : FeedRows → Grouped Departure → Type 0
-IsGrouped feed g = IsDeparture feed g.item × (g.item.stop.0 ≡ g.group)
+-- it departs no earlier than the query
+abbrev pub IsSince : Query → Departure → Type 0
+IsSince query d = query.departure.0 ≤ℤ d.at.0
+
+-- it is one of the feed, with the number of its stop, and departs no earlier than the query
+abbrev pub IsGrouped : FeedRows → Query → Grouped Departure → Type 0
+IsGrouped feed query g = IsDeparture feed g.item × (g.item.stop.0 ≡ g.group) × IsSince query g.item
 
 -- riders may board at the call, the moment lies within the window, and the stop is marked
 unfoldable pub is_listed : Seeking → Call → ℤ → Bool
@@ -81,13 +85,13 @@ pub record Lists (feed : FeedRows) (sought : Seeking) (Part : Ride → Type 0)
   pub still : (d : Grouped Departure) → Contains old d → Contains new d
   pub all : (ride : Ride) (facts : RideFacts) → IsSpanned feed sought ride facts → Part ride →
       Contains new (grouped (departure_with ride facts))
-  pub right : All (IsGrouped feed) old → All (IsGrouped feed) new
+  pub right : All (IsGrouped feed sought.query) old → All (IsGrouped feed sought.query) new
 
 -- the list has where each ride departs that may be caught, and is right
 pub record HasDepartures (feed : FeedRows) (sought : Seeking) (listed : List (Grouped Departure)) : Type 0 where
   pub all : (ride : Ride) (facts : RideFacts) → IsSpanned feed sought ride facts →
       Contains listed (grouped (departure_with ride facts))
-  pub right : All (IsGrouped feed) listed
+  pub right : All (IsGrouped feed sought.query) listed
 
 -- they stand in the order of their moments
 abbrev pub AreInOrder : List (Grouped Departure) → Type 0
@@ -105,12 +109,13 @@ departures_at departures stop = unwrap_or (slice_get departures stop) []
 abbrev pub IsFromStop : FeedRows → ℕ → Departure → Type 0
 IsFromStop feed stop d = IsDeparture feed d × (d.stop.0 ≡ stop)
 
--- each ride that may be caught departs from its stop; out of each stop stand departures of the feed, in the order of
--- their moments
+-- each ride that may be caught departs from its stop; out of each stop stand departures of the feed since the query, in the
+-- order of their moments
 pub record AreDepartures (feed : FeedRows) (sought : Seeking) (departures : List (List Departure)) : Type 0 where
   pub all : (ride : Ride) (facts : RideFacts) → IsSpanned feed sought ride facts →
       Contains (departures_at departures facts.from.0) (departure_with ride facts)
   pub right : (stop : ℕ) → All (IsFromStop feed stop) (departures_at departures stop)
+  pub since : (stop : ℕ) → All (IsSince sought.query) (departures_at departures stop)
   pub rises : (stop : ℕ) → DoRise (departures_at departures stop)
 
 -- the ride is by this departure

@@ -9,11 +9,12 @@ use Rattle.feed_rows.specs.declared.journeys.RideFacts.{RideFacts}
 use Rattle.feed_rows.specs.FeedRows.{FeedRows}
 use Rattle.feed_rows.specs.Calls.{calls_of}
 use Rattle.feed_rows.specs.JourneyStands.{Stand}
+use Rattle.feed_rows.specs.Rides.{ride_facts}
 use Rattle.feed_walks.specs.OutOf.{out_of}
 use Rattle.feed_walks.specs.declared.steps.Step.{Step}
 use Rattle.plan_rides.specs.declared.departures.Departure.{Departure}
 use Rattle.plan_rides.specs.Departures.{departures_at, facts_in_time}
-use Rattle.plan_rides.specs.InTime.{AreLastDepartures, IsWithinWindow, next_in_time, is_by, is_early}
+use Rattle.plan_rides.specs.InTime.{AreLastDepartures, IsWithinWindow, deadline, next_in_time, is_by, is_early}
 
 -- the latest moment at the stop; none where there is none, and past the last stop
 abbrev pub latest_at : List (Option Moment) → ℕ → Option Moment
@@ -33,11 +34,22 @@ abbrev pub LeadsOn : FeedRows → Query → List (Option Moment) → Departure �
 LeadsOn feed query latest d =
     (to : ℕ) × (d.from < to) × (call : Call) × (slice_get (calls_of feed d.trip) to ≡ Some call) × (leads_to query latest d call ≡ true)
 
--- no departure from one of the first n stops leads on after the last one there
-abbrev pub AreLastOnes : FeedRows → Query → List (Option Moment) → List (List Departure) → ℕ → List (Option Moment) → Type 0
+-- some departure of these leads on, at this very moment
+abbrev pub HasLeading : FeedRows → Query → List (Option Moment) → List Departure → Moment → Type 0
+HasLeading feed query latest departures moment =
+    (d : Departure) × Contains departures d × LeadsOn feed query latest d × (d.at ≡ moment)
+
+-- none of these departures leads on after the last moment, and where there is one, some departure leads on then
+pub record IsLastOf (feed : FeedRows) (query : Query) (latest : List (Option Moment)) (departures : List Departure)
+    (last : Option Moment) : Type 0 where
+  pub all : (d : Departure) → Contains departures d → LeadsOn feed query latest d → is_by last d.at.0 ≡ true
+  pub attained : (moment : Moment) → last ≡ Some moment → HasLeading feed query latest departures moment
+
+-- so it is with those from each of the first n stops
+abbrev pub AreLastOnes : FeedRows → Query → List (Option Moment) → List (List Departure) → ℕ → List (Option Moment) →
+    Type 0
 AreLastOnes feed query latest departures n lasts =
-    (stop : ℕ) (d : Departure) → stop < n → Contains (departures_at departures stop) d → LeadsOn feed query latest d →
-    is_by (latest_at lasts stop) d.at.0 ≡ true
+    (stop : ℕ) → stop < n → IsLastOf feed query latest (departures_at departures stop) (latest_at lasts stop)
 
 -- they are as many as the stops
 pub record AreAllLast (feed : FeedRows) (query : Query) (latest : List (Option Moment)) (departures : List (List Departure))
@@ -45,10 +57,26 @@ pub record AreAllLast (feed : FeedRows) (query : Query) (latest : List (Option M
   pub many : length lasts ≡ length feed.stops
   pub all : AreLastOnes feed query latest departures (length feed.stops) lasts
 
--- there is one for each stop, and no ride of the query gets somewhere early enough that departs later
+-- some ride departs from the stop at this very moment, no earlier than the query, arrives in time, and gets somewhere
+-- early enough
+pub record HasEarlyRide (feed : FeedRows) (query : Query) (latest : List (Option Moment)) (stop : ℕ) (moment : Moment)
+    : Type 0 where
+  pub ride : Ride
+  pub facts : RideFacts
+  pub is : ride_facts feed ride ≡ Some facts
+  pub from : facts.from.0 ≡ stop
+  pub leaves : facts.departure ≡ moment
+  pub since : query.departure.0 ≤ℤ facts.departure.0
+  pub until : facts.arrival.0 ≤ℤ deadline query
+  pub early : is_early latest facts.to.0 facts.arrival.0 ≡ true
+
+-- they are as many as the stops; no ride of the query that gets somewhere early enough departs after the moment at its
+-- stop, and each moment is one at which such a ride departs from there
 pub record AreLasts (feed : FeedRows) (query : Query) (latest lasts : List (Option Moment)) : Type 0 where
   pub many : length lasts ≡ length feed.stops
   pub all : AreLastDepartures feed query latest lasts
+  pub attained : (stop : ℕ) (moment : Moment) → latest_at lasts stop ≡ Some moment →
+      HasEarlyRide feed query latest stop moment
 
 -- one is early enough to walk along one of the first n walks to where it leads by the last moment there
 abbrev pub HasEarlyWalks : Query → List (Option Moment) → List Step → ℕ → Option Moment → Type 0

@@ -2,7 +2,7 @@
 ghost use Rattle.std.specs.Prelude.{◌≡◌, ℤ, ◌<◌, ◌≤◌, ◌≤ℤ◌, ◌+ℤ◌, pos, true, false, length, All, Contains, IfOk};
 ghost use Rattle.plan_rides.specs.Departures.{AreDepartures, DoRise, IsDeparture};
 ghost use Rattle.plan_rides.specs.InTime.{IsUsualQuery, is_by, is_early};
-ghost use Rattle.plan_rides.specs.Latest.{AreAllBefore, AreAllLast, IsLatestBefore, LeadsOn, latest_at, leads_to};
+ghost use Rattle.plan_rides.specs.Latest.{AreAllBefore, AreAllLast, HasLeading, IsLatestBefore, LeadsOn, latest_at, leads_to};
 ghost use Rattle.plan_rides.specs.declared.departures.Departure.{Departure};
 ghost use Rattle.transit_base.specs.Limits.{most_time};
 
@@ -64,7 +64,8 @@ fn leads_on(
 ) -> bool
     requires usual { IsUsualQuery query.now }
     requires right { IsDeparture timetable.now departure.now }
-    ensures { LeadsOn timetable.now query.now latest.now departure.now → result ≡ true }
+    ensures all { LeadsOn timetable.now query.now latest.now departure.now → result ≡ true }
+    ensures only { result ≡ true → LeadsOn timetable.now query.now latest.now departure.now }
 {
     let calls = departure.run(timetable).calls();
     for to in departure.from + 1..calls.len() as u32 {
@@ -75,7 +76,7 @@ fn leads_on(
     false
 }
 
-/// When the last departure of these leads on.
+/// When the last departure of these leads on; none where none does.
 fn last_of(
     timetable: &Timetable,
     query: &Query,
@@ -85,7 +86,8 @@ fn last_of(
     requires usual { IsUsualQuery query.now }
     requires right { All (IsDeparture timetable.now) departures.now }
     requires rises { DoRise departures.now }
-    ensures { (d : Departure) → Contains departures.now d → LeadsOn timetable.now query.now latest.now d → is_by result d.at.0 ≡ true }
+    ensures all { (d : Departure) → Contains departures.now d → LeadsOn timetable.now query.now latest.now d → is_by result d.at.0 ≡ true }
+    ensures attained { (moment : Moment) → result ≡ Some moment → HasLeading timetable.now query.now latest.now departures.now moment }
 {
     for k in (0..departures.len()).rev() {
         if leads_on(timetable, query, latest, &departures[k]) {
@@ -95,7 +97,7 @@ fn last_of(
     None
 }
 
-/// When the last departure from each stop leads on.
+/// When the last departure from each stop leads on; none where none does.
 ///
 /// # Errors
 /// Want of memory.

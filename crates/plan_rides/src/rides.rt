@@ -161,7 +161,8 @@ impl<'s, 'f> Rides<'s, 'f> {
         .rides_into(rides)
     }
 
-    /// When the last ride departs from each stop that gets somewhere no later than the latest moment there.
+    /// When the last ride departs from each stop that gets somewhere no later than the latest moment there; none exactly
+    /// where no ride does.
     ///
     /// # Errors
     /// Want of memory.

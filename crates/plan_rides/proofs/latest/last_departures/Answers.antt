@@ -1,11 +1,11 @@
-use Rattle.std.proofs.Common.{◌≡◌, ◌+◌, sym, ◌∙◌, ap, subst, length, arith}
-use Rattle.std.specs.Prelude.{All, Contains}
+use Rattle.std.proofs.Common.{◌≡◌, ◌+◌, ◌<◌, sym, ◌∙◌, ap, subst, length, arith}
+use Rattle.std.specs.Prelude.{All}
 use Rattle.std.proofs.lemmas.List.Elements.{All-weaker}
 use Rattle.std.proofs.lemmas.List.{length_push}
 use Rattle.feed_rows.specs.FeedRows.{FeedRows}
 use Rattle.plan_rides.specs.Departures.{IsDeparture, IsFromStop, departures_at}
-use Rattle.plan_rides.specs.Latest.{AreLastOnes, LeadsOn}
-use Rattle.plan_rides.proofs.LatestLaws.{lasts_more}
+use Rattle.plan_rides.specs.Latest.{AreLastOnes, IsLastOf}
+use Rattle.plan_rides.proofs.LatestLaws.{moments_more}
 use Rattle.plan_rides.proofs.latest.last_departures.Goals as goal
 
 pub last_of-last-requires-clause-right : goal.last_of-last-requires-clause-right
@@ -20,12 +20,19 @@ loop-stop-preserved c =
     let pushed = c.in_ok-push.ensures.items in
     let feed = c.args.timetable.now in
     let query = c.args.sought.now.query in
+    let latest = c.args.latest.now in
+    let departures = c.args.departures.now in
+    let stop = c.loop-stop.stop in
+    let last = c.last_of-last.result in
+    let found : IsLastOf feed c.query.result.now latest c.get.result.now last =
+    record { all = c.last_of-last.ensures.all; attained = c.last_of-last.ensures.attained } in
+    let here = subst (λ ds. IsLastOf feed query latest ds last) c.get.ensures
+    (subst (λ q. IsLastOf feed q latest c.get.result.now last) c.query.ensures found) in
     record {
-      are = subst (AreLastOnes feed query c.args.latest.now c.args.departures.now (c.loop-stop.stop + 1)) (sym pushed)
-          (lasts_more feed query c.args.latest.now c.args.departures.now c.loop-stop.stop c.loop-stop.lasts.items c.last_of-last.result was.many
-          (λ d has leads. c.last_of-last.ensures d (subst (λ ds. Contains ds d) (sym c.get.ensures) has)
-          (subst (λ q. LeadsOn feed q c.args.latest.now d) (sym c.query.ensures) leads)) was.are);
-      many = ap length pushed ∙ length_push c.loop-stop.lasts.items c.last_of-last.result ∙ ap (λ n. n + 1) was.many;
+      are = subst (AreLastOnes feed query latest departures (stop + 1)) (sym pushed)
+          (moments_more (λ s. IsLastOf feed query latest (departures_at departures s)) stop c.loop-stop.lasts.items last
+          was.many here was.are);
+      many = ap length pushed ∙ length_push c.loop-stop.lasts.items last ∙ ap (λ n. n + 1) was.many;
     }
 
 pub returns : goal.returns
@@ -38,5 +45,5 @@ returns c =
     let same : c.loop-stop.stop ≡ length c.args.timetable.now.stops = omega (arith, past, end, stops, feed, view) in
     record {
       many = c.loop-stop.invariant.many ∙ same;
-      all = subst (λ n. AreLastOnes c.args.timetable.now c.args.sought.now.query c.args.latest.now c.args.departures.now n c.loop-stop.lasts.items) same c.loop-stop.invariant.are;
+      all = λ stop lt. c.loop-stop.invariant.are stop (subst (λ n. stop < n) (sym same) lt);
     }

@@ -1,20 +1,30 @@
-use Rattle.std.proofs.Common.{subst, sym, arith}
+use Rattle.std.proofs.Common.{subst, sym, ◌-◌, arith}
 use Rattle.std.proofs.lemmas.Bool.{both_ways}
+use Rattle.std.proofs.lemmas.List.Elements.{Contains-get_or}
+use Rattle.std.proofs.lemmas.Option.{same_Some}
 use Rattle.plan_rides.specs.Latest.{LeadsOn}
 use Rattle.plan_rides.proofs.LatestLaws.{last_leads, none_more}
 use Rattle.plan_rides.proofs.latest.last_of.Goals as goal
 
-pub returns-then-leads_on : goal.returns-then-leads_on
-returns-then-leads_on c d has leads =
-    last_leads c.args.timetable.now c.args.query.now c.args.latest.now c.args.departures.now c.loop-k.k _ d c.requires.rises
-    c.loop-k-test.true c.loop-k.auto.k c.loop-k.invariant has leads
+pub returns-then-leads_on-clause-attained : goal.returns-then-leads_on-clause-attained
+returns-then-leads_on-clause-attained c moment is =
+    let within = c.loop-k.auto.k in
+    let some = c.loop-k-test.true in
+    let has = Contains-get_or c.args.departures.now (c.loop-k.k - 1) _ (omega (arith, within, some)) in
+    (_, has, c.leads_on.ensures.only c.if-leads_on.true, same_Some _ _ is)
+
+pub returns-then-leads_on-clause-all : goal.returns-then-leads_on-clause-all
+returns-then-leads_on-clause-all c d has leads =
+    last_leads c.args.timetable.now c.args.query.now c.args.latest.now c.args.departures.now c.loop-k.k _ d
+    c.requires.rises c.loop-k-test.true c.loop-k.auto.k c.loop-k.invariant has leads
 
 pub loop-k-preserved : goal.loop-k-preserved
 loop-k-preserved c =
     none_more c.args.timetable.now c.args.query.now c.args.latest.now c.args.departures.now c.loop-k.k _
-    (λ leads. both_ways c.leads_on.result c.if-leads_on.false (c.leads_on.ensures leads)) c.loop-k.invariant
+    (λ leads. both_ways c.leads_on.result c.if-leads_on.false (c.leads_on.ensures.all leads)) c.loop-k.invariant
 
-pub returns : goal.returns
-returns c d has leads =
+pub returns-clause-all : goal.returns-clause-all
+returns-clause-all c d has leads =
     let none = c.loop-k-test.false in
-    absurd (c.loop-k.invariant has.0 d (omega (arith, none)) has.1 (subst (LeadsOn c.args.timetable.now c.args.query.now c.args.latest.now) (sym has.2) leads))
+    absurd (c.loop-k.invariant has.0 d (omega (arith, none)) has.1
+    (subst (LeadsOn c.args.timetable.now c.args.query.now c.args.latest.now) (sym has.2) leads))
