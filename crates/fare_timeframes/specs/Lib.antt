@@ -1,3 +1,4 @@
 pub mod FrameRows
 pub mod FrameDays
+pub mod BlankLegs
 pub mod BuiltTimeframes

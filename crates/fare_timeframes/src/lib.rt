@@ -11,6 +11,7 @@ ghost use Rattle.transit_base.specs.Moments.{civil_day};
 ghost use Rattle.fare_timeframes.specs.FrameRows.{by_frame, lasts_on, AreByStart};
 ghost use Rattle.fare_timeframes.specs.FrameDays.{IsDayOf};
 ghost use Rattle.fare_timeframes.specs.BuiltTimeframes.{AreTimeframesOf};
+ghost use Rattle.fare_timeframes.specs.BlankLegs.{blank_leg};
 
 mod days;
 
@@ -149,34 +150,50 @@ impl Timeframes {
     pub fn leg_facts(&self, alloc: Global, ride: &RideFacts) -> Result<LegFacts, AllocError>
         ensures { IfOk result (λ facts. (feed : FeedRows) → AreTimeframesOf feed self.now → facts ≡ leg_facts feed ride.now) }
     {
-        let from_areas = area_list(alloc, self.areas.areas_of(ride.from))?;
-        let to_areas = area_list(alloc, self.areas.areas_of(ride.to))?;
-        let from_frames = self.frames_at(alloc, ride.departure)?;
-        let to_frames = self.frames_at(alloc, ride.arrival)?;
-        Ok(LegFacts {
-            network: ride.network,
-            from_areas,
-            to_areas,
-            from_frames,
-            to_frames,
-            departure: ride.departure,
-            arrival: ride.arrival,
-        })
+        let mut leg = blank_leg(alloc);
+        self.leg_facts_into(alloc, ride, &mut leg)?;
+        Ok(leg)
     }
 
-    /// The timeframe groups that hold at the moment, ascending.
-    fn frames_at(&self, alloc: Global, at: Moment) -> Result<FrameList, AllocError>
-        ensures { IfOk result (λ frames. (feed : FeedRows) → AreTimeframesOf feed self.now → frames ≡ frames_at feed at) }
+    /// Writes what fare rules look at in the leg that is this ride over another leg.
+    ///
+    /// # Errors
+    /// Want of memory.
+    pub fn leg_facts_into(
+        &self,
+        alloc: Global,
+        ride: &RideFacts,
+        leg: &mut LegFacts,
+    ) -> Result<(), AllocError>
+        ensures { OnOk result ((feed : FeedRows) → AreTimeframesOf feed self.now → leg.new ≡ leg_facts feed ride.now) }
+    {
+        leg.network = ride.network;
+        leg.departure = ride.departure;
+        leg.arrival = ride.arrival;
+        areas_into(alloc, self.areas.areas_of(ride.from), &mut leg.from_areas)?;
+        areas_into(alloc, self.areas.areas_of(ride.to), &mut leg.to_areas)?;
+        self.frames_into(alloc, ride.departure, &mut leg.from_frames)?;
+        self.frames_into(alloc, ride.arrival, &mut leg.to_frames)
+    }
+
+    /// Replaces the timeframe groups by those that hold at the moment, ascending.
+    fn frames_into(
+        &self,
+        alloc: Global,
+        at: Moment,
+        frames: &mut FrameList,
+    ) -> Result<(), AllocError>
+        ensures { OnOk result ((feed : FeedRows) → AreTimeframesOf feed self.now → frames.new ≡ frames_at feed at) }
     {
         let kept = self.kept_day(at.day());
-        let mut frames = FrameList::empty(alloc);
+        *frames = FrameList::empty(alloc);
         for number in 0..self.count {
             let frame = FrameId(number);
             if self.is_held(kept, frame, at) {
                 frames.push(frame)?;
             }
         }
-        Ok(frames)
+        Ok(())
     }
 
     /// Whether one of these rows ends after the time and has a service that is active on the day.
@@ -234,14 +251,29 @@ fn grouped(row: &TimeframeRow) -> Grouped<TimeframeRow>
     }
 }
 
-/// The areas, which ascend.
-fn area_list(alloc: Global, areas: &[AreaId]) -> Result<AreaList, AllocError>
-    requires { DoRise areas.now }
-    ensures { IfOk result (λ list. list ≡ areas.now) }
+/// A leg without areas and timeframe groups, for others to be written over it.
+pub fn blank_leg(alloc: Global) -> LegFacts
+    ensures { result ≡ blank_leg }
 {
-    let mut list = AreaList::empty(alloc);
+    LegFacts {
+        network: None,
+        from_areas: AreaList::empty(alloc),
+        to_areas: AreaList::empty(alloc),
+        from_frames: FrameList::empty(alloc),
+        to_frames: FrameList::empty(alloc),
+        departure: Moment(0),
+        arrival: Moment(0),
+    }
+}
+
+/// Replaces the areas by these, which ascend.
+fn areas_into(alloc: Global, areas: &[AreaId], list: &mut AreaList) -> Result<(), AllocError>
+    requires { DoRise areas.now }
+    ensures { OnOk result (list.new ≡ areas.now) }
+{
+    *list = AreaList::empty(alloc);
     for i in 0..areas.len() {
         list.push(areas[i])?;
     }
-    Ok(list)
+    Ok(())
 }

@@ -30,7 +30,7 @@ use crate::moves::is_bettered;
 use crate::prospects::Prospects;
 use crate::stop_bags::StopBags;
 use fare_automaton::{Automaton, KnownOptions};
-use fare_timeframes::Timeframes;
+use fare_timeframes::{Timeframes, blank_leg};
 use feed_rows::{ChangeChoice, Feed, LegFacts, Move, Query};
 use feed_timetable::Timetable;
 use pareto_front::Front;
@@ -106,6 +106,8 @@ impl<'l> Drop for Source<'l> {
 /// What can be paid for legs, kept by their kinds, and what is found for one ride after another, kept for its memory.
 pub struct Found<'a, 'f> {
     pub(crate) known: KnownOptions<'a, 'f>,
+    /// What fare rules look at in the leg that is the ride.
+    pub(crate) leg: LegFacts,
     places: Vec<Option<ChangeChoice>>,
     moves: Vec<Move>,
 }
@@ -115,6 +117,7 @@ impl<'a, 'f> Drop for Found<'a, 'f> {
     fn drop(self) {
         let Found {
             known: _,
+            leg: _,
             places: _,
             moves: _,
         } = self;
@@ -237,22 +240,24 @@ impl<'s, 'f> Search<'s, 'f> {
         Ok(())
     }
 
-    /// Replaces what is found of moves by those of the leg after the label: all that there are, each once.
-    fn find_moves(&self, label: &Label, leg: &LegFacts, found: &mut Found) -> Result<(), AllocError>
+    /// Replaces what is found of moves by those of the leg that is found, after the label: all that there are, each once.
+    fn find_moves(&self, label: &Label, found: &mut Found) -> Result<(), AllocError>
         requires bounded { IsBounded label.now }
         requires fares { HasFares self.now found.old }
-        ensures moves { OnOk result (AreMovesOf self.now.feed self.now.query label.now leg.now found.new.moves.items) }
+        ensures moves { OnOk result (AreMovesOf self.now.feed self.now.query label.now found.old.leg found.new.moves.items) }
         ensures fares { HasFares self.now found.new }
     {
         let _feed = self.feed();
-        let number = found.known.know(self.alloc, leg)?;
+        let number = found.known.know(self.alloc, &found.leg)?;
         let options = found.known.options(number);
         match &label.state {
-            None => self.automaton.start_into(leg, options, &mut found.moves),
+            None => self
+                .automaton
+                .start_into(&found.leg, options, &mut found.moves),
             Some(state) => self.automaton.step_into(
                 state,
                 label.held,
-                leg,
+                &found.leg,
                 options,
                 &mut found.places,
                 &mut found.moves,
@@ -279,8 +284,9 @@ impl<'s, 'f> Search<'s, 'f> {
         if self.is_futile(source, finals, caught) {
             return Ok(());
         }
-        let leg = self.timeframes.leg_facts(self.alloc, &caught.facts)?;
-        self.find_moves(source.label, &leg, found)?;
+        self.timeframes
+            .leg_facts_into(self.alloc, &caught.facts, &mut found.leg)?;
+        self.find_moves(source.label, found)?;
         for k in 0..found.moves.len() {
             if !is_bettered(&found.moves, k) {
                 self.offer_move(source, finals, caught, &found.moves[k], bags)?;
@@ -460,6 +466,7 @@ impl<'s, 'f> Search<'s, 'f> {
         let mut rides = Vec::new(self.alloc);
         let mut found = Found {
             known: KnownOptions::of(self.alloc, &self.automaton),
+            leg: blank_leg(self.alloc),
             places: Vec::new(self.alloc),
             moves: Vec::new(self.alloc),
         };

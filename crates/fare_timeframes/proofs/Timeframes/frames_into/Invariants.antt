@@ -4,7 +4,7 @@ use Rattle.feed_rows.specs.Legs.{holds_at}
 use Rattle.plain_laws.specs.Plain.{picks_below}
 use Rattle.fare_timeframes.specs.BuiltTimeframes.{AreTimeframesOf}
 use Rattle.fare_timeframes.specs.FrameRows.{frame_of}
-use Rattle.fare_timeframes.proofs.Timeframes.frames_at.Given as goal
+use Rattle.fare_timeframes.proofs.Timeframes.frames_into.Given as goal
 
 abbrev pub invariant-loop-number : goal.invariant-loop-number
 invariant-loop-number l = record {
