@@ -1,10 +1,11 @@
 -- What an offer keeps, for any lawful order.
 use Rattle.std.proofs.Common.{◌≡◌, refl, sym, ◌∙◌, ap, subst, ℕ, suc, ◌<◌, ◌≤◌, ◌⊎◌, inl, inr, Bool, true, false, not, cond, ◌||◌, List, [], ◌∷◌, ◌++◌, length, get_or, insert, filter, All, Contains, arith}
-use Rattle.std.specs.Prelude.{Option, None, Some, IfNone, Result, Ok, Err, OnOk}
+use Rattle.std.specs.Prelude.{Option, None, Some, IfNone, IfSome, is_some, Result, Ok, Err, OnOk}
+use Rattle.std.specs.List.{HoldsAt}
 use Rattle.std.specs.Result.{is_err}
 use Rattle.std.proofs.lemmas.List.Edits.{insert_end}
 use Rattle.std.proofs.lemmas.List.Elements.{All-filter, All-weaker, All-contains_itself, All-cons, All-nil, All-push, All-contains, filter_passes, Contains-append_left, Contains-append_right, Contains-push}
-use Rattle.std.proofs.lemmas.List.Folds.{list_any_at}
+use Rattle.std.proofs.lemmas.List.Folds.{list_any_at, list_any_none}
 use Rattle.std.proofs.lemmas.List.Kept.{AllPairs-filter}
 use Rattle.std.proofs.lemmas.List.Sorted.{IsPermutation-insert, list_any-IsPermutation, All-permutation}
 use Rattle.std.proofs.lemmas.List.Sums.{length-filter, count_by-le-length}
@@ -128,3 +129,10 @@ module _ {X : Type 0} (at_most : X → X → Bool) where
       by x h false apart =
           ap (λ b. b || covers at_most (not_above at_most e xs) x) apart
           ∙ any-filter_same (λ m. at_most m x) (λ m. not (at_most e m)) true (λ m below. stays x m apart below (at_most e m) refl) xs ∙ h
+
+-- whether a member that is at most the label was found tells whether one is
+pub found-covers : {X : Type 0} (at_most : X → X → Bool) (xs : List X) (e : X) (o : Option ℕ) →
+    IfSome o (λ i. (i < length xs) × HoldsAt (λ m. at_most m e ≡ true) xs i) → IfNone o (IsUncovered at_most xs e) →
+    is_some o ≡ covers at_most xs e
+found-covers at_most xs e None found none = sym (list_any_none (λ m. at_most m e) xs none)
+found-covers at_most xs e (Some i) found none = sym (list_any_at (λ m. at_most m e) xs i e found.0 (found.1 e))

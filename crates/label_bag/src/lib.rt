@@ -9,6 +9,6 @@ mod search;
 mod stair_bag;
 
 pub use bag::{Bag, NoRoom, Offered, offer_all};
-pub use in_class::offer_in_class;
+pub use in_class::{add_in_class, is_covered_in_class};
 pub use list_bag::ListBag;
 pub use stair_bag::StairBag;

@@ -2,7 +2,6 @@
 use Rattle.std.proofs.Common.{◌≡◌, refl, ◌∙◌, ap, subst, ℕ, zero, suc, ◌+◌, ◌-◌, ◌<◌, ◌⊎◌, inl, inr, true, false, List, [], ◌∷◌, ◌++◌, length, get_or, arith}
 use Rattle.std.specs.Prelude.{Option, Some, None, IsSome, option_map, option_and_then, slice_get}
 use Rattle.std.proofs.lemmas.Bool.{cases_Bool}
-use Rattle.std.proofs.lemmas.List.{length-map}
 use Rattle.std.proofs.lemmas.Option.{slice_get-map, slice_get-get_or, slice_get_within}
 use Rattle.transit_base.specs.declared.numbers.StopId.{StopId}
 use Rattle.feed_rows.specs.declared.journeys.Ride.{Ride}
@@ -17,27 +16,6 @@ use Rattle.plan_rounds.specs.declared.finals.Final.{Final}
 use Rattle.plan_rounds.specs.Finals.{final_of, finals_of}
 use Rattle.plan_rounds.specs.declared.label.Label.{Label}
 use Rattle.plan_rounds.specs.Labels.{label_of, labels_of}
-
--- a label that leads back is one of the labels
-traced_inside : (labels : List Kept) (rides number : ℕ) → IsSome (traced labels rides number) → number < length labels
-traced_inside labels rides number some = by (slice_get labels number) refl
-  where
-    none : slice_get labels number ≡ None → (n : ℕ) → traced labels n number ≡ None
-    none is zero = rw is refl
-    none is (suc n) = rw is refl
-
-    by : (o : Option Kept) → slice_get labels number ≡ o → number < length labels
-    by None is = absurd (let no : false ≡ true = subst IsSome (none is rides) some in cc)
-    by (Some l) is = slice_get_within labels number l is
-
--- so it is where the program finds it
-pub label_there : (labels : List Label) (rides number : ℕ) (d : Label) → IsSome
-    (traced (labels_of labels) rides number) →
-    slice_get labels number ≡ Some (get_or labels number d)
-label_there labels rides number d some =
-    let lt = traced_inside (labels_of labels) rides number some in
-    let long = length-map labels label_of in
-    slice_get-get_or labels number d (omega (arith, lt, long))
 
 -- a label that leads back leads to its parent, which leads back by one ride less
 pub traced_parent : (labels : List Label) (rides number : ℕ) (label : Label) (parent : ℕ) (ride : Ride) (taken : Move) →

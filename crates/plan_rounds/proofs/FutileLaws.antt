@@ -1,5 +1,5 @@
 -- What a search needn't look at: whatever it leads to is found already.
-use Rattle.std.proofs.Common.{◌≡◌, subst, ◌≤◌, ◌+◌, sym, List, arith, ℕ, ap, true, ◌∙◌, ◌⊎◌, inl, inr, ⊎_elim, ℤ, ◌+ℤ◌, ◌≤ℤ◌, ◌<◌, refl, Some, []}
+use Rattle.std.proofs.Common.{◌≡◌, subst, ◌≤◌, ◌+◌, sym, List, arith, ℕ, ap, true, ◌∙◌, ◌⊎◌, inl, inr, ⊎_elim, ℤ, ◌+ℤ◌, ◌≤ℤ◌, ◌<◌, refl, Some}
 use Rattle.std.specs.Prelude.{Contains, int_le, slice_get, false}
 use Rattle.std.proofs.lemmas.Int.{ints}
 use Rattle.std.proofs.lemmas.Bool.{both_ways, cases_lt, and_parts, false_from_ne_true, ne_eqb}

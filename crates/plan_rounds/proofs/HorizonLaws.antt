@@ -1,6 +1,6 @@
 -- Rides that a search needn't try: nothing ends behind them in time, or nothing that isn't bettered.
-use Rattle.std.proofs.Common.{◌≡◌, refl, sym, ◌∙◌, ap, subst, ℕ, ◌+◌, ◌≤◌, ◌⊎◌, inl, inr, ⊎_elim, Bool, true, false, List, [], arith, ℤ, ◌≤ℤ◌}
-use Rattle.std.specs.Prelude.{Contains, int_le}
+use Rattle.std.proofs.Common.{◌≡◌, refl, sym, ◌∙◌, ap, subst, ℕ, ◌+◌, ◌⊎◌, inl, inr, ⊎_elim, Bool, true, false, List, arith, ℤ, ◌≤ℤ◌}
+use Rattle.std.specs.Prelude.{int_le}
 use Rattle.std.proofs.lemmas.Bool.{both_ways}
 use Rattle.std.proofs.lemmas.Int.{ints}
 use Rattle.feed_rows.specs.declared.fares.Triple.{Triple}
@@ -8,7 +8,7 @@ use Rattle.feed_rows.specs.ParetoTriples.{at_most}
 use Rattle.feed_rows.specs.PartialJourneys.{LabelFacts}
 use Rattle.feed_rows.specs.SoundFeed.{IsSoundFeed}
 use Rattle.plan_rides.specs.InTime.{IsWithinWindow, deadline, is_early}
-use Rattle.round_laws.specs.Futility.{IsFutile, LeadsBy, MayLack, is_within, least_end}
+use Rattle.round_laws.specs.Futility.{IsFutile, MayLack, is_within, least_end}
 use Rattle.round_laws.proofs.BoundLaws.{Ahead, ahead_leads, ahead_of_ride, ahead_passes, ahead_tells}
 use Rattle.plan_rounds.specs.declared.finals.Final.{Final}
 use Rattle.plan_rounds.specs.declared.label.Label.{Label}

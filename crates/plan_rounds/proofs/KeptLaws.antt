@@ -79,7 +79,6 @@ keep_after x number caught taken narrow =
       by = caught.ride;
       move = taken;
       state = refl;
-      held = refl;
       parent = refl;
       ride = refl;
       taken = refl;

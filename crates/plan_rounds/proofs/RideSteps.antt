@@ -1,10 +1,9 @@
 -- The rides that are caught from a label, and the labels that they lead to.
 use Rattle.std.proofs.Common.{◌≡◌, refl, sym, ◌∙◌, ap, subst, ℕ, ◌+◌, ◌<◌, ◌≤◌, ◌⊎◌, inl, inr, ⊎_elim, Bool, true, false, List, [], length, arith}
-use Rattle.std.specs.Prelude.{IsTrue, Option, Some, slice_get, unwrap_or, option_map}
-use Rattle.std.proofs.lemmas.Bool.{both_ways, cases_lt}
+use Rattle.std.specs.Prelude.{IsTrue, Some, slice_get, option_map}
+use Rattle.std.proofs.lemmas.Bool.{cases_lt}
 use Rattle.std.proofs.lemmas.Int.{ints}
 use Rattle.std.proofs.lemmas.Option.{same_Some, slice_get-map, slice_get_within}
-use Rattle.transit_base.specs.declared.moments.Moment.{Moment}
 use Rattle.transit_base.specs.declared.numbers.StopId.{StopId}
 use Rattle.feed_rows.specs.Journeys.{stands_for}
 use Rattle.feed_rows.specs.declared.journeys.LegFacts.{LegFacts}
@@ -20,13 +19,11 @@ use Rattle.feed_rows.specs.Legs.{leg_facts}
 use Rattle.feed_rows.specs.PartialJourneys.{LabelFacts}
 use Rattle.feed_rows.specs.SoundFeed.{IsSoundFeed}
 use Rattle.plain_laws.proofs.Laws.{le-int_le, slice_get-Contains}
-use Rattle.plan_rides.specs.InTime.{IsRight, HasCaughtBy, HasRide, is_early, next_in_time}
-use Rattle.round_laws.specs.Futility.{MayLack}
+use Rattle.plan_rides.specs.InTime.{IsRight, HasCaughtBy, HasRide, is_early}
 use Rattle.plan_rounds.specs.Horizons.{IsFair}
 use Rattle.plan_rounds.specs.Prospects.{ProspectLists, latest_of}
 use Rattle.plan_rounds.specs.Searched.{Searched, Lacks}
 use Rattle.plan_rounds.specs.declared.finals.Final.{Final}
-use Rattle.plan_rounds.specs.Finals.{is_bettered}
 use Rattle.plan_rounds.proofs.ProspectLaws.{in_time_of}
 use Rattle.plan_rides.specs.declared.caught.CaughtRide.{CaughtRide}
 use Rattle.feed_rows.specs.StopLinks.{stop_set}

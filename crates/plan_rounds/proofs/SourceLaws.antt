@@ -14,8 +14,10 @@ use Rattle.plain_laws.proofs.Laws.{All-slice_get, slice_get-Contains}
 use Rattle.plan_rides.specs.InTime.{IsUsualQuery, IsWithinWindow}
 use Rattle.round_laws.specs.LabelSteps.{stand_of_facts}
 use Rattle.round_laws.specs.LinkedTables.{IsLinked}
+use Rattle.plan_rounds.specs.declared.kept_label.KeptLabel.{KeptLabel}
 use Rattle.plan_rounds.specs.declared.label.Label.{Label}
 use Rattle.plan_rounds.specs.declared.search.Source.{Source}
+use Rattle.plan_rounds.specs.Kept.{IsKeptAt, whole_by}
 use Rattle.plan_rounds.specs.Labels.{IsBounded, facts_of, label_of, labels_of, stand_of_label}
 use Rattle.plan_rounds.specs.Sources.{IsSource}
 use Rattle.plan_rounds.specs.Stores.{AreStored, StepsTo, StepsFrom, StepsFromFirst}
@@ -48,6 +50,12 @@ source_is feed query count bags source usual few stored at same = record {
     linked =
         stored.linked source.number (label_of source.label.now)
         (slice_get-map label_of source.labels.now source.number ∙ ap (option_map label_of) at)
+
+-- a label has the rides of what is kept of it
+pub rides_kept : (labels : List Label) (number : ℕ) (x : Label) (kept : KeptLabel) → slice_get labels number ≡ Some x →
+    IsKeptAt labels number kept → x.rides ≡ kept.rides
+rides_kept labels number x kept at is =
+    ap (λ (y : Label). y.rides) (same_Some x (whole_by is.taken kept) (sym at ∙ is.is))
 
 module _ (feed : FeedRows) (query : Query) (labels : List Label) (rides n : ℕ) (x : Label) (b : LabelFacts) (at : slice_get labels n ≡ Some x) where
   -- one label more, which has so many rides

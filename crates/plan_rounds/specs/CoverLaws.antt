@@ -1,19 +1,21 @@
--- The laws of labels: to cover is reflexive and transitive, and what covers a label has its state and arrives no later.
-use Rattle.std.specs.Prelude.{◌≡◌, ℕ, Bool, true, false, ◌==◌, nat_le, Option, Some, None, ℤ, ◌≤ℤ◌, int_le}
+-- The laws of labels: to cover is reflexive and transitive, and so is to be as good as another label of the class.
+use Rattle.std.specs.Prelude.{◌≡◌, ℕ, Bool, true, false, ◌==◌, nat_le, Option, Some, None, ℤ, ◌+ℤ◌, ◌≤ℤ◌, int_le}
 use Rattle.std.proofs.Common.{refl, sym, ◌∙◌, ap, subst, ◌≤◌, ◌⊎◌, inl, inr, arith}
 use Rattle.std.specs.Cmp.{IsEquivalence}
 use Rattle.std.proofs.lemmas.Int.{ints}
 use Rattle.std.proofs.lemmas.Bool.{and_parts, and_from, cases_Bool, eqb-true, eq-eqb}
 use Rattle.std.proofs.lemmas.Bool.Decides.{nat_tests}
-use Rattle.label_order.specs.Labels.{OrderLaws, StairLaws}
+use Rattle.label_order.specs.Labels.{OrderLaws}
 use Rattle.transit_base.specs.declared.moments.Moment.{Moment}
 use Rattle.transit_base.specs.declared.numbers.LegGroupId.{LegGroupId}
 use Rattle.transit_base.specs.declared.numbers.StopId.{StopId}
 use Rattle.feed_rows.specs.declared.states.FareState.{FareState}
 use Rattle.feed_rows.specs.LabelCover.{Covers}
 use Rattle.plain_laws.proofs.Laws.{int_same-true, eq-int_same}
+use Rattle.plan_rounds.specs.declared.kept_label.KeptLabel.{KeptLabel}
 use Rattle.plan_rounds.specs.declared.label.Label.{Label}
 use Rattle.plan_rounds.specs.declared.label_class.LabelClass.{LabelClass}
+use Rattle.plan_rounds.specs.Kept.{comes_no_later, is_as_good, is_no_dearer}
 use Rattle.plan_rounds.specs.Labels.{facts_of, same_group, same_moment, same_flag, same_parts, same_state, is_no_later, costs_no_more, covers, class_of, same_class, class_input}
 
 -- ---- states
@@ -71,7 +73,7 @@ same_parts-equal a b same =
     (same_group-equal _ _ one.0) (eqb-true a.count b.count one.1) (same_moment-equal _ _ two.1)
     (same_moment-equal _ _ three.1) (same_flag-equal _ _ four.1)
 
-same_parts-itself : (a : FareState) → same_parts a a ≡ true
+pub same_parts-itself : (a : FareState) → same_parts a a ≡ true
 unfolding same_parts
 same_parts-itself a =
     and_from _ _
@@ -95,7 +97,7 @@ same_state-itself None = refl
 same_state-itself (Some s) = same_parts-itself s
 
 -- a test that tells what is the same, and holds for what is, is an equivalence
-equivalence_of : {K : Type 0} (same : K → K → Bool) → ((a b : K) → same a b ≡ true → a ≡ b) → ((a : K) → same a a ≡ true) →
+pub equivalence_of : {K : Type 0} (same : K → K → Bool) → ((a b : K) → same a b ≡ true → a ≡ b) → ((a : K) → same a a ≡ true) →
     IsEquivalence same
 equivalence_of same equal itself = record {
   refl = itself;
@@ -212,11 +214,60 @@ cover_laws = record {
       });
 }
 
-pub stair_laws : StairLaws covers same_class class_of (λ label. label.arrival.0)
-stair_laws = record {
-  class = λ a b h.
-      let c = covers-tells a b h in
-      and_from _ _ (eq-eqb a.stop.0 b.stop.0 (ap (λ (s : StopId). s.0) c.stop))
-      (subst (λ s. same_state a.state s ≡ true) c.state (same_state-itself a.state));
-  height = λ a b h. (covers-tells a b h).arrival;
+-- what covers a label has its class
+pub class_covered : (a b : Label) → covers a b ≡ true → same_class (class_of a) (class_of b) ≡ true
+class_covered a b h =
+    let c = covers-tells a b h in
+    and_from _ _ (eq-eqb a.stop.0 b.stop.0 (ap (λ (s : StopId). s.0) c.stop))
+    (subst (λ s. same_state a.state s ≡ true) c.state (same_state-itself a.state))
+
+-- ---- labels as they are kept
+
+-- what the test among labels of one class tells
+pub record IsAsGood (a b : KeptLabel) : Type 0 where
+  pub arrival : a.arrival.0 ≤ℤ b.arrival.0
+  pub rides : a.rides ≤ b.rides
+  pub paid : a.paid.0 ≤ℤ b.paid.0
+  pub price : (a.paid.0 +ℤ a.held.0) ≤ℤ (b.paid.0 +ℤ b.held.0)
+
+pub as_good-tells : (a b : KeptLabel) → is_as_good a b ≡ true → IsAsGood a b
+unfolding is_as_good comes_no_later is_no_dearer
+as_good-tells a b h =
+    let both = and_parts (comes_no_later a b) (is_no_dearer a b) h in
+    let when = and_parts (int_le a.arrival.0 b.arrival.0) _ both.0 in
+    let costs = and_parts (int_le a.paid.0 b.paid.0) _ both.1 in
+    record {
+      arrival = le_true _ _ when.0;
+      rides = few_true _ _ when.1;
+      paid = le_true _ _ costs.0;
+      price = le_true _ _ costs.1;
+    }
+
+-- and when it holds
+pub as_good-holds : (a b : KeptLabel) → IsAsGood a b → is_as_good a b ≡ true
+unfolding is_as_good comes_no_later is_no_dearer
+as_good-holds a b c =
+    and_from _ _ (and_from _ _ (true_le _ _ c.arrival) (true_few _ _ c.rides))
+    (and_from _ _ (true_le _ _ c.paid) (true_le _ _ c.price))
+
+pub kept_laws : OrderLaws is_as_good
+kept_laws = record {
+  reflexive = λ a. as_good-holds a a (record {
+    arrival = le_itself _;
+    rides = few_itself _;
+    paid = le_itself _;
+    price = le_itself _;
+  });
+  transitive = λ a b c p q.
+      let f = as_good-tells a b p in
+      let s = as_good-tells b c q in
+      as_good-holds a c (record {
+        arrival = le_trans _ _ _ f.arrival s.arrival;
+        rides = few_trans _ _ _ f.rides s.rides;
+        paid = le_trans _ _ _ f.paid s.paid;
+        price = le_trans _ _ _ f.price s.price;
+      });
 }
+
+pub kept_rises : (a b : KeptLabel) → is_as_good a b ≡ true → a.arrival.0 ≤ℤ b.arrival.0
+kept_rises a b h = (as_good-tells a b h).arrival

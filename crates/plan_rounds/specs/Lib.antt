@@ -4,6 +4,8 @@ pub mod FinalLaws
 pub mod Finals
 pub mod Horizons
 pub mod Kept
+pub mod LastMoveLaws
+pub mod LastMoves
 pub mod Labels
 pub mod Moves
 pub mod Prospects

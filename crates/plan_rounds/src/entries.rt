@@ -8,7 +8,7 @@ ghost use Rattle.plan_rounds.specs.Tables.{table_by};
 ghost use Rattle.plan_rounds.specs.Labels.{labels_of};
 
 use crate::finals::Final;
-use crate::kept_label::KeptLabel;
+use crate::label_list::LabelList;
 use crate::table::RoundTable;
 use feed_rows::{
     ChangeChoice, ChangeChoices, Choice, Entry, Journey, LegChoice, LegChoices, Move, Ride,
@@ -58,16 +58,11 @@ impl Part {
     ///
     /// # Errors
     /// Want of memory.
-    pub fn of(
-        alloc: Global,
-        labels: &[KeptLabel],
-        number: u32,
-        rides: u8,
-    ) -> Result<Part, AllocError>
+    pub fn of(alloc: Global, labels: &LabelList, number: u32, rides: u8) -> Result<Part, AllocError>
         requires { IsSome (traced (labels_of labels.now) rides number) }
         ensures { IfOk result (λ part. traced (labels_of labels.now) rides number ≡ Some (part_of part)) }
     {
-        let label = labels[number as usize].whole();
+        let label = labels.get(number as usize);
         if rides == 0 {
             return Ok(Part::start(alloc, label.stop));
         }

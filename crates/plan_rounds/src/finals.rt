@@ -7,7 +7,7 @@ ghost use Rattle.plan_rounds.specs.Labels.{facts_of};
 ghost use Rattle.plan_rounds.specs.Sources.{AreEnding, IsEnding};
 ghost use Rattle.round_laws.specs.LabelSteps.{IsLabelEnd};
 
-use crate::kept_label::KeptLabel;
+use crate::label_list::LabelList;
 use crate::search::{Search, Source};
 use feed_rows::Triple;
 use pareto_front::{Front, Ranked};
@@ -50,7 +50,7 @@ impl<'s, 'f> Search<'s, 'f> {
     /// Want of memory.
     pub(crate) fn add_ends(
         &self,
-        labels: &[KeptLabel],
+        labels: &LabelList,
         begin: usize,
         front: &mut Front<Final>,
     ) -> Result<(), AllocError>
@@ -62,7 +62,7 @@ impl<'s, 'f> Search<'s, 'f> {
     {
         let _limit = self.limit();
         for number in begin..labels.len() {
-            let label = labels[number].whole();
+            let label = labels.get(number);
             let source = Source {
                 labels,
                 number: number as u32,

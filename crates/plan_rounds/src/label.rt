@@ -1,12 +1,11 @@
 //! What a search by rounds keeps of a partial journey.
 ghost use Rattle.std.specs.Prelude.{◌≡◌, ◌+◌, ◌+ℤ◌, ◌<◌, ◌≤◌, ◌^◌, Some, nat_abs};
 ghost use Rattle.feed_timetable.specs.Standings.{stand_of};
-ghost use Rattle.plan_rounds.specs.Labels.{IsBounded, IsSmall, costs_no_more, covers, is_no_later, same_flag, same_group, same_moment, same_parts, same_state, stand_of_label, started, went_on};
+ghost use Rattle.plan_rounds.specs.Labels.{IsBounded, IsSmall, class_of, same_flag, same_group, same_moment, same_parts, same_state, stand_of_label, started, went_on};
 
 use crate::label_class::LabelClass;
 use feed_rows::{FareState, Move, Query, Ride};
 use feed_timetable::Standing;
-use label_order::{LabelOrder, Stair};
 use plan_rides::CaughtRide;
 use transit_base::{LegGroupId, Moment, Money, StopId};
 
@@ -83,6 +82,16 @@ impl Label {
         }
     }
 
+    /// What it shares with labels that it may cover.
+    pub(crate) fn class(&self) -> LabelClass
+        ensures { result ≡ class_of self.now }
+    {
+        LabelClass {
+            stop: self.stop,
+            state: self.state,
+        }
+    }
+
     /// The price so far, with what is held.
     pub(crate) fn price(&self) -> i128
         ensures value { result ≡ self.now.paid.0 +ℤ self.now.held.0 }
@@ -98,67 +107,6 @@ impl Label {
     {
         Money(self.paid.0 + self.held.0)
     }
-}
-
-impl LabelOrder for Label {
-    ghost use Rattle.plan_rounds.specs.Labels.{covers};
-    ghost use Rattle.plan_rounds.specs.CoverLaws.{cover_laws};
-
-    ghost at_most = { covers };
-
-    fn leq(&self, other: &Self) -> bool {
-        covers(self, other)
-    }
-
-    ghost laws = { cover_laws };
-}
-
-impl Stair for Label {
-    ghost use Rattle.plan_rounds.specs.CoverLaws.{stair_laws};
-    ghost use Rattle.plan_rounds.specs.Labels.{class_of};
-
-    type Class = LabelClass;
-
-    ghost class_of = { class_of };
-
-    ghost height_of = { λ label. label.arrival.0 };
-
-    fn class(&self) -> LabelClass {
-        LabelClass {
-            stop: self.stop,
-            state: self.state,
-        }
-    }
-
-    fn height(&self) -> i64 {
-        self.arrival.0
-    }
-
-    ghost stairs = { stair_laws };
-}
-
-/// Whether the one is as good as the other for all that may come after, or better.
-#[tactic(auto, unfolding(crate::specs::Labels::covers))]
-pub(crate) fn covers(a: &Label, b: &Label) -> bool
-    ensures { result ≡ covers a.now b.now }
-{
-    is_no_later(a, b) && costs_no_more(a, b) && same_state(&a.state, &b.state)
-}
-
-/// Whether the one arrives at the same stop no later, by no more rides.
-#[tactic(auto, unfolding(crate::specs::Labels::is_no_later))]
-fn is_no_later(a: &Label, b: &Label) -> bool
-    ensures { result ≡ is_no_later a.now b.now }
-{
-    a.stop.0 == b.stop.0 && a.arrival.0 <= b.arrival.0 && a.rides <= b.rides
-}
-
-/// Whether the one has neither paid more nor costs more.
-#[tactic(auto, unfolding(crate::specs::Labels::costs_no_more))]
-fn costs_no_more(a: &Label, b: &Label) -> bool
-    ensures { result ≡ costs_no_more a.now b.now }
-{
-    a.paid.0 <= b.paid.0 && a.price() <= b.price()
 }
 
 /// Whether both states are there and the same, or neither is there.

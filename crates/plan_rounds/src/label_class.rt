@@ -55,7 +55,7 @@ impl Hash for LabelClass {
 
 /// A number of the group, for a hash.
 #[tactic(auto, unfolding(crate::specs::Labels::group_number))]
-fn group_number(group: Option<LegGroupId>) -> u32
+pub(crate) fn group_number(group: Option<LegGroupId>) -> u32
     ensures { result ≡ group_number group }
 {
     match group {
@@ -66,7 +66,7 @@ fn group_number(group: Option<LegGroupId>) -> u32
 
 /// A number of the moment, for a hash.
 #[tactic(auto, unfolding(crate::specs::Labels::moment_number))]
-fn moment_number(moment: Option<Moment>) -> i64
+pub(crate) fn moment_number(moment: Option<Moment>) -> i64
     ensures { result ≡ moment_number moment }
 {
     match moment {

@@ -9,6 +9,9 @@ mod horizon;
 mod kept_label;
 mod label;
 mod label_class;
+mod label_list;
+mod last_move;
+mod move_table;
 mod moves;
 mod plan;
 mod prospects;
@@ -17,7 +20,6 @@ mod stop_bags;
 mod table;
 
 pub use finals::Final;
-pub use kept_label::KeptLabel;
 pub use label::Label;
 pub use plan::{round_entries, rounds};
 pub use table::RoundTable;

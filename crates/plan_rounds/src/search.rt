@@ -24,8 +24,8 @@ ghost use Rattle.plan_rounds.specs.Stores.{AreStored, AreWhole, IsNever, gathere
 use crate::bounds::takes_back;
 use crate::finals::Final;
 use crate::horizon::Horizon;
-use crate::kept_label::KeptLabel;
 use crate::label::Label;
+use crate::label_list::LabelList;
 use crate::moves::is_bettered;
 use crate::prospects::Prospects;
 use crate::stop_bags::StopBags;
@@ -87,7 +87,7 @@ impl<'s, 'f> Model for Search<'s, 'f> {
 
 /// A label with its number among those so far, from which a round goes on.
 pub struct Source<'l> {
-    pub(crate) labels: &'l [KeptLabel],
+    pub(crate) labels: &'l LabelList,
     pub(crate) number: u32,
     pub(crate) label: &'l Label,
 }
@@ -389,7 +389,7 @@ impl<'s, 'f> Search<'s, 'f> {
     /// Offers what one more ride leads to from the labels with so many rides. What `rides` holds is lost.
     fn spread(
         &self,
-        labels: &[KeptLabel],
+        labels: &LabelList,
         count: u8,
         finals: &[Final],
         rides: &mut Vec<CaughtRide>,
@@ -407,9 +407,8 @@ impl<'s, 'f> Search<'s, 'f> {
         let _limit = self.limit();
         let horizon = self.horizon(finals)?;
         for number in 0..labels.len() {
-            let kept = &labels[number];
-            if kept.rides() == count {
-                let label = kept.whole();
+            if labels.kept(number).rides == count {
+                let label = labels.get(number);
                 let source = Source {
                     labels,
                     number: number as u32,
@@ -429,14 +428,14 @@ impl<'s, 'f> Search<'s, 'f> {
         &self,
         rides: u8,
         bags: &StopBags,
-        labels: &mut Vec<KeptLabel>,
+        labels: &mut LabelList,
         front: &mut Front<Final>,
     ) -> Result<(), AllocError>
-        requires ending { AreEnding self.now.query (labels.old.items ++ gathered rides bags.now) }
-        requires ended { AddsEnds self.now.feed self.now.query labels.old.items (EndsBelow self.now.feed self.now.query labels.old.items (length labels.old.items)) [] front.old }
-        ensures value { OnOk result (labels.new.items ≡ labels.old.items ++ gathered rides bags.now) }
-        ensures numbers { OnOk result (length labels.new.items < 2 ^ 32) }
-        ensures ended { OnOk result (AddsEnds self.now.feed self.now.query labels.new.items (EndsBelow self.now.feed self.now.query labels.new.items (length labels.new.items)) [] front.new) }
+        requires ending { AreEnding self.now.query (labels.old ++ gathered rides bags.now) }
+        requires ended { AddsEnds self.now.feed self.now.query labels.old (EndsBelow self.now.feed self.now.query labels.old (length labels.old)) [] front.old }
+        ensures value { OnOk result (labels.new ≡ labels.old ++ gathered rides bags.now) }
+        ensures numbers { OnOk result (length labels.new < 2 ^ 32) }
+        ensures ended { OnOk result (AddsEnds self.now.feed self.now.query labels.new (EndsBelow self.now.feed self.now.query labels.new (length labels.new)) [] front.new) }
         ensures still { OnOk result ((triple : Triple) → is_bettered front.old triple → is_bettered front.new triple) }
         ensures apart { AreApart covers bags.now }
     {
@@ -452,15 +451,15 @@ impl<'s, 'f> Search<'s, 'f> {
     ///
     /// # Errors
     /// Want of memory; so counts that there would be 2^32 labels or more.
-    pub fn labels(&self) -> Result<(Vec<KeptLabel>, Front<Final>), AllocError>
-        ensures whole { IfOk result (λ all. AreWhole self.now.feed self.now.query (Lacks self.now all.1) all.0.items) }
-        ensures numbers { IfOk result (λ all. length all.0.items < 2 ^ 32) }
-        ensures ended { IfOk result (λ all. AddsEnds self.now.feed self.now.query all.0.items (EndsBelow self.now.feed self.now.query all.0.items (length all.0.items)) [] all.1) }
+    pub fn labels(&self) -> Result<(LabelList, Front<Final>), AllocError>
+        ensures whole { IfOk result (λ all. AreWhole self.now.feed self.now.query (Lacks self.now all.1) all.0) }
+        ensures numbers { IfOk result (λ all. length all.0 < 2 ^ 32) }
+        ensures ended { IfOk result (λ all. AddsEnds self.now.feed self.now.query all.0 (EndsBelow self.now.feed self.now.query all.0 (length all.0)) [] all.1) }
     {
         let limit = self.limit();
         let mut bags = StopBags::empty(self.alloc);
         self.offer_starts(&mut bags)?;
-        let mut labels = Vec::new(self.alloc);
+        let mut labels = LabelList::empty(self.alloc);
         let mut front = Front::empty(self.alloc);
         self.gather(0, &bags, &mut labels, &mut front)?;
         let mut rides = Vec::new(self.alloc);

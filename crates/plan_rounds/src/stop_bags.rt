@@ -1,16 +1,19 @@
 //! The bags of labels of a search, for each stop and state of fares one.
-ghost use Rattle.std.specs.Prelude.{◌≡◌, ◌++◌, ◌∷◌, [], false, filter, Contains, IfOk, OnOk};
-ghost use Rattle.label_bag.specs.Bags.{AreApart, Gathers};
-ghost use Rattle.plan_rounds.specs.Kept.{IsKeepable};
+ghost use Rattle.std.specs.Prelude.{◌≡◌, ◌++◌, ◌∷◌, [], false, filter, All, Contains, IfOk, OnErr, OnOk};
+ghost use Rattle.label_bag.specs.Bags.{AreApart, Gathers, IsUncovered};
+ghost use Rattle.label_bag.specs.Bags.{covers as has_cover};
+ghost use Rattle.plan_rounds.specs.Kept.{IsKeepable, IsNumbered, is_as_good, whole_by, wholes};
 ghost use Rattle.plan_rounds.specs.Labels.{class_of, covers};
-ghost use Rattle.plan_rounds.specs.Stores.{IsBagOf, Takes, gathered, has_rides, in_bags};
+ghost use Rattle.plan_rounds.specs.Stores.{AreBagsOf, IsBag, Takes, gathered, has_rides, in_bags};
 
 use crate::kept_label::KeptLabel;
 use crate::label::Label;
 use crate::label_class::LabelClass;
+use crate::label_list::LabelList;
+use crate::move_table::MoveTable;
+use feed_rows::Move;
 use indexmap::IndexMap;
-use label_bag::offer_in_class;
-use label_order::Stair;
+use label_bag::{add_in_class, is_covered_in_class};
 use std::alloc::{AllocError, Global};
 use std::marker::Model;
 
@@ -28,9 +31,9 @@ impl Drop for StopBag {
 
 impl Model for StopBag {
     ghost use Rattle.std.specs.Prelude.{List};
-    ghost use Rattle.plan_rounds.specs.declared.label.Label.{Label};
+    ghost use Rattle.plan_rounds.specs.declared.kept_label.KeptLabel.{KeptLabel};
 
-    ghost Value = { List Label };
+    ghost Value = { List KeptLabel };
 
     ghost view = { λ s. s.labels.items };
 }
@@ -48,44 +51,65 @@ impl StopBag {
         Ok(StopBag { labels })
     }
 
-    /// Takes the label in, unless one covers it; those that it covers go, and no other.
+    /// Whether one of the labels is as good as this one.
+    fn covers(&self, label: &KeptLabel) -> bool
+        requires { IsBag self.now }
+        ensures { result ≡ has_cover is_as_good self.now label.now }
+    {
+        is_covered_in_class(&self.labels, label)
+    }
+
+    /// Takes the label in, as good as which none is; those as good as which it is go, and no other.
     ///
     /// # Errors
     /// Want of memory.
-    fn offer(&mut self, label: KeptLabel) -> Result<(), AllocError>
-        requires { IsBagOf (class_of label) self.old }
-        ensures gathers { OnOk result (Gathers covers self.old (label ∷ []) self.new) }
-        ensures keeps { OnOk result ((x : Label) → Contains self.old x → covers label x ≡ false → Contains self.new x) }
-        ensures bag { IsBagOf (class_of label) self.new }
+    fn add(&mut self, label: KeptLabel) -> Result<(), AllocError>
+        requires bag { IsBag self.old }
+        requires uncovered { IsUncovered is_as_good self.old label }
+        ensures gathers { OnOk result (Gathers is_as_good self.old (label ∷ []) self.new) }
+        ensures keeps { OnOk result ((x : KeptLabel) → Contains self.old x → is_as_good label x ≡ false → Contains self.new x) }
+        ensures bag { IsBag self.new }
+        ensures err { OnErr result (self.new ≡ self.old) }
     {
-        offer_in_class(&mut self.labels, label)
+        add_in_class(&mut self.labels, label)
     }
 
-    /// Adds the labels that have so many rides.
-    fn push_into(&self, rides: u8, labels: &mut Vec<KeptLabel>) -> Result<(), AllocError>
-        ensures { OnOk result (labels.new.items ≡ labels.old.items ++ filter (has_rides rides) self.now) }
+    /// Adds the labels that have so many rides, where moves stand by these numbers.
+    fn push_into(
+        &self,
+        moves: &MoveTable,
+        rides: u8,
+        labels: &mut LabelList,
+    ) -> Result<(), AllocError>
+        requires { All (IsNumbered moves.now) self.now }
+        ensures { OnOk result (labels.new ≡ labels.old ++ filter (has_rides rides) (wholes moves.now self.now)) }
     {
         let held = self.labels.as_slice();
         for number in 0..held.len() {
             let label = &held[number];
-            if label.rides() == rides {
-                labels.push(label.again())?;
+            if label.rides == rides {
+                labels.push(label, moves.get(label.taken))?;
             }
         }
         Ok(())
     }
 }
 
-/// The labels of all stops, of which none covers another. Contracts see their list.
+/// The labels of all stops, of which none covers another, with their moves in a table. Contracts see their list.
 pub struct StopBags {
     alloc: Global,
+    moves: MoveTable,
     bags: IndexMap<LabelClass, StopBag>,
 }
 
 // Written out, so that what holds one needn't look into it to let go of it.
 impl Drop for StopBags {
     fn drop(self) {
-        let StopBags { alloc: _, bags: _ } = self;
+        let StopBags {
+            alloc: _,
+            moves: _,
+            bags: _,
+        } = self;
     }
 }
 
@@ -96,9 +120,9 @@ impl Model for StopBags {
 
     ghost Value = { List Label };
 
-    ghost view = { λ s. in_bags s.bags.entries };
+    ghost view = { λ s. in_bags s.moves s.bags.entries };
 
-    ghost invariant = { λ s. AreBagsOf s.bags.entries };
+    ghost invariant = { λ s. AreBagsOf s.moves s.bags.entries };
 }
 
 impl StopBags {
@@ -108,6 +132,7 @@ impl StopBags {
     {
         StopBags {
             alloc,
+            moves: MoveTable::empty(alloc),
             bags: IndexMap::new(alloc),
         }
     }
@@ -120,18 +145,30 @@ impl StopBags {
         requires { IsKeepable label.now }
         ensures { OnOk result (Takes self.old label.now self.new) }
     {
-        self.take(label.class(), KeptLabel::of(label))
+        self.take(label.class(), &KeptLabel::of(label), &label.taken)
     }
 
-    /// The same, of a label of the class.
-    fn take(&mut self, class: LabelClass, label: KeptLabel) -> Result<(), AllocError>
-        requires { class ≡ class_of label }
-        ensures { OnOk result (Takes self.old label self.new) }
+    /// The same, of a label of the class that has this move. The move gets a number where no label covers this one.
+    fn take(
+        &mut self,
+        class: LabelClass,
+        label: &KeptLabel,
+        taken: &Option<Move>,
+    ) -> Result<(), AllocError>
+        requires { class ≡ class_of (whole_by taken.now label.now) }
+        ensures { OnOk result (Takes self.old (whole_by taken.now label.now) self.new) }
     {
         match self.bags.get_index_of(&class) {
-            Some(number) => self.bags[number].offer(label),
+            Some(number) => {
+                if self.bags[number].covers(label) {
+                    return Ok(());
+                }
+                let place = self.moves.number(taken)?;
+                self.bags[number].add(label.numbered(place))
+            }
             None => {
-                let bag = StopBag::of(self.alloc, label)?;
+                let place = self.moves.number(taken)?;
+                let bag = StopBag::of(self.alloc, label.numbered(place))?;
                 self.bags.insert(class, bag)?;
                 Ok(())
             }
@@ -142,24 +179,26 @@ impl StopBags {
     ///
     /// # Errors
     /// Want of memory.
-    pub fn gather(&self, rides: u8, labels: &mut Vec<KeptLabel>) -> Result<(), AllocError>
-        ensures value { OnOk result (labels.new.items ≡ labels.old.items ++ gathered rides self.now) }
+    pub fn gather(&self, rides: u8, labels: &mut LabelList) -> Result<(), AllocError>
+        ensures value { OnOk result (labels.new ≡ labels.old ++ gathered rides self.now) }
         ensures apart { AreApart covers self.now }
     {
-        push_bags(&self.bags, rides, labels)
+        push_bags(&self.bags, &self.moves, rides, labels)
     }
 }
 
 /// Adds the labels of the bags that have so many rides.
 fn push_bags(
     bags: &IndexMap<LabelClass, StopBag>,
+    moves: &MoveTable,
     rides: u8,
-    labels: &mut Vec<KeptLabel>,
+    labels: &mut LabelList,
 ) -> Result<(), AllocError>
-    ensures { OnOk result (labels.new.items ≡ labels.old.items ++ gathered rides (in_bags bags.now.entries)) }
+    requires { AreBagsOf moves.now bags.now.entries }
+    ensures { OnOk result (labels.new ≡ labels.old ++ gathered rides (in_bags moves.now bags.now.entries)) }
 {
     for number in 0..bags.len() {
-        bags[number].push_into(rides, labels)?;
+        bags[number].push_into(moves, rides, labels)?;
     }
     Ok(())
 }

@@ -3,10 +3,12 @@ ghost use Rattle.std.specs.Prelude.{◌≡◌, ◌+◌, ◌*◌, ◌<◌, ◌≤
 ghost use Rattle.plain_laws.specs.Plain.{groups_below, list_below};
 ghost use Rattle.plan_rounds.specs.Finals.{finals_of};
 ghost use Rattle.plan_rounds.specs.Labels.{label_of, labels_of};
-ghost use Rattle.plan_rounds.specs.Tables.{group_of_label, numbered, table_by, table_in};
+ghost use Rattle.plan_rounds.specs.Tables.{group_at, numbered, table_by, table_in};
 
 use crate::finals::Final;
 use crate::kept_label::KeptLabel;
+use crate::label::Label;
+use crate::label_list::LabelList;
 use plain_laws::{Grouped, Groups};
 use std::alloc::{AllocError, Global};
 use std::marker::Model;
@@ -15,7 +17,7 @@ use transit_base::StopId;
 /// The labels of a search by number, the numbers of those of each round at each stop, and what is found. Contracts see it as
 /// such a table.
 pub struct RoundTable {
-    labels: Vec<KeptLabel>,
+    labels: LabelList,
     finals: Vec<Final>,
     /// The numbers of the labels, by rides and then by stop.
     numbers: Groups<u32>,
@@ -39,7 +41,7 @@ impl Model for RoundTable {
 
     ghost Value = { TableParts };
 
-    ghost view = { λ s. record { labels = s.labels.items; stops = s.stops; numbers = s.numbers; finals = s.finals.items } };
+    ghost view = { λ s. record { labels = s.labels; stops = s.stops; numbers = s.numbers; finals = s.finals.items } };
 }
 
 impl RoundTable {
@@ -49,17 +51,17 @@ impl RoundTable {
     /// Want of memory.
     pub(crate) fn of(
         alloc: Global,
-        labels: Vec<KeptLabel>,
+        labels: LabelList,
         finals: Vec<Final>,
         stops: u32,
         limit: u8,
     ) -> Result<RoundTable, AllocError>
         requires limit { limit ≤ 8 }
         requires stops { stops ≤ 4_000_000 }
-        requires numbers { length labels.items < 2 ^ 32 }
-        requires few { All (λ (x : KeptLabel). x.rides ≤ limit) labels.items }
-        requires inside { All (λ (x : KeptLabel). x.stop.0 < stops) labels.items }
-        ensures { IfOk result (λ table. table_by table ≡ table_in labels.items stops (groups_below ((limit + 1) * stops) (list_below (length labels.items) (numbered stops labels.items))) finals.items) }
+        requires numbers { length labels < 2 ^ 32 }
+        requires few { All (λ (x : Label). x.rides ≤ limit) labels }
+        requires inside { All (λ (x : Label). x.stop.0 < stops) labels }
+        ensures { IfOk result (λ table. table_by table ≡ table_in labels stops (groups_below ((limit + 1) * stops) (list_below (length labels) (numbered stops labels))) finals.items) }
     {
         let members = members_of(alloc, &labels, stops)?;
         let count = (u32::from(limit) + 1) * stops;
@@ -73,18 +75,18 @@ impl RoundTable {
     }
 
     /// The label with this number.
-    pub fn label(&self, number: usize) -> &KeptLabel
+    pub fn label(&self, number: usize) -> Label
         requires { number < length self.now.labels }
-        ensures { slice_get (table_by self.now).labels number ≡ Some (label_of result.now) }
+        ensures { slice_get (table_by self.now).labels number ≡ Some (label_of result) }
     {
-        &self.labels[number]
+        self.labels.get(number)
     }
 
     /// All labels, by number.
-    pub(crate) fn labels(&self) -> &[KeptLabel]
+    pub(crate) fn labels(&self) -> &LabelList
         ensures { labels_of result.now ≡ (table_by self.now).labels }
     {
-        self.labels.as_slice()
+        &self.labels
     }
 
     /// How many labels there are.
@@ -117,18 +119,18 @@ impl RoundTable {
 // The number of each label, in the group of its rides and its stop.
 fn members_of(
     alloc: Global,
-    labels: &[KeptLabel],
+    labels: &LabelList,
     stops: u32,
 ) -> Result<Vec<Grouped<u32>>, AllocError>
     requires stops { stops ≤ 4_000_000 }
     requires numbers { length labels.now < 2 ^ 32 }
-    requires few { All (λ (x : KeptLabel). x.rides ≤ 8) labels.now }
-    requires inside { All (λ (x : KeptLabel). x.stop.0 < stops) labels.now }
+    requires few { All (λ (x : Label). x.rides ≤ 8) labels.now }
+    requires inside { All (λ (x : Label). x.stop.0 < stops) labels.now }
     ensures { IfOk result (λ members. members.items ≡ list_below (length labels.now) (numbered stops labels.now)) }
 {
     let mut members = Vec::with_capacity(alloc, labels.len())?;
     for number in 0..labels.len() {
-        let group = group_of(&labels[number], stops);
+        let group = group_of(labels.kept(number), stops);
         members.push(Grouped {
             group,
             item: number as u32,
@@ -142,7 +144,7 @@ fn group_of(label: &KeptLabel, stops: u32) -> u32
     requires stops { stops ≤ 4_000_000 }
     requires few { label.now.rides ≤ 8 }
     requires inside { label.now.stop.0 < stops }
-    ensures { result ≡ group_of_label stops label.now }
+    ensures { result ≡ group_at stops label.now.rides label.now.stop.0 }
 {
-    u32::from(label.rides()) * stops + label.stop().0
+    u32::from(label.rides) * stops + label.stop.0
 }

@@ -1,4 +1,4 @@
-use Rattle.std.proofs.Common.{◌≡◌, ◌+◌, ◌-◌, ◌<◌, sym, ◌∙◌, ap, subst, [], length, arith}
+use Rattle.std.proofs.Common.{◌-◌, sym, ◌∙◌, ap, subst, [], length, arith}
 use Rattle.std.proofs.lemmas.List.{length_push}
 use Rattle.feed_rows.specs.SoundFeed.{IsSoundFeed}
 use Rattle.feed_rows.specs.declared.journeys.Query.{Query}

@@ -1,4 +1,4 @@
-use Rattle.std.proofs.Common.{sym, ◌∙◌, subst, [], length, arith}
+use Rattle.std.proofs.Common.{sym, subst, [], length}
 use Rattle.plan_rounds.specs.Finals.{AddsEnds, EndsBelow}
 use Rattle.plan_rounds.specs.Sources.{AreEnding}
 use Rattle.plan_rounds.specs.Stores.{gathered}
@@ -7,14 +7,15 @@ use Rattle.plan_rounds.proofs.search.Search.gather.Goals as goal
 
 pub add_ends-requires-clause-ending : goal.add_ends-requires-clause-ending
 add_ends-requires-clause-ending c =
-    subst (AreEnding c.args.self.now.query) (sym (c.deref.ensures.value ∙ c.in_ok-gather.ensures.value)) c.requires.ending
+    subst (AreEnding c.args.self.now.query) (sym c.in_ok-gather.ensures.value) c.requires.ending
 
 pub add_ends-requires-clause-before : goal.add_ends-requires-clause-before
 add_ends-requires-clause-before c =
     let feed = c.args.self.now.feed in
     let query = c.args.self.now.query in
-    subst (λ n. AddsEnds feed query c.deref.result.now (EndsBelow feed query c.deref.result.now n) [] c.args.front.now)
-    (omega (arith, c.len-begin.ensures, c.args.labels.now.ok.0))
-    (subst (λ ls. AddsEnds feed query ls (EndsBelow feed query ls (length c.args.labels.now.items)) [] c.args.front.now)
-    (sym (c.deref.ensures.value ∙ c.in_ok-gather.ensures.value))
-    (ends_longer feed query c.args.labels.now.items (gathered c.args.rides c.args.bags.now) c.args.front.now c.requires.ended))
+    let labels = c.gather.new.labels in
+    subst (λ n. AddsEnds feed query labels (EndsBelow feed query labels n) [] c.args.front.now)
+    (sym c.len-begin.ensures)
+    (subst (λ ls. AddsEnds feed query ls (EndsBelow feed query ls (length c.args.labels.now)) [] c.args.front.now)
+    (sym c.in_ok-gather.ensures.value)
+    (ends_longer feed query c.args.labels.now (gathered c.args.rides c.args.bags.now) c.args.front.now c.requires.ended))

@@ -20,23 +20,22 @@ gather-requires-clause-ending c =
     let spreads =
     subst (λ old. Spreads feed query IsNever [] 0 (IsStartOf feed query) old c.offer_starts.new.bags) c.empty-bags.ensures
     c.in_ok-offer_starts.ensures in
-    subst (λ ls. AreEnding query (ls ++ gathered 0 c.offer_starts.new.bags)) (sym c.new-labels.ensures.items)
+    subst (λ ls. AreEnding query (ls ++ gathered 0 c.offer_starts.new.bags)) (sym c.empty-labels.ensures)
     (ending_more feed query IsNever 0 [] _ [] c.offer_starts.new.bags (stored_none feed query) spreads c.limit-limit.ensures.usual
     (omega arith))
 
 pub gather-requires-clause-ended : goal.gather-requires-clause-ended
 gather-requires-clause-ended c =
-    ends_start c.args.self.now.feed c.args.self.now.query c.new-labels.result.items c.empty-front.result c.new-labels.ensures.items c.empty-front.ensures
+    ends_start c.args.self.now.feed c.args.self.now.query c.empty-labels.result c.empty-front.result c.empty-labels.ensures c.empty-front.ensures
 
 pub gather-requires-in-loop-count-clause-ending : goal.gather-requires-in-loop-count-clause-ending
 gather-requires-in-loop-count-clause-ending c =
     let feed = c.args.self.now.feed in
     let query = c.args.self.now.query in
     let was = c.loop-count.invariant in
-    ending_more feed query (Lacks c.args.self.now c.items.result.now) (c.loop-count.count + 1) c.loop-count.labels.items _ c.loop-count.bags
+    ending_more feed query (Lacks c.args.self.now c.items.result.now) (c.loop-count.count + 1) c.loop-count.labels _ c.loop-count.bags
     c.spread.new.bags was.stored
-    (subst (λ ls. Spreads feed query (Lacks c.args.self.now c.items.result.now) ls (c.loop-count.count + 1) (StepsFrom feed query ls c.loop-count.count) c.loop-count.bags c.spread.new.bags)
-    c.deref.ensures.value c.in_ok-spread.ensures.spreads)
+    c.in_ok-spread.ensures.spreads
     c.limit-limit.ensures.usual (omega (arith, c.loop-count-test.true, c.limit-limit.ensures.is))
 
 pub gather-requires-in-loop-count-clause-ended : goal.gather-requires-in-loop-count-clause-ended
@@ -46,8 +45,7 @@ pub spread-requires-clause-ended : goal.spread-requires-clause-ended
 spread-requires-clause-ended c =
     let feed = c.args.self.now.feed in
     let query = c.args.self.now.query in
-    subst (λ ls. HasEnds feed query ls c.items.result.now) (sym c.deref.ensures.value)
-    (subst (HasEnds feed query c.loop-count.labels.items) (sym c.items.ensures.value) c.loop-count.invariant.ended.all)
+    subst (HasEnds feed query c.loop-count.labels) (sym c.items.ensures.value) c.loop-count.invariant.ended.all
 
 pub loop-count-init : goal.loop-count-init
 loop-count-init c =
@@ -59,7 +57,7 @@ loop-count-init c =
     let all = c.in_ok-gather.ensures in
     let stored =
     stored_more feed query IsNever 0 [] _ [] c.offer_starts.new.bags (stored_none feed query) spreads all.apart in
-    let is = all.value ∙ ap (λ ls. ls ++ gathered 0 c.offer_starts.new.bags) c.new-labels.ensures.items in
+    let is = all.value ∙ ap (λ ls. ls ++ gathered 0 c.offer_starts.new.bags) c.empty-labels.ensures in
     record {
       stored = subst (λ ls. AreStored feed query 1 ls c.offer_starts.new.bags) (sym is) stored;
       apart = all.apart;
@@ -76,12 +74,11 @@ loop-count-preserved c =
     let query = c.args.self.now.query in
     let was = c.loop-count.invariant in
     let old = Lacks c.args.self.now c.loop-count.front in
-    let labels = c.loop-count.labels.items in
+    let labels = c.loop-count.labels in
     let spreads =
     subst (λ (fs : List Final). Spreads feed query (Lacks c.args.self.now fs) labels (c.loop-count.count + 1) (StepsFrom feed query labels c.loop-count.count) c.loop-count.bags c.spread.new.bags)
     c.items.ensures.value
-    (subst (λ ls. Spreads feed query (Lacks c.args.self.now c.items.result.now) ls (c.loop-count.count + 1) (StepsFrom feed query ls c.loop-count.count) c.loop-count.bags c.spread.new.bags)
-    c.deref.ensures.value c.in_ok-spread.ensures.spreads) in
+    c.in_ok-spread.ensures.spreads in
     let all = c.in_ok-gather-2.ensures in
     let closed =
     closed_more feed query old (c.loop-count.count + 1) labels _ c.loop-count.bags c.spread.new.bags was.stored spreads c.loop-count.count refl was.closed (λ b h. h) in
@@ -101,5 +98,5 @@ loop-count-preserved c =
 pub returns-clause-whole : goal.returns-clause-whole
 returns-clause-whole c =
     let was = c.loop-count.invariant in
-    whole_of c.args.self.now.feed c.args.self.now.query (Lacks c.args.self.now c.loop-count.front) c.loop-count.count c.loop-count.labels.items c.loop-count.bags
+    whole_of c.args.self.now.feed c.args.self.now.query (Lacks c.args.self.now c.loop-count.front) c.loop-count.count c.loop-count.labels c.loop-count.bags
     (omega (arith, c.loop-count-test.false, c.loop-count.auto.count-end, c.limit-limit.ensures.is)) was.stored was.apart was.closed was.starts

@@ -10,11 +10,11 @@ use Rattle.plan_rounds.proofs.search.Search.labels.Given as goal
 
 abbrev pub invariant-loop-count : goal.invariant-loop-count
 invariant-loop-count l = record {
-  stored : AreStored l.self.feed l.self.query (l.count + 1) l.labels.items l.bags;
+  stored : AreStored l.self.feed l.self.query (l.count + 1) l.labels l.bags;
   apart : AreApart covers l.bags;
-  closed : AreClosedTo l.self.feed l.self.query (Lacks l.self l.front) l.count l.labels.items;
-  starts : CoversStarts l.self.feed l.self.query (labels_of l.labels.items);
-  ended : AddsEnds l.self.feed l.self.query l.labels.items (EndsBelow l.self.feed l.self.query l.labels.items (length l.labels.items)) [] l.front;
-  numbers : length l.labels.items < 2 ^ 32;
+  closed : AreClosedTo l.self.feed l.self.query (Lacks l.self l.front) l.count l.labels;
+  starts : CoversStarts l.self.feed l.self.query (labels_of l.labels);
+  ended : AddsEnds l.self.feed l.self.query l.labels (EndsBelow l.self.feed l.self.query l.labels (length l.labels)) [] l.front;
+  numbers : length l.labels < 2 ^ 32;
   fares : HasFares l.self l.found;
 }

@@ -18,7 +18,7 @@ pub returns : goal.returns
 returns c =
     let feed = c.args.self.now.feed in
     let query = c.args.self.now.query in
-    let labels = c.in_ok-labels.labels.items in
+    let labels = c.in_ok-labels.labels in
     let finals = c.into_items.result.items in
     let all = c.in_ok-labels.ensures in
     let front = c.into_items.ensures in

@@ -1,16 +1,8 @@
-use Rattle.std.proofs.Common.{ap, subst, length, ◌∷◌, []}
-use Rattle.label_bag.specs.Bags.{Gathers}
-use Rattle.label_bag.proofs.BagLaws.{gathers-covered}
+use Rattle.std.proofs.Common.{ap, subst, sym, List, length, ◌∷◌, []}
+use Rattle.label_bag.specs.Bags.{IsUncovered}
 use Rattle.label_bag.proofs.ClassLaws.{placed_as, gathers_in, keeps_in, apart_in, flight_in}
-use Rattle.label_bag.proofs.in_class.offer_in_class.Goals as goal
-use Rattle.label_bag.proofs.in_class.offer_in_class.Goals.{in-Ok, in-Err}
-
-pub returns-in-Some-clause-gathers : goal.returns-in-Some-clause-gathers
-returns-in-Some-clause-gathers g c =
-    let found = c.in-Some.ensures.found in
-    subst (λ xs. Gathers g.L.LabelOrder.at_most xs (c.args.label ∷ []) xs) c.as_slice-flight.ensures.value
-    (gathers-covered g.L.LabelOrder.at_most c.as_slice-flight.result.now c.in-Some.field-0 c.args.label found.0
-    (found.1 c.args.label))
+use Rattle.label_bag.proofs.in_class.add_in_class.Goals as goal
+use Rattle.label_bag.proofs.in_class.add_in_class.Goals.{in-Ok, in-Err}
 
 pub returns-clause-gathers : goal.returns-clause-gathers
 returns-clause-gathers g c =
@@ -19,8 +11,9 @@ returns-clause-gathers g c =
     let order = g.met.L.LabelOrder.laws in
     let found = c.count_lower-start.ensures in
     let view = c.as_slice-flight.ensures.value in
+    let bare = subst (λ xs. IsUncovered g.L.LabelOrder.at_most xs c.args.label) (sym view) c.requires.uncovered in
     let placed = placed_as g.L.LabelOrder.at_most g.L.Stair.height_of _ _ _ c.args.label view
-    found.within found.lower found.others c.in_default.ensures.none in
+    found.within found.lower found.others bare in
     elim c.match-replace.branch [
       | in-Ok w ↦
           rw w.result-is (gathers_in _ _ _ _ laws equal order _ _ c.requires.flight _ (ap length view) _ _ placed w.in-Ok.ensures.ok)
@@ -34,8 +27,9 @@ returns-clause-keeps g c =
     let order = g.met.L.LabelOrder.laws in
     let found = c.count_lower-start.ensures in
     let view = c.as_slice-flight.ensures.value in
+    let bare = subst (λ xs. IsUncovered g.L.LabelOrder.at_most xs c.args.label) (sym view) c.requires.uncovered in
     let placed = placed_as g.L.LabelOrder.at_most g.L.Stair.height_of _ _ _ c.args.label view
-    found.within found.lower found.others c.in_default.ensures.none in
+    found.within found.lower found.others bare in
     elim c.match-replace.branch [
       | in-Ok w ↦
           rw w.result-is (keeps_in _ _ _ _ laws equal order _ _ c.requires.flight _ (ap length view) _ _ placed w.in-Ok.ensures.ok)
@@ -49,8 +43,9 @@ returns-clause-flight g c =
     let order = g.met.L.LabelOrder.laws in
     let found = c.count_lower-start.ensures in
     let view = c.as_slice-flight.ensures.value in
+    let bare = subst (λ xs. IsUncovered g.L.LabelOrder.at_most xs c.args.label) (sym view) c.requires.uncovered in
     let placed = placed_as g.L.LabelOrder.at_most g.L.Stair.height_of _ _ _ c.args.label view
-    found.within found.lower found.others c.in_default.ensures.none in
+    found.within found.lower found.others bare in
     elim c.match-replace.branch [
       | in-Ok w ↦
           flight_in _ _ _ _ laws equal order _ _ c.requires.flight _ (ap length view) _ _ placed w.in-Ok.ensures.ok
@@ -64,8 +59,9 @@ returns-clause-apart g c =
     let order = g.met.L.LabelOrder.laws in
     let found = c.count_lower-start.ensures in
     let view = c.as_slice-flight.ensures.value in
+    let bare = subst (λ xs. IsUncovered g.L.LabelOrder.at_most xs c.args.label) (sym view) c.requires.uncovered in
     let placed = placed_as g.L.LabelOrder.at_most g.L.Stair.height_of _ _ _ c.args.label view
-    found.within found.lower found.others c.in_default.ensures.none in
+    found.within found.lower found.others bare in
     elim c.match-replace.branch [
       | in-Ok w ↦
           apart_in _ _ _ _ laws equal order _ _ c.requires.flight _ (ap length view) _ _ placed w.in-Ok.ensures.ok
