@@ -2,3 +2,5 @@ pub mod LogLaws
 pub mod FilesRead
 pub mod FilesHeld
 pub mod WholeLaws
+pub mod Utf8Laws
+pub mod PiecesLaws

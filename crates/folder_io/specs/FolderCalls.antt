@@ -64,12 +64,12 @@ Finds None left opened.Absent = Unit {0}
 Finds under left opened.NoMemory = Unit {0}
 Finds under left opened.Failed = Unit {0}
 
--- what a read takes of the bytes that were left: the first so many, which stand in the room, and it answers End only where
--- there are none
+-- what a read takes of the bytes that were left: the first so many, which stand in the room; it answers End only where
+-- there are none, and a failed one takes none
 abbrev pub Takes : List ℕ → Option (List ℕ) → List ℕ → Piece → Type 0
 Takes bytes left room (piece.Got n) = (n ≤ length bytes) × (take n room ≡ take n bytes) × (left ≡ Some (drop n bytes))
 Takes bytes left room piece.End = (bytes ≡ []) × (left ≡ Some bytes)
-Takes bytes left room piece.Failed = Unit {0}
+Takes bytes left room piece.Failed = left ≡ Some bytes
 
 -- a piece has at least one byte, and no more than there is room
 abbrev pub FitsRoom : ℕ → Piece → Type 0

@@ -14,3 +14,5 @@ pub mod CountSink
 pub mod SystemFolder
 pub mod SystemSink
 pub mod FileReading
+pub mod Utf8Text
+pub mod Pieces

@@ -16,6 +16,8 @@ mod labels;
 #[cfg(test)]
 mod patterns;
 #[cfg(test)]
+mod pieces;
+#[cfg(test)]
 mod prices;
 #[cfg(test)]
 mod readings;
