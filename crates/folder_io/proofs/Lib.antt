@@ -4,3 +4,4 @@ pub mod FilesHeld
 pub mod WholeLaws
 pub mod Utf8Laws
 pub mod PiecesLaws
+pub mod SinceLaws

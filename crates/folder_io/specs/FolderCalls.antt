@@ -5,7 +5,7 @@ use Rattle.folder_io.specs.declared.folder.Opened.{Opened}
 use Rattle.folder_io.specs.declared.folder.Opened.TheVariants as opened
 use Rattle.folder_io.specs.declared.folder.Piece.{Piece}
 use Rattle.folder_io.specs.declared.folder.Piece.TheVariants as piece
-use Rattle.folder_io.specs.CallLogs.{CallLog}
+use Rattle.folder_io.specs.CallLogs.{CallLog, untold}
 
 -- what a folder holds: the bytes under each name that it holds
 abbrev pub Contents : Type 0
@@ -25,6 +25,10 @@ pub record FolderState : Type 0 where
   pub faults : ℕ
   -- the names that were opened
   pub opens : CallLog
+
+-- what a folder tells that tells nothing and has no file open
+abbrev pub nothing_told : FolderState
+nothing_told = record { holds = None; left = None; present = false; failed = false; faults = 0; opens = untold }
 
 -- this is so of what a folder holds, where it tells that; of one that doesn't tell, nothing is said
 abbrev pub WhereTold : FolderState → (Contents → Type 0) → Type 0

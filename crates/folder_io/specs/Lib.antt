@@ -16,3 +16,4 @@ pub mod SystemSink
 pub mod FileReading
 pub mod Utf8Text
 pub mod Pieces
+pub mod PiecesSince

@@ -86,6 +86,10 @@ pub record HasTaken (start : FolderState) (limit : ℕ) (taken : List ℕ) (now 
   pub end : EndsAs start limit taken now.folder now.end
   pub text : now.text ≡ utf8_after Whole taken
 
+-- some bytes were taken since then
+abbrev pub HasTakenSome : FolderState → ℕ → PiecesState → Type 0
+HasTakenSome start limit now = (taken : List ℕ) × HasTaken start limit taken now
+
 -- whatever was taken before, these bytes were taken behind it
 pub record TakesOn (before : PiecesState) (bytes : List ℕ) (now : PiecesState) : Type 0 where
   pub behind : (start : FolderState) (limit : ℕ) (taken : List ℕ) → HasTaken start limit taken before → HasTaken start limit (taken ++ bytes) now

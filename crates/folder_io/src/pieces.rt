@@ -83,6 +83,20 @@ impl<'a, F: Folder> Pieces<'a, F> {
         self.end
     }
 
+    /// Gives the folder back, as it is.
+    pub fn release(self) -> &'a mut F
+        ensures value { result.now ≡ read_folder self.entry }
+        ensures same_folder { result.ghost_name ≡ folder_name self.entry }
+    {
+        let Pieces {
+            folder,
+            room: _,
+            end: _,
+            text: _,
+        } = self;
+        folder
+    }
+
     /// Whether the bytes that were taken are UTF-8.
     pub fn is_text(&self) -> bool
         ensures { (start : FolderState) (limit : ℕ) (taken : List ℕ) → HasTaken start limit taken (pieces_state self.now) → result ≡ is_utf8 taken }

@@ -1,11 +1,15 @@
 // A folder's open file, read piece by piece.
-ghost use Rattle.std.specs.Prelude.{IfOk, IsTrue};
+ghost use Rattle.std.specs.Prelude.{◌≡◌, IfOk, IsTrue, true};
 ghost use Rattle.folder_io.specs.KeptFiles.{are_whole};
 
 use feed_rows::FileName;
-use folder_io::{ByteText, FileBytes, Files, Folder, MemFolder, Opened, Pieces, PiecesEnd};
+use folder_io::{
+    Beginning, ByteText, FileBytes, Files, Folder, MemFolder, Opened, Pieces, PiecesEnd,
+    PiecesSince,
+};
 use std::alloc::{AllocError, Global};
 use std::io::Read;
+use std::marker::Brand;
 use std::test::Fail;
 
 // What a reading by pieces gave.
@@ -68,84 +72,150 @@ fn read_pieces(
     }))
 }
 
-#[test]
-fn limits(rt: HostRuntime) -> Result<(), Fail> {
-    let stop_times = b"trip_id\nA\n";
-    let cases: [(&[u8], u32, &[u8], PiecesEnd); 6] = [
-        (stop_times, 100, stop_times, PiecesEnd::Ended),
-        (stop_times, 10, stop_times, PiecesEnd::Ended),
-        (stop_times, 9, stop_times, PiecesEnd::TooLarge),
-        (stop_times, 4, b"trip_", PiecesEnd::TooLarge),
-        (stop_times, 0, b"t", PiecesEnd::TooLarge),
-        (b"", 0, b"", PiecesEnd::Ended),
-    ];
-    for (file, limit, bytes, end) in cases {
-        for size in [1, 2, 3, 7] {
-            let taken = read_pieces(rt.alloc(), file, &[], limit, size)?.ok_or("absent")?;
-            assert_eq!(rt; taken.bytes.as_slice(), bytes);
-            assert_eq!(rt; taken.end, end);
-            assert!(rt; taken.is_text);
+// Whether the reading of a file gives these bytes, comes so far with them, and tells whether they are text, where these
+// reads of the folder fail.
+fn gives(
+    alloc: Global,
+    file: &[u8],
+    failing: &[u32],
+    limit: u32,
+    size: usize,
+    bytes: &[u8],
+    end: PiecesEnd,
+    is_text: bool,
+) -> Result<bool, AllocError> {
+    let Some(taken) = read_pieces(alloc, file, failing, limit, size)? else {
+        return Ok(false);
+    };
+    Ok(taken.bytes.as_slice() == bytes && taken.end == end && taken.is_text == is_text)
+}
+
+// The same of the reading into room of each size, where no read fails.
+fn gives_in_all(
+    alloc: Global,
+    file: &[u8],
+    limit: u32,
+    bytes: &[u8],
+    end: PiecesEnd,
+    is_text: bool,
+) -> Result<bool, AllocError> {
+    for size in [1, 2, 3, 7] {
+        if !gives(alloc, file, &[], limit, size, bytes, end, is_text)? {
+            return Ok(false);
         }
     }
+    Ok(true)
+}
+
+#[test]
+fn limits(rt: HostRuntime) -> Result<(), Fail> {
+    let file = b"trip_id\nA\n".as_slice();
+    let cases: [(u32, usize, PiecesEnd); 5] = [
+        (100, 10, PiecesEnd::Ended),
+        (10, 10, PiecesEnd::Ended),
+        (9, 10, PiecesEnd::TooLarge),
+        (4, 5, PiecesEnd::TooLarge),
+        (0, 1, PiecesEnd::TooLarge),
+    ];
+    for (limit, count, end) in cases {
+        let bytes = file.get(..count).ok_or("short")?;
+        assert!(rt; gives_in_all(rt.alloc(), file, limit, bytes, end, true)?);
+    }
+    assert!(rt; gives_in_all(rt.alloc(), b"", 0, b"", PiecesEnd::Ended, true)?);
     Ok(())
 }
 
 #[test]
 fn failing_reads(rt: HostRuntime) -> Result<(), Fail> {
-    let cases: [(&[u32], usize, &[u8], PiecesEnd); 5] = [
-        (&[1], 7, b"", PiecesEnd::Failed),
-        (&[3], 1, b"tr", PiecesEnd::Failed),
-        (&[3], 3, b"trip_i", PiecesEnd::Failed),
+    let file = b"trip_id\nA\n".as_slice();
+    let cases: [(u32, usize, usize, PiecesEnd); 6] = [
+        (1, 7, 0, PiecesEnd::Failed),
+        (3, 1, 2, PiecesEnd::Failed),
+        (3, 3, 6, PiecesEnd::Failed),
         // The read that would tell the end.
-        (&[3], 7, b"trip_id\nA\n", PiecesEnd::Failed),
-        (&[4], 7, b"trip_id\nA\n", PiecesEnd::Ended),
+        (3, 7, 10, PiecesEnd::Failed),
+        (4, 7, 10, PiecesEnd::Ended),
+        // No room, so that nothing is read.
+        (1, 0, 0, PiecesEnd::Going),
     ];
-    for (failing, size, bytes, end) in cases {
-        let taken = read_pieces(rt.alloc(), b"trip_id\nA\n", failing, 100, size)?.ok_or("absent")?;
-        assert_eq!(rt; taken.bytes.as_slice(), bytes);
-        assert_eq!(rt; taken.end, end);
+    for (fails, size, count, end) in cases {
+        let bytes = file.get(..count).ok_or("short")?;
+        assert!(rt; gives(rt.alloc(), file, &[fails], 100, size, bytes, end, true)?);
     }
     Ok(())
 }
 
 #[test]
 fn text(rt: HostRuntime) -> Result<(), Fail> {
-    let cases: [(&[u8], u32, bool); 13] = [
-        ("Zürich, €, 𝄞".as_bytes(), 100, true),
+    let cases: [(&[u8], bool); 11] = [
+        ("Zürich, €, 𝄞".as_bytes(), true),
         (
             "\u{7ff}\u{800}\u{d7ff}\u{e000}\u{ffff}\u{10000}\u{10ffff}".as_bytes(),
-            100,
             true,
         ),
         // A wrong byte at the end, and one in the middle.
-        (b"trip_id\nA\xff", 100, false),
-        (b"trip\x80id\n", 100, false),
-        // A character that isn't whole: at the end, before another one, and where the limit cuts it.
-        (b"A\xe2\x82", 100, false),
-        (b"A\xe2\x82B", 100, false),
-        ("Aé".as_bytes(), 1, false),
-        ("Aé".as_bytes(), 2, true),
+        (b"trip_id\nA\xff", false),
+        (b"trip\x80id\n", false),
+        // A character that isn't whole, at the end and before another one.
+        (b"A\xe2\x82", false),
+        (b"A\xe2\x82B", false),
         // One that is longer than need be, half of a pair, and one past the last.
-        (b"\xc1\xbf", 100, false),
-        (b"\xe0\x9f\xbf", 100, false),
-        (b"\xed\xa0\x80", 100, false),
-        (b"\xf0\x8f\xbf\xbf", 100, false),
-        (b"\xf4\x90\x80\x80", 100, false),
+        (b"\xc1\xbf", false),
+        (b"\xe0\x9f\xbf", false),
+        (b"\xed\xa0\x80", false),
+        (b"\xf0\x8f\xbf\xbf", false),
+        (b"\xf4\x90\x80\x80", false),
     ];
-    for (file, limit, is_text) in cases {
-        for size in [1, 2, 3, 7] {
-            let taken = read_pieces(rt.alloc(), file, &[], limit, size)?.ok_or("absent")?;
-            assert_eq!(rt; taken.is_text, is_text);
-        }
+    for (file, is_text) in cases {
+        assert!(rt; gives_in_all(rt.alloc(), file, 100, file, PiecesEnd::Ended, is_text)?);
     }
+    // A limit that cuts a character, whose last byte is met exactly.
+    let file = "Aé".as_bytes();
+    assert!(rt; gives_in_all(rt.alloc(), file, 1, b"A\xc3", PiecesEnd::TooLarge, false)?);
+    assert!(rt; gives_in_all(rt.alloc(), file, 2, file, PiecesEnd::TooLarge, true)?);
     Ok(())
 }
 
+// What the reading of a folder's open file gives, into room of three bytes, where its type tells where it began; and the
+// folder.
+fn read_since<'a, F: Folder, S: Beginning>(
+    alloc: Global,
+    folder: &'a mut F,
+    limit: u32,
+) -> (Result<Taken, AllocError>, &'a mut F)
+    requires is_open { (F.state folder.old).present ≡ true }
+    requires start { F.state folder.old ≡ S.start }
+    requires limit { limit ≡ S.limit }
+    requires name { folder.ghost_name ≡ S.name }
+{
+    let mut pieces = PiecesSince::<'a, F, S>::new(folder, limit);
+    let bytes = read_through(alloc, &mut pieces, 3);
+    let end = pieces.end();
+    let is_text = pieces.is_text();
+    let taken = bytes.map(|bytes| Taken {
+        bytes,
+        end,
+        is_text,
+    });
+    (taken, pieces.release())
+}
+
+// The same of a folder that has this file.
+fn read_file_since(alloc: Global, file: &[u8], limit: u32) -> Result<Option<Taken>, AllocError> {
+    let mut folder = MemFolder::new(alloc, stop_times_of(alloc, file)?, &[], &[])?;
+    match folder.open("stop_times.txt") {
+        Opened::Present => {}
+        Opened::Absent | Opened::NoMemory | Opened::Failed => return Ok(None),
+    }
+    let (taken, _) = read_since::<MemFolder, Brand>(alloc, &mut folder, limit);
+    Ok(Some(taken?))
+}
+
 #[test]
-fn no_room(rt: HostRuntime) -> Result<(), Fail> {
-    let taken = read_pieces(rt.alloc(), b"trip_id\n", &[1], 100, 0)?.ok_or("absent")?;
-    assert_eq!(rt; taken.bytes.as_slice(), b"".as_slice());
-    assert_eq!(rt; taken.end, PiecesEnd::Going);
-    assert!(rt; taken.is_text);
+fn since(rt: HostRuntime) -> Result<(), Fail> {
+    let taken = read_file_since(rt.alloc(), b"A\xc3\xa9b", 1)?.ok_or("absent")?;
+    assert_eq!(rt; taken.bytes.as_slice(), b"A\xc3".as_slice());
+    assert_eq!(rt; taken.end, PiecesEnd::TooLarge);
+    assert!(rt; !taken.is_text);
     Ok(())
 }
