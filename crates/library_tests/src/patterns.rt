@@ -1,6 +1,7 @@
 // Which runs can be boarded where, of runs that overtake each other.
 ghost use Rattle.std.specs.Prelude.{◌≡◌, OnOk, IfOk, IsTrue, true};
 ghost use Rattle.folder_io.specs.KeptFiles.{are_whole};
+ghost use Rattle.plan_patterns.specs.Runs.{AreTripsOf};
 
 use feed_check::{LoadError, load};
 use feed_rows::{Feed, FileName, Query};
@@ -9,7 +10,7 @@ use feed_timetable::Timetable;
 use folder_io::{ByteText, FileBytes, Files, MemFolder};
 use plan_patterns::Patterns;
 use std::alloc::{AllocError, Global};
-use transit_base::{Moment, StopId};
+use transit_base::{Moment, StopId, TripId};
 
 // At A, B and C: the slow trip begins first and is overtaken by the quick one, one lets nobody board at B, one is of the day
 // before, and one goes by headway from A to C.
@@ -69,6 +70,17 @@ fn feed(alloc: Global) -> Result<Feed, TextError> {
     }
 }
 
+// All trips of the feed.
+fn all_trips(alloc: Global, timetable: &Timetable) -> Result<Vec<TripId>, AllocError>
+    ensures { IfOk result (λ trips. AreTripsOf timetable.now trips.items) }
+{
+    let mut trips = Vec::new(alloc);
+    for number in 0..timetable.trips() {
+        trips.push(TripId(number))?;
+    }
+    Ok(trips)
+}
+
 // 2 June 2025, 00:00:00.
 const MIDNIGHT: i64 = 1_748_822_400;
 
@@ -109,7 +121,8 @@ fn runs_that_overtake(rt: HostRuntime) -> Result<(), TextError> {
     let alloc = rt.alloc();
     let feed = feed(alloc)?;
     let timetable = Timetable::build(alloc, &feed)?;
-    let patterns = Patterns::build(alloc, &timetable, &QUERY)?;
+    let trips = all_trips(alloc, &timetable)?;
+    let patterns = Patterns::build(alloc, &timetable, &QUERY, &trips)?;
     assert_eq!(rt; patterns.count(), 3);
     let at_a = trips_at(alloc, &patterns, 1, 0, MIDNIGHT + 28_801)?;
     let late_and_quick = [(4, MIDNIGHT + 28_860), (1, MIDNIGHT + 29_400)];

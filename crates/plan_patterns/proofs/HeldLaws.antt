@@ -5,6 +5,7 @@ use Rattle.std.proofs.lemmas.Bool.{and_from, and_parts, cases_lt}
 use Rattle.std.proofs.lemmas.Bool.Decides.{nat_tests}
 use Rattle.std.proofs.lemmas.Int.{ints}
 use Rattle.std.proofs.lemmas.List.{append_assoc, get_or_default}
+use Rattle.std.proofs.lemmas.List.Elements.{Contains-get_or}
 use Rattle.std.proofs.lemmas.Option.{same_Some, slice_get_within}
 use Rattle.transit_base.specs.Limits.{most_time}
 use Rattle.transit_base.specs.Moments.{moment_at}
@@ -27,8 +28,8 @@ use Rattle.feed_laws.proofs.SoundTrips.{sound_trip}
 use Rattle.plain_laws.specs.Plain.{at_and, filled_and, int_same, picks_below}
 use Rattle.plain_laws.proofs.Laws.{Filled, AllPairs-joined_below, AllPairs-picks_below, All-from, Contains-joined_below, Contains-picks_below, any_below_hit, any_below_tells, filled_and-true, int_le-true, int_lt-true, int_same-true, joined_below-tells, le-int_le, picks_below-none, picks_below-tells}
 use Rattle.plan_patterns.specs.declared.runs.Run.{Run}
-use Rattle.plan_patterns.specs.HeldRuns.{day_after_first, days_of, ends_before, first_day, has_ended, held_before, held_of_trip, held_of_trips, held_on_day, run_with}
-use Rattle.plan_patterns.specs.Runs.{AreHeld, IsHeld, IsKnown, IsUsualSpan, alights_in_time, boards_in_time, deadline, has_ride, is_boarded, moment_of, ride_by, same_run}
+use Rattle.plan_patterns.specs.HeldRuns.{day_after_first, days_of, ends_before, first_day, has_ended, held_before, held_of_trip, held_of_trips, held_on_day, run_with, trip_at}
+use Rattle.plan_patterns.specs.Runs.{AreHeld, AreTripsOf, IsHeld, IsHeldOf, IsKnown, IsUsualSpan, alights_in_time, boards_in_time, deadline, has_ride, is_boarded, moment_of, ride_by, same_run}
 
 -- one number more is looked at
 pub picks_more : {X : Type 0} (n : ℕ) (test : ℕ → Bool) (f : ℕ → X) (old now next : List X) (x : X) (passes : Bool) →
@@ -147,16 +148,19 @@ known_trip feed trip day runs =
     let row = filled_and-true (slice_get feed.trips trip.0) _ runs in
     slice_get_within feed.trips trip.0 row.value row.is
 
--- so it is listed
-held_listed : (feed : FeedRows) (query : Query) (run : Run) → IsSoundFeed feed → IsHeld feed query run → Contains (held_of_trips feed query (length feed.trips)) run
+-- so it is listed, where its trip is given
+held_listed : (feed : FeedRows) (query : Query) (trips : List TripId) (run : Run) → IsSoundFeed feed → IsHeldOf feed query trips run → Contains (held_of_trips feed query trips (length trips)) run
 unfolding held_of_trip
-held_listed feed query run sound held =
-    let is = held_tells feed query run held in
-    let day = held_day feed query run sound held in
+held_listed feed query trips run sound held =
+    let is = held_tells feed query run held.held in
+    let day = held_day feed query run sound held.held in
     let same : day_after_first (first_day query) day.0 ≡ run.day = ap (λ (d : ℤ). the_day d) day.2 in
-    Contains-joined_below (length feed.trips) (λ trip. held_of_trip feed query (record { 0 = trip })) run.trip.0 run (known_trip feed run.trip run.day.0 is.runs)
+    let at = held.trip in
+    let here : run.trip ≡ trip_at trips at.0 = sym at.2 ∙ get_or_default trips at.0 run.trip (record { 0 = 0 }) at.1 in
+    Contains-joined_below (length trips) (λ place. held_of_trip feed query (trip_at trips place)) at.0 run at.1
+    (subst (λ t. Contains (held_of_trip feed query t) run) here
     (Contains-joined_below (days_of query) (λ days. held_on_day feed query run.trip (day_after_first (first_day query) days)) day.0 run day.1
-    (subst (λ d. Contains (held_on_day feed query run.trip d) run) (sym same) (on_day feed query run is)))
+    (subst (λ d. Contains (held_on_day feed query run.trip d) run) (sym same) (on_day feed query run is))))
   where
     the_day : ℤ → Day
     the_day d = record { 0 = d }
@@ -282,28 +286,39 @@ trip_once feed query trip =
     later : (first : ℤ) (i j : ℕ) → i < j → first +ℤ pos i ≡ first +ℤ pos j → ⊥
     later first i j lt e = omega (arith, ints)
 
--- the runs of all trips
-pub held_all : (feed : FeedRows) (query : Query) (runs : List Run) (n : ℕ) → IsSoundFeed feed → IsUsualSpan query → n ≡ length feed.trips → runs ≡ held_of_trips feed query n → AreHeld feed query runs
-held_all feed query runs n sound usual all is =
-    subst (AreHeld feed query) (sym is) (record {
-      all = λ run held. subst (λ m. Contains (held_of_trips feed query m) run) (sym all) (held_listed feed query run sound held);
-      right = All-from (IsHeld feed query) (held_of_trips feed query n) right;
-      known = All-from (IsKnown feed) (held_of_trips feed query n) (λ run at. held_known feed query run sound usual (right run at));
-      once = AllPairs-joined_below AreOther n (λ trip. held_of_trip feed query (record { 0 = trip }))
-          (λ i lt. trip_once feed query (record { 0 = i }))
-          (λ i j a b lt within at also.
-          let one = trip_tells feed query (record { 0 = i }) a at in
-          let other = trip_tells feed query (record { 0 = j }) b also in
-          let first = ap (λ (t : TripId). t.0) (listed_trip feed query (record { 0 = i }) (day_after_first (first_day query) one.0) a one.2).0 in
-          let second = ap (λ (t : TripId). t.0) (listed_trip feed query (record { 0 = j }) (day_after_first (first_day query) other.0) b other.2).0 in
-          other_trip a b (λ e. omega (arith, first, second, e)));
+-- the runs of all these trips
+pub held_all : (feed : FeedRows) (query : Query) (trips : List TripId) (runs : List Run) (n : ℕ) → IsSoundFeed feed → IsUsualSpan query → AreTripsOf feed trips → n ≡ length trips → runs ≡ held_of_trips feed query trips n → AreHeld feed query trips runs
+held_all feed query trips runs n sound usual of all is =
+    subst (AreHeld feed query trips) (sym is) (record {
+      all = λ run held. subst (λ m. Contains (held_of_trips feed query trips m) run) (sym all) (held_listed feed query trips run sound held);
+      right = All-from (IsHeldOf feed query trips) (held_of_trips feed query trips n) right;
+      known = All-from (IsKnown feed) (held_of_trips feed query trips n) (λ run at. held_known feed query run sound usual (right run at).held);
+      once = AllPairs-joined_below AreOther n (λ place. held_of_trip feed query (trip_at trips place))
+          (λ i lt. trip_once feed query (trip_at trips i))
+          (λ i j a b lt within at also. other_trip a b (λ e. of.once i j (record { 0 = 0 }) lt (omega arith)
+          (sym (own i a at) ∙ same_trip a.trip b.trip e ∙ own j b also)));
     })
   where
-    right : (run : Run) → Contains (held_of_trips feed query n) run → IsHeld feed query run
+    own : (place : ℕ) (run : Run) → Contains (held_of_trip feed query (trip_at trips place)) run → run.trip ≡ trip_at trips place
+    own place run at =
+        let listed = trip_tells feed query (trip_at trips place) run at in
+        (listed_trip feed query (trip_at trips place) (day_after_first (first_day query) listed.0) run listed.2).0
+
+    same_trip : (a b : TripId) → a.0 ≡ b.0 → a ≡ b
+    same_trip a b e = ap (λ (k : ℕ). the_trip k) e
+      where
+        the_trip : ℕ → TripId
+        the_trip k = record { 0 = k }
+
+    right : (run : Run) → Contains (held_of_trips feed query trips n) run → IsHeldOf feed query trips run
     right run at =
-        let found = joined_below-tells n (λ trip. held_of_trip feed query (record { 0 = trip })) run at in
-        let listed = trip_tells feed query (record { 0 = found.0 }) run found.2 in
-        listed_held feed query (record { 0 = found.0 }) (day_after_first (first_day query) listed.0) run listed.2
+        let found = joined_below-tells n (λ place. held_of_trip feed query (trip_at trips place)) run at in
+        let below = found.1 in
+        let listed = trip_tells feed query (trip_at trips found.0) run found.2 in
+        record {
+          trip = subst (Contains trips) (sym (own found.0 run found.2)) (Contains-get_or trips found.0 (record { 0 = 0 }) (omega arith));
+          held = listed_held feed query (trip_at trips found.0) (day_after_first (first_day query) listed.0) run listed.2;
+        }
 
 -- runs of a trip that has ended have no ride
 pub none_held : (feed : FeedRows) (query : Query) (trip : TripId) (day : Day) → IsSoundFeed feed → has_ended query trip day (shifts_of feed trip) (calls_of feed trip) ≡ true → held_on_day feed query trip day ≡ []

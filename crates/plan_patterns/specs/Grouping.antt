@@ -2,13 +2,14 @@
 use Rattle.std.specs.Prelude.{◌≡◌, ◌≢◌, ℕ, List, [], map, slice_get, All, Contains}
 use Rattle.std.specs.List.{AllPairs, flat_map}
 use Rattle.std.specs.Option.{option_map_or}
+use Rattle.transit_base.specs.declared.numbers.TripId.{TripId}
 use Rattle.feed_rows.specs.FeedRows.{FeedRows}
 use Rattle.feed_rows.specs.declared.journeys.Query.{Query}
 use Rattle.plan_patterns.specs.declared.pattern.Pattern.{Pattern}
 use Rattle.plan_patterns.specs.declared.halts.Halt.{Halt}
 use Rattle.plan_patterns.specs.declared.runs.Run.{Run}
 use Rattle.plan_patterns.specs.Halts.{halts_of}
-use Rattle.plan_patterns.specs.Runs.{IsHeld, IsKnown}
+use Rattle.plan_patterns.specs.Runs.{IsHeldOf, IsKnown}
 
 -- a pattern: the halts that all its trips have, and those of their runs that are held
 pub record PatternOf : Type 0 where
@@ -43,12 +44,13 @@ all_runs patterns = flat_map (λ (p : PatternOf). p.runs) patterns
 abbrev pub HasHalts : FeedRows → List Halt → Run → Type 0
 HasHalts feed halts run = halts_of feed run.trip ≡ halts
 
--- two trips are of one pattern exactly where they have the same halts; the runs with a ride that departs no earlier
--- than the query and arrives no later than its window ends stand in them, each once, and no others
-pub record ArePatterns (feed : FeedRows) (query : Query) (patterns : List PatternOf) : Type 0 where
+-- two trips are of one pattern exactly where they have the same halts; the runs of these trips with a ride that departs
+-- no earlier than the query and arrives no later than its window ends stand in them, each once, and no others
+pub record ArePatterns (feed : FeedRows) (query : Query) (trips : List TripId)
+    (patterns : List PatternOf) : Type 0 where
   pub halts : All (λ (p : PatternOf). All (HasHalts feed p.halts) p.runs) patterns
   pub apart : AllPairs (λ (p : PatternOf) (q : PatternOf). p.halts ≢ q.halts) patterns
-  pub held : (run : Run) → IsHeld feed query run → Contains (all_runs patterns) run
-  pub right : All (IsHeld feed query) (all_runs patterns)
+  pub held : (run : Run) → IsHeldOf feed query trips run → Contains (all_runs patterns) run
+  pub right : All (IsHeldOf feed query trips) (all_runs patterns)
   pub known : All (IsKnown feed) (all_runs patterns)
   pub once : AllPairs (λ (a : Run) (b : Run). a ≢ b) (all_runs patterns)

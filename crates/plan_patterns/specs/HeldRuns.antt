@@ -65,6 +65,10 @@ held_on_days feed query trip n =
 unfoldable pub held_of_trip : FeedRows → Query → TripId → List Run
 held_of_trip feed query trip = held_on_days feed query trip (days_of query)
 
--- those of the first n trips
-abbrev pub held_of_trips : FeedRows → Query → ℕ → List Run
-held_of_trips feed query n = joined_below n (λ trip. held_of_trip feed query (record { 0 = trip }))
+-- a trip by its place among trips
+abbrev pub trip_at : List TripId → ℕ → TripId
+trip_at trips place = slice_index_or trips place (record { 0 = 0 })
+
+-- those of the first n of these trips
+abbrev pub held_of_trips : FeedRows → Query → List TripId → ℕ → List Run
+held_of_trips feed query trips n = joined_below n (λ place. held_of_trip feed query (trip_at trips place))

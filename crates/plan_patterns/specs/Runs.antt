@@ -1,8 +1,9 @@
 -- Runs, and when a ride by one lies within a query's window.
-use Rattle.std.specs.Prelude.{◌≡◌, ℕ, ◌<◌, ◌≤◌, Bool, false, ◌&&◌, ◌==◌, Contains, List, length, Some, All, ℤ, pos, negsuc, ◌+ℤ◌, ◌≤ℤ◌, int_le}
+use Rattle.std.specs.Prelude.{◌≡◌, ◌≢◌, ℕ, ◌<◌, ◌≤◌, Bool, false, ◌&&◌, ◌==◌, Contains, List, length, Some, All, ℤ, pos, negsuc, ◌+ℤ◌, ◌≤ℤ◌, int_le}
 use Rattle.std.specs.List.{AllPairs}
 use Rattle.transit_base.specs.Limits.{most_time}
 use Rattle.transit_base.specs.Moments.{moment_at}
+use Rattle.transit_base.specs.declared.numbers.TripId.{TripId}
 use Rattle.feed_rows.specs.declared.journeys.Call.{Call}
 use Rattle.feed_rows.specs.declared.journeys.Query.{Query}
 use Rattle.feed_rows.specs.declared.journeys.Ride.{Ride}
@@ -40,6 +41,16 @@ pub record IsHeld (feed : FeedRows) (query : Query) (run : Run) : Type 0 where
   pub since : query.departure.0 ≤ℤ facts.departure.0
   pub until : facts.arrival.0 ≤ℤ deadline query
 
+-- trips of the feed, none of them twice
+pub record AreTripsOf (feed : FeedRows) (trips : List TripId) : Type 0 where
+  pub inside : All (λ (trip : TripId). trip.0 < length feed.trips) trips
+  pub once : AllPairs (λ (a : TripId) (b : TripId). a ≢ b) trips
+
+-- the run is of one of the trips, and has such a ride
+pub record IsHeldOf (feed : FeedRows) (query : Query) (trips : List TripId) (run : Run) : Type 0 where
+  pub trip : Contains trips run.trip
+  pub held : IsHeld feed query run
+
 -- the run's day and shift lie within their bounds
 pub record IsNear (run : Run) : Type 0 where
   pub day_low : negsuc 799_999 ≤ℤ run.day.0
@@ -56,10 +67,10 @@ pub record IsKnown (feed : FeedRows) (run : Run) : Type 0 where
 abbrev pub same_run : Run → Run → Bool
 same_run a b = (a.trip.0 == b.trip.0) && int_same a.day.0 b.day.0 && int_same a.shift b.shift
 
--- the runs that are held, each once
-pub record AreHeld (feed : FeedRows) (query : Query) (runs : List Run) : Type 0 where
-  pub all : (run : Run) → IsHeld feed query run → Contains runs run
-  pub right : All (IsHeld feed query) runs
+-- the runs of the trips that are held, each once
+pub record AreHeld (feed : FeedRows) (query : Query) (trips : List TripId) (runs : List Run) : Type 0 where
+  pub all : (run : Run) → IsHeldOf feed query trips run → Contains runs run
+  pub right : All (IsHeldOf feed query trips) runs
   pub known : All (IsKnown feed) runs
   pub once : AllPairs (λ (a : Run) (b : Run). same_run a b ≡ false) runs
 

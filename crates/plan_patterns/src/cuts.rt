@@ -1,11 +1,10 @@
 //! Runs by the halts of their trips, and the patterns that they make up.
-ghost use Rattle.std.specs.Prelude.{◌≡◌, ◌<◌, length, map, slice_index_or, All, IfOk, OnOk};
+ghost use Rattle.std.specs.Prelude.{◌≡◌, ◌<◌, length, slice_index_or, All, IfOk, OnOk};
 ghost use Rattle.std.specs.List.Sorted.{IsPermutation};
 ghost use Rattle.std.specs.Ordering.{is_lt};
-ghost use Rattle.plan_patterns.specs.declared.runs.Run.{Run};
-ghost use Rattle.plan_patterns.specs.Runs.{IsKnown};
-ghost use Rattle.plan_patterns.specs.Cuts.{AreCut, AreInHaltOrder, AreWithHalts, AreTogether, goes_on, run_halts};
-ghost use Rattle.plan_patterns.specs.Halts.{all_halts, halts_cmp};
+ghost use Rattle.plan_patterns.specs.declared.cuts.RunWithHalts.{RunWithHalts};
+ghost use Rattle.plan_patterns.specs.Cuts.{AreCut, AreInHaltOrder, AreTogether, AreWithHalts, IsOwn, entry_runs, goes_on};
+ghost use Rattle.plan_patterns.specs.Halts.{halts_cmp};
 
 use crate::halts::Halt;
 use crate::pattern::Pattern;
@@ -14,34 +13,27 @@ use feed_timetable::Timetable;
 use plain_laws::Groups;
 use std::alloc::{AllocError, Global};
 
-// The halts of a run's trip.
-fn run_halts<'p>(halts: &'p Groups<Halt>, run: &Run) -> &'p [Halt]
-    ensures { result.now ≡ run_halts halts.now run.now }
-{
-    halts.get(run.trip.0 as usize)
-}
-
-// A run with the halts of its trip, by which it is sorted.
+/// A run with the halts of its trip, by which it is sorted.
 #[derive(Clone, Copy)]
-struct RunWithHalts<'p> {
-    halts: &'p [Halt],
-    run: Run,
+pub struct RunWithHalts<'h> {
+    pub halts: &'h [Halt],
+    pub run: Run,
 }
 
-// The runs, each with the halts of its trip.
-fn with_halts<'p>(
+// The runs, each with the halts that have its number.
+fn with_halts<'h>(
     alloc: Global,
-    halts: &'p Groups<Halt>,
+    halts: &'h Groups<Halt>,
     runs: &[Run],
-) -> Result<Vec<RunWithHalts<'p>>, AllocError>
+) -> Result<Vec<RunWithHalts<'h>>, AllocError>
+    requires { length halts.now ≡ length runs.now }
     ensures { IfOk result (λ entries. AreWithHalts halts.now runs.now entries.items) }
 {
     let mut entries = Vec::with_capacity(alloc, runs.len())?;
     for number in 0..runs.len() {
-        let run = runs[number];
         entries.push(RunWithHalts {
-            halts: run_halts(halts, &run),
-            run,
+            halts: halts.group(number),
+            run: runs[number],
         })?;
     }
     Ok(entries)
@@ -56,9 +48,26 @@ fn put_in_order(entries: &mut Vec<RunWithHalts>) -> Result<(), AllocError>
     Ok(())
 }
 
+/// The runs, each with the halts that have its number, and those with the same halts next to one another.
+///
+/// # Errors
+/// Want of memory.
+pub fn put_together<'h>(
+    alloc: Global,
+    halts: &'h Groups<Halt>,
+    runs: &[Run],
+) -> Result<Vec<RunWithHalts<'h>>, AllocError>
+    requires { length halts.now ≡ length runs.now }
+    ensures { IfOk result (λ together. AreTogether halts.now runs.now together.items) }
+{
+    let mut entries = with_halts(alloc, halts, runs)?;
+    put_in_order(&mut entries)?;
+    Ok(entries)
+}
+
 // The runs without the halts.
 fn runs_of(alloc: Global, entries: &[RunWithHalts]) -> Result<Vec<Run>, AllocError>
-    ensures { IfOk result (λ runs. runs.items ≡ map (λ (entry : RunWithHalts). entry.run) entries.now) }
+    ensures { IfOk result (λ runs. runs.items ≡ entry_runs entries.now) }
 {
     let mut runs = Vec::with_capacity(alloc, entries.len())?;
     for entry in entries {
@@ -67,45 +76,27 @@ fn runs_of(alloc: Global, entries: &[RunWithHalts]) -> Result<Vec<Run>, AllocErr
     Ok(runs)
 }
 
-/// The runs with those of trips with the same halts next to one another.
-///
-/// # Errors
-/// Want of memory.
-pub fn put_together(
-    alloc: Global,
-    halts: &Groups<Halt>,
-    runs: &[Run],
-) -> Result<Vec<Run>, AllocError>
-    ensures moved { IfOk result (λ together. IsPermutation runs.now together.items) }
-    ensures together { IfOk result (λ together. AreTogether halts.now together.items) }
-{
-    let mut entries = with_halts(alloc, halts, runs)?;
-    put_in_order(&mut entries)?;
-    let together = runs_of(alloc, &entries)?;
-    Ok(together)
-}
-
 // Whether the halts of a run's trip come before those of another's.
-fn is_before(halts: &Groups<Halt>, run: &Run, other: &Run) -> bool
-    ensures { result ≡ is_lt (halts_cmp (run_halts halts.now run.now) (run_halts halts.now other.now)) }
+fn is_before(entry: &RunWithHalts, other: &RunWithHalts) -> bool
+    ensures { result ≡ is_lt (halts_cmp entry.now.halts.now other.now.halts.now) }
 {
-    run_halts(halts, run).cmp(run_halts(halts, other)).is_lt()
+    entry.halts.cmp(other.halts).is_lt()
 }
 
 // Whether the run at a place is followed by one of the same pattern.
-fn goes_on(halts: &Groups<Halt>, runs: &[Run], at: usize) -> bool
-    requires { at < length runs.now }
-    ensures { result ≡ goes_on halts.now runs.now at }
+fn goes_on(entries: &[RunWithHalts], at: usize) -> bool
+    requires { at < length entries.now }
+    ensures { result ≡ goes_on entries.now at }
 {
-    at + 1 < runs.len() && !is_before(halts, &runs[at], &runs[at + 1])
+    at + 1 < entries.len() && !is_before(&entries[at], &entries[at + 1])
 }
 
 // The halts of the trip of the run at a place.
-fn halts_from<'p>(halts: &'p Groups<Halt>, runs: &[Run], start: usize) -> &'p [Halt]
-    requires { start < length runs.now }
-    ensures { (d : Run) → result.now ≡ run_halts halts.now (slice_index_or runs.now start d) }
+fn halts_from<'h>(entries: &[RunWithHalts<'h>], start: usize) -> &'h [Halt]
+    requires { start < length entries.now }
+    ensures { (d : RunWithHalts) → result.now ≡ (slice_index_or entries.now start d).halts.now }
 {
-    run_halts(halts, &runs[start])
+    entries[start].halts
 }
 
 /// The patterns of runs of which those of trips with the same halts stand next to one another.
@@ -115,19 +106,18 @@ fn halts_from<'p>(halts: &'p Groups<Halt>, runs: &[Run], start: usize) -> &'p [H
 pub fn cut(
     alloc: Global,
     timetable: &Timetable,
-    halts: &Groups<Halt>,
-    runs: &[Run],
+    together: &[RunWithHalts],
 ) -> Result<Vec<Pattern>, AllocError>
-    requires halts { halts.now ≡ all_halts timetable.now }
-    requires known { All (IsKnown timetable.now) runs.now }
-    requires together { AreTogether halts.now runs.now }
-    ensures { IfOk result (λ patterns. AreCut timetable.now runs.now patterns.items) }
+    requires own { All (IsOwn timetable.now) together.now }
+    requires rises { AreInHaltOrder together.now }
+    ensures { IfOk result (λ patterns. AreCut timetable.now (entry_runs together.now) patterns.items) }
 {
+    let runs = runs_of(alloc, together)?;
     let mut patterns = Vec::new(alloc);
     let mut start = 0;
-    for at in 0..runs.len() {
-        if !goes_on(halts, runs, at) {
-            let own = halts_from(halts, runs, start);
+    for at in 0..together.len() {
+        if !goes_on(together, at) {
+            let own = halts_from(together, start);
             patterns.push(Pattern::of(alloc, timetable, own, &runs[start..at + 1])?)?;
             start = at + 1;
         }

@@ -1,17 +1,19 @@
 //! What the trips of one pattern have in common: where they call, and what riders may do there.
-ghost use Rattle.std.specs.Prelude.{◌≡◌, IfOk, length, map};
+ghost use Rattle.std.specs.Prelude.{◌≡◌, All, IfOk, map};
 ghost use Rattle.std.proofs.Common.{rules};
 ghost use Rattle.std.specs.Cmp.{partial_order_from_own_ties};
 ghost use Rattle.std.specs.Cmp.Rules.{comparing};
 ghost use Rattle.std.specs.Ordering.{as_partial_cmp};
-ghost use Rattle.plan_patterns.specs.Halts.{all_halts, halt_cmp, halt_of};
+ghost use Rattle.plan_patterns.specs.Halts.{halt_cmp, halt_of, run_halts};
+ghost use Rattle.plan_patterns.specs.Runs.{IsKnown};
 
+use crate::runs::Run;
 use feed_rows::Call;
 use feed_timetable::Timetable;
 use plain_laws::Groups;
 use std::alloc::{AllocError, Global};
 use std::cmp::Ordering;
-use transit_base::{StopId, TripId};
+use transit_base::StopId;
 
 /// What the trips of a pattern have in common at a position: the stop at which they call, and what riders may do there.
 #[derive(Clone, Copy, PartialEq, Eq)]
@@ -74,16 +76,21 @@ fn halts_of(alloc: Global, calls: &[Call]) -> Result<Vec<Halt>, AllocError>
     Ok(halts)
 }
 
-/// The halts of each trip.
+/// The halts of the trip of each run, and of no other trip.
 ///
 /// # Errors
 /// Want of memory.
-pub fn all_halts(alloc: Global, timetable: &Timetable) -> Result<Groups<Halt>, AllocError>
-    ensures { IfOk result (λ halts. halts ≡ all_halts timetable.now) }
+pub fn all_halts(
+    alloc: Global,
+    timetable: &Timetable,
+    runs: &[Run],
+) -> Result<Groups<Halt>, AllocError>
+    requires { All (IsKnown timetable.now) runs.now }
+    ensures { IfOk result (λ halts. halts ≡ map (run_halts timetable.now) runs.now) }
 {
     let mut halts = Groups::empty(alloc);
-    for trip in 0..timetable.trips() {
-        let own = halts_of(alloc, timetable.calls_of(TripId(trip)))?;
+    for number in 0..runs.len() {
+        let own = halts_of(alloc, timetable.calls_of(runs[number].trip))?;
         halts.push(&own)?;
     }
     Ok(halts)

@@ -4,7 +4,7 @@ ghost use Rattle.feed_rows.specs.SoundFeed.{IsSoundFeed};
 ghost use Rattle.feed_rows.specs.Shifts.{shifts_of};
 ghost use Rattle.feed_timetable.specs.Standings.{AreShifts};
 ghost use Rattle.plan_patterns.specs.HeldRuns.{IsDayNear, days_of, ends_before, first_day, has_ended, held_of_trip, held_on_day, day_after_first, run_with};
-ghost use Rattle.plan_patterns.specs.Runs.{AreHeld, AreTimed, IsNear, IsUsualSpan};
+ghost use Rattle.plan_patterns.specs.Runs.{AreHeld, AreTimed, AreTripsOf, IsNear, IsUsualSpan};
 
 use crate::runs::{Run, has_ride};
 use feed_rows::{Call, Query};
@@ -148,7 +148,7 @@ fn add_trip(
     Ok(())
 }
 
-/// The runs that have a ride within the query's window, by trip, day and shift.
+/// The runs of these trips that have a ride within the query's window, trip by trip as they are given, by day and shift.
 ///
 /// # Errors
 /// Want of memory.
@@ -156,14 +156,16 @@ pub fn held_runs(
     alloc: Global,
     timetable: &Timetable,
     query: &Query,
+    trips: &[TripId],
 ) -> Result<Vec<Run>, AllocError>
-    requires { IsUsualSpan query.now }
-    ensures { IfOk result (λ runs. AreHeld timetable.now query.now runs.items) }
+    requires usual { IsUsualSpan query.now }
+    requires trips { AreTripsOf timetable.now trips.now }
+    ensures { IfOk result (λ runs. AreHeld timetable.now query.now trips.now runs.items) }
 {
-    let feed = timetable.feed();
+    let _feed = timetable.feed();
     let mut runs = Vec::new(alloc);
-    for trip in 0..feed.trips.items().len() as u32 {
-        add_trip(alloc, timetable, query, TripId(trip), &mut runs)?;
+    for place in 0..trips.len() {
+        add_trip(alloc, timetable, query, trips[place], &mut runs)?;
     }
     Ok(runs)
 }

@@ -4,7 +4,7 @@ ghost use Rattle.plan_patterns.specs.declared.pattern.Pattern.{Pattern};
 ghost use Rattle.plan_patterns.specs.declared.halts.Halt.{Halt};
 ghost use Rattle.plan_patterns.specs.Columns.{AreBoardable, IsPattern, arrivals_of};
 ghost use Rattle.plan_patterns.specs.Grouping.{ArePatterns, halts_at, runs_at, pattern_of, halts_by_pattern};
-ghost use Rattle.plan_patterns.specs.Runs.{IsUsualSpan};
+ghost use Rattle.plan_patterns.specs.Runs.{AreTripsOf, IsUsualSpan};
 ghost use Rattle.plan_patterns.specs.Servings.{AreServings, halts_in, servings_at};
 
 use crate::cuts::{cut, put_together};
@@ -18,7 +18,7 @@ use feed_timetable::Timetable;
 use plain_laws::Groups;
 use std::alloc::{AllocError, Global};
 use std::marker::Model;
-use transit_base::{Moment, StopId};
+use transit_base::{Moment, StopId, TripId};
 
 /// The runs that a query can catch, by patterns: two trips are of one pattern exactly where they call at the same stops,
 /// in the same order, and let riders do the same there. Patterns are numbered from 0, and so are the positions and the
@@ -55,7 +55,7 @@ impl<'t, 'f> Model for Patterns<'t, 'f> {
 }
 
 impl<'t, 'f> Patterns<'t, 'f> {
-    /// The runs that have a ride within the query's window, by patterns.
+    /// The runs of these trips that have a ride within the query's window, by patterns. No other trip is looked at.
     ///
     /// # Errors
     /// Want of memory; so counts that there would be 2^32 patterns, or runs of one, or more.
@@ -63,15 +63,17 @@ impl<'t, 'f> Patterns<'t, 'f> {
         alloc: Global,
         timetable: &'t Timetable<'f>,
         query: &Query,
+        trips: &[TripId],
     ) -> Result<Patterns<'t, 'f>, AllocError>
-        requires { IsUsualSpan query.now }
+        requires usual { IsUsualSpan query.now }
+        requires trips { AreTripsOf timetable.now trips.now }
         ensures feed { IfOk result (λ built. built.feed ≡ timetable.now) }
-        ensures patterns { IfOk result (λ built. ArePatterns timetable.now query.now built.patterns) }
+        ensures patterns { IfOk result (λ built. ArePatterns timetable.now query.now trips.now built.patterns) }
     {
-        let held = held_runs(alloc, timetable, query)?;
-        let halts = all_halts(alloc, timetable)?;
-        let runs = put_together(alloc, &halts, &held)?;
-        let patterns = cut(alloc, timetable, &halts, &runs)?;
+        let held = held_runs(alloc, timetable, query, trips)?;
+        let halts = all_halts(alloc, timetable, &held)?;
+        let together = put_together(alloc, &halts, &held)?;
+        let patterns = cut(alloc, timetable, &together)?;
         if patterns.len() >= 1 << 32 {
             return Err(AllocError);
         }

@@ -1,7 +1,6 @@
-use Rattle.std.specs.Prelude.{◌≡◌}
-use Rattle.plain_laws.specs.Plain.{list_below}
-use Rattle.plan_patterns.specs.Halts.{halts_of}
+use Rattle.std.specs.Prelude.{◌≡◌, map, take}
+use Rattle.plan_patterns.specs.Halts.{run_halts}
 use Rattle.plan_patterns.proofs.halts.all_halts.Given as goal
 
-abbrev pub invariant-loop-trip : goal.invariant-loop-trip
-invariant-loop-trip l = l.halts ≡ list_below l.trip (λ trip. halts_of l.timetable (record { 0 = trip }))
+abbrev pub invariant-loop-number : goal.invariant-loop-number
+invariant-loop-number l = l.halts ≡ map (run_halts l.timetable) (take l.number l.runs)

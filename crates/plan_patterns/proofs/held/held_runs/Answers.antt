@@ -1,10 +1,11 @@
-use Rattle.std.proofs.Common.{◌≡◌, ◌∙◌, ap, length, arith}
-use Rattle.feed_rows.specs.FeedRows.{FeedRows}
+use Rattle.std.proofs.Common.{◌≡◌, length, arith}
 use Rattle.plan_patterns.proofs.HeldLaws.{held_all}
 use Rattle.plan_patterns.proofs.held.held_runs.Goals as goal
 
+pub add_trip-requires-clause-inside : goal.add_trip-requires-clause-inside
+add_trip-requires-clause-inside c = c.requires.trips.inside c.loop-place.place _ (omega arith)
+
 pub returns : goal.returns
 returns c =
-    let trips = ap length c.items.ensures.value ∙ ap (λ (f : FeedRows). length f.trips) (c.feed.view_is ∙ c.feed-feed.ensures.value) in
-    let all : c.loop-trip.trip ≡ length c.args.timetable.now.trips = omega arith in
-    held_all _ _ _ _ c.feed-feed.ensures.sound c.requires all c.loop-trip.invariant
+    let all : c.loop-place.place ≡ length c.args.trips.now = omega arith in
+    held_all _ _ _ _ _ c.feed-feed.ensures.sound c.requires.usual c.requires.trips all c.loop-place.invariant
