@@ -1,6 +1,6 @@
 -- The runs that have a ride within a query's window: each is listed, once, and no other.
 use Rattle.std.proofs.Common.{◌≡◌, refl, sym, ◌∙◌, ap, subst, ℕ, ◌+◌, ◌-◌, ◌<◌, ◌≤◌, ◌⊎◌, inl, inr, Bool, true, false, List, [], ◌∷◌, ◌++◌, length, get_or, append-nil, arith, add-one, ℤ, pos, negsuc, ◌+ℤ◌, ◌-ℤ◌, ◌≤ℤ◌, ◌<ℤ◌, Contains, AllPairs}
-use Rattle.std.specs.Prelude.{if◌then◌else◌, ◌&&◌, ◌==◌, nat_lt, int_le, int_lt, Some, slice_get}
+use Rattle.std.specs.Prelude.{if◌then◌else◌, ◌&&◌, ◌==◌, nat_lt, int_le, int_lt, Some, slice_get, unwrap_or}
 use Rattle.std.proofs.lemmas.Bool.{and_from, and_parts, cases_lt}
 use Rattle.std.proofs.lemmas.Bool.Decides.{nat_tests}
 use Rattle.std.proofs.lemmas.Int.{ints}
@@ -20,15 +20,16 @@ use Rattle.feed_rows.specs.declared.journeys.Call.{Call}
 use Rattle.feed_rows.specs.declared.journeys.Query.{Query}
 use Rattle.feed_rows.specs.declared.journeys.Ride.{Ride}
 use Rattle.feed_rows.specs.declared.journeys.RideFacts.{RideFacts}
+use Rattle.feed_timetable.specs.ServicesOn.{services_on}
 use Rattle.feed_laws.proofs.CallTimes.{calls_of_rise, calls_of_stays, first_departure_most}
 use Rattle.feed_laws.proofs.MomentLaws.{time_of_day_bound, moment_at-parts}
 use Rattle.feed_laws.proofs.RideLaws.{is_ride_by_shift, ride_facts_tells, ride_facts_timed}
 use Rattle.feed_laws.proofs.ShiftLaws.{Contains_from_found, found_from_Contains, is_shift_bounds, list_any-shifts_of, shifts_of_strict}
 use Rattle.feed_laws.proofs.SoundTrips.{sound_trip}
 use Rattle.plain_laws.specs.Plain.{at_and, filled_and, int_same, picks_below}
-use Rattle.plain_laws.proofs.Laws.{Filled, AllPairs-joined_below, AllPairs-picks_below, All-from, Contains-joined_below, Contains-picks_below, any_below_hit, any_below_tells, filled_and-true, int_le-true, int_lt-true, int_same-true, joined_below-tells, le-int_le, picks_below-none, picks_below-tells}
+use Rattle.plain_laws.proofs.Laws.{Filled, AllPairs-joined_below, AllPairs-picks_below, All-from, Contains-joined_below, Contains-picks_below, any_below_hit, any_below_tells, filled_and-true, int_le-true, int_lt-true, int_same-true, joined_below-tells, le-int_le, picks_below-none, picks_below-tells, slice_get-list_below}
 use Rattle.plan_patterns.specs.declared.runs.Run.{Run}
-use Rattle.plan_patterns.specs.HeldRuns.{day_after_first, days_of, ends_before, first_day, has_ended, held_before, held_of_trip, held_of_trips, held_on_day, run_with, trip_at}
+use Rattle.plan_patterns.specs.HeldRuns.{active_days, day_after_first, days_of, ends_before, first_day, has_ended, held_before, held_of_trip, held_of_trips, held_on_day, held_on_days, run_with, trip_at}
 use Rattle.plan_patterns.specs.Runs.{AreHeld, AreTripsOf, IsHeld, IsHeldOf, IsKnown, IsUsualSpan, alights_in_time, boards_in_time, deadline, has_ride, is_boarded, moment_of, ride_by, same_run}
 
 -- one number more is looked at
@@ -39,6 +40,23 @@ picks_more n test f old now next x true was is e here =
     rw (add-one, ← e, ← is, here, was) (append_assoc old (picks_below n test f) (x ∷ []))
 picks_more n test f old now next x false was is e here =
     rw (add-one, ← e, here, was) (ap (λ xs. old ++ xs) (sym (append-nil (picks_below n test f))))
+
+-- one day more is looked at
+pub days_more : (feed : FeedRows) (query : Query) (trip : TripId) (n : ℕ) (old now here next : List Run) → now ≡ old ++ held_on_days feed query trip n →
+    here ≡ held_on_day feed query trip (day_after_first (first_day query) n) → next ≡ now ++ here → next ≡ old ++ held_on_days feed query trip (n + 1)
+days_more feed query trip n old now here next was is e = rw (add-one, ← is, e, was) (append_assoc old (held_on_days feed query trip n) here)
+
+-- and none on which the trip doesn't run
+pub day_without : (feed : FeedRows) (query : Query) (trip : TripId) (day : Day) → runs_on feed trip day.0 ≡ false → held_on_day feed query trip day ≡ []
+unfolding held_on_day
+day_without feed query trip day idle = rw idle refl
+
+-- which services are active on a day, by its number
+pub active_at : (feed : FeedRows) (query : Query) (active : List (List Bool)) (n : ℕ) → active ≡ active_days feed query → n < days_of query →
+    unwrap_or (slice_get active n) [] ≡ services_on feed (day_after_first (first_day query) n).0
+active_at feed query active n is lt =
+    ap (λ days. unwrap_or (slice_get days n) []) is
+    ∙ ap (λ o. unwrap_or o []) (slice_get-list_below (days_of query) (λ days. services_on feed (day_after_first (first_day query) days).0) n lt)
 
 -- a ride is told by its parts
 ride_is : (feed : FeedRows) (ride : Ride) (a b : Call) → runs_on feed ride.trip ride.day.0 ≡ true → Contains (shifts_of feed ride.trip) ride.shift → ride.from < ride.to →

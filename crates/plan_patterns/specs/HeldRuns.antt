@@ -10,7 +10,8 @@ use Rattle.feed_rows.specs.declared.journeys.Query.{Query}
 use Rattle.feed_rows.specs.FeedRows.{FeedRows}
 use Rattle.feed_rows.specs.Rides.{runs_on}
 use Rattle.feed_rows.specs.Shifts.{shifts_of}
-use Rattle.plain_laws.specs.Plain.{at_and, joined_below, picks_below}
+use Rattle.feed_timetable.specs.ServicesOn.{services_on}
+use Rattle.plain_laws.specs.Plain.{at_and, joined_below, list_below, picks_below}
 use Rattle.plan_patterns.specs.declared.runs.Run.{Run}
 use Rattle.plan_patterns.specs.Runs.{has_ride, moment_of}
 
@@ -55,6 +56,11 @@ days_of query = query.window / day_seconds + 15
 
 abbrev pub day_after_first : ℤ → ℕ → Day
 day_after_first first days = record { 0 = first +ℤ pos days }
+
+-- which services are active on each of these days
+abbrev pub active_days : FeedRows → Query → List (List Bool)
+active_days feed query =
+    list_below (days_of query) (λ days. services_on feed (day_after_first (first_day query) days).0)
 
 -- the runs of a trip that have one, on the first n of these days
 abbrev pub held_on_days : FeedRows → Query → TripId → ℕ → List Run

@@ -1,14 +1,16 @@
 //! The runs that have a ride within a query's window.
-ghost use Rattle.std.specs.Prelude.{◌≡◌, ◌<◌, ◌≤ℤ◌, ◌+ℤ◌, ◌++◌, pos, negsuc, length, IfOk, OnOk};
+ghost use Rattle.std.specs.Prelude.{◌≡◌, ◌<◌, ◌≤ℤ◌, ◌+ℤ◌, ◌++◌, pos, negsuc, length, true, IfOk, OnOk};
 ghost use Rattle.feed_rows.specs.SoundFeed.{IsSoundFeed};
 ghost use Rattle.feed_rows.specs.Shifts.{shifts_of};
 ghost use Rattle.feed_timetable.specs.Standings.{AreShifts};
-ghost use Rattle.plan_patterns.specs.HeldRuns.{IsDayNear, days_of, ends_before, first_day, has_ended, held_of_trip, held_on_day, day_after_first, run_with};
+ghost use Rattle.feed_rows.specs.Rides.{runs_on};
+ghost use Rattle.plan_patterns.specs.HeldRuns.{IsDayNear, active_days, days_of, ends_before, first_day, has_ended, held_of_trip, held_on_day, day_after_first, run_with};
 ghost use Rattle.plan_patterns.specs.Runs.{AreHeld, AreTimed, AreTripsOf, IsNear, IsUsualSpan};
 
 use crate::runs::{Run, has_ride};
 use feed_rows::{Call, Query};
 use feed_timetable::Timetable;
+use plain_laws::Groups;
 use std::alloc::{AllocError, Global};
 use transit_base::{DAY_SECONDS, Day, TripId};
 
@@ -57,7 +59,7 @@ fn has_ended(query: &Query, trip: TripId, day: Day, shifts: &[i64], calls: &[Cal
     ends_before(query, &run, calls)
 }
 
-// Appends the runs of a trip on a day that have a ride within the query's window.
+// Appends the runs of a trip on a day on which it runs that have a ride within the query's window.
 fn add_day(
     timetable: &Timetable,
     query: &Query,
@@ -70,15 +72,13 @@ fn add_day(
     requires usual { IsUsualSpan query.now }
     requires inside { trip.0 < length timetable.now.trips }
     requires day { IsDayNear day }
+    requires runs { runs_on timetable.now trip day.0 ≡ true }
     requires shifts { shifts.now ≡ shifts_of timetable.now trip }
     requires bounds { AreShifts shifts.now }
     ensures { OnOk result (runs.new.items ≡ runs.old.items ++ held_on_day timetable.now query.now trip day) }
 {
     let calls = timetable.calls_of(trip);
     if has_ended(query, trip, day, shifts, calls) {
-        return Ok(());
-    }
-    if !timetable.runs_on(trip, day) {
         return Ok(());
     }
     for place in 0..shifts.len() {
@@ -120,30 +120,46 @@ fn day_after(first: Day, days: u32) -> Day
     Day(first.0 + i64::from(days))
 }
 
+// Whether each service is active, on each day that is looked at: asked once for all trips.
+fn active_days(
+    alloc: Global,
+    timetable: &Timetable,
+    query: &Query,
+) -> Result<Groups<bool>, AllocError>
+    requires { IsUsualSpan query.now }
+    ensures { IfOk result (λ active. active ≡ active_days timetable.now query.now) }
+{
+    let first = first_day(query);
+    let mut active = Groups::empty(alloc);
+    for days in 0..days_of(query) {
+        let own = timetable.services_on(alloc, day_after(first, days))?;
+        active.push(&own)?;
+    }
+    Ok(active)
+}
+
 // Appends the runs of a trip that have a ride within the query's window.
 fn add_trip(
     alloc: Global,
     timetable: &Timetable,
     query: &Query,
+    active: &Groups<bool>,
     trip: TripId,
     runs: &mut Vec<Run>,
 ) -> Result<(), AllocError>
     requires sound { IsSoundFeed timetable.now }
     requires usual { IsUsualSpan query.now }
+    requires active { active.now ≡ active_days timetable.now query.now }
     requires inside { trip.0 < length timetable.now.trips }
     ensures { OnOk result (runs.new.items ≡ runs.old.items ++ held_of_trip timetable.now query.now trip) }
 {
     let shifts = timetable.shifts_of(alloc, trip)?;
     let first = first_day(query);
     for days in 0..days_of(query) {
-        add_day(
-            timetable,
-            query,
-            trip,
-            day_after(first, days),
-            shifts.items(),
-            runs,
-        )?;
+        if timetable.runs_with(active.get(days as usize), trip) {
+            let day = day_after(first, days);
+            add_day(timetable, query, trip, day, shifts.items(), runs)?;
+        }
     }
     Ok(())
 }
@@ -163,9 +179,10 @@ pub fn held_runs(
     ensures { IfOk result (λ runs. AreHeld timetable.now query.now trips.now runs.items) }
 {
     let _feed = timetable.feed();
+    let active = active_days(alloc, timetable, query)?;
     let mut runs = Vec::new(alloc);
     for place in 0..trips.len() {
-        add_trip(alloc, timetable, query, trips[place], &mut runs)?;
+        add_trip(alloc, timetable, query, &active, trips[place], &mut runs)?;
     }
     Ok(runs)
 }

@@ -12,10 +12,6 @@ returns-then-has_ended c =
     ∙ ap (has_ended c.args.query.now c.args.trip c.args.day c.args.shifts.now) (sym c.calls_of-calls.ensures.value) ∙ sym c.has_ended.ensures ∙ c.if-has_ended.true in
     rw (none_held c.args.timetable.now c.args.query.now c.args.trip c.args.day c.requires.sound ended) (sym (append-nil c.args.runs.now.items))
 
-pub returns-then-not-runs_on : goal.returns-then-not-runs_on
-unfolding held_on_day
-returns-then-not-runs_on c = rw (sym c.runs_on.ensures ∙ c.if-not-runs_on.true) (sym (append-nil c.args.runs.now.items))
-
 pub loop-place-preserved : goal.loop-place-preserved
 loop-place-preserved c =
     let test : ℕ → Bool = λ place. has_ride c.args.query.now (run_with c.args.trip c.args.day c.args.shifts.now place) (calls_of c.args.timetable.now c.args.trip) in
@@ -29,4 +25,4 @@ pub returns : goal.returns
 unfolding held_on_day
 returns c =
     let all : c.loop-place.place ≡ length c.args.shifts.now = omega arith in
-    rw (sym c.runs_on.ensures ∙ c.if-not-runs_on.false, ← c.requires.shifts, ← all) c.loop-place.invariant
+    rw (c.requires.runs, ← c.requires.shifts, ← all) c.loop-place.invariant
