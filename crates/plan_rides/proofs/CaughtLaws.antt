@@ -1,8 +1,7 @@
 -- What a ride is that is caught in time, and how lists of such rides grow.
-use Rattle.std.proofs.Common.{◌≡◌, refl, sym, ◌∙◌, ap, subst, ℕ, ◌+◌, ◌<◌, ◌≤◌, ◌⊎◌, inl, inr, ⊎_elim, Bool, true, false, ◌&&◌, nat_lt, List, [], ◌∷◌, ◌++◌, length, get_or, arith, ℤ, pos, ◌+ℤ◌, ◌≤ℤ◌, ◌<ℤ◌}
-use Rattle.std.specs.Prelude.{◌==◌, if◌then◌else◌, Option, Some, None, slice_get, option_map, option_and_then, All, Contains, int_le, int_lt}
+use Rattle.std.proofs.Common.{◌≡◌, refl, sym, ◌∙◌, ap, subst, ℕ, ◌+◌, ◌<◌, ◌≤◌, ◌⊎◌, inl, inr, ⊎_elim, Bool, true, false, ◌&&◌, nat_lt, List, [], ◌∷◌, ◌++◌, length, get_or, arith, ℤ, pos, ◌+ℤ◌, ◌≤ℤ◌}
+use Rattle.std.specs.Prelude.{◌==◌, if◌then◌else◌, Option, Some, None, slice_get, option_map, option_and_then, All, Contains, int_le}
 use Rattle.std.specs.List.{list_any}
-use Rattle.std.specs.List.Sorted.{IsPartitionedBy}
 use Rattle.std.proofs.lemmas.Int.{ints}
 use Rattle.std.proofs.lemmas.Option.{same_Some, none-some, slice_get_within, slice_get-get_or, cond_some}
 use Rattle.std.proofs.lemmas.Bool.{cases_lt, and_parts, both_ways}
@@ -31,13 +30,15 @@ use Rattle.plain_laws.proofs.Laws.{filled_and-true, chain_gives, int_le-true, le
 use Rattle.feed_laws.proofs.RideLaws.{ride_facts_tells, ride_facts_timed}
 use Rattle.feed_laws.proofs.ShiftLaws.{found_from_Contains}
 use Rattle.feed_laws.proofs.SoundTrips.{sound_trip}
+use Rattle.plan_patterns.specs.declared.serving.Serving.{Serving}
+use Rattle.plan_patterns.specs.Grouping.{PatternOf}
 use Rattle.plan_rides.specs.declared.caught.CaughtRide.{CaughtRide}
 use Rattle.plan_rides.specs.declared.departures.Departure.{Departure}
 use Rattle.plan_rides.specs.Boarding.{Seeking, MayBoard}
-use Rattle.plan_rides.specs.Departures.{IsSpanned, departure_with, IsDeparture, IsFromStop, AreDepartures, departures_at, DoRise, IsBy, IsByBefore, IsByTo, IsByAmong, ride_to, facts_to, facts_in_time, BoardsAt, IsFirstSince, IsReached}
+use Rattle.plan_rides.specs.Departures.{IsSpanned, departure_with, AreServed, AreSince, IsDeparture, IsFromStop, IsBy, IsByBefore, IsByTo, IsByAmong, Serves, TakesOneOf, TakesServing, ride_to, facts_to, facts_in_time, BoardsAt, IsReached}
 use Rattle.plan_rides.specs.InTime.{next_in_time, if_in_time, deadline, IsWithinWindow, AddsCaught, IsRight, HasCaughtBy, is_early}
 use Rattle.plan_rides.specs.Travelling.{IsBarred, BoardsNear}
-use Rattle.plan_rides.proofs.DepartureLaws.{ride_stop}
+use Rattle.plan_rides.proofs.DepartureLaws.{ride_stop, taken_stop, takes_more}
 
 -- the stop of a number
 abbrev stop_id : ℕ → StopId
@@ -247,56 +248,28 @@ adds_call feed query latest stand d to old mid new before adds =
     adds_more feed query latest stand (IsByBefore feed d to) (IsByTo feed d to) (IsByBefore feed d (to + 1)) old mid new before adds
     (λ ride next e by. let below = by.1 in ⊎_elim (λ lt. inl (by.0, lt)) (λ ge. inr (by.0, omega arith)) (cases_lt ride.to to))
 
--- departures that stand in the order of their moments are parted by each moment
-pub parted : (departures : List Departure) (moment : ℤ) → DoRise departures → IsPartitionedBy (λ (d : Departure). int_lt d.at.0 moment) departures
-parted departures moment rises i j d le lt after = ⊎_elim
-    (λ (earlier : i < j). before (get_or departures i d).at.0 (get_or departures j d).at.0 (rises i j d earlier lt) after)
-    (λ (later : j ≤ i). let same : j ≡ i = omega arith in subst (λ k. int_lt (get_or departures k d).at.0 moment ≡ true) same after)
-    (cases_lt i j)
-  where
-    before : (x y : ℤ) → x ≤ℤ y → int_lt y moment ≡ true → int_lt x moment ≡ true
-    before x y le lt = grind (arith, ints)
-
-pub not_before : (x moment : ℤ) → int_lt x moment ≡ false → moment ≤ℤ x
-not_before x moment e = grind (arith, ints)
-
--- a departure since one gets to its stop is reached
-pub reaches : (feed : FeedRows) (query : Query) (stand : Stand) (stop : StopId) (way : ℕ) (earliest : ℤ) (departures : List Departure) (first k : ℕ) (x : Departure) → way_to feed query stand stop ≡ Some way → earliest ≡ stand.at +ℤ pos way →
-    All (IsFromStop feed stop.0) departures → IsFirstSince departures earliest first → first ≤ k → k < length departures → IsReached feed query stand (get_or departures k x)
-reaches feed query stand stop way earliest departures first k x way_is at right since low lt =
+-- departures since one gets to their stop are reached
+pub reaches : (feed : FeedRows) (query : Query) (stand : Stand) (stop : StopId) (way : ℕ) (earliest : ℤ)
+    (departures : List Departure) → way_to feed query stand stop ≡ Some way → earliest ≡ stand.at +ℤ pos way →
+    All (IsFromStop feed stop.0) departures → All (λ (d : Departure). earliest ≤ℤ d.at.0) departures →
+    All (IsReached feed query stand) departures
+reaches feed query stand stop way earliest departures way_is at right since k x lt =
     let from = right k x lt in
     let here : (get_or departures k x).stop ≡ stop = ap stop_id from.1 in
     record {
       right = from.0;
       way = way;
       way_is = ap (way_to feed query stand) here ∙ way_is;
-      catches = subst (λ z. z ≤ℤ (get_or departures k x).at.0) at (since.since k x low lt);
+      catches = subst (λ z. z ≤ℤ (get_or departures k x).at.0) at (since k x lt);
     }
 
--- none before is caught
-pub adds_missed : (feed : FeedRows) (query : Query) (latest : List (Option Moment)) (stand : Stand) (stop : StopId) (way : ℕ) (earliest : ℤ) (departures : List Departure) (first : ℕ) (rides : List CaughtRide) → way_to feed query stand stop ≡ Some way → earliest ≡ stand.at +ℤ pos way →
-    All (IsFromStop feed stop.0) departures → IsFirstSince departures earliest first → AddsCaught feed query latest stand (IsByAmong feed departures first) rides rides
-adds_missed feed query latest stand stop way earliest departures first rides way_is at right since =
-    adds_none feed query latest stand (IsByAmong feed departures first) rides
-    (λ ride next e among.
-    let c = caught_ride feed query stand ride next e in
-    let k = among.0 in
-    let below = among.1 in
-    let d = among.2 in
-    let by = among.4 in
-    let within = since.within in
-    let lt : k < length departures = omega arith in
-    let is : get_or departures k d ≡ d = same_Some _ _ (sym (slice_get-get_or departures k d lt) ∙ among.3) in
-    let same : departure_with ride c.facts ≡ d = ap (departure_with ride) (same_Some _ _ (sym c.is ∙ by.is)) ∙ by.made in
-    let from : d.stop.0 ≡ stop.0 = subst (λ (x : Departure). x.stop.0 ≡ stop.0) is (right k d lt).1 in
-    let boards : c.facts.from ≡ stop = ap (λ (x : Departure). x.stop) same ∙ ap stop_id from in
-    let walked : c.way ≡ way = same_Some _ _ (sym c.way_is ∙ ap (way_to feed query stand) boards ∙ way_is) in
-    let early : d.at.0 <ℤ earliest = subst (λ (x : Departure). x.at.0 <ℤ earliest) is (since.before k d (omega arith) below) in
-    let leaves : c.facts.departure.0 ≡ d.at.0 = ap (λ (x : Departure). x.at.0) same in
-    apart stand.at c.facts.departure.0 d.at.0 earliest c.way way c.catches leaves early at walked)
-  where
-    apart : (at departs leaves earliest : ℤ) (walked way : ℕ) → (at +ℤ pos walked) ≤ℤ departs → departs ≡ leaves → leaves <ℤ earliest → earliest ≡ at +ℤ pos way → walked ≡ way → ⊥
-    apart at departs leaves earliest walked way a b c d e = omega (arith, ints)
+-- before the first departure
+pub adds_by_none : (feed : FeedRows) (query : Query) (latest : List (Option Moment)) (stand : Stand)
+    (departures : List Departure) (rides : List CaughtRide) →
+    AddsCaught feed query latest stand (IsByAmong feed departures 0) rides rides
+adds_by_none feed query latest stand departures rides =
+    adds_none feed query latest stand (IsByAmong feed departures 0) rides
+    (λ ride next e among. let below = among.1 in omega (arith, below))
 
 -- one departure more
 pub adds_among : (feed : FeedRows) (query : Query) (latest : List (Option Moment)) (stand : Stand) (departures : List Departure) (k : ℕ) (x : Departure) (old mid new : List CaughtRide) → k < length departures →
@@ -311,24 +284,68 @@ adds_among feed query latest stand departures k x old mid new lt before adds =
     inr (subst (λ d. IsBy feed d ride) (same_Some _ _ (sym among.3 ∙ ap (slice_get departures) same ∙ slice_get-get_or departures k x lt)) among.4))
     (cases_lt among.0 k))
 
--- all departures from a stop
-pub adds_stop : (feed : FeedRows) (query : Query) (latest : List (Option Moment)) (sought : Seeking) (stand : Stand) (stop n : ℕ)
-    (departures : List (List Departure)) (old new : List CaughtRide) →
+-- a ride that is caught and boards at a position that serves a stop is by one of the departures from there since one gets
+-- to the stop
+by_since : (feed : FeedRows) (query : Query) (stand : Stand) (stop : StopId) (way : ℕ) (earliest : ℤ)
+    (patterns : List PatternOf) (serving : Serving) (departures : List Departure) (ride : Ride) (next : Stand) →
+    way_to feed query stand stop ≡ Some way → earliest ≡ stand.at +ℤ pos way → Serves feed patterns stop.0 serving →
+    AreSince feed patterns serving stop.0 earliest departures → TakesServing patterns serving ride →
+    next_in_time feed query stand ride ≡ Some next → IsByAmong feed departures (length departures) ride
+by_since feed query stand stop way earliest patterns serving departures ride next way_is at serves since takes e =
+    let c = caught_ride feed query stand ride next e in
+    let boards : c.facts.from ≡ stop = ap stop_id (taken_stop feed patterns stop.0 serving ride c.facts serves takes c.is) in
+    let walked : c.way ≡ way = same_Some _ _ (sym c.way_is ∙ ap (way_to feed query stand) boards ∙ way_is) in
+    let has = since.all ride c.facts c.is takes (met stand.at c.facts.departure.0 earliest c.way way c.catches at walked) in
+    let d = departure_with ride c.facts in
+    (has.0, has.1, d, slice_get-get_or departures has.0 d has.1 ∙ ap Some has.2, record { facts = c.facts; is = c.is; made = refl })
+  where
+    met : (at departs earliest : ℤ) (walked way : ℕ) → (at +ℤ pos walked) ≤ℤ departs → earliest ≡ at +ℤ pos way → walked ≡ way → earliest ≤ℤ departs
+    met at departs earliest walked way a b c = omega (arith, ints)
+
+-- one position more
+pub adds_serving : (feed : FeedRows) (query : Query) (latest : List (Option Moment)) (stand : Stand) (stop : StopId)
+    (way : ℕ) (earliest : ℤ) (patterns : List PatternOf) (servings : List Serving) (k : ℕ) (x : Serving)
+    (departures : List Departure) (old mid new : List CaughtRide) → k < length servings →
+    way_to feed query stand stop ≡ Some way → earliest ≡ stand.at +ℤ pos way →
+    Serves feed patterns stop.0 (get_or servings k x) →
+    AreSince feed patterns (get_or servings k x) stop.0 earliest departures →
+    AddsCaught feed query latest stand (TakesOneOf patterns servings k) old mid →
+    AddsCaught feed query latest stand (IsByAmong feed departures (length departures)) mid new →
+    AddsCaught feed query latest stand (TakesOneOf patterns servings (k + 1)) old new
+adds_serving feed query latest stand stop way earliest patterns servings k x departures old mid new lt way_is at serves since before adds =
+    adds_more feed query latest stand (TakesOneOf patterns servings k) (IsByAmong feed departures (length departures))
+    (TakesOneOf patterns servings (k + 1)) old mid new before adds
+    (λ ride next e takes.
+    ⊎_elim inl
+    (λ here. inr (by_since feed query stand stop way earliest patterns (get_or servings k x) departures ride next way_is at serves since here e))
+    (takes_more patterns servings k x ride lt takes))
+
+-- before the first position
+pub adds_unserved : (feed : FeedRows) (query : Query) (latest : List (Option Moment)) (stand : Stand)
+    (patterns : List PatternOf) (servings : List Serving) (rides : List CaughtRide) →
+    AddsCaught feed query latest stand (TakesOneOf patterns servings 0) rides rides
+adds_unserved feed query latest stand patterns servings rides =
+    adds_none feed query latest stand (TakesOneOf patterns servings 0) rides
+    (λ ride next e takes. let below = takes.1 in omega (arith, below))
+
+-- all positions that serve a stop
+pub adds_stop : (feed : FeedRows) (query : Query) (latest : List (Option Moment)) (sought : Seeking) (stand : Stand)
+    (stop n : ℕ) (patterns : List PatternOf) (servings : List Serving) (old new : List CaughtRide) →
     sought.query ≡ query → IsWithinWindow query stand.at → MayBoard feed sought stand →
-    AreDepartures feed sought departures →
-    length (departures_at departures stop) ≤ n → AddsCaught feed query latest stand (IsByAmong feed (departures_at departures stop) n) old new → AddsCaught feed query latest stand (BoardsAt feed stop) old new
-adds_stop feed query latest sought stand stop n departures old new same within board are all adds =
-    adds_same feed query latest stand (IsByAmong feed (departures_at departures stop) n) (BoardsAt feed stop) old new adds
+    AreServed feed sought patterns stop servings → length servings ≤ n →
+    AddsCaught feed query latest stand (TakesOneOf patterns servings n) old new →
+    AddsCaught feed query latest stand (BoardsAt feed stop) old new
+adds_stop feed query latest sought stand stop n patterns servings old new same within board served all adds =
+    adds_same feed query latest stand (TakesOneOf patterns servings n) (BoardsAt feed stop) old new adds
     (λ ride next e boards.
     let c = caught_ride feed sought.query stand ride next (subst (λ q. next_in_time feed q stand ride ≡ Some next)
     (sym same) e) in
-    let d = departure_with ride c.facts in
     let from : c.facts.from.0 ≡ stop = ap (λ (f : RideFacts). f.from.0) (same_Some _ _ (sym c.is ∙ boards.is)) ∙ boards.at in
     let spanned = caught_spanned feed sought stand ride next (subst (λ q. IsWithinWindow q stand.at)
     (sym same) within) board c in
-    let has = subst (λ s. Contains (departures_at departures s) d) from (are.all ride c.facts spanned) in
-    let lt = has.1 in
-    (has.0, omega arith, d, slice_get-get_or (departures_at departures stop) has.0 d lt ∙ ap Some has.2, record { facts = c.facts; is = c.is; made = refl }))
+    let takes = served.all ride c.facts spanned from in
+    let lt = takes.1 in
+    (takes.0, omega (arith, lt, all), takes.2, takes.3, takes.4))
 
 -- a stop to which there is no way has no ride
 pub adds_no_way : (feed : FeedRows) (query : Query) (latest : List (Option Moment)) (stand : Stand) (stop : StopId) (rides : List CaughtRide) → way_to feed query stand stop ≡ None → AddsCaught feed query latest stand (BoardsAt feed stop.0) rides rides

@@ -1,27 +1,19 @@
--- How the departures of a window are listed, part by part.
-use Rattle.std.proofs.Common.{◌≡◌, refl, sym, ◌∙◌, ap, subst, ℕ, zero, suc, ◌+◌, ◌*◌, ◌<◌, ◌≤◌, ◌⊎◌, inl, inr, ⊎_elim, Bool, true, false, List, [], ◌∷◌, ◌++◌, length, get_or, arith, ℤ, pos, ◌+ℤ◌, ◌-ℤ◌, ◌*ℤ◌, ◌≤ℤ◌, ◌<ℤ◌}
-use Rattle.std.specs.Prelude.{◌==◌, Some, slice_get, All, Contains, int_le, map, filter}
-use Rattle.std.specs.List.Sorted.{IsPermutation, IsSortedByKey}
-use Rattle.std.specs.Cmp.{int_cmp_total}
-use Rattle.std.specs.Ordering.{int_cmp, is_lt}
-use Rattle.std.proofs.lemmas.Int.{ints}
-use Rattle.std.proofs.lemmas.Option.{same_Some, slice_get_within}
-use Rattle.std.proofs.lemmas.List.{get_or_default, length-map, length-replicate}
+-- How the patterns of a window's runs give the departures from stops.
+use Rattle.std.proofs.Common.{◌≡◌, refl, sym, ◌∙◌, ap, subst, ℕ, zero, suc, set, ◌+◌, ◌++◌, ◌∷◌, ◌<◌, ◌≤◌, ◌⊎◌, inl, inr, ⊎_elim, Bool, true, false, List, length, get_or, arith, ℤ, pos, ◌≤ℤ◌}
+use Rattle.std.specs.Prelude.{◌==◌, ◌&&◌, ◌≢◌, [], Option, Some, None, slice_get, slice_index_or, option_map, unwrap_or, All, Contains, map}
+use Rattle.std.specs.Option.{option_map_or}
+use Rattle.std.proofs.lemmas.Option.{same_Some, slice_get_within, slice_get-get_or, slice_get-map}
+use Rattle.std.proofs.lemmas.List.{get_or_default, get_or-map, get_or-set_other, get_or-set_same, length-map, length-replicate}
 use Rattle.std.proofs.Math.ListN.{replicate}
-use Rattle.std.proofs.lemmas.List.Kept.{AllPairs-filter}
-use Rattle.std.proofs.lemmas.List.Sorted.{All-permutation, Contains-permutation, ranks_by, sorted_far}
-use Rattle.std.proofs.lemmas.Bool.{cases_lt, and_from, and_parts}
+use Rattle.std.proofs.lemmas.Bool.{cases_eq, cases_lt, and_from, and_parts}
+use Rattle.std.proofs.lemmas.Bool.Decides.{nat_tests}
 use mathlib.Core.Bool.{true≢false}
-use Rattle.std.proofs.lemmas.List.Elements.{All-append, All-cons, All-nil, All-contains, Contains-append_left, Contains-get_or, Contains-push}
-use Rattle.transit_base.specs.Limits.{day_seconds, most_time}
-use Rattle.transit_base.specs.Moments.{civil_day}
+use Rattle.std.proofs.lemmas.List.Elements.{All-append, All-cons, All-nil, All-contains, Contains-append_left, Contains-push}
 use Rattle.transit_base.specs.declared.numbers.StopId.{StopId}
 use Rattle.transit_base.specs.declared.numbers.TripId.{TripId}
-use Rattle.transit_base.specs.declared.calendar.Day.{Day}
 use Rattle.feed_rows.specs.Calls.{calls_of}
 use Rattle.feed_rows.specs.FeedRows.{FeedRows}
-use Rattle.feed_rows.specs.Limits.{most_window}
-use Rattle.feed_rows.specs.Rides.{ride_facts, runs_on}
+use Rattle.feed_rows.specs.Rides.{ride_facts}
 use Rattle.feed_rows.specs.Shifts.{shifts_of}
 use Rattle.feed_rows.specs.SoundFeed.{IsSoundFeed}
 use Rattle.feed_rows.specs.declared.journeys.Call.{Call}
@@ -29,209 +21,33 @@ use Rattle.feed_rows.specs.declared.journeys.Query.{Query}
 use Rattle.feed_rows.specs.declared.journeys.Ride.{Ride}
 use Rattle.feed_rows.specs.declared.journeys.RideFacts.{RideFacts}
 use Rattle.feed_rows.specs.declared.rows.StopTimeRow.{StopTimeRow}
-use Rattle.feed_timetable.specs.Standings.{AreShifts}
 use Rattle.feed_laws.proofs.CallLaws.{calls_of_row}
-use Rattle.feed_laws.proofs.MomentLaws.{time_of_day_bound, moment_at-parts}
-use Rattle.feed_laws.proofs.RideLaws.{ride_facts_tells, ride_facts_timed}
+use Rattle.feed_laws.proofs.RideLaws.{IsRideWith, ride_facts_tells}
 use Rattle.feed_laws.proofs.ShiftLaws.{Contains_from_found, list_any-shifts_of}
 use Rattle.feed_laws.proofs.SoundTrips.{row_at, sound_trip}
-use Rattle.plain_laws.specs.declared.groups.Grouped.{Grouped}
-use Rattle.plain_laws.specs.Plain.{group_of, groups_below}
-use Rattle.plain_laws.proofs.Laws.{int_le-true, le-int_le, Contains-group_of, group_of-tells, groups_below-at, groups_below-past, All-from}
+use Rattle.plain_laws.specs.Plain.{picks_below}
+use Rattle.plain_laws.proofs.Laws.{All-from, AllPairs-append, Contains-cons_cases, All-slice_get, Contains-map, Contains-slice_get, slice_get-Contains, Contains-flat_map, flat_map-tells, Contains-joined_below, joined_below-tells, Contains-picks_below, picks_below-tells}
+use Rattle.plan_patterns.specs.declared.halts.Halt.{Halt}
+use Rattle.plan_patterns.specs.declared.pattern.Boarding.{Boarding}
+use Rattle.plan_patterns.specs.declared.runs.Run.{Run}
+use Rattle.plan_patterns.specs.declared.serving.Serving.{Serving}
+use Rattle.plan_patterns.specs.Columns.{AreBoardable, AreInOrder, IsBoarding}
+use Rattle.plan_patterns.specs.Grouping.{ArePatterns, PatternOf, PatternsOf, all_runs, halts_at, halts_by_pattern, runs_at}
+use Rattle.plan_patterns.specs.Halts.{halt_of, halts_of}
+use Rattle.plan_patterns.specs.Runs.{IsHeld, IsHeldOf, IsKnown, moment_of}
+use Rattle.plan_patterns.specs.Servings.{boards_at, list_at, serving_of, servings_at}
 use Rattle.plan_rides.specs.declared.departures.Departure.{Departure}
-use Rattle.plan_rides.specs.Departures.{IsSpanned, AddsTrip, AreBoarded, AreListed, departure_with, departure_from, grouped, IsDeparture, IsGrouped, IsSince, IsFromStop, is_listed, Lists, HasDepartures, AreInOrder, DoRise, AreDepartures, departures_at}
 use Rattle.plan_rides.specs.Boarding.{Seeking, is_boarding, is_marked}
-use Rattle.plan_rides.specs.InTime.{deadline, IsUsualQuery, IsOfRun, IsAt, IsBefore, HasShift, IsOnTrip, IsOnDay, IsOnDays, departure_of, first_day, day_after}
-use Rattle.plan_rides.specs.Runs.{RunOf, run_of, IsServed, IsRun}
-
--- one part after another
-pub lists_more : (feed : FeedRows) (sought : Seeking) (Part More Whole : Ride → Type 0)
-    (old mid new : List (Grouped Departure)) →
-    Lists feed sought Part old mid → Lists feed sought More mid new →
-    ((ride : Ride) (facts : RideFacts) → IsSpanned feed sought ride facts → Whole ride → Part ride ⊎ More ride) →
-    Lists feed sought Whole old new
-lists_more feed sought Part More Whole old mid new a b split = record {
-  still = λ d h. b.still d (a.still d h);
-  all = λ ride facts e whole. ⊎_elim (λ p. b.still (grouped (departure_with ride facts)) (a.all ride facts e p)) (λ m. b.all ride facts e m) (split ride facts e whole);
-  right = λ h. b.right (a.right h);
-}
-
--- the same part, said otherwise
-pub lists_same : (feed : FeedRows) (sought : Seeking) (Part Whole : Ride → Type 0)
-    (old new : List (Grouped Departure)) → Lists feed sought Part old new →
-    ((ride : Ride) (facts : RideFacts) → IsSpanned feed sought ride facts → Whole ride → Part ride) →
-    Lists feed sought Whole old new
-lists_same feed sought Part Whole old new a part = record { still = a.still; all = λ ride facts e whole. a.all ride facts e (part ride facts e whole); right = a.right }
-
--- a part of which no ride is caught
-pub lists_none : (feed : FeedRows) (sought : Seeking) (Whole : Ride → Type 0) (rides : List (Grouped Departure)) →
-    ((ride : Ride) (facts : RideFacts) → IsSpanned feed sought ride facts → Whole ride → ⊥) →
-    Lists feed sought Whole rides rides
-lists_none feed sought Whole rides never = record {
-  still = λ d h. h;
-  all = λ ride facts e whole. absurd (never ride facts e whole);
-  right = λ h. h;
-}
-
--- no ride is on a day from the first to before the first
-pub lists_first : (feed : FeedRows) (sought : Seeking) (first day : ℤ) (rides : List (Grouped Departure)) →
-    day ≡ first → rides ≡ [] → Lists feed sought (IsOnDays first day) [] rides
-lists_first feed sought first day rides same empty =
-    subst (Lists feed sought (IsOnDays first day) []) (sym empty) (lists_none feed sought (IsOnDays first day) []
-    (λ ride facts e on. none ride.day.0 on.0 on.1))
-  where
-    none : (d : ℤ) → first ≤ℤ d → d <ℤ day → ⊥
-    none d since before = omega (arith, ints)
+use Rattle.plan_rides.specs.Departures.{IsSpanned, AddsTrip, AreBoarded, AreListed, departure_with, IsDeparture, IsFromStop, DoRise, AreDepartures, AreServed, AreSince, Serves, StopsAt, TakesOneOf, TakesServing, run_by, no_run, departure_by, departure_at}
+use Rattle.plan_rides.specs.Runs.{run_of, IsRun}
 
 -- the trip of a number
 abbrev pub trip_id : ℕ → TripId
 trip_id n = record { 0 = n }
 
--- the seconds of a moment's civil day
-pub civil_day_bounds : (moment : ℤ) → ((civil_day moment *ℤ pos day_seconds) ≤ℤ moment) × (moment <ℤ (civil_day moment *ℤ pos day_seconds +ℤ pos day_seconds))
-civil_day_bounds moment = let parts = moment_at-parts moment in let bound = time_of_day_bound moment in (omega (arith, ints), omega (arith, ints))
-
--- the last days of a query lie before 3001
-pub day_after_high : (query : Query) → IsUsualQuery query → day_after query ≤ℤ pos 3_000_000
-day_after_high query usual =
-    let bounds = civil_day_bounds (deadline query) in
-    let late = usual.late in
-    let window = usual.window in
-    small (civil_day (deadline query)) query.departure.0 query.window bounds.0 late window
-  where
-    small : (day departure : ℤ) (window : ℕ) → (day *ℤ pos day_seconds) ≤ℤ (departure +ℤ pos window) → departure ≤ℤ pos 32_504_284_800 → window ≤ most_window → (day +ℤ pos 1) ≤ℤ pos 3_000_000
-    small day departure window below late few = omega (arith, ints)
-
-day_bounds : (from departs arrives day : ℤ) → from ≤ℤ departs → departs ≤ℤ arrives → arrives ≤ℤ (day *ℤ pos day_seconds +ℤ pos (2 * most_time)) →
-    (civil_day from -ℤ pos 13) ≤ℤ day
-day_bounds from departs arrives day since forward low =
-    let parts = moment_at-parts from in let bound = time_of_day_bound from in omega (arith, ints)
-
-day_until : (until departs arrives day : ℤ) → (day *ℤ pos day_seconds) ≤ℤ departs → departs ≤ℤ arrives → arrives ≤ℤ until → day <ℤ (civil_day until +ℤ pos 1)
-day_until until departs arrives day begins forward ends =
-    let parts = moment_at-parts until in let bound = time_of_day_bound until in omega (arith, ints)
-
--- a ride of the run, as the run's parts
-same_run : (run : RunOf) (ride : Ride) → IsOfRun run ride → run_of run.feed ride.trip ride.day ride.shift ≡ run
-same_run run ride of =
-    ap (λ t. run_of run.feed (trip_id t) ride.day ride.shift) of.trip
-    ∙ ap (λ d. run_of run.feed run.trip (record { 0 = d }) ride.shift) of.day
-    ∙ ap (λ z. run_of run.feed run.trip run.day z) of.shift
-
--- the ride departs where its run departs from the call, and riders may board there
-record IsBoarded (run : RunOf) (ride : Ride) (facts : RideFacts) (call : Call) : Type 0 where
-  pub made : departure_with ride facts ≡ departure_from run call ride.from
-  pub pickup : call.pickup ≡ true
-
-spanned_boards : (sought : Seeking) (run : RunOf) (ride : Ride) (facts : RideFacts) (call : Call) →
-    IsSpanned run.feed sought ride facts → IsOfRun run ride →
-    slice_get (calls_of run.feed run.trip) ride.from ≡ Some call → IsBoarded run ride facts call
-spanned_boards sought run ride facts call e of at =
-    let r = ride_facts_tells run.feed ride facts e.is in
-    let same : r.boarding ≡ call = same_Some _ _ (sym r.boards ∙ ap (λ t. slice_get (calls_of run.feed t) ride.from) (ap trip_id of.trip) ∙ at) in
-    record {
-      made = ap (departure_with ride) (sym r.facts_are)
-          ∙ ap (λ (x : Call). departure_from (run_of run.feed ride.trip ride.day ride.shift) x ride.from) same
-          ∙ ap (λ (x : RunOf). departure_from x call ride.from) (same_run run ride of);
-      pickup = ap (λ (x : Call). x.pickup) (sym same) ∙ r.pickup;
-    }
-
--- so its moment is listed
-spanned_listed : (sought : Seeking) (run : RunOf) (ride : Ride) (facts : RideFacts) (call : Call) →
-    IsSoundFeed run.feed → IsSpanned run.feed sought ride facts → IsBoarded run ride facts call →
-    is_listed sought call (departure_of run call) ≡ true
-unfolding is_listed
-spanned_listed sought run ride facts call sound e boards =
-    let t = ride_facts_timed run.feed ride facts most_time (sound_trip run.feed ride.trip sound) e.is in
-    let at : facts.departure.0 ≡ departure_of run call = ap (λ (d : Departure). d.at.0) boards.made in
-    and_from _ _
-    (and_from _ _
-    (and_from _ _ boards.pickup (subst (λ z. int_le sought.query.departure.0 z ≡ true) at
-    (le-int_le sought.query.departure.0 facts.departure.0 e.since)))
-    (subst (λ z. int_le z (deadline sought.query) ≡ true) at (le-int_le facts.departure.0 (deadline sought.query)
-    (onward _ _ _ t.forward e.until))))
-    (subst (λ (n : ℕ). is_marked sought.marks n ≡ true) (ap (λ (d : Departure). d.stop.0) boards.made) e.boards)
-  where
-    onward : (a b c : ℤ) → a ≤ℤ b → b ≤ℤ c → a ≤ℤ c
-    onward a b c p q = omega (arith, ints)
-
--- where a call is not listed, nothing is to be listed
-pub lists_no_call : (sought : Seeking) (run : RunOf) (from : ℕ) (call : Call) (listed : List (Grouped Departure)) →
-    IsSoundFeed run.feed → slice_get (calls_of run.feed run.trip) from ≡ Some call →
-    false ≡ is_listed sought call (departure_of run call) → Lists run.feed sought (IsAt run from) listed listed
-lists_no_call sought run from call listed sound is never =
-    lists_none run.feed sought (IsAt run from) listed
-    (λ ride facts e at.
-    let here = ap (slice_get (calls_of run.feed run.trip)) at.1 ∙ is in
-    true≢false (sym (spanned_listed sought run ride facts call sound e
-    (spanned_boards sought run ride facts call e at.0 here)) ∙ sym never))
-
--- riders may board where a departure is listed, and it departs no earlier than the query
-listed_tells : (sought : Seeking) (call : Call) (at : ℤ) → is_listed sought call at ≡ true →
-    (call.pickup ≡ true) × (sought.query.departure.0 ≤ℤ at)
-unfolding is_listed
-listed_tells sought call at e =
-    let whole = and_parts _ _ e in
-    let timed = and_parts _ _ whole.0 in
-    let parts = and_parts _ _ timed.0 in
-    (parts.0, int_le-true _ _ parts.1)
-
--- a departure is listed
-pub lists_call : (sought : Seeking) (run : RunOf) (from : ℕ) (call : Call) (old new : List (Grouped Departure)) →
-    IsRun run → slice_get (calls_of run.feed run.trip) from ≡ Some call →
-    true ≡ is_listed sought call (departure_of run call) → new ≡ old ++ grouped (departure_from run call from) ∷ [] →
-    Lists run.feed sought (IsAt run from) old new
-lists_call sought run from call old new runs is listed pushed =
-    let made = departure_from run call from in
-    let tells = listed_tells sought call (departure_of run call) (sym listed) in
-    let here : IsDeparture run.feed made = record { run = runs; call = call; is = is; pickup = tells.0; made = refl } in
-    let Right = IsGrouped run.feed sought.query in
-    subst (Lists run.feed sought (IsAt run from) old) (sym pushed) (record {
-      still = λ other h. Contains-append_left old (grouped made ∷ []) other h;
-      all = λ ride facts e at.
-          let boards = spanned_boards sought run ride facts call e at.0
-          (ap (slice_get (calls_of run.feed run.trip)) at.1 ∙ is) in
-          let same : departure_with ride facts ≡ made = boards.made ∙ ap (departure_from run call) at.1 in
-          subst (λ d. Contains (old ++ grouped made ∷ []) (grouped d)) (sym same) (Contains-push old (grouped made));
-      right = λ h. All-append Right old (grouped made ∷ []) h
-          (All-cons Right (grouped made) [] (here, refl, tells.1) (All-nil Right));
-    })
-
--- the ride leaves its trip at a later call of it
-spanned_calls : (feed : FeedRows) (sought : Seeking) (ride : Ride) (facts : RideFacts) →
-    IsSpanned feed sought ride facts → (ride.from < ride.to) × (ride.to < length (calls_of feed ride.trip))
-spanned_calls feed sought ride facts e =
-    let r = ride_facts_tells feed ride facts e.is in
-    (r.forward, slice_get_within (calls_of feed ride.trip) ride.to r.alighting r.alights)
-
--- it runs on its day, with one of its trip's shifts
-spanned_runs : (feed : FeedRows) (sought : Seeking) (ride : Ride) (facts : RideFacts) →
-    IsSpanned feed sought ride facts →
-    (runs_on feed ride.trip ride.day.0 ≡ true) × Contains (shifts_of feed ride.trip) ride.shift
-spanned_runs feed sought ride facts e =
-    let r = ride_facts_tells feed ride facts e.is in
-    (r.runs, Contains_from_found (shifts_of feed ride.trip) ride.shift (list_any-shifts_of feed ride.trip ride.shift ∙ r.shift))
-
--- it runs on one of the days from 13 before the civil day of the sought's departure to the last of the window
-spanned_day : (feed : FeedRows) (sought : Seeking) (ride : Ride) (facts : RideFacts) → IsSoundFeed feed →
-    IsSpanned feed sought ride facts → (first_day sought.query ≤ℤ ride.day.0) × (ride.day.0 <ℤ day_after sought.query)
-spanned_day feed sought ride facts sound e =
-    let t = ride_facts_timed feed ride facts most_time (sound_trip feed ride.trip sound) e.is in (
-      day_bounds sought.query.departure.0 facts.departure.0 facts.arrival.0 ride.day.0 e.since t.forward t.arrives,
-      day_until (deadline sought.query) facts.departure.0 facts.arrival.0 ride.day.0 t.departs t.forward e.until,
-    )
-
--- all rides of a run board at one of its calls
-pub lists_whole_run : (sought : Seeking) (run : RunOf) (n : ℕ) (old new : List (Grouped Departure)) →
-    length (calls_of run.feed run.trip) ≤ n →
-    Lists run.feed sought (IsBefore run n) old new → Lists run.feed sought (IsOfRun run) old new
-lists_whole_run sought run n old new all adds =
-    lists_same run.feed sought (IsBefore run n) (IsOfRun run) old new adds
-    (λ ride facts e of.
-    let calls = spanned_calls run.feed sought ride facts e in
-    let forward = calls.0 in
-    let last : ride.to < length (calls_of run.feed run.trip) = subst (λ t. ride.to < length (calls_of run.feed t)) (ap trip_id of.trip) calls.1 in
-    (of, omega arith))
+-- the stop of a number
+abbrev stop_id : ℕ → StopId
+stop_id n = record { 0 = n }
 
 -- the trips are of the feed, those that are marked are among them, and of the first n stop times those at which riders
 -- may board at a stop that is marked
@@ -248,7 +64,11 @@ pub none_boarded : (feed : FeedRows) (sought : Seeking) (marks : List Bool) (tri
     marks ≡ replicate (length feed.trips) false → trips ≡ [] → ListsBoarded feed sought 0 marks trips
 none_boarded feed sought marks trips unmarked empty = rw (unmarked, empty) (record {
   many = length-replicate (length feed.trips) false;
-  listed = λ trip marked. absurd (true≢false (sym marked ∙ none (length feed.trips) trip.0));
+  listed = record {
+    all = λ trip marked. absurd (true≢false (sym marked ∙ none (length feed.trips) trip.0));
+    marked = All-nil (λ (t : TripId). slice_index_or (replicate (length feed.trips) false) t.0 false ≡ true);
+    once = λ i j d lt within. absurd (omega (arith, within));
+  };
   inside = All-nil (λ (t : TripId). t.0 < length feed.trips);
   all = λ k d below boards. absurd (omega (arith, below));
 })
@@ -264,6 +84,50 @@ pub row_trip : (feed : FeedRows) (rows : List StopTimeRow) (n : ℕ) (d : StopTi
 row_trip feed rows n d sound same lt =
     subst (λ (rs : List StopTimeRow). (get_or rs n d).trip.0 < length feed.trips) (sym same)
     (sound.stop_times.trips n d (subst (λ (rs : List StopTimeRow). n < length rs) same lt))
+
+-- where the query has no rides, no trip is wanted
+pub no_boarded : (feed : FeedRows) (sought : Seeking) (trips : List TripId) → sought.query.rides ≡ 0 → trips ≡ [] →
+    AreBoarded feed sought trips
+no_boarded feed sought trips none empty = rw empty (record {
+  of = record {
+    inside = All-nil (λ (t : TripId). t.0 < length feed.trips);
+    once = λ i j d lt within. absurd (omega (arith, within));
+  };
+  all = λ ride facts e. let some = e.some in absurd (omega (arith, some, none));
+})
+
+-- a trip that wasn't marked is listed with its mark
+pub listed_more : (marks more : List Bool) (old new : List TripId) (trip : TripId) → trip.0 < length marks →
+    slice_index_or marks trip.0 false ≡ false → AreListed marks old → more ≡ set marks trip.0 true →
+    new ≡ old ++ trip ∷ [] → AreListed more new
+listed_more marks more old new trip lt never before marked pushed = rw (marked, pushed) (record {
+  all = λ t is. ⊎_elim
+      (λ (same : t.0 ≡ trip.0). subst (Contains (old ++ trip ∷ [])) (ap trip_id (sym same)) (Contains-push old trip))
+      (λ (other : t.0 ≡ trip.0 → ⊥).
+      Contains-append_left old (trip ∷ []) t (before.all t (sym (get_or-set_other marks trip.0 t.0 true false other) ∙ is)))
+      (cases_eq t.0 trip.0);
+  marked = All-append IsMarked old (trip ∷ [])
+      (λ k d within. still (get_or old k d) (before.marked k d within))
+      (All-cons IsMarked trip [] (get_or-set_same marks trip.0 true false lt) (All-nil IsMarked));
+  once = AllPairs-append (λ (a : TripId) (b : TripId). a ≢ b) old (trip ∷ []) before.once
+      (λ i j d earlier within. absurd (omega (arith, earlier, within)))
+      (λ a b has one same.
+      let is : b ≡ trip = single b one in
+      true≢false (sym (All-contains (λ (t : TripId). slice_index_or marks t.0 false ≡ true) old a before.marked has)
+      ∙ ap (λ (t : TripId). slice_index_or marks t.0 false) (same ∙ is) ∙ never));
+})
+  where
+    IsMarked : TripId → Type 0
+    IsMarked t = slice_index_or (set marks trip.0 true) t.0 false ≡ true
+
+    still : (t : TripId) → slice_index_or marks t.0 false ≡ true → IsMarked t
+    still t is = ⊎_elim
+        (λ (same : t.0 ≡ trip.0). absurd (true≢false (sym is ∙ ap (λ n. slice_index_or marks n false) same ∙ never)))
+        (λ (other : t.0 ≡ trip.0 → ⊥). get_or-set_other marks trip.0 t.0 true false other ∙ is)
+        (cases_eq t.0 trip.0)
+
+    single : (b : TripId) → Contains (trip ∷ []) b → b ≡ trip
+    single b one = ⊎_elim (λ (here : trip ≡ b). sym here) (λ (none : Contains [] b). let lt = none.1 in absurd (omega (arith, lt))) (Contains-cons_cases trip [] b one)
 
 -- one stop time more, whose trip is listed, or at which riders may not board
 pub boarded_more : (feed : FeedRows) (sought : Seeking) (rows : List StopTimeRow) (n : ℕ) (d : StopTimeRow)
@@ -310,7 +174,7 @@ pub boarded_all : (feed : FeedRows) (sought : Seeking) (n : ℕ) (marks : List B
     IsSoundFeed feed → length feed.stop_times ≤ n → ListsBoarded feed sought n marks trips →
     AreBoarded feed sought trips
 boarded_all feed sought n marks trips sound whole lists = record {
-  inside = lists.inside;
+  of = record { inside = lists.inside; once = lists.listed.once };
   all = λ ride facts e. boards ride facts e;
 }
   where
@@ -327,120 +191,6 @@ boarded_all feed sought n marks trips sound whole lists = record {
         let there = at.member.2 in
         let listed = lists.all at.member.0 row (omega (arith, lt, whole)) (ap (is_boarding sought) there ∙ may) in
         subst (Contains trips) (ap (λ (x : StopTimeRow). x.trip) there ∙ ap trip_id at.own) listed
-
--- where a trip doesn't run on a day, nothing is to be added
-pub lists_no_trip : (feed : FeedRows) (sought : Seeking) (trip : TripId) (day : ℤ) (rides : List (Grouped Departure)) →
-    false ≡ runs_on feed trip day → Lists feed sought (IsOnTrip trip.0 day) rides rides
-lists_no_trip feed sought trip day rides never =
-    lists_none feed sought (IsOnTrip trip.0 day) rides
-    (λ ride facts e is.
-    let runs = spanned_runs feed sought ride facts e in
-    let here : runs_on feed trip day ≡ true = subst (λ t. runs_on feed t day ≡ true) (ap trip_id is.0) (subst (λ d. runs_on feed ride.trip d ≡ true) is.1 runs.0) in
-    true≢false (sym here ∙ sym never))
-
--- one trip more
-pub lists_trip : (feed : FeedRows) (sought : Seeking) (day : ℤ) (trips : List TripId) (k : ℕ) (d : TripId)
-    (old mid new : List (Grouped Departure)) → k < length trips →
-    Lists feed sought (IsOnDay day trips k) old mid → Lists feed sought (IsOnTrip (get_or trips k d).0 day) mid new →
-    Lists feed sought (IsOnDay day trips (k + 1)) old new
-lists_trip feed sought day trips k d old mid new lt before adds =
-    lists_more feed sought (IsOnDay day trips k) (IsOnTrip (get_or trips k d).0 day) (IsOnDay day trips (k + 1)) old mid new before adds
-    (λ ride facts e on.
-    let at = on.1 in
-    let below = at.1 in
-    ⊎_elim (λ lower. inl (on.0, (at.0, lower, at.2)))
-    (λ upper.
-    let same : at.0 ≡ k = omega arith in
-    inr (ap (λ (t : TripId). t.0) (sym at.2 ∙ ap (λ i. get_or trips i ride.trip) same ∙ get_or_default trips k ride.trip d lt), on.0))
-    (cases_lt at.0 k))
-
--- the run with the shift at a place
-pub run_at_place : (feed : FeedRows) (trip : TripId) (day : Day) (shifts : List ℤ) (k : ℕ) → IsServed feed trip day → shifts ≡ shifts_of feed trip → AreShifts shifts → k < length shifts → IsRun (run_of feed trip day (get_or shifts k (pos 0)))
-run_at_place feed trip day shifts k served is bounds lt =
-    let within = bounds k (pos 0) lt in
-    record {
-      served = served;
-      runs_so = subst (λ zs. Contains zs (get_or shifts k (pos 0))) is (Contains-get_or shifts k (pos 0) lt);
-      low = within.0;
-      high = within.1;
-    }
-
--- one shift more
-pub lists_shift : (feed : FeedRows) (sought : Seeking) (trip : TripId) (day : Day) (shifts : List ℤ) (k : ℕ)
-    (run : RunOf) (old mid new : List (Grouped Departure)) → k < length shifts →
-    run ≡ run_of feed trip day (get_or shifts k (pos 0)) →
-    Lists feed sought (HasShift trip.0 day.0 shifts k) old mid → Lists run.feed sought (IsOfRun run) mid new →
-    Lists feed sought (HasShift trip.0 day.0 shifts (k + 1)) old new
-lists_shift feed sought trip day shifts k run old mid new lt is before adds =
-    let made = run_of feed trip day (get_or shifts k (pos 0)) in
-    lists_more feed sought (HasShift trip.0 day.0 shifts k) (IsOfRun made)
-    (HasShift trip.0 day.0 shifts (k + 1)) old mid new before
-    (subst (λ (r : RunOf). Lists r.feed sought (IsOfRun r) mid new) is adds)
-    (λ ride facts e has.
-    let at = has.2 in
-    let below = at.1 in
-    ⊎_elim (λ lower. inl (has.0, has.1, (at.0, lower, at.2)))
-    (λ upper.
-    let same : at.0 ≡ k = omega arith in
-    inr (record { trip = has.0; day = has.1; shift = sym at.2 ∙ ap (λ i. get_or shifts i ride.shift) same ∙ get_or_default shifts k ride.shift (pos 0) lt }))
-    (cases_lt at.0 k))
-
--- all shifts of a trip
-pub lists_whole_trip : (feed : FeedRows) (sought : Seeking) (trip : TripId) (day : ℤ) (shifts : List ℤ) (n : ℕ)
-    (old new : List (Grouped Departure)) → shifts ≡ shifts_of feed trip → length shifts ≤ n →
-    Lists feed sought (HasShift trip.0 day shifts n) old new → Lists feed sought (IsOnTrip trip.0 day) old new
-lists_whole_trip feed sought trip day shifts n old new all whole adds =
-    lists_same feed sought (HasShift trip.0 day shifts n) (IsOnTrip trip.0 day) old new adds
-    (λ ride facts e on.
-    let runs = spanned_runs feed sought ride facts e in
-    let has : Contains shifts ride.shift = subst (λ zs. Contains zs ride.shift) (ap (shifts_of feed) (ap trip_id on.0) ∙ sym all) runs.1 in
-    let lt = has.1 in
-    (on.0, on.1, (has.0, omega arith, has.2)))
-
--- all trips
-pub lists_whole_day : (feed : FeedRows) (sought : Seeking) (day : ℤ) (trips : List TripId) (n : ℕ)
-    (old new : List (Grouped Departure)) → AreBoarded feed sought trips → length trips ≤ n →
-    Lists feed sought (IsOnDay day trips n) old new → Lists feed sought (λ ride. ride.day.0 ≡ day) old new
-lists_whole_day feed sought day trips n old new boarded all adds =
-    lists_same feed sought (IsOnDay day trips n) (λ ride. ride.day.0 ≡ day) old new adds
-    (λ ride facts e on.
-    let has = boarded.all ride facts e in
-    let lt = has.1 in
-    (on, (has.0, omega arith, has.2)))
-
--- one day more
-pub lists_day : (feed : FeedRows) (sought : Seeking) (first day : ℤ) (old mid new : List (Grouped Departure)) →
-    first ≤ℤ day →
-    Lists feed sought (IsOnDays first day) old mid → Lists feed sought (λ ride. ride.day.0 ≡ day) mid new →
-    Lists feed sought (IsOnDays first (day +ℤ pos 1)) old new
-lists_day feed sought first day old mid new since before adds =
-    lists_more feed sought (IsOnDays first day) (λ ride. ride.day.0 ≡ day)
-    (IsOnDays first (day +ℤ pos 1)) old mid new before adds
-    (λ ride facts e on. split ride.day.0 on.0 on.1)
-  where
-    between : (d day : ℤ) → d <ℤ (day +ℤ pos 1) → day ≤ℤ d → d ≡ day
-    between d day high ge = omega (arith, ints)
-
-    by : (d day : ℤ) (b : Bool) → int_le day d ≡ b → (d <ℤ day) ⊎ (day ≤ℤ d)
-    by d day true h = inr (int_le-true day d h)
-    by d day false h = inl (grind (arith, ints))
-
-    split : (d : ℤ) → first ≤ℤ d → d <ℤ (day +ℤ pos 1) → ((first ≤ℤ d) × (d <ℤ day)) ⊎ (d ≡ day)
-    split d low high = ⊎_elim (λ lt. inl (low, lt)) (λ ge. inr (between d day high ge)) (by d day (int_le day d) refl)
-
--- all days
-pub has_departures : (feed : FeedRows) (sought : Seeking) (day : ℤ) (listed : List (Grouped Departure)) →
-    IsSoundFeed feed → day_after sought.query ≤ℤ day →
-    Lists feed sought (IsOnDays (first_day sought.query) day) [] listed → HasDepartures feed sought listed
-has_departures feed sought day listed sound past lists = record {
-  all = λ ride facts e.
-      let days = spanned_day feed sought ride facts sound e in
-      lists.all ride facts e (days.0, before ride.day.0 (day_after sought.query) day days.1 past);
-  right = lists.right (All-nil (IsGrouped feed sought.query));
-}
-  where
-    before : (d after day : ℤ) → d <ℤ after → after ≤ℤ day → d <ℤ day
-    before d after day lt le = omega (arith, ints)
 
 -- a trip calls at stops of the feed
 call_stop : (feed : FeedRows) (trip : TripId) (m : ℕ) (call : Call) → IsSoundFeed feed →
@@ -464,82 +214,355 @@ ride_end feed ride facts sound is =
     let r = ride_facts_tells feed ride facts is in
     subst (λ (f : RideFacts). f.to.0 < length feed.stops) r.facts_are (call_stop feed ride.trip ride.to r.alighting sound r.alights)
 
--- what is sorted by its moments is in their order
-pub in_order : (listed : List (Grouped Departure)) → IsSortedByKey (λ (d : Grouped Departure). d.item.at.0) int_cmp listed → AreInOrder listed
-in_order listed sorted i j d lt within =
-    not_less (get_or listed j d).item.at.0 (get_or listed i d).item.at.0
-    (sorted_far (λ (a : Grouped Departure) (b : Grouped Departure). is_lt (int_cmp a.item.at.0 b.item.at.0)) (ranks_by int_cmp_total (λ (g : Grouped Departure). g.item.at.0)) listed sorted i j d (omega arith) within)
-  where
-    not_less : (x y : ℤ) → is_lt (int_cmp x y) ≡ false → y ≤ℤ x
-    not_less x y e = grind (arith, ints)
+-- ---- the runs of patterns, and where they serve stops
 
--- departures in another order
-pub departures_moved : (feed : FeedRows) (sought : Seeking) (old new : List (Grouped Departure)) →
-    HasDepartures feed sought old → IsPermutation old new → HasDepartures feed sought new
-departures_moved feed sought old new has moved = record {
-  all = λ ride facts e. Contains-permutation old new (grouped (departure_with ride facts)) moved (has.all ride facts e);
-  right = All-permutation (IsGrouped feed sought.query) old new moved has.right;
+-- the halts of a pattern, by its number
+list_at-halts : (patterns : List PatternOf) (p : ℕ) → list_at (halts_by_pattern patterns) p ≡ halts_at patterns p
+list_at-halts patterns p = rw (slice_get-map (λ (x : PatternOf). x.halts) patterns p) (step (slice_get patterns p))
+  where
+    step : (o : Option PatternOf) →
+        unwrap_or (option_map (λ (x : PatternOf). x.halts) o) [] ≡ option_map_or (λ (x : PatternOf). x.halts) o []
+    step None = refl
+    step (Some x) = refl
+
+-- a run of a pattern is one of all runs
+in_all : (patterns : List PatternOf) (p : ℕ) (run : Run) → Contains (runs_at patterns p) run → Contains (all_runs patterns) run
+in_all patterns p run at = step (slice_get patterns p) refl at
+  where
+    step : (o : Option PatternOf) → slice_get patterns p ≡ o →
+        Contains (option_map_or (λ (x : PatternOf). x.runs) o []) run → Contains (all_runs patterns) run
+    step None is none = let lt = none.1 in absurd (omega (arith, lt))
+    step (Some x) is here = Contains-flat_map (λ (x : PatternOf). x.runs) patterns x run (Contains-slice_get patterns p x is) here
+
+-- and each of these is of a pattern
+record IsRunOf (patterns : List PatternOf) (run : Run) : Type 0 where
+  pub number : ℕ
+  pub within : number < length patterns
+  pub has : Contains (runs_at patterns number) run
+
+of_pattern : (patterns : List PatternOf) (run : Run) → Contains (all_runs patterns) run → IsRunOf patterns run
+of_pattern patterns run at =
+    let found = flat_map-tells (λ (x : PatternOf). x.runs) patterns run at in
+    let place = slice_get-Contains patterns found.0 found.1 in
+    record {
+      number = place.0;
+      within = slice_get_within patterns place.0 found.0 place.1;
+      has = subst (λ o. Contains (option_map_or (λ (x : PatternOf). x.runs) o []) run) (sym place.1) found.2;
+    }
+
+-- a run has the halts of its pattern
+has_halts : (feed : FeedRows) (query : Query) (trips : List TripId) (patterns : List PatternOf) (p : ℕ) (run : Run) →
+    ArePatterns feed query trips patterns → Contains (runs_at patterns p) run → halts_of feed run.trip ≡ halts_at patterns p
+has_halts feed query trips patterns p run are at = step (slice_get patterns p) refl at
+  where
+    step : (o : Option PatternOf) → slice_get patterns p ≡ o →
+        Contains (option_map_or (λ (x : PatternOf). x.runs) o []) run →
+        halts_of feed run.trip ≡ option_map_or (λ (x : PatternOf). x.halts) o []
+    step None is none = let lt = none.1 in absurd (omega (arith, lt))
+    step (Some x) is here =
+        All-contains (λ (r : Run). halts_of feed r.trip ≡ x.halts) x.runs run
+        (All-slice_get (λ (y : PatternOf). All (λ (r : Run). halts_of feed r.trip ≡ y.halts) y.runs) patterns p x is are.halts)
+        here
+
+-- riders may board at a call exactly where its halt says so
+boards_at-call : (feed : FeedRows) (trip : TripId) (position : ℕ) (call : Call) →
+    slice_get (calls_of feed trip) position ≡ Some call →
+    (stop : ℕ) → boards_at (halts_of feed trip) stop position ≡ (call.pickup && call.stop.0 == stop)
+boards_at-call feed trip position call is stop =
+    rw (slice_get-map halt_of (calls_of feed trip) position, is) refl
+
+-- a position of a pattern at which riders may board at a stop is one of those of the stop
+serving_there : (patterns : List PatternOf) (stop p q : ℕ) → p < length patterns → q < length (halts_at patterns p) →
+    boards_at (halts_at patterns p) stop q ≡ true →
+    Contains (servings_at (halts_by_pattern patterns) stop) (serving_of p q)
+serving_there patterns stop p q within inside boards =
+    let all = halts_by_pattern patterns in
+    let same = list_at-halts patterns p in
+    Contains-joined_below (length all)
+    (λ pattern. picks_below (length (list_at all pattern)) (boards_at (list_at all pattern) stop) (serving_of pattern)) p
+    (serving_of p q)
+    (subst (λ n. p < n) (sym (length-map patterns (λ (x : PatternOf). x.halts))) within)
+    (subst (λ hs. Contains (picks_below (length hs) (boards_at hs stop) (serving_of p)) (serving_of p q)) (sym same)
+    (Contains-picks_below (length (halts_at patterns p)) (boards_at (halts_at patterns p) stop) (serving_of p) q inside boards))
+
+-- and there are no others
+record IsServing (patterns : List PatternOf) (stop : ℕ) (serving : Serving) : Type 0 where
+  pub within : serving.pattern < length patterns
+  pub inside : serving.position < length (halts_at patterns serving.pattern)
+  pub boards : boards_at (halts_at patterns serving.pattern) stop serving.position ≡ true
+
+is_serving : (patterns : List PatternOf) (stop : ℕ) (serving : Serving) →
+    Contains (servings_at (halts_by_pattern patterns) stop) serving → IsServing patterns stop serving
+is_serving patterns stop serving at =
+    let all = halts_by_pattern patterns in
+    let found = joined_below-tells (length all)
+    (λ pattern. picks_below (length (list_at all pattern)) (boards_at (list_at all pattern) stop) (serving_of pattern))
+    serving at in
+    let picked = picks_below-tells (length (halts_at patterns found.0)) (boards_at (halts_at patterns found.0) stop) (serving_of found.0) serving
+    (subst (λ hs. Contains (picks_below (length hs) (boards_at hs stop) (serving_of found.0)) serving) (list_at-halts patterns found.0) found.2) in
+    subst (IsServing patterns stop) picked.is (record {
+      within = subst (λ n. found.0 < n) (length-map patterns (λ (x : PatternOf). x.halts)) found.1;
+      inside = picked.within;
+      boards = picked.passes;
+    })
+
+-- a run that is held is one of the feed
+run_held : (feed : FeedRows) (query : Query) (run : Run) → IsHeld feed query run → IsKnown feed run →
+    IsRun (run_of feed run.trip run.day run.shift)
+run_held feed query run held known =
+    let r = ride_facts_tells feed (record { trip = run.trip; day = run.day; shift = run.shift; from = held.from; to = held.to }) held.facts held.is in
+    record {
+      served = record { inside = known.inside; low = known.near.day_low; high = known.near.day_high; runs = r.runs };
+      runs_so = Contains_from_found (shifts_of feed run.trip) run.shift (list_any-shifts_of feed run.trip run.shift ∙ r.shift);
+      low = known.near.shift_low;
+      high = known.near.shift_high;
+    }
+
+-- two numbers that are tested to be the same are so
+told : (m n : ℕ) → (m == n) ≡ true → m ≡ n
+told m n same = grind (arith, nat_tests)
+
+same_number : (n : ℕ) → (n == n) ≡ true
+same_number n = grind (arith, nat_tests)
+
+-- riders may board a run of a pattern where that serves a stop
+stops_at : (feed : FeedRows) (query : Query) (trips : List TripId) (patterns : List PatternOf) (stop : ℕ) (serving : Serving) (run : Run) →
+    ArePatterns feed query trips patterns → IsServing patterns stop serving →
+    Contains (runs_at patterns serving.pattern) run → StopsAt feed stop serving.position run
+stops_at feed query trips patterns stop serving run are serves at =
+    let all = in_all patterns serving.pattern run at in
+    let halts = has_halts feed query trips patterns serving.pattern run are at in
+    let boards : boards_at (halts_of feed run.trip) stop serving.position ≡ true =
+    subst (λ hs. boards_at hs stop serving.position ≡ true) (sym halts) serves.boards in
+    step (slice_get (calls_of feed run.trip) serving.position) refl boards
+    (run_held feed query run (All-contains (IsHeldOf feed query trips) (all_runs patterns) run are.right all).held
+    (All-contains (IsKnown feed) (all_runs patterns) run are.known all))
+  where
+    step : (o : Option Call) → slice_get (calls_of feed run.trip) serving.position ≡ o →
+        boards_at (halts_of feed run.trip) stop serving.position ≡ true →
+        IsRun (run_of feed run.trip run.day run.shift) → StopsAt feed stop serving.position run
+    step None is boards runs =
+        absurd (true≢false (sym boards ∙ rw (slice_get-map halt_of (calls_of feed run.trip) serving.position, is) refl))
+    step (Some call) is boards runs =
+        let parts = and_parts _ _ (sym (boards_at-call feed run.trip serving.position call is stop) ∙ boards) in
+        record { goes = runs; call = call; is = is; pickup = parts.0; at = told call.stop.0 stop parts.1 }
+
+-- each position at which patterns let riders board at a stop serves it
+serves_stop : (feed : FeedRows) (query : Query) (trips : List TripId) (patterns : List PatternOf) (stop : ℕ) → ArePatterns feed query trips patterns →
+    All (Serves feed patterns stop) (servings_at (halts_by_pattern patterns) stop)
+serves_stop feed query trips patterns stop are = All-from (Serves feed patterns stop) (servings_at (halts_by_pattern patterns) stop)
+    (λ serving at.
+    let serves = is_serving patterns stop serving at in
+    record {
+      pattern = serves.within;
+      position = serves.inside;
+      runs = All-from (StopsAt feed stop serving.position) (runs_at patterns serving.pattern)
+          (λ run has. stops_at feed query trips patterns stop serving run are serves has);
+    })
+
+-- each ride that may be caught boards at one of them
+takes_one : (feed : FeedRows) (sought : Seeking) (trips : List TripId) (patterns : List PatternOf) (ride : Ride)
+    (facts : RideFacts) → AreBoarded feed sought trips →
+    ArePatterns feed sought.query trips patterns → IsSpanned feed sought ride facts →
+    TakesOneOf patterns (servings_at (halts_by_pattern patterns) facts.from.0)
+    (length (servings_at (halts_by_pattern patterns) facts.from.0)) ride
+takes_one feed sought trips patterns ride facts boarded are e =
+    let held : IsHeld feed sought.query (run_by ride) =
+    record { from = ride.from; to = ride.to; facts = facts; is = e.is; since = e.since; until = e.until } in
+    let of = of_pattern patterns (run_by ride) (are.held (run_by ride) (record { trip = boarded.all ride facts e; held = held })) in
+    let r = ride_facts_tells feed ride facts e.is in
+    let from : r.boarding.stop.0 ≡ facts.from.0 = ap (λ (f : RideFacts). f.from.0) r.facts_are in
+    let halts : halts_of feed ride.trip ≡ halts_at patterns of.number = has_halts feed sought.query trips patterns of.number (run_by ride) are of.has in
+    let boards : boards_at (halts_at patterns of.number) facts.from.0 ride.from ≡ true =
+    subst (λ hs. boards_at hs facts.from.0 ride.from ≡ true) halts
+    (boards_at-call feed ride.trip ride.from r.boarding r.boards facts.from.0
+    ∙ and_from _ _ r.pickup (subst (λ n. (r.boarding.stop.0 == n) ≡ true) from (same_number r.boarding.stop.0))) in
+    let inside : ride.from < length (halts_at patterns of.number) =
+    subst (λ (hs : List Halt). ride.from < length hs) halts
+    (subst (λ n. ride.from < n) (sym (length-map (calls_of feed ride.trip) halt_of))
+    (slice_get_within (calls_of feed ride.trip) ride.from r.boarding r.boards)) in
+    let there = serving_there patterns facts.from.0 of.number ride.from of.within inside boards in
+    let place = slice_get-Contains (servings_at (halts_by_pattern patterns) facts.from.0) (serving_of of.number ride.from) there in (
+      place.0,
+      slice_get_within (servings_at (halts_by_pattern patterns) facts.from.0) place.0 (serving_of of.number ride.from) place.1,
+      serving_of of.number ride.from,
+      place.1,
+      record { run = of.has; from = refl },
+    )
+
+-- so patterns of the runs of a query give its departures
+pub are_departures : (feed : FeedRows) (sought : Seeking) (trips : List TripId) (patterns : PatternsOf) →
+    AreBoarded feed sought trips → patterns.feed ≡ feed → ArePatterns feed sought.query trips patterns.patterns →
+    AreDepartures feed sought patterns
+are_departures feed sought trips patterns boarded of are = record {
+  of = of;
+  each = λ stop lt. record {
+    all = λ ride facts e from.
+        subst (λ s. TakesOneOf patterns.patterns (servings_at (halts_by_pattern patterns.patterns) s)
+        (length (servings_at (halts_by_pattern patterns.patterns) s)) ride) from
+        (takes_one feed sought trips patterns.patterns ride facts boarded are e);
+    right = serves_stop feed sought.query trips patterns.patterns stop are;
+  };
 }
 
--- the departures of a group stand as they did among all
-get_or-items : (ms : List (Grouped Departure)) (i : ℕ) (d : Departure) → get_or (map (λ m. m.item) ms) i d ≡ (get_or ms i (grouped d)).item
-get_or-items [] i d = refl
-get_or-items (m ∷ ms) zero d = refl
-get_or-items (m ∷ ms) (suc i) d = get_or-items ms i d
+-- where there is no such stop, nothing departs
+pub none_served : (feed : FeedRows) (sought : Seeking) (patterns : List PatternOf) (stop : ℕ) → IsSoundFeed feed →
+    length feed.stops ≤ stop → AreServed feed sought patterns stop []
+none_served feed sought patterns stop sound past = record {
+  all = λ ride facts e from. let lt = ride_stop feed ride facts sound e.is in absurd (omega (arith, lt, from, past));
+  right = All-nil (Serves feed patterns stop);
+}
 
-group_in_order : (ms : List (Grouped Departure)) (stop : ℕ) → AreInOrder ms → DoRise (group_of ms stop)
-group_in_order ms stop rises i j d lt within =
-    let here = filter (λ (m : Grouped Departure). m.group == stop) ms in
-    let kept = AllPairs-filter (λ (a : Grouped Departure) (b : Grouped Departure). a.item.at.0 ≤ℤ b.item.at.0) (λ m. m.group == stop) ms rises in
-    let long = length-map here (λ (m : Grouped Departure). m.item) in
-    rw (get_or-items here i d, get_or-items here j d) (kept i j (grouped d) lt (omega arith))
+-- one position more
+pub takes_more : (patterns : List PatternOf) (servings : List Serving) (k : ℕ) (x : Serving) (ride : Ride) →
+    k < length servings → TakesOneOf patterns servings (k + 1) ride →
+    TakesOneOf patterns servings k ride ⊎ TakesServing patterns (get_or servings k x) ride
+takes_more patterns servings k x ride lt takes =
+    let below = takes.1 in
+    ⊎_elim (λ lower. inl (takes.0, lower, takes.2, takes.3, takes.4))
+    (λ upper.
+    let same : takes.0 ≡ k = omega (arith, below, upper) in
+    inr (subst (λ s. TakesServing patterns s ride)
+    (same_Some _ _ (sym takes.3 ∙ ap (slice_get servings) same ∙ slice_get-get_or servings k x lt)) takes.4))
+    (cases_lt takes.0 k)
 
-none_rise : DoRise []
-none_rise i j d lt within = absurd (omega arith)
+-- ---- the departures at one position
 
--- what holds of the departures of a group, and of none, holds of those from a stop
-at_stop : (P : List Departure → Type 0) (listed : List (Grouped Departure)) (n stop : ℕ) → P (group_of listed stop) →
-    P [] → P (departures_at (groups_below n listed) stop)
-at_stop P listed n stop here none = ⊎_elim
-    (λ below. subst P (sym (groups_below-at n listed stop below)) here)
-    (λ past. subst P (sym (groups_below-past n listed stop past)) none)
-    (cases_lt stop n)
+-- a ride that boards at a position that serves a stop boards at the stop
+pub taken_stop : (feed : FeedRows) (patterns : List PatternOf) (stop : ℕ) (serving : Serving) (ride : Ride)
+    (facts : RideFacts) → Serves feed patterns stop serving → TakesServing patterns serving ride →
+    ride_facts feed ride ≡ Some facts → facts.from.0 ≡ stop
+taken_stop feed patterns stop serving ride facts serves takes is =
+    let r = ride_facts_tells feed ride facts is in
+    let stops = All-contains (StopsAt feed stop serving.position) (runs_at patterns serving.pattern) (run_by ride) serves.runs takes.run in
+    let same : r.boarding ≡ stops.call =
+    same_Some _ _ (sym r.boards ∙ ap (slice_get (calls_of feed ride.trip)) takes.from ∙ stops.is) in
+    ap (λ (f : RideFacts). f.from.0) (sym r.facts_are) ∙ ap (λ (c : Call). c.stop.0) same ∙ stops.at
 
--- the departures by stop
-pub are_departures : (feed : FeedRows) (sought : Seeking) (listed : List (Grouped Departure)) (n : ℕ)
-    (departures : List (List Departure)) → IsSoundFeed feed → n ≡ length feed.stops →
-    HasDepartures feed sought listed → AreInOrder listed →
-    departures ≡ groups_below n listed → AreDepartures feed sought departures
-unfolding groups_below
-are_departures feed sought listed n departures sound all_stops has rises is =
-    subst (AreDepartures feed sought) (sym is) (record {
-      all = λ ride facts e.
-          let lt : facts.from.0 < n = subst (λ k. facts.from.0 < k) (sym all_stops)
-          (ride_stop feed ride facts sound e.is) in
-          subst (λ xs. Contains xs (departure_with ride facts)) (sym (groups_below-at n listed facts.from.0 lt)) (Contains-group_of listed facts.from.0 (departure_with ride facts) (has.all ride facts e));
-      right = λ stop. at_stop (All (IsFromStop feed stop)) listed n stop
-          (All-from (IsFromStop feed stop) (group_of listed stop)
-          (λ d at. ((grouped_so stop d at).0, (grouped_so stop d at).1)))
-          (All-nil (IsFromStop feed stop));
-      since = λ stop. at_stop (All (IsSince sought.query)) listed n stop
-          (All-from (IsSince sought.query) (group_of listed stop) (λ d at. (grouped_so stop d at).2))
-          (All-nil (IsSince sought.query));
-      rises = λ stop. at_stop DoRise listed n stop (group_in_order listed stop rises) none_rise;
-    })
+-- where a run that is boarded departs is where one of the feed departs from the stop
+from_stop : (feed : FeedRows) (patterns : List PatternOf) (stop : StopId) (serving : Serving) (b : Boarding) →
+    Serves feed patterns stop.0 serving → IsBoarding feed (runs_at patterns serving.pattern) serving.position b →
+    IsFromStop feed stop.0 (departure_at feed stop serving.position (runs_at patterns serving.pattern) b)
+from_stop feed patterns stop serving b serves boards =
+    subst (λ (r : Run). IsFromStop feed stop.0 (departure_by feed stop serving.position r b.at)) (sym run) (departs, refl)
   where
-    grouped_so : (stop : ℕ) (d : Departure) → Contains (group_of listed stop) d →
-        IsGrouped feed sought.query (record { group = stop; item = d })
-    grouped_so stop d at =
-        All-contains (IsGrouped feed sought.query) listed (record { group = stop; item = d }) has.right
-        (group_of-tells listed stop d at)
+    runs : List Run
+    runs = runs_at patterns serving.pattern
 
--- where a query has no rides, none departs
-pub no_departures : (feed : FeedRows) (sought : Seeking) (departures : List (List Departure)) → departures ≡ [] →
-    sought.query.rides ≡ 0 →
-    AreDepartures feed sought departures
-no_departures feed sought departures empty none = subst (AreDepartures feed sought) (sym empty) (record {
-  all = λ ride facts e. let some = e.some in absurd (omega (arith, some, none));
-  right = λ stop. All-nil (IsFromStop feed stop);
-  since = λ stop. All-nil (IsSince sought.query);
-  rises = λ stop. none_rise;
-})
+    run : get_or runs b.run no_run ≡ boards.run
+    run = same_Some _ _ (sym (slice_get-get_or runs b.run no_run (slice_get_within runs b.run boards.run boards.run_is)) ∙ boards.run_is)
+
+    stops : StopsAt feed stop.0 serving.position boards.run
+    stops = All-slice_get (StopsAt feed stop.0 serving.position) runs b.run boards.run boards.run_is serves.runs
+
+    call : stops.call ≡ boards.call
+    call = same_Some _ _ (sym stops.is ∙ boards.call_is)
+
+    there : boards.call.stop ≡ stop
+    there = ap stop_id (ap (λ (c : Call). c.stop.0) (sym call) ∙ stops.at)
+
+    departs : IsDeparture feed (departure_by feed stop serving.position boards.run b.at)
+    departs = record {
+      run = stops.goes;
+      call = boards.call;
+      is = boards.call_is;
+      pickup = ap (λ (c : Call). c.pickup) (sym call) ∙ stops.pickup;
+      made = ap (λ (s : StopId). departure_by feed s serving.position boards.run (record { 0 = moment_of boards.run boards.call.departure })) there
+          ∙ ap (λ z. departure_by feed stop serving.position boards.run (record { 0 = z })) (sym boards.at);
+    }
+
+-- where a run is boarded for a ride, the ride departs
+departs_with : (feed : FeedRows) (patterns : List PatternOf) (stop : StopId) (serving : Serving) (ride : Ride)
+    (facts : RideFacts) (listed : List Boarding) (from : ℤ) → Serves feed patterns stop.0 serving →
+    AreBoardable feed (runs_at patterns serving.pattern) serving.position from listed →
+    ride_facts feed ride ≡ Some facts → TakesServing patterns serving ride → from ≤ℤ facts.departure.0 →
+    Contains (map (departure_at feed stop serving.position (runs_at patterns serving.pattern)) listed) (departure_with ride facts)
+departs_with feed patterns stop serving ride facts listed from serves are is takes since =
+    subst (Contains (map (departure_at feed stop serving.position runs) listed)) same
+    (Contains-map (departure_at feed stop serving.position runs) listed boarding (are.all boarding boards since))
+  where
+    runs : List Run
+    runs = runs_at patterns serving.pattern
+
+    r : IsRideWith feed ride facts
+    r = ride_facts_tells feed ride facts is
+
+    place : (i : ℕ) × (slice_get runs i ≡ Some (run_by ride))
+    place = slice_get-Contains runs (run_by ride) takes.run
+
+    boarding : Boarding
+    boarding = record { run = place.0; at = facts.departure }
+
+    boards : IsBoarding feed runs serving.position boarding
+    boards = record {
+      run = run_by ride;
+      run_is = place.1;
+      call = r.boarding;
+      call_is = ap (slice_get (calls_of feed ride.trip)) (sym takes.from) ∙ r.boards;
+      at = ap (λ (f : RideFacts). f.departure.0) (sym r.facts_are);
+    }
+
+    run : get_or runs place.0 no_run ≡ run_by ride
+    run = same_Some _ _ (sym (slice_get-get_or runs place.0 no_run (slice_get_within runs place.0 (run_by ride) place.1)) ∙ place.1)
+
+    there : stop ≡ r.boarding.stop
+    there = ap stop_id (sym (taken_stop feed patterns stop.0 serving ride facts serves takes is) ∙ ap (λ (f : RideFacts). f.from.0) (sym r.facts_are))
+
+    same : departure_at feed stop serving.position runs boarding ≡ departure_with ride facts
+    same = ap (λ (x : Run). departure_by feed stop serving.position x facts.departure) run
+        ∙ ap (λ (s : StopId). departure_by feed s serving.position (run_by ride) facts.departure) there
+        ∙ ap (λ q. departure_by feed r.boarding.stop q (run_by ride) facts.departure) (sym takes.from)
+        ∙ ap (λ (f : RideFacts). departure_by feed r.boarding.stop ride.from (run_by ride) f.departure) (sym r.facts_are)
+        ∙ ap (departure_with ride) r.facts_are
+
+-- no boarding at all
+abbrev pub no_boarding : Boarding
+no_boarding = record { run = 0; at = record { 0 = pos 0 } }
+
+-- the runs that can be boarded at a position, as departures
+pub are_since : (feed : FeedRows) (patterns : List PatternOf) (stop : StopId) (serving : Serving) (from : ℤ)
+    (listed : List Boarding) → Serves feed patterns stop.0 serving →
+    AreBoardable feed (runs_at patterns serving.pattern) serving.position from listed →
+    AreSince feed patterns serving stop.0 from
+    (map (departure_at feed stop serving.position (runs_at patterns serving.pattern)) listed)
+are_since feed patterns stop serving from listed serves are = record {
+  all = λ ride facts is takes since. departs_with feed patterns stop serving ride facts listed from serves are is takes since;
+  right = λ k d lt. subst (IsFromStop feed stop.0) (sym (here k d lt))
+      (from_stop feed patterns stop serving (get_or listed k no_boarding) serves (are.right k no_boarding (below k lt)));
+  since = λ k d lt. subst (λ (x : Departure). from ≤ℤ x.at.0) (sym (here k d lt)) (are.since k no_boarding (below k lt));
+  rises = λ i j d lt within.
+      let after = below j within in
+      subst (λ (x : Departure). x.at.0 ≤ℤ (get_or (map make listed) j d).at.0) (sym (here i d (omega (arith, lt, within))))
+      (subst (λ (x : Departure). (get_or listed i no_boarding).at.0 ≤ℤ x.at.0) (sym (here j d within))
+      (are.rises i j no_boarding lt after));
+}
+  where
+    make : Boarding → Departure
+    make = departure_at feed stop serving.position (runs_at patterns serving.pattern)
+
+    below : (k : ℕ) → k < length (map make listed) → k < length listed
+    below k lt = subst (λ n. k < n) (length-map listed make) lt
+
+    here : (k : ℕ) (d : Departure) → k < length (map make listed) → get_or (map make listed) k d ≡ make (get_or listed k no_boarding)
+    here k d lt = get_or-map make listed k no_boarding d (below k lt)
+
+-- each is of one of the runs
+pub boardable_runs : (feed : FeedRows) (runs : List Run) (position : ℕ) (from : ℤ) (listed : List Boarding) →
+    AreBoardable feed runs position from listed → All (λ (b : Boarding). b.run < length runs) listed
+boardable_runs feed runs position from listed are k d lt =
+    let boards = are.right k d lt in slice_get_within runs (get_or listed k d).run boards.run boards.run_is
+
+-- and these are of trips of the feed
+pub serving_trips : (feed : FeedRows) (patterns : List PatternOf) (stop : ℕ) (serving : Serving) →
+    Serves feed patterns stop serving → All (λ (r : Run). r.trip.0 < length feed.trips) (runs_at patterns serving.pattern)
+serving_trips feed patterns stop serving serves k d lt = (serves.runs k d lt).goes.served.inside
+
+-- boardings stand in order where the departures by them do
+pub in_order : (feed : FeedRows) (stop : StopId) (position : ℕ) (runs : List Run) (listed : List Boarding) →
+    DoRise (map (departure_at feed stop position runs) listed) → AreInOrder listed
+in_order feed stop position runs listed rises i j b lt within =
+    let make = departure_at feed stop position runs in
+    let long = length-map listed make in
+    subst (λ (x : Departure). x.at.0 ≤ℤ (get_or listed j b).at.0) (get_or-map make listed i b (make b) (omega (arith, lt, within)))
+    (subst (λ (x : Departure). (get_or (map make listed) i (make b)).at.0 ≤ℤ x.at.0) (get_or-map make listed j b (make b) within)
+    (rises i j (make b) lt (subst (λ n. j < n) (sym long) within)))

@@ -1,10 +1,11 @@
 -- How late one may be where one more ride is taken first.
-use Rattle.std.proofs.Common.{◌≡◌, refl, sym, ◌∙◌, ap, subst, ℕ, ◌+◌, ◌-◌, ◌<◌, ◌≤◌, ⊎_elim, Bool, true, false, List, [], ◌∷◌, ◌++◌, length, get_or, arith, ℤ, pos, ◌+ℤ◌, ◌≤ℤ◌, ◌<ℤ◌}
-use Rattle.std.specs.Prelude.{◌&&◌, if◌then◌else◌, Option, Some, None, slice_get, unwrap_or, All, Contains, int_le}
+use Rattle.std.proofs.Common.{◌≡◌, refl, sym, ◌∙◌, ap, subst, ℕ, ◌+◌, ◌-◌, ◌<◌, ◌≤◌, ◌⊎◌, inl, inr, ⊎_elim, Bool, true, false, List, [], ◌∷◌, ◌++◌, length, get_or, arith, ℤ, pos, ◌+ℤ◌, ◌≤ℤ◌, ◌<ℤ◌}
+use Rattle.std.specs.Prelude.{◌&&◌, if◌then◌else◌, Option, Some, None, slice_get, unwrap_or, All, Contains, int_le, map}
+use Rattle.std.specs.List.{AllWithin}
 use Rattle.std.specs.List.Sorted.{IsPartitionedBy}
 use Rattle.std.proofs.lemmas.Int.{ints}
 use Rattle.std.proofs.lemmas.Bool.{and_parts, both_ways, cases_lt}
-use Rattle.std.proofs.lemmas.List.{get_or_default}
+use Rattle.std.proofs.lemmas.List.{get_or_default, get_or-map, length-map}
 use Rattle.std.proofs.lemmas.List.Elements.{All-contains}
 use Rattle.std.proofs.lemmas.Option.{none-some, same_Some, slice_get_past, slice_get-get_or}
 use Rattle.transit_base.specs.Moments.{moment_at}
@@ -25,14 +26,19 @@ use Rattle.feed_walks.specs.declared.steps.Step.{Step}
 use Rattle.plain_laws.specs.Plain.{when}
 use Rattle.plain_laws.proofs.Laws.{int_le-true, le-int_le, slice_get-push_before, slice_get-push_last}
 use Rattle.feed_laws.proofs.RideLaws.{ride_facts_tells}
+use Rattle.plan_patterns.specs.declared.pattern.Boarding.{Boarding}
+use Rattle.plan_patterns.specs.declared.runs.Run.{Run}
+use Rattle.plan_patterns.specs.declared.serving.Serving.{Serving}
+use Rattle.plan_patterns.specs.Columns.{AreInOrder}
+use Rattle.plan_patterns.specs.Grouping.{PatternOf}
 use Rattle.plan_rides.specs.declared.caught.CaughtRide.{CaughtRide}
 use Rattle.plan_rides.specs.declared.departures.Departure.{Departure}
 use Rattle.plan_rides.specs.Boarding.{Seeking, AreMarks}
-use Rattle.plan_rides.specs.Departures.{AreDepartures, departure_with, departures_at, DoRise, IsByAmong, IsFirstLate, IsFromStop, IsSince, facts_in_time, facts_to, ride_to}
+use Rattle.plan_rides.specs.Departures.{AreServed, AreSince, departure_at, departure_with, DoRise, IsByAmong, IsFirstLate, IsFromStop, IsSince, TakesOneOf, facts_in_time, facts_to, ride_to}
 use Rattle.plan_rides.specs.InTime.{AddsCaught, AreLastDepartures, deadline, next_in_time, IsWithinWindow, is_by, is_by_any, is_early}
-use Rattle.plan_rides.specs.Latest.{latest_at, gets_early, LeadsOn, HasEarlyRide, HasEarlyWalks, AreAllBefore, AreAllLast, AreLasts, IsOneMore}
+use Rattle.plan_rides.specs.Latest.{latest_at, gets_early, LeadsOn, HasEarlyRide, HasEarlyWalks, AreAllBefore, AreAllLast, AreLasts, IsLastBy, IsLastFrom, IsLastOf, IsOneMore}
 use Rattle.plan_rides.proofs.CaughtLaws.{IsCaughtRide, caught_facts, caught_ride, in_walks}
-use Rattle.plan_rides.proofs.DepartureLaws.{ride_stop}
+use Rattle.plan_rides.proofs.DepartureLaws.{no_boarding, ride_stop, takes_more}
 
 -- whoever is earlier is early enough too
 pub by_earlier : (latest : Option Moment) (a b : ℤ) → a ≤ℤ b → is_by latest b ≡ true → is_by latest a ≡ true
@@ -215,33 +221,110 @@ walks_more query lasts walks k x latest new lt still one before i step at below 
 
 -- ---- one more ride
 
+-- of no positions, none departs
+pub last_none : (feed : FeedRows) (sought : Seeking) (latest : List (Option Moment)) (stop : ℕ) (patterns : List PatternOf)
+    (servings : List Serving) (last : Option Moment) → last ≡ None →
+    IsLastBy feed sought latest stop (TakesOneOf patterns servings 0) last
+last_none feed sought latest stop patterns servings last none = record {
+  all = λ ride facts e from early takes. let below = takes.1 in absurd (omega (arith, below));
+  attained = λ moment is. absurd (none-some moment (sym none ∙ is));
+}
+
+-- from when on departures are looked at that aren't earlier than the last: no earlier than the query
+from_since : (feed : FeedRows) (sought : Seeking) (latest : List (Option Moment)) (stop : ℕ) (Part : Ride → Type 0)
+    (last : Option Moment) → IsLastBy feed sought latest stop Part last →
+    sought.query.departure.0 ≤ℤ (unwrap_or last sought.query.departure).0
+from_since feed sought latest stop Part last before = step last refl
+  where
+    step : (o : Option Moment) → last ≡ o → sought.query.departure.0 ≤ℤ (unwrap_or o sought.query.departure).0
+    step None is = omega (arith, ints)
+    step (Some moment) is =
+        let ride = before.attained moment is in
+        subst (λ (m : Moment). sought.query.departure.0 ≤ℤ m.0) ride.leaves ride.since
+
+-- whoever is earlier is by the last
+by_from : (last : Option Moment) (query : Query) (at : ℤ) → query.departure.0 ≤ℤ at →
+    at <ℤ (unwrap_or last query.departure).0 → is_by last at ≡ true
+unfolding is_by
+by_from None query at since before = absurd (omega (arith, ints, since, before))
+by_from (Some moment) query at since before = le-int_le at moment.0 (omega (arith, ints, before))
+
+-- of one position more, whose departures since the last lead on until then
+pub last_more : (feed : FeedRows) (sought : Seeking) (latest : List (Option Moment)) (stop : ℕ) (patterns : List PatternOf)
+    (servings : List Serving) (k : ℕ) (x : Serving) (departures : List Departure) (last found new : Option Moment) →
+    k < length servings →
+    AreSince feed patterns (get_or servings k x) stop (unwrap_or last sought.query.departure).0 departures →
+    IsLastOf feed sought.query latest departures found → ((at : ℤ) → is_by last at ≡ true → is_by new at ≡ true) →
+    ((at : ℤ) → is_by found at ≡ true → is_by new at ≡ true) → (new ≡ last) ⊎ (new ≡ found) →
+    IsLastBy feed sought latest stop (TakesOneOf patterns servings k) last →
+    IsLastBy feed sought latest stop (TakesOneOf patterns servings (k + 1)) new
+last_more feed sought latest stop patterns servings k x departures last found new lt are led still also either before = record {
+  all = λ ride facts e from early takes. ⊎_elim
+      (λ lower. still facts.departure.0 (before.all ride facts e from early lower))
+      (λ here. ⊎_elim
+      (λ (earlier : facts.departure.0 <ℤ (unwrap_or last sought.query.departure).0).
+      still facts.departure.0 (by_from last sought.query facts.departure.0 e.since earlier))
+      (λ since.
+      also facts.departure.0 (led.all (departure_with ride facts) (are.all ride facts e.is here since)
+      (leads_by feed sought.query latest ride facts e.is e.until early)))
+      (earlier_or facts.departure.0 (unwrap_or last sought.query.departure).0))
+      (takes_more patterns servings k x ride lt takes);
+  attained = λ moment is. ⊎_elim
+      (λ (same : new ≡ last). before.attained moment (sym same ∙ is))
+      (λ (same : new ≡ found).
+      let leads = led.attained moment (sym same ∙ is) in
+      subst (HasEarlyRide feed sought.query latest stop) leads.3 (has_early_ride feed sought.query latest stop leads.0
+      (All-contains (IsFromStop feed stop) departures leads.0 are.right leads.1)
+      (onward sought.query.departure.0 (unwrap_or last sought.query.departure).0 leads.0.at.0
+      (from_since feed sought latest stop (TakesOneOf patterns servings k) last before)
+      (All-contains (λ (d : Departure). (unwrap_or last sought.query.departure).0 ≤ℤ d.at.0) departures leads.0 are.since leads.1))
+      leads.2))
+      either;
+}
+  where
+    onward : (a b c : ℤ) → a ≤ℤ b → b ≤ℤ c → a ≤ℤ c
+    onward a b c p q = omega (arith, ints)
+
+    earlier_or : (a b : ℤ) → (a <ℤ b) ⊎ (b ≤ℤ a)
+    earlier_or a b = by (int_le b a) refl
+      where
+        by : (t : Bool) → int_le b a ≡ t → (a <ℤ b) ⊎ (b ≤ℤ a)
+        by true h = inr (int_le-true b a h)
+        by false h = inl (grind (arith, ints))
+
+-- of all positions that serve a stop
+pub last_from : (feed : FeedRows) (sought : Seeking) (latest : List (Option Moment)) (stop n : ℕ) (patterns : List PatternOf)
+    (servings : List Serving) (last : Option Moment) → AreServed feed sought patterns stop servings →
+    length servings ≤ n → IsLastBy feed sought latest stop (TakesOneOf patterns servings n) last →
+    IsLastFrom feed sought latest stop last
+last_from feed sought latest stop n patterns servings last served all by = record {
+  all = λ ride facts e from early any.
+      let takes = served.all ride facts e from in
+      let lt = takes.1 in
+      by.all ride facts e from early (takes.0, omega (arith, lt, all), takes.2, takes.3, takes.4);
+  attained = by.attained;
+}
+
 -- no ride that gets somewhere early enough departs after the last that leads on, which is such a ride's
-pub last_departures : (feed : FeedRows) (sought : Seeking) (latest : List (Option Moment))
-    (departures : List (List Departure)) (lasts : List (Option Moment)) → AreMarks feed sought →
-    1 < sought.query.rides → AreDepartures feed sought departures →
-    AreAllLast feed sought.query latest departures lasts → AreLasts feed sought.query latest lasts
-last_departures feed sought latest departures lasts marks more are last = record {
+pub last_departures : (feed : FeedRows) (sought : Seeking) (latest lasts : List (Option Moment)) → AreMarks feed sought →
+    1 < sought.query.rides → AreAllLast feed sought latest lasts → AreLasts feed sought.query latest lasts
+last_departures feed sought latest lasts marks more last = record {
   many = last.many;
   all = λ ride facts is since until early. ⊎_elim
       (λ lt. early_at lasts facts.from.0 facts.departure.0 lt
-      ∙ (last.all facts.from.0 (subst (λ n. facts.from.0 < n) last.many lt)).all (departure_with ride facts)
-      (are.all ride facts (record {
+      ∙ (last.all facts.from.0 (subst (λ n. facts.from.0 < n) last.many lt)).all ride facts
+      (record {
         some = omega (arith, more);
         is = is;
         boards = marks.all more facts.from.0;
         since = since;
         until = until;
-      }))
-      (leads_by feed sought.query latest ride facts is until early))
+      })
+      refl early tt)
       (λ past. early_past lasts facts.from.0 facts.departure.0 past)
       (cases_lt facts.from.0 (length lasts));
   attained = λ stop moment is. ⊎_elim
-      (λ lt.
-      let led = (last.all stop (subst (λ n. stop < n) last.many lt)).attained moment is in
-      let here = departures_at departures stop in
-      subst (HasEarlyRide feed sought.query latest stop) led.3 (has_early_ride feed sought.query latest stop led.0
-      (All-contains (IsFromStop feed stop) here led.0 (are.right stop) led.1)
-      (All-contains (IsSince sought.query) here led.0 (are.since stop) led.1) led.2))
+      (λ lt. (last.all stop (subst (λ n. stop < n) last.many lt)).attained moment is)
       (λ past. absurd (none-some moment (sym (ap (λ o. unwrap_or o None) (slice_get_past lasts stop past)) ∙ is)))
       (cases_lt stop (length lasts));
 }
@@ -314,18 +397,34 @@ module _ (feed : FeedRows) (query : Query) (latest lasts new : List (Option Mome
 
 -- ---- departures that are too late
 
--- departures that stand in the order of their moments are parted by what is early enough
-pub parted_early : (departures : List Departure) (lasts : List (Option Moment)) (stop : ℕ) → DoRise departures →
-    IsPartitionedBy (λ (d : Departure). is_early lasts stop d.at.0) departures
+-- what stands in the order of its moments is parted by what is early enough
+pub parted_early : (listed : List Boarding) (lasts : List (Option Moment)) (stop : ℕ) → AreInOrder listed →
+    IsPartitionedBy (λ (b : Boarding). is_early lasts stop b.at.0) listed
 unfolding is_by_any
-parted_early departures lasts stop rises i j d le lt after = ⊎_elim
-    (λ (earlier : i < j). earlier_any (slice_get lasts stop) (get_or departures i d).at.0 (get_or departures j d).at.0 (rises i j d earlier lt) after)
-    (λ (later : j ≤ i). let same : j ≡ i = omega (arith, le, later) in subst (λ k. is_early lasts stop (get_or departures k d).at.0 ≡ true) same after)
+parted_early listed lasts stop rises i j d le lt after = ⊎_elim
+    (λ (earlier : i < j). earlier_any (slice_get lasts stop) (get_or listed i d).at.0 (get_or listed j d).at.0 (rises i j d earlier lt) after)
+    (λ (later : j ≤ i). let same : j ≡ i = omega (arith, le, later) in subst (λ k. is_early lasts stop (get_or listed k d).at.0 ≡ true) same after)
     (cases_lt i j)
   where
     earlier_any : (o : Option (Option Moment)) (x y : ℤ) → x ≤ℤ y → is_by_any o y ≡ true → is_by_any o x ≡ true
     earlier_any None x y le is = refl
     earlier_any (Some latest) x y le is = by_earlier latest x y le is
+
+-- where boardings from one on are too late, the departures by them are
+pub late_boardings : (feed : FeedRows) (at : StopId) (position : ℕ) (runs : List Run) (listed : List Boarding)
+    (lasts : List (Option Moment)) (stop n : ℕ) → n ≤ length listed →
+    AllWithin (λ (b : Boarding). is_early lasts stop b.at.0 ≡ false) listed n (length listed) →
+    IsFirstLate (map (departure_at feed at position runs) listed) lasts stop n
+late_boardings feed at position runs listed lasts stop n within late =
+    let make = departure_at feed at position runs in
+    let long = length-map listed make in
+    record {
+      within = subst (λ m. n ≤ m) (sym long) within;
+      late = λ k d low lt.
+          let below = subst (λ m. k < m) long lt in
+          subst (λ (x : Departure). is_early lasts stop x.at.0 ≡ false) (sym (get_or-map make listed k no_boarding d below))
+          (late k no_boarding low below);
+    }
 
 -- where the departures from one on are too late, those before it are all that get somewhere
 pub adds_until : (feed : FeedRows) (query : Query) (latest lasts : List (Option Moment)) (stand : Stand) (stop : StopId)

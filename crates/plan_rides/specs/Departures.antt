@@ -1,8 +1,9 @@
 -- Departures within a query's window, by the stops that they are from.
-use Rattle.std.specs.Prelude.{◌≡◌, Bool, true, false, ◌&&◌, ℕ, ◌<◌, ◌≤◌, List, [], length, slice_get, slice_index_or, unwrap_or, All, Contains, Option, Some, ℤ, pos, ◌+ℤ◌, ◌≤ℤ◌, ◌<ℤ◌, int_le}
+use Rattle.std.specs.Prelude.{◌≡◌, ◌≢◌, Bool, true, false, ◌&&◌, ℕ, ◌<◌, ◌≤◌, List, length, slice_get, slice_index_or, All, Contains, Option, Some, ℤ, pos, ◌+ℤ◌, ◌≤ℤ◌, int_le}
 use Rattle.std.specs.List.{AllPairs, AllWithin}
 use Rattle.transit_base.specs.Moments.{moment_at}
 use Rattle.transit_base.specs.declared.moments.Moment.{Moment}
+use Rattle.transit_base.specs.declared.numbers.StopId.{StopId}
 use Rattle.transit_base.specs.declared.numbers.TripId.{TripId}
 use Rattle.feed_rows.specs.declared.journeys.Call.{Call}
 use Rattle.feed_rows.specs.declared.journeys.Query.{Query}
@@ -12,8 +13,13 @@ use Rattle.feed_rows.specs.FeedRows.{FeedRows}
 use Rattle.feed_rows.specs.JourneyStands.{Stand, way_to}
 use Rattle.feed_rows.specs.Calls.{calls_of}
 use Rattle.feed_rows.specs.Rides.{ride_facts, trip_network}
-use Rattle.plain_laws.specs.declared.groups.Grouped.{Grouped}
 use Rattle.plain_laws.specs.Plain.{when}
+use Rattle.plan_patterns.specs.declared.pattern.Boarding.{Boarding}
+use Rattle.plan_patterns.specs.declared.runs.Run.{Run}
+use Rattle.plan_patterns.specs.declared.serving.Serving.{Serving}
+use Rattle.plan_patterns.specs.Grouping.{PatternOf, PatternsOf, halts_at, runs_at, halts_by_pattern}
+use Rattle.plan_patterns.specs.Runs.{AreTripsOf}
+use Rattle.plan_patterns.specs.Servings.{servings_at}
 use Rattle.plan_rides.specs.declared.departures.Departure.{Departure}
 use Rattle.plan_rides.specs.Boarding.{Seeking, is_marked}
 use Rattle.plan_rides.specs.InTime.{deadline, departure_of, is_early}
@@ -28,14 +34,16 @@ pub record IsSpanned (feed : FeedRows) (sought : Seeking) (ride : Ride) (facts :
   pub since : sought.query.departure.0 ≤ℤ facts.departure.0
   pub until : facts.arrival.0 ≤ℤ deadline sought.query
 
--- the trips are of the feed, and those are among them that have a ride that may be caught
+-- the trips are of the feed, each once, and those are among them that have a ride that may be caught
 pub record AreBoarded (feed : FeedRows) (sought : Seeking) (trips : List TripId) : Type 0 where
-  pub inside : All (λ (trip : TripId). trip.0 < length feed.trips) trips
+  pub of : AreTripsOf feed trips
   pub all : (ride : Ride) (facts : RideFacts) → IsSpanned feed sought ride facts → Contains trips ride.trip
 
--- each trip that is marked is among them
-abbrev pub AreListed : List Bool → List TripId → Type 0
-AreListed marks trips = (trip : TripId) → slice_index_or marks trip.0 false ≡ true → Contains trips trip
+-- the trips are those that are marked, each once
+pub record AreListed (marks : List Bool) (trips : List TripId) : Type 0 where
+  pub all : (trip : TripId) → slice_index_or marks trip.0 false ≡ true → Contains trips trip
+  pub marked : All (λ (trip : TripId). slice_index_or marks trip.0 false ≡ true) trips
+  pub once : AllPairs (λ (a : TripId) (b : TripId). a ≢ b) trips
 
 -- the new list has the trips of the old one and the trip; where their numbers are below a bound, all are
 pub record AddsTrip (trip : TripId) (old new : List TripId) : Type 0 where
@@ -61,62 +69,81 @@ pub record IsDeparture (feed : FeedRows) (d : Departure) : Type 0 where
   pub pickup : call.pickup ≡ true
   pub made : departure_from (run_of feed d.trip d.day d.shift) call d.from ≡ d
 
--- the departure with the number of its stop
-abbrev pub grouped : Departure → Grouped Departure
-grouped d = record { group = d.stop.0; item = d }
-
 -- it departs no earlier than the query
 abbrev pub IsSince : Query → Departure → Type 0
 IsSince query d = query.departure.0 ≤ℤ d.at.0
 
--- it is one of the feed, with the number of its stop, and departs no earlier than the query
-abbrev pub IsGrouped : FeedRows → Query → Grouped Departure → Type 0
-IsGrouped feed query g = IsDeparture feed g.item × (g.item.stop.0 ≡ g.group) × IsSince query g.item
-
--- riders may board at the call, the moment lies within the window, and the stop is marked
-unfoldable pub is_listed : Seeking → Call → ℤ → Bool
-is_listed sought call at =
-    call.pickup && int_le sought.query.departure.0 at && int_le at
-    (deadline sought.query) && is_marked sought.marks call.stop.0
-
--- the list has what it had, and where each ride of this part departs; what it lists stays right
-pub record Lists (feed : FeedRows) (sought : Seeking) (Part : Ride → Type 0)
-    (old new : List (Grouped Departure)) : Type 0 where
-  pub still : (d : Grouped Departure) → Contains old d → Contains new d
-  pub all : (ride : Ride) (facts : RideFacts) → IsSpanned feed sought ride facts → Part ride →
-      Contains new (grouped (departure_with ride facts))
-  pub right : All (IsGrouped feed sought.query) old → All (IsGrouped feed sought.query) new
-
--- the list has where each ride departs that may be caught, and is right
-pub record HasDepartures (feed : FeedRows) (sought : Seeking) (listed : List (Grouped Departure)) : Type 0 where
-  pub all : (ride : Ride) (facts : RideFacts) → IsSpanned feed sought ride facts →
-      Contains listed (grouped (departure_with ride facts))
-  pub right : All (IsGrouped feed sought.query) listed
-
--- they stand in the order of their moments
-abbrev pub AreInOrder : List (Grouped Departure) → Type 0
-AreInOrder listed = AllPairs (λ (a : Grouped Departure) (b : Grouped Departure). a.item.at.0 ≤ℤ b.item.at.0) listed
-
--- the same, where they are of one stop
+-- none departs before one that stands earlier
 abbrev pub DoRise : List Departure → Type 0
 DoRise departures = AllPairs (λ (a : Departure) (b : Departure). a.at.0 ≤ℤ b.at.0) departures
-
--- the departures from a stop
-abbrev pub departures_at : List (List Departure) → ℕ → List Departure
-departures_at departures stop = unwrap_or (slice_get departures stop) []
 
 -- the departure is one of the feed, from this stop
 abbrev pub IsFromStop : FeedRows → ℕ → Departure → Type 0
 IsFromStop feed stop d = IsDeparture feed d × (d.stop.0 ≡ stop)
 
--- each ride that may be caught departs from its stop; out of each stop stand departures of the feed since the query, in the
--- order of their moments
-pub record AreDepartures (feed : FeedRows) (sought : Seeking) (departures : List (List Departure)) : Type 0 where
-  pub all : (ride : Ride) (facts : RideFacts) → IsSpanned feed sought ride facts →
-      Contains (departures_at departures facts.from.0) (departure_with ride facts)
-  pub right : (stop : ℕ) → All (IsFromStop feed stop) (departures_at departures stop)
-  pub since : (stop : ℕ) → All (IsSince sought.query) (departures_at departures stop)
-  pub rises : (stop : ℕ) → DoRise (departures_at departures stop)
+-- riders may board the run at this stop, which its trip calls at as the call at the position
+pub record StopsAt (feed : FeedRows) (stop position : ℕ) (run : Run) : Type 0 where
+  pub goes : IsRun (run_of feed run.trip run.day run.shift)
+  pub call : Call
+  pub is : slice_get (calls_of feed run.trip) position ≡ Some call
+  pub pickup : call.pickup ≡ true
+  pub at : call.stop.0 ≡ stop
+
+-- it is a position of one of the patterns, at which riders may board each of its runs at this stop
+pub record Serves (feed : FeedRows) (patterns : List PatternOf) (stop : ℕ) (serving : Serving) : Type 0 where
+  pub pattern : serving.pattern < length patterns
+  pub position : serving.position < length (halts_at patterns serving.pattern)
+  pub runs : All (StopsAt feed stop serving.position) (runs_at patterns serving.pattern)
+
+-- the run of a ride
+abbrev pub run_by : Ride → Run
+run_by ride = record { trip = ride.trip; day = ride.day; shift = ride.shift }
+
+-- the ride is by one of the pattern's runs, and boards it at the position
+pub record TakesServing (patterns : List PatternOf) (serving : Serving) (ride : Ride) : Type 0 where
+  pub run : Contains (runs_at patterns serving.pattern) (run_by ride)
+  pub from : ride.from ≡ serving.position
+
+-- the ride boards at one of the first n of these positions
+abbrev pub TakesOneOf : List PatternOf → List Serving → ℕ → Ride → Type 0
+TakesOneOf patterns servings n ride =
+    (k : ℕ) × (k < n) × (serving : Serving) × (slice_get servings k ≡ Some serving) × TakesServing patterns serving ride
+
+-- riders may board at this stop at each of these positions, and each ride that may be caught there boards at one of them
+pub record AreServed (feed : FeedRows) (sought : Seeking) (patterns : List PatternOf) (stop : ℕ)
+    (servings : List Serving) : Type 0 where
+  pub all : (ride : Ride) (facts : RideFacts) → IsSpanned feed sought ride facts → facts.from.0 ≡ stop →
+      TakesOneOf patterns servings (length servings) ride
+  pub right : All (Serves feed patterns stop) servings
+
+-- so it is at each stop of the feed, with the positions at which the patterns let riders board there
+pub record AreDepartures (feed : FeedRows) (sought : Seeking) (patterns : PatternsOf) : Type 0 where
+  pub of : patterns.feed ≡ feed
+  pub each : (stop : ℕ) → stop < length feed.stops →
+      AreServed feed sought patterns.patterns stop (servings_at (halts_by_pattern patterns.patterns) stop)
+
+-- the departures from the stop at such a position, at the moment or later, in the order of their moments
+pub record AreSince (feed : FeedRows) (patterns : List PatternOf) (serving : Serving) (stop : ℕ) (from : ℤ)
+    (departures : List Departure) : Type 0 where
+  pub all : (ride : Ride) (facts : RideFacts) → ride_facts feed ride ≡ Some facts → TakesServing patterns serving ride →
+      from ≤ℤ facts.departure.0 → Contains departures (departure_with ride facts)
+  pub right : All (IsFromStop feed stop) departures
+  pub since : All (λ (d : Departure). from ≤ℤ d.at.0) departures
+  pub rises : DoRise departures
+
+-- a run for where there is none
+abbrev pub no_run : Run
+no_run = record { trip = record { 0 = 0 }; day = record { 0 = pos 0 }; shift = pos 0 }
+
+-- where one of the runs departs, from this stop, which is at this position
+abbrev pub departure_by : FeedRows → StopId → ℕ → Run → Moment → Departure
+departure_by feed stop from run at =
+    record { trip = run.trip; day = run.day; shift = run.shift; network = trip_network feed run.trip; from = from; stop = stop; at = at }
+
+-- the same of the run that is boarded
+abbrev pub departure_at : FeedRows → StopId → ℕ → List Run → Boarding → Departure
+departure_at feed stop from runs boarding =
+    departure_by feed stop from (slice_index_or runs boarding.run no_run) boarding.at
 
 -- the ride is by this departure
 pub record IsBy (feed : FeedRows) (d : Departure) (ride : Ride) : Type 0 where
@@ -154,12 +181,6 @@ pub record BoardsAt (feed : FeedRows) (stop : ℕ) (ride : Ride) : Type 0 where
   pub facts : RideFacts
   pub is : ride_facts feed ride ≡ Some facts
   pub at : facts.from.0 ≡ stop
-
--- the first n departures are before the moment, the others since then
-pub record IsFirstSince (departures : List Departure) (moment : ℤ) (n : ℕ) : Type 0 where
-  pub within : n ≤ length departures
-  pub before : AllWithin (λ (d : Departure). d.at.0 <ℤ moment) departures 0 n
-  pub since : AllWithin (λ (d : Departure). moment ≤ℤ d.at.0) departures n (length departures)
 
 -- the departures from the n-th on are later than the last moment at the stop
 pub record IsFirstLate (departures : List Departure) (lasts : List (Option Moment)) (stop n : ℕ) : Type 0 where

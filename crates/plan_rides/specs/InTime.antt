@@ -1,8 +1,7 @@
 -- Rides that are caught and end within a query's window.
-use Rattle.std.specs.Prelude.{◌≡◌, ℕ, ◌<◌, ◌≤◌, Bool, true, false, Option, Some, None, All, Contains, List, slice_get, slice_index_or, ℤ, pos, negsuc, ◌+ℤ◌, ◌-ℤ◌, ◌≤ℤ◌, ◌<ℤ◌, int_le, option_and_then}
-use Rattle.transit_base.specs.Moments.{moment_at, civil_day}
+use Rattle.std.specs.Prelude.{◌≡◌, ℕ, ◌≤◌, Bool, true, false, Option, Some, None, All, Contains, List, slice_get, ℤ, pos, negsuc, ◌+ℤ◌, ◌≤ℤ◌, int_le, option_and_then}
+use Rattle.transit_base.specs.Moments.{moment_at}
 use Rattle.transit_base.specs.declared.moments.Moment.{Moment}
-use Rattle.transit_base.specs.declared.numbers.TripId.{TripId}
 use Rattle.feed_rows.specs.declared.journeys.Call.{Call}
 use Rattle.feed_rows.specs.declared.journeys.Query.{Query}
 use Rattle.feed_rows.specs.declared.journeys.Ride.{Ride}
@@ -42,10 +41,6 @@ pub record IsUsualQuery (query : Query) : Type 0 where
 pub record IsWithinWindow (query : Query) (at : ℤ) : Type 0 where
   pub since : query.departure.0 ≤ℤ at
   pub until : at ≤ℤ deadline query
-
--- an item stands among the first n of a list
-abbrev pub SomeBelow : {X : Type 0} → ℕ → List X → X → Type 0
-SomeBelow n xs x = (k : ℕ) × (k < n) × (slice_index_or xs k x ≡ x)
 
 -- the ride goes so, and is caught from here in time
 pub record IsRight (feed : FeedRows) (query : Query) (stand : Stand) (caught : CaughtRide) : Type 0 where
@@ -87,46 +82,9 @@ pub record AddsCaught (feed : FeedRows) (query : Query) (latest : List (Option M
       → Part ride → HasRide new ride
   pub right : All (IsRight feed query stand) old → All (IsRight feed query stand) new
 
--- the ride is of this run
-pub record IsOfRun (run : RunOf) (ride : Ride) : Type 0 where
-  pub trip : ride.trip.0 ≡ run.trip.0
-  pub day : ride.day.0 ≡ run.day.0
-  pub shift : ride.shift ≡ run.shift
-
--- the ride boards the run at this call
-abbrev pub IsAt : RunOf → ℕ → Ride → Type 0
-IsAt run from ride = IsOfRun run ride × (ride.from ≡ from)
-
--- the ride boards the run before the n-th call
-abbrev pub IsBefore : RunOf → ℕ → Ride → Type 0
-IsBefore run n ride = IsOfRun run ride × (ride.from < n)
-
--- the ride is of this trip and day, with one of the first n of these shifts
-abbrev pub HasShift : ℕ → ℤ → List ℤ → ℕ → Ride → Type 0
-HasShift trip day shifts n ride = (ride.trip.0 ≡ trip) × (ride.day.0 ≡ day) × SomeBelow n shifts ride.shift
-
--- the ride is of this trip and day
-abbrev pub IsOnTrip : ℕ → ℤ → Ride → Type 0
-IsOnTrip trip day ride = (ride.trip.0 ≡ trip) × (ride.day.0 ≡ day)
-
--- the ride is on this day, of one of the first n of these trips
-abbrev pub IsOnDay : ℤ → List TripId → ℕ → Ride → Type 0
-IsOnDay day trips n ride = (ride.day.0 ≡ day) × SomeBelow n trips ride.trip
-
--- the ride is on a day from the first to before another
-abbrev pub IsOnDays : ℤ → ℤ → Ride → Type 0
-IsOnDays first after ride = (first ≤ℤ ride.day.0) × (ride.day.0 <ℤ after)
-
 -- when a run departs from a call
 abbrev pub departure_of : RunOf → Call → ℤ
 departure_of run call = moment_at run.day.0 (run.shift +ℤ pos call.departure)
-
--- the first day on which a ride can run that is caught, and the day after the last
-abbrev pub first_day : Query → ℤ
-first_day query = civil_day query.departure.0 -ℤ pos 13
-
-abbrev pub day_after : Query → ℤ
-day_after query = civil_day (deadline query) +ℤ pos 1
 
 -- the list has each ride that is caught from here in time
 abbrev pub HasCaught : FeedRows → Query → Stand → List CaughtRide → Type 0

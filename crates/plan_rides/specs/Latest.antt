@@ -13,7 +13,8 @@ use Rattle.feed_rows.specs.Rides.{ride_facts}
 use Rattle.feed_walks.specs.OutOf.{out_of}
 use Rattle.feed_walks.specs.declared.steps.Step.{Step}
 use Rattle.plan_rides.specs.declared.departures.Departure.{Departure}
-use Rattle.plan_rides.specs.Departures.{departures_at, facts_in_time}
+use Rattle.plan_rides.specs.Boarding.{Seeking}
+use Rattle.plan_rides.specs.Departures.{IsSpanned, facts_in_time}
 use Rattle.plan_rides.specs.InTime.{AreLastDepartures, IsWithinWindow, deadline, next_in_time, is_by, is_early}
 
 -- the latest moment at the stop; none where there is none, and past the last stop
@@ -45,18 +46,6 @@ pub record IsLastOf (feed : FeedRows) (query : Query) (latest : List (Option Mom
   pub all : (d : Departure) → Contains departures d → LeadsOn feed query latest d → is_by last d.at.0 ≡ true
   pub attained : (moment : Moment) → last ≡ Some moment → HasLeading feed query latest departures moment
 
--- so it is with those from each of the first n stops
-abbrev pub AreLastOnes : FeedRows → Query → List (Option Moment) → List (List Departure) → ℕ → List (Option Moment) →
-    Type 0
-AreLastOnes feed query latest departures n lasts =
-    (stop : ℕ) → stop < n → IsLastOf feed query latest (departures_at departures stop) (latest_at lasts stop)
-
--- they are as many as the stops
-pub record AreAllLast (feed : FeedRows) (query : Query) (latest : List (Option Moment)) (departures : List (List Departure))
-    (lasts : List (Option Moment)) : Type 0 where
-  pub many : length lasts ≡ length feed.stops
-  pub all : AreLastOnes feed query latest departures (length feed.stops) lasts
-
 -- some ride departs from the stop at this very moment, no earlier than the query, arrives in time, and gets somewhere
 -- early enough
 pub record HasEarlyRide (feed : FeedRows) (query : Query) (latest : List (Option Moment)) (stop : ℕ) (moment : Moment)
@@ -69,6 +58,28 @@ pub record HasEarlyRide (feed : FeedRows) (query : Query) (latest : List (Option
   pub since : query.departure.0 ≤ℤ facts.departure.0
   pub until : facts.arrival.0 ≤ℤ deadline query
   pub early : is_early latest facts.to.0 facts.arrival.0 ≡ true
+
+-- none of the rides of this part from the stop that may be caught and get somewhere early enough departs after the last
+-- moment, and where there is one, such a ride departs from the stop then
+pub record IsLastBy (feed : FeedRows) (sought : Seeking) (latest : List (Option Moment)) (stop : ℕ) (Part : Ride → Type 0)
+    (last : Option Moment) : Type 0 where
+  pub all : (ride : Ride) (facts : RideFacts) → IsSpanned feed sought ride facts → facts.from.0 ≡ stop →
+      is_early latest facts.to.0 facts.arrival.0 ≡ true → Part ride → is_by last facts.departure.0 ≡ true
+  pub attained : (moment : Moment) → last ≡ Some moment → HasEarlyRide feed sought.query latest stop moment
+
+-- so it is with all rides from the stop
+abbrev pub IsLastFrom : FeedRows → Seeking → List (Option Moment) → ℕ → Option Moment → Type 0
+IsLastFrom feed sought latest stop last = IsLastBy feed sought latest stop (λ ride. Unit {0}) last
+
+-- so it is at each of the first n stops
+abbrev pub AreLastOnes : FeedRows → Seeking → List (Option Moment) → ℕ → List (Option Moment) → Type 0
+AreLastOnes feed sought latest n lasts =
+    (stop : ℕ) → stop < n → IsLastFrom feed sought latest stop (latest_at lasts stop)
+
+-- they are as many as the stops
+pub record AreAllLast (feed : FeedRows) (sought : Seeking) (latest lasts : List (Option Moment)) : Type 0 where
+  pub many : length lasts ≡ length feed.stops
+  pub all : AreLastOnes feed sought latest (length feed.stops) lasts
 
 -- they are as many as the stops; no ride of the query that gets somewhere early enough departs after the moment at its
 -- stop, and each moment is one at which such a ride departs from there

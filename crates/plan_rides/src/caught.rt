@@ -4,17 +4,17 @@ ghost use Rattle.feed_rows.specs.Calls.{calls_of};
 ghost use Rattle.feed_rows.specs.declared.journeys.Call.{Call};
 ghost use Rattle.feed_timetable.specs.Standings.{stand_of};
 ghost use Rattle.plan_rides.specs.Boarding.{MayBoard};
-ghost use Rattle.plan_rides.specs.Departures.{AreDepartures, BoardsAt, DoRise, IsBy, IsDeparture, IsByTo, IsFirstLate, IsFirstSince, IsReached, facts_in_time};
+ghost use Rattle.plan_rides.specs.Departures.{AreDepartures, BoardsAt, DoRise, IsBy, IsByAmong, IsDeparture, IsByTo, IsFromStop, IsReached, facts_in_time};
 ghost use Rattle.plan_rides.specs.InTime.{AreLastDepartures, IsUsualQuery, IsWithinWindow, AddsCaught, HasCaughtBy, IsRight, is_early};
 ghost use Rattle.plan_rides.specs.Travelling.{IsBarred, travelling};
 ghost use Rattle.transit_base.specs.Limits.{most_time};
 
-use crate::departures::Departure;
+use crate::departures::{Departure, Departures, servings_of};
 use crate::latest::is_early;
 use crate::sought::Sought;
 use feed_rows::{Call, Query, Ride, RideFacts};
 use feed_timetable::{Standing, Timetable};
-use plain_laws::Groups;
+use plan_patterns::Patterns;
 use std::alloc::{AllocError, Global};
 use std::marker::Model;
 use transit_base::{Moment, Secs, StopId};
@@ -26,22 +26,6 @@ pub struct CaughtRide {
     pub facts: RideFacts,
 }
 
-// How many of the departures are before the moment.
-fn first_since(departures: &[Departure], moment: Moment) -> usize
-    requires { DoRise departures.now }
-    ensures { IsFirstSince departures.now moment.0 result }
-{
-    departures.partition_point(|departure| departure.at.0 < moment.0)
-}
-
-// How many of the departures from the stop are no later than the last moment there.
-fn first_late(departures: &[Departure], lasts: &[Option<Moment>], stop: StopId) -> usize
-    requires { DoRise departures.now }
-    ensures { IsFirstLate departures.now lasts.now stop.0 result }
-{
-    departures.partition_point(|departure| is_early(lasts, stop, departure.at))
-}
-
 /// A traveller of a query, how late they may arrive at stops, and where they stand. Contracts see it as the feed, the query,
 /// the latest moments by stop, and the stand.
 #[derive(Drop)]
@@ -49,7 +33,7 @@ pub struct Traveller<'s, 'f> {
     timetable: &'s Timetable<'f>,
     sought: &'s Sought<'s>,
     query: &'s Query,
-    departures: &'s Groups<Departure>,
+    patterns: &'s Patterns<'s, 'f>,
     /// By stop; none where they needn't arrive at all. At a stop past their end any moment will do.
     latest: &'s [Option<Moment>],
     /// When the last departure from each stop gets somewhere early enough.
@@ -69,22 +53,22 @@ impl<'s, 'f> Model for Traveller<'s, 'f> {
 
     ghost view = { λ s. travelling s.timetable.now s.query.now s.latest.now (stand_of s.standing) };
 
-    ghost invariant = { λ s. IsUsualQuery s.query.now × IsWithinWindow s.query.now s.standing.at.0 × AreDepartures s.timetable.now s.sought.now s.departures.now × (s.sought.now.query ≡ s.query.now) × MayBoard s.timetable.now s.sought.now (stand_of s.standing) × AreLastDepartures s.timetable.now s.query.now s.latest.now s.lasts.now };
+    ghost invariant = { λ s. IsUsualQuery s.query.now × IsWithinWindow s.query.now s.standing.at.0 × AreDepartures s.timetable.now s.sought.now s.patterns.now × (s.sought.now.query ≡ s.query.now) × MayBoard s.timetable.now s.sought.now (stand_of s.standing) × AreLastDepartures s.timetable.now s.query.now s.latest.now s.lasts.now };
 }
 
 impl<'s, 'f> Traveller<'s, 'f> {
-    /// The traveller of the query, with the departures that are sought for it, who stands there and arrives by these moments.
+    /// The traveller of the query, with the patterns of the runs that are sought for it, who stands there and arrives by these moments.
     pub fn new(
         timetable: &'s Timetable<'f>,
         sought: &'s Sought<'s>,
-        departures: &'s Groups<Departure>,
+        patterns: &'s Patterns<'s, 'f>,
         latest: &'s [Option<Moment>],
         lasts: &'s [Option<Moment>],
         standing: Standing,
     ) -> Traveller<'s, 'f>
         requires usual { IsUsualQuery sought.now.query }
         requires within { IsWithinWindow sought.now.query standing.at.0 }
-        requires listed { AreDepartures timetable.now sought.now departures.now }
+        requires held { AreDepartures timetable.now sought.now patterns.now }
         requires boards { MayBoard timetable.now sought.now (stand_of standing) }
         requires lasts { AreLastDepartures timetable.now sought.now.query latest.now lasts.now }
         ensures { result ≡ travelling timetable.now sought.now.query latest.now (stand_of standing) }
@@ -93,7 +77,7 @@ impl<'s, 'f> Traveller<'s, 'f> {
             timetable,
             sought,
             query: sought.query(),
-            departures,
+            patterns,
             latest,
             lasts,
             standing,
@@ -169,7 +153,25 @@ impl<'s, 'f> Traveller<'s, 'f> {
         Ok(())
     }
 
-    // Adds the rides from a stop: by the departures since one gets there, but for those that are too late to get somewhere.
+    // Adds the rides by departures from a stop that one reaches, but for those that are too late to get somewhere.
+    fn add_departures(
+        &self,
+        stop: StopId,
+        departures: &Departures,
+        rides: &mut Vec<CaughtRide>,
+    ) -> Result<(), AllocError>
+        requires from { All (IsFromStop self.now.feed stop.0) departures.now }
+        requires reached { All (IsReached self.now.feed self.now.query self.now.stand) departures.now }
+        requires rises { DoRise departures.now }
+        ensures { OnOk result (AddsCaught self.now.feed self.now.query self.now.latest self.now.stand (IsByAmong self.now.feed departures.now (length departures.now)) rides.old.items rides.new.items) }
+    {
+        for k in 0..departures.first_late(self.lasts, stop) {
+            self.add_departure(&departures.at(k), rides)?;
+        }
+        Ok(())
+    }
+
+    // Adds the rides from a stop: by the departures since one gets there, pattern by pattern.
     fn add_stop(&self, stop: StopId, rides: &mut Vec<CaughtRide>) -> Result<(), AllocError>
         ensures { OnOk result (AddsCaught self.now.feed self.now.query self.now.latest self.now.stand (BoardsAt self.now.feed stop.0) rides.old.items rides.new.items) }
     {
@@ -177,10 +179,17 @@ impl<'s, 'f> Traveller<'s, 'f> {
             return Ok(());
         };
         let earliest = self.standing.at.plus(Secs(seconds));
-        let departures = self.departures.get(stop.0 as usize);
-        let first = first_since(departures, earliest);
-        for k in first..first_late(departures, self.lasts, stop) {
-            self.add_departure(&departures[k], rides)?;
+        let patterns = self.patterns;
+        let servings = servings_of(self.timetable, self.sought, patterns, stop);
+        for k in 0..servings.len() {
+            let departures = Departures::since(
+                self.timetable,
+                patterns,
+                stop,
+                &servings[k],
+                earliest,
+            );
+            self.add_departures(stop, &departures, rides)?;
         }
         Ok(())
     }

@@ -1,22 +1,21 @@
-//! The departures of a query's window, listed once by platform.
-ghost use Rattle.std.specs.Prelude.{◌≡◌, ◌<◌, ◌≤◌, ◌+◌, ◌-◌, ◌≤ℤ◌, pos, negsuc, length, IfOk, OnOk, slice_index_or, true, false};
-ghost use Rattle.std.specs.List.Sorted.{IsPermutation};
-ghost use Rattle.feed_rows.specs.Shifts.{shifts_of};
-ghost use Rattle.feed_rows.specs.declared.journeys.Ride.{Ride};
-ghost use Rattle.feed_timetable.specs.Standings.{AreShifts};
+//! The departures of a query's window, and the patterns whose runs they are of.
+ghost use Rattle.std.specs.Prelude.{◌≡◌, ◌<◌, ◌≤◌, length, IfOk, OnOk, slice_index_or};
 ghost use Rattle.plan_rides.specs.Boarding.{is_boarding};
-ghost use Rattle.plan_rides.specs.Departures.{AddsTrip, AreBoarded, AreDepartures, AreListed, HasDepartures, AreInOrder};
-ghost use Rattle.plan_rides.specs.Departures.{IsDeparture, Lists, facts_in_time, is_listed, ride_to};
-ghost use Rattle.plan_rides.specs.InTime.{deadline, IsUsualQuery, IsOnTrip, first_day, day_after};
-ghost use Rattle.plan_rides.specs.Runs.{IsServed, run_of};
+ghost use Rattle.plan_rides.specs.Departures.{AddsTrip, AreBoarded, AreDepartures, AreListed, AreServed, AreSince, DoRise};
+ghost use Rattle.plan_rides.specs.Departures.{IsDeparture, IsFirstLate, Serves, departure_by, facts_in_time, ride_to};
+ghost use Rattle.plan_rides.specs.InTime.{deadline, IsUsualQuery};
+ghost use Rattle.plan_rides.specs.Runs.{run_of};
+ghost use Rattle.plan_rides.specs.declared.departures.Departure.{Departure};
 ghost use Rattle.transit_base.specs.Limits.{most_time};
 
+use crate::latest::is_early;
 use crate::runs::Run;
 use crate::sought::Sought;
 use feed_rows::{Call, Query, Ride, RideFacts, StopTimeRow};
 use feed_timetable::Timetable;
-use plain_laws::{Grouped, Groups};
+use plan_patterns::{Boarding, Patterns, Serving};
 use std::alloc::{AllocError, Global};
+use std::marker::Model;
 use transit_base::{Day, Moment, NetworkId, Secs, StopId, TripId};
 
 /// A run's departure from one of its calls, where riders may board.
@@ -83,68 +82,12 @@ impl Departure {
     }
 }
 
-/// The days before the civil day of a query's departure on which a ride may run that is still under way: a time of a
-/// service day is at most 167:59:59, and a run may start as late again.
-const DAYS_BEFORE: i64 = 13;
-
 /// The latest moment at which a journey may end.
 pub fn deadline(query: &Query) -> Moment
     requires usual { IsUsualQuery query.now }
     ensures { result.0 ≡ deadline query.now }
 {
     query.departure.plus(Secs(query.window))
-}
-
-/// Whether a ride may be caught that boards at the call at this moment: riders may board there, the moment lies in the
-/// window, and the stop is marked.
-#[tactic(auto, unfolding(crate::specs::Departures::is_listed))]
-pub fn is_listed(sought: &Sought, call: &Call, at: Moment) -> bool
-    requires usual { IsUsualQuery sought.now.query }
-    ensures { result ≡ is_listed sought.now call.now at.0 }
-{
-    let query = sought.query();
-    call.pickup
-        && query.departure.0 <= at.0
-        && at.0 <= deadline(query).0
-        && sought.boards_at(call.stop)
-}
-
-// The run of a trip on a day with the shift at a place.
-fn run_at<'t, 'f>(
-    timetable: &'t Timetable<'f>,
-    trip: TripId,
-    day: Day,
-    shifts: &[i64],
-    k: usize,
-) -> Run<'t, 'f>
-    requires served { IsServed timetable.now trip day }
-    requires shifts { shifts.now ≡ shifts_of timetable.now trip }
-    requires bounds { AreShifts shifts.now }
-    requires inside { k < length shifts.now }
-    ensures { result ≡ run_of timetable.now trip day (slice_index_or shifts.now k (pos 0)) }
-{
-    Run::new(timetable, trip, day, shifts[k])
-}
-
-// Lists the departures of a trip on a day on which it runs.
-fn list_trip(
-    alloc: Global,
-    timetable: &Timetable,
-    sought: &Sought,
-    trip: TripId,
-    day: Day,
-    listed: &mut Vec<Grouped<Departure>>,
-) -> Result<(), AllocError>
-    requires usual { IsUsualQuery sought.now.query }
-    requires served { IsServed timetable.now trip day }
-    ensures { OnOk result (Lists timetable.now sought.now (IsOnTrip trip.0 day.0) listed.old.items listed.new.items) }
-{
-    let shifts = timetable.shifts_of(alloc, trip)?;
-    for k in 0..shifts.items().len() {
-        let run = run_at(timetable, trip, day, shifts.items(), k);
-        run.list(sought, listed)?;
-    }
-    Ok(())
 }
 
 // Whether riders may board at the stop time, and its stop is marked.
@@ -171,9 +114,12 @@ fn list_once(marks: &mut [bool], trips: &mut Vec<TripId>, trip: TripId) -> Resul
     Ok(())
 }
 
-// The trips that riders may board at a stop that is marked, in the order of the file. A query of one ride has few of them,
-// and looks at no other trip again, whatever the days.
-fn boarded_trips(
+/// The trips that riders may board at a stop that is marked, in the order of the file. A query of one ride has few of
+/// them, and looks at no other trip again, whatever the days.
+///
+/// # Errors
+/// Want of memory.
+pub fn boarded_trips(
     alloc: Global,
     timetable: &Timetable,
     sought: &Sought,
@@ -185,6 +131,9 @@ fn boarded_trips(
     let rows = feed.stop_times.items();
     let mut marks = vec![in alloc; false; feed.trips.items().len()]?;
     let mut trips = Vec::new(alloc);
+    if sought.query().rides == 0 {
+        return Ok(trips);
+    }
     for row in rows {
         if is_boarding(sought, row) {
             list_once(&mut marks, &mut trips, row.trip)?;
@@ -193,95 +142,133 @@ fn boarded_trips(
     Ok(trips)
 }
 
-// Lists the departures of a day, which are of these trips.
-fn list_day(
-    alloc: Global,
-    timetable: &Timetable,
-    sought: &Sought,
-    trips: &[TripId],
-    day: Day,
-    listed: &mut Vec<Grouped<Departure>>,
-) -> Result<(), AllocError>
-    requires usual { IsUsualQuery sought.now.query }
-    requires trips { AreBoarded timetable.now sought.now trips.now }
-    requires day_low { negsuc 799_999 ≤ℤ day.0 }
-    requires day_high { day.0 ≤ℤ pos 3_000_000 }
-    ensures { OnOk result (Lists timetable.now sought.now (λ (ride : Ride). ride.day.0 ≡ day.0) listed.old.items listed.new.items) }
-{
-    let active = timetable.services_on(alloc, day)?;
-    for k in 0..trips.len() {
-        let trip = trips[k];
-        if timetable.runs_with(&active, trip) {
-            list_trip(alloc, timetable, sought, trip, day, listed)?;
-        }
-    }
-    Ok(())
-}
-
-// The first day on which a ride can run that is caught.
-fn first_day(sought: &Sought) -> i64
-    requires usual { IsUsualQuery sought.now.query }
-    ensures value { result ≡ first_day sought.now.query }
-    ensures low { negsuc 799_999 ≤ℤ result }
-{
-    sought.query().departure.day().0 - DAYS_BEFORE
-}
-
-// The day after the last on which a ride can run that is caught.
-fn day_after(sought: &Sought) -> i64
-    requires usual { IsUsualQuery sought.now.query }
-    ensures { result ≡ day_after sought.now.query }
-{
-    deadline(sought.query()).day().0 + 1
-}
-
-// Lists the departures of all days on which a ride can run that is caught.
-fn list_days(
-    alloc: Global,
-    timetable: &Timetable,
-    sought: &Sought,
-) -> Result<Vec<Grouped<Departure>>, AllocError>
-    requires usual { IsUsualQuery sought.now.query }
-    ensures { IfOk result (λ listed. HasDepartures timetable.now sought.now listed.items) }
-{
-    let _feed = timetable.feed();
-    let trips = boarded_trips(alloc, timetable, sought)?;
-    let mut listed = Vec::new(alloc);
-    for day in first_day(sought)..day_after(sought) {
-        list_day(alloc, timetable, sought, &trips, Day(day), &mut listed)?;
-    }
-    Ok(listed)
-}
-
-// Puts departures in the order of their moments, those of one moment as they were.
-fn put_in_order(listed: &mut Vec<Grouped<Departure>>) -> Result<(), AllocError>
-    ensures moved { OnOk result (IsPermutation listed.old.items listed.new.items) }
-    ensures rises { OnOk result (AreInOrder listed.new.items) }
-{
-    listed.sort_by_key(|departure| departure.item.at.0)?;
-    Ok(())
-}
-
-/// The departures within the query's window out of each stop that is marked, in the order of their moments; none where
-/// the query has no rides.
+/// The runs by which a ride of the query may be caught, by patterns.
 ///
 /// # Errors
 /// Want of memory.
-pub fn departures_of(
+pub fn patterns_of<'t, 'f>(
     alloc: Global,
+    timetable: &'t Timetable<'f>,
+    sought: &Sought,
+) -> Result<Patterns<'t, 'f>, AllocError>
+    requires usual { IsUsualQuery sought.now.query }
+    ensures { IfOk result (λ patterns. AreDepartures timetable.now sought.now patterns) }
+{
+    let trips = boarded_trips(alloc, timetable, sought)?;
+    let patterns = Patterns::build(alloc, timetable, sought.query(), &trips)?;
+    Ok(patterns)
+}
+
+/// The positions of patterns at which riders may board at the stop; none where there is no such stop.
+pub fn servings_of<'p>(
     timetable: &Timetable,
     sought: &Sought,
-) -> Result<Groups<Departure>, AllocError>
-    requires usual { IsUsualQuery sought.now.query }
-    ensures { IfOk result (λ departures. AreDepartures timetable.now sought.now departures) }
+    patterns: &'p Patterns,
+    stop: StopId,
+) -> &'p [Serving]
+    requires { AreDepartures timetable.now sought.now patterns.now }
+    ensures { AreServed timetable.now sought.now patterns.now.patterns stop.0 result.now }
 {
-    if sought.query().rides == 0 {
-        return Ok(Groups::empty(alloc));
-    }
     let feed = timetable.feed();
-    let _rows = &feed.trips;
-    let mut listed = list_days(alloc, timetable, sought)?;
-    put_in_order(&mut listed)?;
-    let departures = Groups::of(alloc, listed, feed.stops.items().len() as u32)?;
-    Ok(departures)
+    if stop.0 as usize >= feed.stops.items().len() {
+        return &[];
+    }
+    patterns.serving(stop)
+}
+
+// Where a run departs from the stop, which is at this position, at the moment.
+fn departure_by(
+    timetable: &Timetable,
+    stop: StopId,
+    position: u32,
+    run: &plan_patterns::Run,
+    at: Moment,
+) -> Departure
+    requires { run.now.trip.0 < length timetable.now.trips }
+    ensures { result ≡ departure_by timetable.now stop position run.now at }
+{
+    Departure {
+        trip: run.trip,
+        day: run.day,
+        shift: run.shift,
+        network: timetable.network(run.trip),
+        from: position,
+        stop,
+        at,
+    }
+}
+
+/// Departures from a stop, all at one position of a pattern, in the order of their moments. Contracts see them as the list
+/// of these.
+#[derive(Drop)]
+pub struct Departures<'t, 'f> {
+    timetable: &'t Timetable<'f>,
+    stop: StopId,
+    position: u32,
+    runs: &'t [plan_patterns::Run],
+    boardings: &'t [Boarding],
+}
+
+impl<'t, 'f> Model for Departures<'t, 'f> {
+    ghost use Rattle.std.specs.Prelude.{◌<◌, List, length, map, All};
+    ghost use Rattle.plan_patterns.specs.declared.pattern.Boarding.{Boarding};
+    ghost use Rattle.plan_patterns.specs.declared.runs.Run.{Run};
+    ghost use Rattle.plan_rides.specs.Departures.{departure_at};
+    ghost use Rattle.plan_rides.specs.declared.departures.Departure.{Departure};
+
+    ghost Value = { List Departure };
+
+    ghost view = { λ s. map (departure_at s.timetable.now s.stop s.position s.runs.now) s.boardings.now };
+
+    ghost invariant = { λ s. All (λ (b : Boarding). b.run < length s.runs.now) s.boardings.now × All (λ (r : Run). r.trip.0 < length s.timetable.now.trips) s.runs.now };
+}
+
+impl<'t, 'f> Departures<'t, 'f> {
+    /// The departures from the stop at the position at which a pattern serves it, at the moment or later.
+    pub fn since(
+        timetable: &'t Timetable<'f>,
+        patterns: &'t Patterns<'t, 'f>,
+        stop: StopId,
+        serving: &Serving,
+        from: Moment,
+    ) -> Departures<'t, 'f>
+        requires feed { patterns.now.feed ≡ timetable.now }
+        requires serves { Serves timetable.now patterns.now.patterns stop.0 serving.now }
+        ensures { AreSince timetable.now patterns.now.patterns serving.now stop.0 from.0 result }
+    {
+        Departures {
+            timetable,
+            stop,
+            position: serving.position,
+            runs: patterns.runs(serving.pattern),
+            boardings: patterns.boardable(serving.pattern, serving.position, from),
+        }
+    }
+
+    /// How many there are.
+    pub fn len(&self) -> usize
+        ensures { result ≡ length self.now }
+    {
+        self.boardings.len()
+    }
+
+    /// The one at a place.
+    pub fn at(&self, place: usize) -> Departure
+        requires { place < length self.now }
+        ensures { (d : Departure) → result ≡ slice_index_or self.now place d }
+    {
+        let boardings = self.boardings;
+        let boarding = boardings[place];
+        let run = &self.runs[boarding.run as usize];
+        departure_by(self.timetable, self.stop, self.position, run, boarding.at)
+    }
+
+    /// How many of them are no later than the last moment at the stop.
+    pub fn first_late(&self, lasts: &[Option<Moment>], stop: StopId) -> usize
+        requires { DoRise self.now }
+        ensures { IsFirstLate self.now lasts.now stop.0 result }
+    {
+        self.boardings
+            .partition_point(|boarding| is_early(lasts, stop, boarding.at))
+    }
 }

@@ -1,16 +1,16 @@
 //! How late one may be at each stop, so that one still gets on early enough.
-ghost use Rattle.std.specs.Prelude.{◌≡◌, ℤ, ◌<◌, ◌≤◌, ◌≤ℤ◌, ◌+ℤ◌, pos, true, false, length, All, Contains, IfOk};
+ghost use Rattle.std.specs.Prelude.{◌≡◌, ◌⊎◌, ℤ, ◌<◌, ◌≤◌, ◌≤ℤ◌, ◌+ℤ◌, pos, true, false, length, All, Contains, IfOk};
 ghost use Rattle.plan_rides.specs.Departures.{AreDepartures, DoRise, IsDeparture};
 ghost use Rattle.plan_rides.specs.InTime.{IsUsualQuery, is_by, is_early};
-ghost use Rattle.plan_rides.specs.Latest.{AreAllBefore, AreAllLast, HasLeading, IsLatestBefore, LeadsOn, latest_at, leads_to};
+ghost use Rattle.plan_rides.specs.Latest.{AreAllBefore, AreAllLast, HasLeading, IsLastFrom, IsLatestBefore, LeadsOn, latest_at, leads_to};
 ghost use Rattle.plan_rides.specs.declared.departures.Departure.{Departure};
 ghost use Rattle.transit_base.specs.Limits.{most_time};
 
-use crate::departures::Departure;
+use crate::departures::{Departure, Departures, servings_of};
 use crate::sought::Sought;
 use feed_rows::{Call, Query};
 use feed_timetable::Timetable;
-use plain_laws::Groups;
+use plan_patterns::Patterns;
 use std::alloc::{AllocError, Global};
 use transit_base::{Moment, Secs, StopId};
 
@@ -81,7 +81,7 @@ fn last_of(
     timetable: &Timetable,
     query: &Query,
     latest: &[Option<Moment>],
-    departures: &[Departure],
+    departures: &Departures,
 ) -> Option<Moment>
     requires usual { IsUsualQuery query.now }
     requires right { All (IsDeparture timetable.now) departures.now }
@@ -90,47 +90,73 @@ fn last_of(
     ensures attained { (moment : Moment) → result ≡ Some moment → HasLeading timetable.now query.now latest.now departures.now moment }
 {
     for k in (0..departures.len()).rev() {
-        if leads_on(timetable, query, latest, &departures[k]) {
-            return Some(departures[k].at);
+        let departure = departures.at(k);
+        if leads_on(timetable, query, latest, &departure) {
+            return Some(departure.at);
         }
     }
     None
-}
-
-/// When the last departure from each stop leads on; none where none does.
-///
-/// # Errors
-/// Want of memory.
-pub fn last_departures(
-    alloc: Global,
-    timetable: &Timetable,
-    sought: &Sought,
-    departures: &Groups<Departure>,
-    latest: &[Option<Moment>],
-) -> Result<Vec<Option<Moment>>, AllocError>
-    requires usual { IsUsualQuery sought.now.query }
-    requires listed { AreDepartures timetable.now sought.now departures.now }
-    ensures { IfOk result (λ lasts. AreAllLast timetable.now sought.now.query latest.now departures.now lasts.items) }
-{
-    let stops = timetable.feed().stops.items().len();
-    let mut lasts = Vec::with_capacity(alloc, stops)?;
-    for stop in 0..stops {
-        let last = last_of(timetable, sought.query(), latest, departures.get(stop));
-        lasts.push(last)?;
-    }
-    Ok(lasts)
 }
 
 /// The later of the two moments.
 fn later(one: Option<Moment>, other: Option<Moment>) -> Option<Moment>
     ensures one { (at : ℤ) → is_by one at ≡ true → is_by result at ≡ true }
     ensures other { (at : ℤ) → is_by other at ≡ true → is_by result at ≡ true }
+    ensures is { (result ≡ one) ⊎ (result ≡ other) }
 {
     match (one, other) {
         (Some(a), Some(b)) => { if a.0 < b.0 { other } else { one } }
         (Some(_), None) => one,
         (None, _) => other,
     }
+}
+
+/// When the last departure from the stop leads on; none where none does. Of each pattern only those are looked at that aren't
+/// earlier than the last that is known.
+fn last_from<'t, 'f>(
+    timetable: &'t Timetable<'f>,
+    sought: &Sought,
+    patterns: &'t Patterns<'t, 'f>,
+    latest: &[Option<Moment>],
+    stop: StopId,
+) -> Option<Moment>
+    requires usual { IsUsualQuery sought.now.query }
+    requires held { AreDepartures timetable.now sought.now patterns.now }
+    ensures { IsLastFrom timetable.now sought.now latest.now stop.0 result }
+{
+    let query = sought.query();
+    let servings = servings_of(timetable, sought, patterns, stop);
+    let mut last = None;
+    for k in 0..servings.len() {
+        let from = last.unwrap_or(query.departure);
+        let departures = Departures::since(timetable, patterns, stop, &servings[k], from);
+        last = later(last, last_of(timetable, query, latest, &departures));
+    }
+    last
+}
+
+/// When the last departure from each stop leads on; none where none does.
+///
+/// # Errors
+/// Want of memory.
+pub fn last_departures<'t, 'f>(
+    alloc: Global,
+    timetable: &'t Timetable<'f>,
+    sought: &Sought,
+    patterns: &'t Patterns<'t, 'f>,
+    latest: &[Option<Moment>],
+) -> Result<Vec<Option<Moment>>, AllocError>
+    requires usual { IsUsualQuery sought.now.query }
+    requires held { AreDepartures timetable.now sought.now patterns.now }
+    ensures { IfOk result (λ lasts. AreAllLast timetable.now sought.now latest.now lasts.items) }
+{
+    let stops = timetable.feed().stops.items().len();
+    let mut lasts = Vec::with_capacity(alloc, stops)?;
+    for stop in 0..stops {
+        let last = last_from(timetable, sought, patterns, latest, StopId(stop as u32));
+        lasts.push(last)?;
+    }
+    Ok(lasts)
 }
 
 /// How late one may begin a walk that takes so long, to be by then where it leads.

@@ -9,23 +9,23 @@ ghost use Rattle.plan_rides.specs.InTime.{AreLastDepartures, IsUsualQuery, IsDea
 ghost use Rattle.plan_rides.specs.Latest.{AreLasts, IsOneMore};
 
 use crate::caught::{CaughtRide, Traveller};
-use crate::departures::{Departure, deadline, departures_of};
+use crate::departures::{deadline, patterns_of};
 use crate::latest::{last_departures, latest_before};
 use crate::sought::Sought;
 use feed_rows::Query;
 use feed_timetable::{Standing, Timetable};
-use plain_laws::Groups;
+use plan_patterns::Patterns;
 use std::alloc::{AllocError, Global};
 use std::marker::Model;
 use transit_base::{Moment, StopId};
 
-/// The rides of a query over a timetable, by where they can be caught: the departures of its window are listed once.
+/// The rides of a query over a timetable, by where they can be caught: by the patterns of its runs.
 /// Contracts see it as the feed and the query.
 pub struct Rides<'s, 'f> {
     timetable: &'s Timetable<'f>,
     query: &'s Query,
     sought: Sought<'s>,
-    departures: Groups<Departure>,
+    patterns: Patterns<'s, 'f>,
     deadline: Moment,
 }
 
@@ -36,7 +36,7 @@ impl<'s, 'f> Drop for Rides<'s, 'f> {
             timetable: _,
             query: _,
             sought: _,
-            departures: _,
+            patterns: _,
             deadline: _,
         } = self;
     }
@@ -53,7 +53,7 @@ impl<'s, 'f> Model for Rides<'s, 'f> {
 
     ghost view = { λ s. asked s.timetable.now s.query.now };
 
-    ghost invariant = { λ s. IsUsualQuery s.query.now × IsDeadline s.query.now s.deadline.0 × AreDepartures s.timetable.now s.sought s.departures × (s.sought.query ≡ s.query.now) × AreMarks s.timetable.now s.sought };
+    ghost invariant = { λ s. IsUsualQuery s.query.now × IsDeadline s.query.now s.deadline.0 × AreDepartures s.timetable.now s.sought s.patterns × (s.sought.query ≡ s.query.now) × AreMarks s.timetable.now s.sought };
 }
 
 impl<'s, 'f> Rides<'s, 'f> {
@@ -70,12 +70,12 @@ impl<'s, 'f> Rides<'s, 'f> {
         ensures { IfOk result (λ rides. rides ≡ asked timetable.now query.now) }
     {
         let sought = Sought::new(alloc, timetable, query)?;
-        let departures = departures_of(alloc, timetable, &sought)?;
+        let patterns = patterns_of(alloc, timetable, &sought)?;
         Ok(Rides {
             timetable,
             query,
             sought,
-            departures,
+            patterns,
             deadline: deadline(query),
         })
     }
@@ -153,7 +153,7 @@ impl<'s, 'f> Rides<'s, 'f> {
         Traveller::new(
             self.timetable,
             &self.sought,
-            &self.departures,
+            &self.patterns,
             latest,
             lasts,
             standing,
@@ -174,13 +174,7 @@ impl<'s, 'f> Rides<'s, 'f> {
         requires { 1 < self.now.query.rides }
         ensures { IfOk result (λ lasts. AreLasts self.now.feed self.now.query latest.now lasts.items) }
     {
-        last_departures(
-            alloc,
-            self.timetable,
-            &self.sought,
-            &self.departures,
-            latest,
-        )
+        last_departures(alloc, self.timetable, &self.sought, &self.patterns, latest)
     }
 
     /// How late one may stand at each stop, where one may be as late as this, or take one more ride first: by these last

@@ -1,20 +1,13 @@
-//! The runs of trips, and where they depart.
-ghost use Rattle.std.specs.Prelude.{◌≡◌, ◌<◌, ◌≤◌, ◌+ℤ◌, ◌^◌, pos, length, All, OnOk, Some, slice_get};
+//! The runs of trips.
+ghost use Rattle.std.specs.Prelude.{◌≡◌, ◌<◌, ◌≤◌, ◌+ℤ◌, ◌^◌, pos, length, All};
 ghost use Rattle.feed_rows.specs.Calls.{calls_of};
-ghost use Rattle.feed_rows.specs.SoundFeed.{IsSoundFeed};
 ghost use Rattle.feed_rows.specs.declared.journeys.Call.{Call};
-ghost use Rattle.plan_rides.specs.Departures.{Lists, departure_from};
-ghost use Rattle.plan_rides.specs.InTime.{IsUsualQuery, IsAt, IsOfRun};
 ghost use Rattle.plan_rides.specs.Runs.{run_of, IsRun};
 ghost use Rattle.transit_base.specs.Limits.{most_time};
 ghost use Rattle.transit_base.specs.Moments.{moment_at};
 
-use crate::departures::{Departure, is_listed};
-use crate::sought::Sought;
 use feed_rows::Call;
 use feed_timetable::Timetable;
-use plain_laws::Grouped;
-use std::alloc::AllocError;
 use std::marker::Model;
 use transit_base::{Day, Moment, TripId};
 
@@ -66,67 +59,5 @@ impl<'t, 'f> Run<'t, 'f> {
         ensures { result.0 ≡ moment_at self.now.day.0 (self.now.shift +ℤ pos seconds) }
     {
         Moment::at(self.day, self.shift + i64::from(seconds))
-    }
-
-    // Its departure from a call.
-    fn departure(&self, from: u32, call: &Call) -> Departure
-        requires { call.now.departure ≤ most_time }
-        ensures value { result ≡ departure_from self.now call.now from }
-        ensures runs { IsRun self.now }
-        ensures sound { IsSoundFeed self.now.feed }
-    {
-        let _feed = self.timetable.feed();
-        Departure {
-            trip: self.trip,
-            day: self.day,
-            shift: self.shift,
-            network: self.timetable.network(self.trip),
-            from,
-            stop: call.stop,
-            at: self.moment(call.departure),
-        }
-    }
-
-    // Lists the departure from this one of its calls.
-    fn list_call(
-        &self,
-        sought: &Sought,
-        from: u32,
-        call: &Call,
-        listed: &mut Vec<Grouped<Departure>>,
-    ) -> Result<(), AllocError>
-        requires usual { IsUsualQuery sought.now.query }
-        requires is { slice_get (calls_of self.now.feed self.now.trip) from ≡ Some call.now }
-        requires time { call.now.departure ≤ most_time }
-        ensures { OnOk result (Lists self.now.feed sought.now (IsAt self.now from) listed.old.items listed.new.items) }
-    {
-        let item = self.departure(from, call);
-        if !is_listed(sought, call, item.at) {
-            return Ok(());
-        }
-        listed.push(Grouped {
-            group: call.stop.0,
-            item,
-        })?;
-        Ok(())
-    }
-
-    /// Lists its departures.
-    ///
-    /// # Errors
-    /// Want of memory.
-    pub fn list(
-        &self,
-        sought: &Sought,
-        listed: &mut Vec<Grouped<Departure>>,
-    ) -> Result<(), AllocError>
-        requires usual { IsUsualQuery sought.now.query }
-        ensures { OnOk result (Lists self.now.feed sought.now (IsOfRun self.now) listed.old.items listed.new.items) }
-    {
-        let calls = self.calls();
-        for from in 0..calls.len() as u32 {
-            self.list_call(sought, from, &calls[from as usize], listed)?;
-        }
-        Ok(())
     }
 }

@@ -4,6 +4,6 @@ use Rattle.plan_rides.proofs.latest.last_departures.Given as goal
 
 abbrev pub invariant-loop-stop : goal.invariant-loop-stop
 invariant-loop-stop l = record {
-  are : AreLastOnes l.timetable l.sought.query l.latest l.departures l.stop l.lasts.items;
+  are : AreLastOnes l.timetable l.sought l.latest l.stop l.lasts.items;
   many : length l.lasts.items ≡ l.stop;
 }

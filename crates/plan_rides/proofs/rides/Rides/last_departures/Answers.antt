@@ -15,5 +15,5 @@ returns c =
     IfOk-weaker c.last_departures.result _ _
     (λ lasts last. subst (λ (a : Asked). AreLasts a.feed a.query latest lasts.items) c.self.view_is
     (subst (λ q. AreLasts feed q latest lasts.items) c.self.invariant.3
-    (last_departures feed sought latest c.self.inside.departures lasts.items c.self.invariant.4 more c.self.invariant.2 last)))
+    (last_departures feed sought latest lasts.items c.self.invariant.4 more last)))
     c.last_departures.ensures
