@@ -151,42 +151,32 @@ impl Timeframes {
         ensures { IfOk result (λ facts. (feed : FeedRows) → AreTimeframesOf feed self.now → facts ≡ leg_facts feed ride.now) }
     {
         let mut leg = blank_leg(alloc);
-        self.leg_facts_into(alloc, ride, &mut leg)?;
+        self.leg_facts_into(ride, &mut leg)?;
         Ok(leg)
     }
 
-    /// Writes what fare rules look at in the leg that is this ride over another leg.
+    /// Writes what fare rules look at in the leg that is this ride over another leg, whose room is used again.
     ///
     /// # Errors
     /// Want of memory.
-    pub fn leg_facts_into(
-        &self,
-        alloc: Global,
-        ride: &RideFacts,
-        leg: &mut LegFacts,
-    ) -> Result<(), AllocError>
+    pub fn leg_facts_into(&self, ride: &RideFacts, leg: &mut LegFacts) -> Result<(), AllocError>
         ensures { OnOk result ((feed : FeedRows) → AreTimeframesOf feed self.now → leg.new ≡ leg_facts feed ride.now) }
     {
         leg.network = ride.network;
         leg.departure = ride.departure;
         leg.arrival = ride.arrival;
-        areas_into(alloc, self.areas.areas_of(ride.from), &mut leg.from_areas)?;
-        areas_into(alloc, self.areas.areas_of(ride.to), &mut leg.to_areas)?;
-        self.frames_into(alloc, ride.departure, &mut leg.from_frames)?;
-        self.frames_into(alloc, ride.arrival, &mut leg.to_frames)
+        areas_into(self.areas.areas_of(ride.from), &mut leg.from_areas)?;
+        areas_into(self.areas.areas_of(ride.to), &mut leg.to_areas)?;
+        self.frames_into(ride.departure, &mut leg.from_frames)?;
+        self.frames_into(ride.arrival, &mut leg.to_frames)
     }
 
     /// Replaces the timeframe groups by those that hold at the moment, ascending.
-    fn frames_into(
-        &self,
-        alloc: Global,
-        at: Moment,
-        frames: &mut FrameList,
-    ) -> Result<(), AllocError>
+    fn frames_into(&self, at: Moment, frames: &mut FrameList) -> Result<(), AllocError>
         ensures { OnOk result ((feed : FeedRows) → AreTimeframesOf feed self.now → frames.new ≡ frames_at feed at) }
     {
         let kept = self.kept_day(at.day());
-        *frames = FrameList::empty(alloc);
+        frames.clear();
         for number in 0..self.count {
             let frame = FrameId(number);
             if self.is_held(kept, frame, at) {
@@ -267,11 +257,11 @@ pub fn blank_leg(alloc: Global) -> LegFacts
 }
 
 /// Replaces the areas by these, which ascend.
-fn areas_into(alloc: Global, areas: &[AreaId], list: &mut AreaList) -> Result<(), AllocError>
+fn areas_into(areas: &[AreaId], list: &mut AreaList) -> Result<(), AllocError>
     requires { DoRise areas.now }
     ensures { OnOk result (list.new ≡ areas.now) }
 {
-    *list = AreaList::empty(alloc);
+    list.clear();
     for i in 0..areas.len() {
         list.push(areas[i])?;
     }

@@ -104,6 +104,13 @@ impl<T: Ord + Copy + Default + Drop> AscendingList<T> {
         Ok(())
     }
 
+    /// Removes all items. The room for them is kept for others.
+    pub fn clear(&mut self)
+        ensures { self.new ≡ [] }
+    {
+        self.kept.clear();
+    }
+
     /// The items, in order.
     pub fn items(&self) -> &[T]
         ensures value { result.now ≡ self.now }

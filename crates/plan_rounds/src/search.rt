@@ -285,7 +285,7 @@ impl<'s, 'f> Search<'s, 'f> {
             return Ok(());
         }
         self.timeframes
-            .leg_facts_into(self.alloc, &caught.facts, &mut found.leg)?;
+            .leg_facts_into(&caught.facts, &mut found.leg)?;
         self.find_moves(source.label, found)?;
         for k in 0..found.moves.len() {
             if !is_bettered(&found.moves, k) {
