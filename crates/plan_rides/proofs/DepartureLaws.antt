@@ -38,7 +38,7 @@ use Rattle.plan_patterns.specs.Runs.{IsHeld, IsHeldOf, IsKnown, moment_of}
 use Rattle.plan_patterns.specs.Servings.{boards_at, list_at, serving_of, servings_at}
 use Rattle.plan_rides.specs.declared.departures.Departure.{Departure}
 use Rattle.plan_rides.specs.Boarding.{Seeking, is_boarding, is_marked}
-use Rattle.plan_rides.specs.Departures.{IsSpanned, AddsTrip, AreBoarded, AreListed, departure_with, IsDeparture, IsFromStop, DoRise, AreDepartures, AreServed, AreSince, Serves, StopsAt, TakesOneOf, TakesServing, run_by, no_run, departure_by, departure_at}
+use Rattle.plan_rides.specs.Departures.{IsSpanned, AddsTrip, AreBoarded, AreListed, departure_with, IsDeparture, IsFromStop, DoRise, AreDepartures, AreServed, AreSince, HoldsRuns, IsRunOf, Serves, StopsAt, TakesOneOf, TakesServing, run_by, no_run, departure_by, departure_at}
 use Rattle.plan_rides.specs.Runs.{run_of, IsRun}
 
 -- the trip of a number
@@ -193,7 +193,7 @@ boarded_all feed sought n marks trips sound whole lists = record {
         subst (Contains trips) (ap (λ (x : StopTimeRow). x.trip) there ∙ ap trip_id at.own) listed
 
 -- a trip calls at stops of the feed
-call_stop : (feed : FeedRows) (trip : TripId) (m : ℕ) (call : Call) → IsSoundFeed feed →
+pub call_stop : (feed : FeedRows) (trip : TripId) (m : ℕ) (call : Call) → IsSoundFeed feed →
     slice_get (calls_of feed trip) m ≡ Some call → call.stop.0 < length feed.stops
 call_stop feed trip m call sound is =
     let row = calls_of_row feed trip m call (sound_trip feed trip sound).ends is in
@@ -235,12 +235,12 @@ in_all patterns p run at = step (slice_get patterns p) refl at
     step (Some x) is here = Contains-flat_map (λ (x : PatternOf). x.runs) patterns x run (Contains-slice_get patterns p x is) here
 
 -- and each of these is of a pattern
-record IsRunOf (patterns : List PatternOf) (run : Run) : Type 0 where
+record IsOfPattern (patterns : List PatternOf) (run : Run) : Type 0 where
   pub number : ℕ
   pub within : number < length patterns
   pub has : Contains (runs_at patterns number) run
 
-of_pattern : (patterns : List PatternOf) (run : Run) → Contains (all_runs patterns) run → IsRunOf patterns run
+of_pattern : (patterns : List PatternOf) (run : Run) → Contains (all_runs patterns) run → IsOfPattern patterns run
 of_pattern patterns run at =
     let found = flat_map-tells (λ (x : PatternOf). x.runs) patterns run at in
     let place = slice_get-Contains patterns found.0 found.1 in
@@ -390,7 +390,27 @@ takes_one feed sought trips patterns ride facts boarded are e =
       record { run = of.has; from = refl },
     )
 
--- so patterns of the runs of a query give its departures
+-- so patterns of the runs of a query hold them
+pub holds_runs : (feed : FeedRows) (sought : Seeking) (trips : List TripId) (patterns : PatternsOf) →
+    AreBoarded feed sought trips → patterns.feed ≡ feed → ArePatterns feed sought.query trips patterns.patterns →
+    HoldsRuns feed sought patterns
+holds_runs feed sought trips patterns boarded of are = record {
+  of = of;
+  runs = λ p. All-from (IsRunOf feed) (runs_at patterns.patterns p)
+      (λ run has.
+      let all = in_all patterns.patterns p run has in
+      run_held feed sought.query run
+      (All-contains (IsHeldOf feed sought.query trips) (all_runs patterns.patterns) run are.right all).held
+      (All-contains (IsKnown feed) (all_runs patterns.patterns) run are.known all));
+  all = λ ride facts e.
+      let held : IsHeld feed sought.query (run_by ride) =
+      record { from = ride.from; to = ride.to; facts = facts; is = e.is; since = e.since; until = e.until } in
+      let found = of_pattern patterns.patterns (run_by ride)
+      (are.held (run_by ride) (record { trip = boarded.all ride facts e; held = held })) in
+      (found.number, found.within, found.has);
+}
+
+-- and they give its departures
 pub are_departures : (feed : FeedRows) (sought : Seeking) (trips : List TripId) (patterns : PatternsOf) →
     AreBoarded feed sought trips → patterns.feed ≡ feed → ArePatterns feed sought.query trips patterns.patterns →
     AreDepartures feed sought patterns

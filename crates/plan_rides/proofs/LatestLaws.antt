@@ -34,11 +34,12 @@ use Rattle.plan_patterns.specs.Grouping.{PatternOf}
 use Rattle.plan_rides.specs.declared.caught.CaughtRide.{CaughtRide}
 use Rattle.plan_rides.specs.declared.departures.Departure.{Departure}
 use Rattle.plan_rides.specs.Boarding.{Seeking, AreMarks}
-use Rattle.plan_rides.specs.Departures.{AreServed, AreSince, departure_at, departure_with, DoRise, IsByAmong, IsFirstLate, IsFromStop, IsSince, TakesOneOf, facts_in_time, facts_to, ride_to}
+use Rattle.plan_rides.specs.Departures.{departure_at, departure_with, IsByAmong, IsFirstLate, IsFromStop}
 use Rattle.plan_rides.specs.InTime.{AddsCaught, AreLastDepartures, deadline, next_in_time, IsWithinWindow, is_by, is_by_any, is_early}
-use Rattle.plan_rides.specs.Latest.{latest_at, gets_early, LeadsOn, HasEarlyRide, HasEarlyWalks, AreAllBefore, AreAllLast, AreLasts, IsLastBy, IsLastFrom, IsLastOf, IsOneMore}
-use Rattle.plan_rides.proofs.CaughtLaws.{IsCaughtRide, caught_facts, caught_ride, in_walks}
-use Rattle.plan_rides.proofs.DepartureLaws.{no_boarding, ride_stop, takes_more}
+use Rattle.plan_rides.specs.Lasts.{AreAllLast}
+use Rattle.plan_rides.specs.Latest.{latest_at, HasEarlyWalks, AreAllBefore, AreLasts, IsOneMore}
+use Rattle.plan_rides.proofs.CaughtLaws.{IsCaughtRide, caught_ride, in_walks}
+use Rattle.plan_rides.proofs.DepartureLaws.{no_boarding, ride_stop}
 
 -- whoever is earlier is early enough too
 pub by_earlier : (latest : Option Moment) (a b : ℤ) → a ≤ℤ b → is_by latest b ≡ true → is_by latest a ≡ true
@@ -102,92 +103,6 @@ pub early_past : (latest : List (Option Moment)) (stop : ℕ) (at : ℤ) → len
 unfolding is_by_any
 early_past latest stop at past = ap (λ o. is_by_any o at) (slice_get_past latest stop past)
 
--- ---- departures that lead on
-
--- where the ride by its departure to its last call goes
-facts_again : (feed : FeedRows) (ride : Ride) (facts : RideFacts) (call : Call) → call.stop ≡ facts.to →
-    moment_at ride.day.0 (ride.shift +ℤ pos call.arrival) ≡ facts.arrival.0 → facts_to (departure_with ride facts) call ≡ facts
-facts_again feed ride facts call stops arrives =
-    ap (λ (s : StopId). record { from = facts.from; to = s; network = facts.network; departure = facts.departure; arrival = record { 0 = moment_at ride.day.0 (ride.shift +ℤ pos call.arrival) } }) stops
-    ∙ ap (λ (z : ℤ). record { from = facts.from; to = facts.to; network = facts.network; departure = facts.departure; arrival = record { 0 = z } }) arrives
-
--- the departure of a ride that gets somewhere early enough leads on
-leads_by : (feed : FeedRows) (query : Query) (latest : List (Option Moment)) (ride : Ride) (facts : RideFacts) →
-    ride_facts feed ride ≡ Some facts → facts.arrival.0 ≤ℤ deadline query → is_early latest facts.to.0 facts.arrival.0 ≡ true →
-    LeadsOn feed query latest (departure_with ride facts)
-unfolding facts_in_time
-leads_by feed query latest ride facts is until early =
-    let r = ride_facts_tells feed ride facts is in
-    let stops : r.alighting.stop ≡ facts.to = ap (λ (f : RideFacts). f.to) r.facts_are in
-    let arrives : moment_at ride.day.0 (ride.shift +ℤ pos r.alighting.arrival) ≡ facts.arrival.0 = ap (λ (f : RideFacts). f.arrival.0) r.facts_are in
-    let same = facts_again feed ride facts r.alighting stops arrives in
-    (ride.to, r.forward, r.alighting, r.alights, ap (gets_early latest) (goes r.alighting same r.drop_off) ∙ early)
-  where
-    goes : (call : Call) → facts_to (departure_with ride facts) call ≡ facts → call.drop_off ≡ true →
-        facts_in_time query (departure_with ride facts) call ≡ Some facts
-    goes call same off =
-        ap (λ (f : RideFacts). when (call.drop_off && int_le f.arrival.0 (deadline query)) f) same ∙ rw (off, le-int_le _ _ until) refl
-
--- a departure that leads on is that of a ride that gets somewhere early enough
-has_early_ride : (feed : FeedRows) (query : Query) (latest : List (Option Moment)) (stop : ℕ) (d : Departure) →
-    IsFromStop feed stop d → IsSince query d → LeadsOn feed query latest d → HasEarlyRide feed query latest stop d.at
-unfolding facts_in_time
-has_early_ride feed query latest stop d from since leads =
-    let got = goes (leads.2.drop_off && int_le (facts_to d leads.2).arrival.0 (deadline query)) leads.4 in
-    let is = ap (λ b. when b (facts_to d leads.2)) got.0 in
-    record {
-      ride = ride_to d leads.0;
-      facts = facts_to d leads.2;
-      is = caught_facts feed query d leads.0 leads.2 (facts_to d leads.2) from.0 leads.1 leads.3 is;
-      from = from.1;
-      leaves = refl;
-      since = since;
-      until = int_le-true _ _ (and_parts _ _ got.0).1;
-      early = got.1;
-    }
-  where
-    goes : (b : Bool) → gets_early latest (when b (facts_to d leads.2)) ≡ true →
-        (b ≡ true) × (is_early latest leads.2.stop.0 (facts_to d leads.2).arrival.0 ≡ true)
-    goes true early = (refl, early)
-    goes false early = absurd (let no : false ≡ true = early in cc)
-
--- the last of the departures that leads on departs no earlier than any that does
-pub last_leads : (feed : FeedRows) (query : Query) (latest : List (Option Moment)) (departures : List Departure) (k : ℕ)
-    (x d : Departure) → DoRise departures → 0 < k → k ≤ length departures →
-    ((i : ℕ) (y : Departure) → k ≤ i → i < length departures → LeadsOn feed query latest (get_or departures i y) → ⊥) →
-    Contains departures d → LeadsOn feed query latest d → is_by (Some (get_or departures (k - 1) x).at) d.at.0 ≡ true
-unfolding is_by
-last_leads feed query latest departures k x d rises some within none has leads =
-    le-int_le d.at.0 (get_or departures (k - 1) x).at.0 (⊎_elim earlier later (cases_lt has.0 (k - 1)))
-  where
-    is : get_or departures has.0 x ≡ d
-    is = get_or_default departures has.0 x d has.1 ∙ has.2
-
-    earlier : has.0 < k - 1 → d.at.0 ≤ℤ (get_or departures (k - 1) x).at.0
-    earlier lt = subst (λ (y : Departure). y.at.0 ≤ℤ (get_or departures (k - 1) x).at.0) is (rises has.0 (k - 1) x lt (omega (arith, some, within)))
-
-    here : has.0 ≡ k - 1 → d.at.0 ≤ℤ (get_or departures (k - 1) x).at.0
-    here same = subst (λ n. d.at.0 ≤ℤ (get_or departures n x).at.0) same (subst (λ (y : Departure). d.at.0 ≤ℤ y.at.0) (sym is) (omega (arith, ints)))
-
-    later : k - 1 ≤ has.0 → d.at.0 ≤ℤ (get_or departures (k - 1) x).at.0
-    later le = ⊎_elim (λ lt. here (omega (arith, le, lt, some)))
-        (λ past. absurd (none has.0 d past has.1 (subst (LeadsOn feed query latest) (sym has.2) leads)))
-        (cases_lt has.0 k)
-
--- one departure fewer to look at, where it doesn't lead on
-pub none_more : (feed : FeedRows) (query : Query) (latest : List (Option Moment)) (departures : List Departure) (k : ℕ)
-    (x : Departure) → (LeadsOn feed query latest (get_or departures (k - 1) x) → ⊥) →
-    ((i : ℕ) (y : Departure) → k ≤ i → i < length departures → LeadsOn feed query latest (get_or departures i y) → ⊥) →
-    (i : ℕ) (y : Departure) → k - 1 ≤ i → i < length departures → LeadsOn feed query latest (get_or departures i y) → ⊥
-none_more feed query latest departures k x never none i y from lt leads =
-    ⊎_elim
-    (λ (before : i < k).
-    let same : i ≡ k - 1 = omega (arith, from, before) in
-    never (subst (λ n. LeadsOn feed query latest (get_or departures n x)) same
-    (subst (LeadsOn feed query latest) (get_or_default departures i y x lt) leads)))
-    (λ since. none i y since lt leads)
-    (cases_lt i k)
-
 -- ---- lists of latest moments
 
 -- what holds of the moment at each of the first n stops, with one more of them
@@ -221,90 +136,6 @@ walks_more query lasts walks k x latest new lt still one before i step at below 
 
 -- ---- one more ride
 
--- of no positions, none departs
-pub last_none : (feed : FeedRows) (sought : Seeking) (latest : List (Option Moment)) (stop : ℕ) (patterns : List PatternOf)
-    (servings : List Serving) (last : Option Moment) → last ≡ None →
-    IsLastBy feed sought latest stop (TakesOneOf patterns servings 0) last
-last_none feed sought latest stop patterns servings last none = record {
-  all = λ ride facts e from early takes. let below = takes.1 in absurd (omega (arith, below));
-  attained = λ moment is. absurd (none-some moment (sym none ∙ is));
-}
-
--- from when on departures are looked at that aren't earlier than the last: no earlier than the query
-from_since : (feed : FeedRows) (sought : Seeking) (latest : List (Option Moment)) (stop : ℕ) (Part : Ride → Type 0)
-    (last : Option Moment) → IsLastBy feed sought latest stop Part last →
-    sought.query.departure.0 ≤ℤ (unwrap_or last sought.query.departure).0
-from_since feed sought latest stop Part last before = step last refl
-  where
-    step : (o : Option Moment) → last ≡ o → sought.query.departure.0 ≤ℤ (unwrap_or o sought.query.departure).0
-    step None is = omega (arith, ints)
-    step (Some moment) is =
-        let ride = before.attained moment is in
-        subst (λ (m : Moment). sought.query.departure.0 ≤ℤ m.0) ride.leaves ride.since
-
--- whoever is earlier is by the last
-by_from : (last : Option Moment) (query : Query) (at : ℤ) → query.departure.0 ≤ℤ at →
-    at <ℤ (unwrap_or last query.departure).0 → is_by last at ≡ true
-unfolding is_by
-by_from None query at since before = absurd (omega (arith, ints, since, before))
-by_from (Some moment) query at since before = le-int_le at moment.0 (omega (arith, ints, before))
-
--- of one position more, whose departures since the last lead on until then
-pub last_more : (feed : FeedRows) (sought : Seeking) (latest : List (Option Moment)) (stop : ℕ) (patterns : List PatternOf)
-    (servings : List Serving) (k : ℕ) (x : Serving) (departures : List Departure) (last found new : Option Moment) →
-    k < length servings →
-    AreSince feed patterns (get_or servings k x) stop (unwrap_or last sought.query.departure).0 departures →
-    IsLastOf feed sought.query latest departures found → ((at : ℤ) → is_by last at ≡ true → is_by new at ≡ true) →
-    ((at : ℤ) → is_by found at ≡ true → is_by new at ≡ true) → (new ≡ last) ⊎ (new ≡ found) →
-    IsLastBy feed sought latest stop (TakesOneOf patterns servings k) last →
-    IsLastBy feed sought latest stop (TakesOneOf patterns servings (k + 1)) new
-last_more feed sought latest stop patterns servings k x departures last found new lt are led still also either before = record {
-  all = λ ride facts e from early takes. ⊎_elim
-      (λ lower. still facts.departure.0 (before.all ride facts e from early lower))
-      (λ here. ⊎_elim
-      (λ (earlier : facts.departure.0 <ℤ (unwrap_or last sought.query.departure).0).
-      still facts.departure.0 (by_from last sought.query facts.departure.0 e.since earlier))
-      (λ since.
-      also facts.departure.0 (led.all (departure_with ride facts) (are.all ride facts e.is here since)
-      (leads_by feed sought.query latest ride facts e.is e.until early)))
-      (earlier_or facts.departure.0 (unwrap_or last sought.query.departure).0))
-      (takes_more patterns servings k x ride lt takes);
-  attained = λ moment is. ⊎_elim
-      (λ (same : new ≡ last). before.attained moment (sym same ∙ is))
-      (λ (same : new ≡ found).
-      let leads = led.attained moment (sym same ∙ is) in
-      subst (HasEarlyRide feed sought.query latest stop) leads.3 (has_early_ride feed sought.query latest stop leads.0
-      (All-contains (IsFromStop feed stop) departures leads.0 are.right leads.1)
-      (onward sought.query.departure.0 (unwrap_or last sought.query.departure).0 leads.0.at.0
-      (from_since feed sought latest stop (TakesOneOf patterns servings k) last before)
-      (All-contains (λ (d : Departure). (unwrap_or last sought.query.departure).0 ≤ℤ d.at.0) departures leads.0 are.since leads.1))
-      leads.2))
-      either;
-}
-  where
-    onward : (a b c : ℤ) → a ≤ℤ b → b ≤ℤ c → a ≤ℤ c
-    onward a b c p q = omega (arith, ints)
-
-    earlier_or : (a b : ℤ) → (a <ℤ b) ⊎ (b ≤ℤ a)
-    earlier_or a b = by (int_le b a) refl
-      where
-        by : (t : Bool) → int_le b a ≡ t → (a <ℤ b) ⊎ (b ≤ℤ a)
-        by true h = inr (int_le-true b a h)
-        by false h = inl (grind (arith, ints))
-
--- of all positions that serve a stop
-pub last_from : (feed : FeedRows) (sought : Seeking) (latest : List (Option Moment)) (stop n : ℕ) (patterns : List PatternOf)
-    (servings : List Serving) (last : Option Moment) → AreServed feed sought patterns stop servings →
-    length servings ≤ n → IsLastBy feed sought latest stop (TakesOneOf patterns servings n) last →
-    IsLastFrom feed sought latest stop last
-last_from feed sought latest stop n patterns servings last served all by = record {
-  all = λ ride facts e from early any.
-      let takes = served.all ride facts e from in
-      let lt = takes.1 in
-      by.all ride facts e from early (takes.0, omega (arith, lt, all), takes.2, takes.3, takes.4);
-  attained = by.attained;
-}
-
 -- no ride that gets somewhere early enough departs after the last that leads on, which is such a ride's
 pub last_departures : (feed : FeedRows) (sought : Seeking) (latest lasts : List (Option Moment)) → AreMarks feed sought →
     1 < sought.query.rides → AreAllLast feed sought latest lasts → AreLasts feed sought.query latest lasts
@@ -312,7 +143,7 @@ last_departures feed sought latest lasts marks more last = record {
   many = last.many;
   all = λ ride facts is since until early. ⊎_elim
       (λ lt. early_at lasts facts.from.0 facts.departure.0 lt
-      ∙ (last.all facts.from.0 (subst (λ n. facts.from.0 < n) last.many lt)).all ride facts
+      ∙ last.all ride facts
       (record {
         some = omega (arith, more);
         is = is;
@@ -320,13 +151,10 @@ last_departures feed sought latest lasts marks more last = record {
         since = since;
         until = until;
       })
-      refl early tt)
+      early)
       (λ past. early_past lasts facts.from.0 facts.departure.0 past)
       (cases_lt facts.from.0 (length lasts));
-  attained = λ stop moment is. ⊎_elim
-      (λ lt. (last.all stop (subst (λ n. stop < n) last.many lt)).attained moment is)
-      (λ past. absurd (none-some moment (sym (ap (λ o. unwrap_or o None) (slice_get_past lasts stop past)) ∙ is)))
-      (cases_lt stop (length lasts));
+  attained = last.attained;
 }
 
 -- any moment is early enough where no list says, and no ride is too late then

@@ -1,5 +1,6 @@
 pub mod ArrivalLaws
 pub mod CaughtLaws
 pub mod DepartureLaws
+pub mod LastLaws
 pub mod LatestLaws
 pub mod MarkLaws

@@ -160,8 +160,8 @@ no_marks feed query marks none = subst (λ ms. AreMarks feed (seeking query ms))
   all = λ more stop. refl;
 })
 
--- marks that were written in place
-pub marks_back : (items new : List Bool) (len : ℕ) → len ≡ length items → length new ≡ length items →
+-- what was written in place
+pub marks_back : {X : Type 0} (items new : List X) (len : ℕ) → len ≡ length items → length new ≡ length items →
     take len (new ++ drop (length new) items) ≡ new
 marks_back items new len long same =
     ap (λ rest. take len (new ++ rest)) (drop_all (length new) items (omega (arith, same)))

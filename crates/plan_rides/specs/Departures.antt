@@ -99,6 +99,21 @@ pub record Serves (feed : FeedRows) (patterns : List PatternOf) (stop : ℕ) (se
 abbrev pub run_by : Ride → Run
 run_by ride = record { trip = ride.trip; day = ride.day; shift = ride.shift }
 
+-- a run of a pattern, in its feed
+abbrev pub run_in : FeedRows → Run → RunOf
+run_in feed run = run_of feed run.trip run.day run.shift
+
+-- its trip runs so
+abbrev pub IsRunOf : FeedRows → Run → Type 0
+IsRunOf feed run = IsRun (run_in feed run)
+
+-- the patterns have runs of the feed alone, and that of each ride that may be caught
+pub record HoldsRuns (feed : FeedRows) (sought : Seeking) (patterns : PatternsOf) : Type 0 where
+  pub of : patterns.feed ≡ feed
+  pub runs : (p : ℕ) → All (IsRunOf feed) (runs_at patterns.patterns p)
+  pub all : (ride : Ride) (facts : RideFacts) → IsSpanned feed sought ride facts →
+      (p : ℕ) × (p < length patterns.patterns) × Contains (runs_at patterns.patterns p) (run_by ride)
+
 -- the ride is by one of the pattern's runs, and boards it at the position
 pub record TakesServing (patterns : List PatternOf) (serving : Serving) (ride : Ride) : Type 0 where
   pub run : Contains (runs_at patterns serving.pattern) (run_by ride)

@@ -1,50 +1,20 @@
 -- How late one may be at each stop.
-use Rattle.std.specs.Prelude.{◌≡◌, ℕ, ◌<◌, Bool, true, false, List, Option, Some, None, slice_get, length, unwrap_or, Contains, ℤ, pos, ◌+ℤ◌, ◌≤ℤ◌}
+use Rattle.std.specs.Prelude.{◌≡◌, ℕ, ◌<◌, true, false, List, Option, Some, None, slice_get, length, unwrap_or, ℤ, pos, ◌+ℤ◌, ◌≤ℤ◌}
 use Rattle.transit_base.specs.declared.moments.Moment.{Moment}
 use Rattle.transit_base.specs.declared.numbers.StopId.{StopId}
-use Rattle.feed_rows.specs.declared.journeys.Call.{Call}
 use Rattle.feed_rows.specs.declared.journeys.Query.{Query}
 use Rattle.feed_rows.specs.declared.journeys.Ride.{Ride}
 use Rattle.feed_rows.specs.declared.journeys.RideFacts.{RideFacts}
 use Rattle.feed_rows.specs.FeedRows.{FeedRows}
-use Rattle.feed_rows.specs.Calls.{calls_of}
 use Rattle.feed_rows.specs.JourneyStands.{Stand}
 use Rattle.feed_rows.specs.Rides.{ride_facts}
 use Rattle.feed_walks.specs.OutOf.{out_of}
 use Rattle.feed_walks.specs.declared.steps.Step.{Step}
-use Rattle.plan_rides.specs.declared.departures.Departure.{Departure}
-use Rattle.plan_rides.specs.Boarding.{Seeking}
-use Rattle.plan_rides.specs.Departures.{IsSpanned, facts_in_time}
 use Rattle.plan_rides.specs.InTime.{AreLastDepartures, IsWithinWindow, deadline, next_in_time, is_by, is_early}
 
 -- the latest moment at the stop; none where there is none, and past the last stop
 abbrev pub latest_at : List (Option Moment) → ℕ → Option Moment
 latest_at latest stop = unwrap_or (slice_get latest stop) None
-
--- the ride with these facts gets somewhere early enough
-abbrev pub gets_early : List (Option Moment) → Option RideFacts → Bool
-gets_early latest (Some facts) = is_early latest facts.to.0 facts.arrival.0
-gets_early latest None = false
-
--- so does the one by the departure to the call
-abbrev pub leads_to : Query → List (Option Moment) → Departure → Call → Bool
-leads_to query latest d call = gets_early latest (facts_in_time query d call)
-
--- some ride by the departure does
-abbrev pub LeadsOn : FeedRows → Query → List (Option Moment) → Departure → Type 0
-LeadsOn feed query latest d =
-    (to : ℕ) × (d.from < to) × (call : Call) × (slice_get (calls_of feed d.trip) to ≡ Some call) × (leads_to query latest d call ≡ true)
-
--- some departure of these leads on, at this very moment
-abbrev pub HasLeading : FeedRows → Query → List (Option Moment) → List Departure → Moment → Type 0
-HasLeading feed query latest departures moment =
-    (d : Departure) × Contains departures d × LeadsOn feed query latest d × (d.at ≡ moment)
-
--- none of these departures leads on after the last moment, and where there is one, some departure leads on then
-pub record IsLastOf (feed : FeedRows) (query : Query) (latest : List (Option Moment)) (departures : List Departure)
-    (last : Option Moment) : Type 0 where
-  pub all : (d : Departure) → Contains departures d → LeadsOn feed query latest d → is_by last d.at.0 ≡ true
-  pub attained : (moment : Moment) → last ≡ Some moment → HasLeading feed query latest departures moment
 
 -- some ride departs from the stop at this very moment, no earlier than the query, arrives in time, and gets somewhere
 -- early enough
@@ -58,28 +28,6 @@ pub record HasEarlyRide (feed : FeedRows) (query : Query) (latest : List (Option
   pub since : query.departure.0 ≤ℤ facts.departure.0
   pub until : facts.arrival.0 ≤ℤ deadline query
   pub early : is_early latest facts.to.0 facts.arrival.0 ≡ true
-
--- none of the rides of this part from the stop that may be caught and get somewhere early enough departs after the last
--- moment, and where there is one, such a ride departs from the stop then
-pub record IsLastBy (feed : FeedRows) (sought : Seeking) (latest : List (Option Moment)) (stop : ℕ) (Part : Ride → Type 0)
-    (last : Option Moment) : Type 0 where
-  pub all : (ride : Ride) (facts : RideFacts) → IsSpanned feed sought ride facts → facts.from.0 ≡ stop →
-      is_early latest facts.to.0 facts.arrival.0 ≡ true → Part ride → is_by last facts.departure.0 ≡ true
-  pub attained : (moment : Moment) → last ≡ Some moment → HasEarlyRide feed sought.query latest stop moment
-
--- so it is with all rides from the stop
-abbrev pub IsLastFrom : FeedRows → Seeking → List (Option Moment) → ℕ → Option Moment → Type 0
-IsLastFrom feed sought latest stop last = IsLastBy feed sought latest stop (λ ride. Unit {0}) last
-
--- so it is at each of the first n stops
-abbrev pub AreLastOnes : FeedRows → Seeking → List (Option Moment) → ℕ → List (Option Moment) → Type 0
-AreLastOnes feed sought latest n lasts =
-    (stop : ℕ) → stop < n → IsLastFrom feed sought latest stop (latest_at lasts stop)
-
--- they are as many as the stops
-pub record AreAllLast (feed : FeedRows) (sought : Seeking) (latest lasts : List (Option Moment)) : Type 0 where
-  pub many : length lasts ≡ length feed.stops
-  pub all : AreLastOnes feed sought latest (length feed.stops) lasts
 
 -- they are as many as the stops; no ride of the query that gets somewhere early enough departs after the moment at its
 -- stop, and each moment is one at which such a ride departs from there

@@ -1,7 +1,7 @@
 //! The departures of a query's window, and the patterns whose runs they are of.
 ghost use Rattle.std.specs.Prelude.{◌≡◌, ◌<◌, ◌≤◌, length, IfOk, OnOk, slice_index_or};
 ghost use Rattle.plan_rides.specs.Boarding.{is_boarding};
-ghost use Rattle.plan_rides.specs.Departures.{AddsTrip, AreBoarded, AreDepartures, AreListed, AreServed, AreSince, DoRise};
+ghost use Rattle.plan_rides.specs.Departures.{AddsTrip, AreBoarded, AreDepartures, AreListed, AreServed, AreSince, DoRise, HoldsRuns};
 ghost use Rattle.plan_rides.specs.Departures.{IsDeparture, IsFirstLate, Serves, departure_by, facts_in_time, ride_to};
 ghost use Rattle.plan_rides.specs.InTime.{deadline, IsUsualQuery};
 ghost use Rattle.plan_rides.specs.Runs.{run_of};
@@ -152,7 +152,8 @@ pub fn patterns_of<'t, 'f>(
     sought: &Sought,
 ) -> Result<Patterns<'t, 'f>, AllocError>
     requires usual { IsUsualQuery sought.now.query }
-    ensures { IfOk result (λ patterns. AreDepartures timetable.now sought.now patterns) }
+    ensures held { IfOk result (λ patterns. HoldsRuns timetable.now sought.now patterns) }
+    ensures served { IfOk result (λ patterns. AreDepartures timetable.now sought.now patterns) }
 {
     let trips = boarded_trips(alloc, timetable, sought)?;
     let patterns = Patterns::build(alloc, timetable, sought.query(), &trips)?;
@@ -243,13 +244,6 @@ impl<'t, 'f> Departures<'t, 'f> {
             runs: patterns.runs(serving.pattern),
             boardings: patterns.boardable(serving.pattern, serving.position, from),
         }
-    }
-
-    /// How many there are.
-    pub fn len(&self) -> usize
-        ensures { result ≡ length self.now }
-    {
-        self.boardings.len()
     }
 
     /// The one at a place.

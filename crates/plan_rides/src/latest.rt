@@ -1,16 +1,10 @@
 //! How late one may be at each stop, so that one still gets on early enough.
-ghost use Rattle.std.specs.Prelude.{◌≡◌, ◌⊎◌, ℤ, ◌<◌, ◌≤◌, ◌≤ℤ◌, ◌+ℤ◌, pos, true, false, length, All, Contains, IfOk};
-ghost use Rattle.plan_rides.specs.Departures.{AreDepartures, DoRise, IsDeparture};
+ghost use Rattle.std.specs.Prelude.{◌≡◌, ◌⊎◌, ℤ, ◌≤ℤ◌, ◌+ℤ◌, pos, true, length, IfOk};
 ghost use Rattle.plan_rides.specs.InTime.{IsUsualQuery, is_by, is_early};
-ghost use Rattle.plan_rides.specs.Latest.{AreAllBefore, AreAllLast, HasLeading, IsLastFrom, IsLatestBefore, LeadsOn, latest_at, leads_to};
-ghost use Rattle.plan_rides.specs.declared.departures.Departure.{Departure};
-ghost use Rattle.transit_base.specs.Limits.{most_time};
+ghost use Rattle.plan_rides.specs.Latest.{AreAllBefore, IsLatestBefore, latest_at};
 
-use crate::departures::{Departure, Departures, servings_of};
-use crate::sought::Sought;
-use feed_rows::{Call, Query};
+use feed_rows::Query;
 use feed_timetable::Timetable;
-use plan_patterns::Patterns;
 use std::alloc::{AllocError, Global};
 use transit_base::{Moment, Secs, StopId};
 
@@ -36,70 +30,8 @@ pub fn is_early(latest: &[Option<Moment>], stop: StopId, at: Moment) -> bool
     }
 }
 
-/// Whether the ride by the departure to the call arrives early enough.
-fn leads_to(
-    timetable: &Timetable,
-    query: &Query,
-    latest: &[Option<Moment>],
-    departure: &Departure,
-    call: &Call,
-) -> bool
-    requires usual { IsUsualQuery query.now }
-    requires right { IsDeparture timetable.now departure.now }
-    requires time { call.now.arrival ≤ most_time }
-    ensures { result ≡ leads_to query.now latest.now departure.now call.now }
-{
-    match departure.facts_in_time(timetable, query, call) {
-        Some(facts) => is_early(latest, facts.to, facts.arrival),
-        None => false,
-    }
-}
-
-/// Whether a ride by the departure arrives early enough.
-fn leads_on(
-    timetable: &Timetable,
-    query: &Query,
-    latest: &[Option<Moment>],
-    departure: &Departure,
-) -> bool
-    requires usual { IsUsualQuery query.now }
-    requires right { IsDeparture timetable.now departure.now }
-    ensures all { LeadsOn timetable.now query.now latest.now departure.now → result ≡ true }
-    ensures only { result ≡ true → LeadsOn timetable.now query.now latest.now departure.now }
-{
-    let calls = departure.run(timetable).calls();
-    for to in departure.from + 1..calls.len() as u32 {
-        if leads_to(timetable, query, latest, departure, &calls[to as usize]) {
-            return true;
-        }
-    }
-    false
-}
-
-/// When the last departure of these leads on; none where none does.
-fn last_of(
-    timetable: &Timetable,
-    query: &Query,
-    latest: &[Option<Moment>],
-    departures: &Departures,
-) -> Option<Moment>
-    requires usual { IsUsualQuery query.now }
-    requires right { All (IsDeparture timetable.now) departures.now }
-    requires rises { DoRise departures.now }
-    ensures all { (d : Departure) → Contains departures.now d → LeadsOn timetable.now query.now latest.now d → is_by result d.at.0 ≡ true }
-    ensures attained { (moment : Moment) → result ≡ Some moment → HasLeading timetable.now query.now latest.now departures.now moment }
-{
-    for k in (0..departures.len()).rev() {
-        let departure = departures.at(k);
-        if leads_on(timetable, query, latest, &departure) {
-            return Some(departure.at);
-        }
-    }
-    None
-}
-
 /// The later of the two moments.
-fn later(one: Option<Moment>, other: Option<Moment>) -> Option<Moment>
+pub fn later(one: Option<Moment>, other: Option<Moment>) -> Option<Moment>
     ensures one { (at : ℤ) → is_by one at ≡ true → is_by result at ≡ true }
     ensures other { (at : ℤ) → is_by other at ≡ true → is_by result at ≡ true }
     ensures is { (result ≡ one) ⊎ (result ≡ other) }
@@ -109,54 +41,6 @@ fn later(one: Option<Moment>, other: Option<Moment>) -> Option<Moment>
         (Some(_), None) => one,
         (None, _) => other,
     }
-}
-
-/// When the last departure from the stop leads on; none where none does. Of each pattern only those are looked at that aren't
-/// earlier than the last that is known.
-fn last_from<'t, 'f>(
-    timetable: &'t Timetable<'f>,
-    sought: &Sought,
-    patterns: &'t Patterns<'t, 'f>,
-    latest: &[Option<Moment>],
-    stop: StopId,
-) -> Option<Moment>
-    requires usual { IsUsualQuery sought.now.query }
-    requires held { AreDepartures timetable.now sought.now patterns.now }
-    ensures { IsLastFrom timetable.now sought.now latest.now stop.0 result }
-{
-    let query = sought.query();
-    let servings = servings_of(timetable, sought, patterns, stop);
-    let mut last = None;
-    for k in 0..servings.len() {
-        let from = last.unwrap_or(query.departure);
-        let departures = Departures::since(timetable, patterns, stop, &servings[k], from);
-        last = later(last, last_of(timetable, query, latest, &departures));
-    }
-    last
-}
-
-/// When the last departure from each stop leads on; none where none does.
-///
-/// # Errors
-/// Want of memory.
-pub fn last_departures<'t, 'f>(
-    alloc: Global,
-    timetable: &'t Timetable<'f>,
-    sought: &Sought,
-    patterns: &'t Patterns<'t, 'f>,
-    latest: &[Option<Moment>],
-) -> Result<Vec<Option<Moment>>, AllocError>
-    requires usual { IsUsualQuery sought.now.query }
-    requires held { AreDepartures timetable.now sought.now patterns.now }
-    ensures { IfOk result (λ lasts. AreAllLast timetable.now sought.now latest.now lasts.items) }
-{
-    let stops = timetable.feed().stops.items().len();
-    let mut lasts = Vec::with_capacity(alloc, stops)?;
-    for stop in 0..stops {
-        let last = last_from(timetable, sought, patterns, latest, StopId(stop as u32));
-        lasts.push(last)?;
-    }
-    Ok(lasts)
 }
 
 /// How late one may begin a walk that takes so long, to be by then where it leads.

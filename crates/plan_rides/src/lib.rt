@@ -3,6 +3,7 @@
 
 mod caught;
 mod departures;
+mod lasts;
 mod latest;
 mod rides;
 mod runs;

@@ -10,7 +10,8 @@ ghost use Rattle.plan_rides.specs.Latest.{AreLasts, IsOneMore};
 
 use crate::caught::{CaughtRide, Traveller};
 use crate::departures::{deadline, patterns_of};
-use crate::latest::{last_departures, latest_before};
+use crate::lasts::last_departures;
+use crate::latest::latest_before;
 use crate::sought::Sought;
 use feed_rows::Query;
 use feed_timetable::{Standing, Timetable};
@@ -46,14 +47,14 @@ impl<'s, 'f> Model for Rides<'s, 'f> {
     ghost use Rattle.std.specs.Prelude.{◌≡◌};
     ghost use Rattle.plan_rides.specs.Asked.{Asked, asked};
     ghost use Rattle.plan_rides.specs.Boarding.{AreMarks};
-    ghost use Rattle.plan_rides.specs.Departures.{AreDepartures};
+    ghost use Rattle.plan_rides.specs.Departures.{AreDepartures, HoldsRuns};
     ghost use Rattle.plan_rides.specs.InTime.{IsUsualQuery, IsDeadline};
 
     ghost Value = { Asked };
 
     ghost view = { λ s. asked s.timetable.now s.query.now };
 
-    ghost invariant = { λ s. IsUsualQuery s.query.now × IsDeadline s.query.now s.deadline.0 × AreDepartures s.timetable.now s.sought s.patterns × (s.sought.query ≡ s.query.now) × AreMarks s.timetable.now s.sought };
+    ghost invariant = { λ s. IsUsualQuery s.query.now × IsDeadline s.query.now s.deadline.0 × AreDepartures s.timetable.now s.sought s.patterns × (s.sought.query ≡ s.query.now) × AreMarks s.timetable.now s.sought × HoldsRuns s.timetable.now s.sought s.patterns };
 }
 
 impl<'s, 'f> Rides<'s, 'f> {
