@@ -286,7 +286,7 @@ adds_among feed query latest stand departures k x old mid new lt before adds =
 
 -- a ride that is caught and boards at a position that serves a stop is by one of the departures from there since one gets
 -- to the stop
-by_since : (feed : FeedRows) (query : Query) (stand : Stand) (stop : StopId) (way : ℕ) (earliest : ℤ)
+pub by_since : (feed : FeedRows) (query : Query) (stand : Stand) (stop : StopId) (way : ℕ) (earliest : ℤ)
     (patterns : List PatternOf) (serving : Serving) (departures : List Departure) (ride : Ride) (next : Stand) →
     way_to feed query stand stop ≡ Some way → earliest ≡ stand.at +ℤ pos way → Serves feed patterns stop.0 serving →
     AreSince feed patterns serving stop.0 earliest departures → TakesServing patterns serving ride →
@@ -301,51 +301,6 @@ by_since feed query stand stop way earliest patterns serving departures ride nex
   where
     met : (at departs earliest : ℤ) (walked way : ℕ) → (at +ℤ pos walked) ≤ℤ departs → earliest ≡ at +ℤ pos way → walked ≡ way → earliest ≤ℤ departs
     met at departs earliest walked way a b c = omega (arith, ints)
-
--- one position more
-pub adds_serving : (feed : FeedRows) (query : Query) (latest : List (Option Moment)) (stand : Stand) (stop : StopId)
-    (way : ℕ) (earliest : ℤ) (patterns : List PatternOf) (servings : List Serving) (k : ℕ) (x : Serving)
-    (departures : List Departure) (old mid new : List CaughtRide) → k < length servings →
-    way_to feed query stand stop ≡ Some way → earliest ≡ stand.at +ℤ pos way →
-    Serves feed patterns stop.0 (get_or servings k x) →
-    AreSince feed patterns (get_or servings k x) stop.0 earliest departures →
-    AddsCaught feed query latest stand (TakesOneOf patterns servings k) old mid →
-    AddsCaught feed query latest stand (IsByAmong feed departures (length departures)) mid new →
-    AddsCaught feed query latest stand (TakesOneOf patterns servings (k + 1)) old new
-adds_serving feed query latest stand stop way earliest patterns servings k x departures old mid new lt way_is at serves since before adds =
-    adds_more feed query latest stand (TakesOneOf patterns servings k) (IsByAmong feed departures (length departures))
-    (TakesOneOf patterns servings (k + 1)) old mid new before adds
-    (λ ride next e takes.
-    ⊎_elim inl
-    (λ here. inr (by_since feed query stand stop way earliest patterns (get_or servings k x) departures ride next way_is at serves since here e))
-    (takes_more patterns servings k x ride lt takes))
-
--- before the first position
-pub adds_unserved : (feed : FeedRows) (query : Query) (latest : List (Option Moment)) (stand : Stand)
-    (patterns : List PatternOf) (servings : List Serving) (rides : List CaughtRide) →
-    AddsCaught feed query latest stand (TakesOneOf patterns servings 0) rides rides
-adds_unserved feed query latest stand patterns servings rides =
-    adds_none feed query latest stand (TakesOneOf patterns servings 0) rides
-    (λ ride next e takes. let below = takes.1 in omega (arith, below))
-
--- all positions that serve a stop
-pub adds_stop : (feed : FeedRows) (query : Query) (latest : List (Option Moment)) (sought : Seeking) (stand : Stand)
-    (stop n : ℕ) (patterns : List PatternOf) (servings : List Serving) (old new : List CaughtRide) →
-    sought.query ≡ query → IsWithinWindow query stand.at → MayBoard feed sought stand →
-    AreServed feed sought patterns stop servings → length servings ≤ n →
-    AddsCaught feed query latest stand (TakesOneOf patterns servings n) old new →
-    AddsCaught feed query latest stand (BoardsAt feed stop) old new
-adds_stop feed query latest sought stand stop n patterns servings old new same within board served all adds =
-    adds_same feed query latest stand (TakesOneOf patterns servings n) (BoardsAt feed stop) old new adds
-    (λ ride next e boards.
-    let c = caught_ride feed sought.query stand ride next (subst (λ q. next_in_time feed q stand ride ≡ Some next)
-    (sym same) e) in
-    let from : c.facts.from.0 ≡ stop = ap (λ (f : RideFacts). f.from.0) (same_Some _ _ (sym c.is ∙ boards.is)) ∙ boards.at in
-    let spanned = caught_spanned feed sought stand ride next (subst (λ q. IsWithinWindow q stand.at)
-    (sym same) within) board c in
-    let takes = served.all ride c.facts spanned from in
-    let lt = takes.1 in
-    (takes.0, omega (arith, lt, all), takes.2, takes.3, takes.4))
 
 -- a stop to which there is no way has no ride
 pub adds_no_way : (feed : FeedRows) (query : Query) (latest : List (Option Moment)) (stand : Stand) (stop : StopId) (rides : List CaughtRide) → way_to feed query stand stop ≡ None → AddsCaught feed query latest stand (BoardsAt feed stop.0) rides rides

@@ -491,6 +491,27 @@ from_stop feed patterns stop serving b serves boards =
           ∙ ap (λ z. departure_by feed stop serving.position boards.run (record { 0 = z })) (sym boards.at);
     }
 
+-- the departure of a ride among those of the runs that depart from its position
+pub boarding_for : (feed : FeedRows) (patterns : List PatternOf) (serving : Serving) (ride : Ride) (facts : RideFacts)
+    (listed : List Boarding) (from : ℤ) →
+    AreBoardable feed (runs_at patterns serving.pattern) serving.position from listed →
+    ride_facts feed ride ≡ Some facts → TakesServing patterns serving ride → from ≤ℤ facts.departure.0 →
+    (b : Boarding) × Contains listed b × (b.at ≡ facts.departure)
+boarding_for feed patterns serving ride facts listed from are is takes since =
+    let runs = runs_at patterns serving.pattern in
+    let r = ride_facts_tells feed ride facts is in
+    let place = slice_get-Contains runs (run_by ride) takes.run in
+    let boarding : Boarding = record { run = place.0; at = facts.departure } in
+    let boards : IsBoarding feed runs serving.position boarding =
+    record {
+      run = run_by ride;
+      run_is = place.1;
+      call = r.boarding;
+      call_is = ap (slice_get (calls_of feed ride.trip)) (sym takes.from) ∙ r.boards;
+      at = ap (λ (f : RideFacts). f.departure.0) (sym r.facts_are);
+    } in
+    (boarding, are.all boarding boards since, refl)
+
 -- where a run is boarded for a ride, the ride departs
 departs_with : (feed : FeedRows) (patterns : List PatternOf) (stop : StopId) (serving : Serving) (ride : Ride)
     (facts : RideFacts) (listed : List Boarding) (from : ℤ) → Serves feed patterns stop.0 serving →

@@ -162,7 +162,7 @@ pub no_lasts : (feed : FeedRows) (query : Query) → AreLastDepartures feed quer
 no_lasts feed query ride facts is since until early = early_past [] facts.from.0 facts.departure.0 (omega arith)
 
 -- since when a ride that is caught departs, until when it arrives, and that it gets there early enough
-caught_parts : (feed : FeedRows) (query : Query) (latest : List (Option Moment)) (stand : Stand) (ride : Ride) (next : Stand) →
+pub caught_parts : (feed : FeedRows) (query : Query) (latest : List (Option Moment)) (stand : Stand) (ride : Ride) (next : Stand) →
     IsWithinWindow query stand.at → is_early latest next.stop.0 next.at ≡ true → (c : IsCaughtRide feed query stand ride next) →
     (query.departure.0 ≤ℤ c.facts.departure.0) × (c.facts.arrival.0 ≤ℤ deadline query)
     × (is_early latest c.facts.to.0 c.facts.arrival.0 ≡ true)
@@ -225,18 +225,23 @@ module _ (feed : FeedRows) (query : Query) (latest lasts new : List (Option Mome
 
 -- ---- departures that are too late
 
+-- whoever is earlier is early enough too
+pub earlier_early : (lasts : List (Option Moment)) (stop : ℕ) (x y : ℤ) → x ≤ℤ y → is_early lasts stop y ≡ true →
+    is_early lasts stop x ≡ true
+unfolding is_by_any
+earlier_early lasts stop x y le is = earlier_any (slice_get lasts stop) is
+  where
+    earlier_any : (o : Option (Option Moment)) → is_by_any o y ≡ true → is_by_any o x ≡ true
+    earlier_any None is = refl
+    earlier_any (Some latest) is = by_earlier latest x y le is
+
 -- what stands in the order of its moments is parted by what is early enough
 pub parted_early : (listed : List Boarding) (lasts : List (Option Moment)) (stop : ℕ) → AreInOrder listed →
     IsPartitionedBy (λ (b : Boarding). is_early lasts stop b.at.0) listed
-unfolding is_by_any
 parted_early listed lasts stop rises i j d le lt after = ⊎_elim
-    (λ (earlier : i < j). earlier_any (slice_get lasts stop) (get_or listed i d).at.0 (get_or listed j d).at.0 (rises i j d earlier lt) after)
+    (λ (earlier : i < j). earlier_early lasts stop (get_or listed i d).at.0 (get_or listed j d).at.0 (rises i j d earlier lt) after)
     (λ (later : j ≤ i). let same : j ≡ i = omega (arith, le, later) in subst (λ k. is_early lasts stop (get_or listed k d).at.0 ≡ true) same after)
     (cases_lt i j)
-  where
-    earlier_any : (o : Option (Option Moment)) (x y : ℤ) → x ≤ℤ y → is_by_any o y ≡ true → is_by_any o x ≡ true
-    earlier_any None x y le is = refl
-    earlier_any (Some latest) x y le is = by_earlier latest x y le is
 
 -- where boardings from one on are too late, the departures by them are
 pub late_boardings : (feed : FeedRows) (at : StopId) (position : ℕ) (runs : List Run) (listed : List Boarding)

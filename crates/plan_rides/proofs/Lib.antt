@@ -4,3 +4,4 @@ pub mod DepartureLaws
 pub mod LastLaws
 pub mod LatestLaws
 pub mod MarkLaws
+pub mod ServedLaws

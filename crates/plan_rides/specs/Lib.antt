@@ -5,4 +5,5 @@ pub mod InTime
 pub mod Lasts
 pub mod Latest
 pub mod Runs
+pub mod Served
 pub mod Travelling

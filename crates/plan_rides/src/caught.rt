@@ -4,16 +4,19 @@ ghost use Rattle.feed_rows.specs.Calls.{calls_of};
 ghost use Rattle.feed_rows.specs.declared.journeys.Call.{Call};
 ghost use Rattle.feed_timetable.specs.Standings.{stand_of};
 ghost use Rattle.plan_rides.specs.Boarding.{MayBoard};
-ghost use Rattle.plan_rides.specs.Departures.{AreDepartures, BoardsAt, DoRise, IsBy, IsByAmong, IsDeparture, IsByTo, IsFromStop, IsReached, facts_in_time};
+ghost use Rattle.plan_rides.specs.Departures.{BoardsAt, DoRise, IsBy, IsByAmong, IsDeparture, IsByTo, IsFromStop, IsReached, facts_in_time};
 ghost use Rattle.plan_rides.specs.InTime.{AreLastDepartures, IsUsualQuery, IsWithinWindow, AddsCaught, HasCaughtBy, IsRight, is_early};
+ghost use Rattle.plan_rides.specs.Served.{AreTimedStops};
 ghost use Rattle.plan_rides.specs.Travelling.{IsBarred, travelling};
 ghost use Rattle.transit_base.specs.Limits.{most_time};
 
-use crate::departures::{Departure, Departures, servings_of};
+use crate::departures::{Departure, Departures};
 use crate::latest::is_early;
+use crate::servings::TimedServing;
 use crate::sought::Sought;
 use feed_rows::{Call, Query, Ride, RideFacts};
 use feed_timetable::{Standing, Timetable};
+use plain_laws::Groups;
 use plan_patterns::Patterns;
 use std::alloc::{AllocError, Global};
 use std::marker::Model;
@@ -26,14 +29,16 @@ pub struct CaughtRide {
     pub facts: RideFacts,
 }
 
-/// A traveller of a query, how late they may arrive at stops, and where they stand. Contracts see it as the feed, the query,
-/// the latest moments by stop, and the stand.
+/// A traveller of a query, how late they may arrive at stops, and where they stand. Contracts see it as the feed, the
+/// query, the latest moments by stop, and the stand.
 #[derive(Drop)]
 pub struct Traveller<'s, 'f> {
     timetable: &'s Timetable<'f>,
     sought: &'s Sought<'s>,
     query: &'s Query,
     patterns: &'s Patterns<'s, 'f>,
+    /// Where and when the patterns serve each stop.
+    served: &'s Groups<TimedServing>,
     /// By stop; none where they needn't arrive at all. At a stop past their end any moment will do.
     latest: &'s [Option<Moment>],
     /// When the last departure from each stop gets somewhere early enough.
@@ -45,30 +50,32 @@ impl<'s, 'f> Model for Traveller<'s, 'f> {
     ghost use Rattle.std.specs.Prelude.{◌≡◌};
     ghost use Rattle.feed_timetable.specs.Standings.{stand_of};
     ghost use Rattle.plan_rides.specs.Boarding.{MayBoard};
-    ghost use Rattle.plan_rides.specs.Departures.{AreDepartures};
     ghost use Rattle.plan_rides.specs.InTime.{AreLastDepartures, IsUsualQuery, IsWithinWindow};
+    ghost use Rattle.plan_rides.specs.Served.{AreTimedStops};
     ghost use Rattle.plan_rides.specs.Travelling.{Travelling, travelling};
 
     ghost Value = { Travelling };
 
     ghost view = { λ s. travelling s.timetable.now s.query.now s.latest.now (stand_of s.standing) };
 
-    ghost invariant = { λ s. IsUsualQuery s.query.now × IsWithinWindow s.query.now s.standing.at.0 × AreDepartures s.timetable.now s.sought.now s.patterns.now × (s.sought.now.query ≡ s.query.now) × MayBoard s.timetable.now s.sought.now (stand_of s.standing) × AreLastDepartures s.timetable.now s.query.now s.latest.now s.lasts.now };
+    ghost invariant = { λ s. IsUsualQuery s.query.now × IsWithinWindow s.query.now s.standing.at.0 × AreTimedStops s.timetable.now s.sought.now s.patterns.now s.served.now × (s.sought.now.query ≡ s.query.now) × MayBoard s.timetable.now s.sought.now (stand_of s.standing) × AreLastDepartures s.timetable.now s.query.now s.latest.now s.lasts.now };
 }
 
 impl<'s, 'f> Traveller<'s, 'f> {
-    /// The traveller of the query, with the patterns of the runs that are sought for it, who stands there and arrives by these moments.
+    /// The traveller of the query, with the patterns of the runs that are sought for it, who stands there and arrives by
+    /// these moments.
     pub fn new(
         timetable: &'s Timetable<'f>,
         sought: &'s Sought<'s>,
         patterns: &'s Patterns<'s, 'f>,
+        served: &'s Groups<TimedServing>,
         latest: &'s [Option<Moment>],
         lasts: &'s [Option<Moment>],
         standing: Standing,
     ) -> Traveller<'s, 'f>
         requires usual { IsUsualQuery sought.now.query }
         requires within { IsWithinWindow sought.now.query standing.at.0 }
-        requires held { AreDepartures timetable.now sought.now patterns.now }
+        requires served { AreTimedStops timetable.now sought.now patterns.now served.now }
         requires boards { MayBoard timetable.now sought.now (stand_of standing) }
         requires lasts { AreLastDepartures timetable.now sought.now.query latest.now lasts.now }
         ensures { result ≡ travelling timetable.now sought.now.query latest.now (stand_of standing) }
@@ -78,6 +85,7 @@ impl<'s, 'f> Traveller<'s, 'f> {
             sought,
             query: sought.query(),
             patterns,
+            served,
             latest,
             lasts,
             standing,
@@ -171,7 +179,8 @@ impl<'s, 'f> Traveller<'s, 'f> {
         Ok(())
     }
 
-    // Adds the rides from a stop: by the departures since one gets there, pattern by pattern.
+    // Adds the rides from a stop: by the departures since one gets there, pattern by pattern. A position from which the
+    // last run has left by then, or the first departs too late, is passed over.
     fn add_stop(&self, stop: StopId, rides: &mut Vec<CaughtRide>) -> Result<(), AllocError>
         ensures { OnOk result (AddsCaught self.now.feed self.now.query self.now.latest self.now.stand (BoardsAt self.now.feed stop.0) rides.old.items rides.new.items) }
     {
@@ -180,16 +189,19 @@ impl<'s, 'f> Traveller<'s, 'f> {
         };
         let earliest = self.standing.at.plus(Secs(seconds));
         let patterns = self.patterns;
-        let servings = servings_of(self.timetable, self.sought, patterns, stop);
-        for k in 0..servings.len() {
-            let departures = Departures::since(
-                self.timetable,
-                patterns,
-                stop,
-                &servings[k],
-                earliest,
-            );
-            self.add_departures(stop, &departures, rides)?;
+        let served = self.served.get(stop.0 as usize);
+        for k in 0..served.len() {
+            let timed = &served[k];
+            if timed.is_open(earliest, self.lasts, stop) {
+                let departures = Departures::since(
+                    self.timetable,
+                    patterns,
+                    stop,
+                    &timed.serving,
+                    earliest,
+                );
+                self.add_departures(stop, &departures, rides)?;
+            }
         }
         Ok(())
     }

@@ -7,6 +7,7 @@ mod lasts;
 mod latest;
 mod rides;
 mod runs;
+mod servings;
 mod sought;
 
 pub use caught::CaughtRide;

@@ -12,9 +12,11 @@ use crate::caught::{CaughtRide, Traveller};
 use crate::departures::{deadline, patterns_of};
 use crate::lasts::last_departures;
 use crate::latest::latest_before;
+use crate::servings::{TimedServing, served_stops};
 use crate::sought::Sought;
 use feed_rows::Query;
 use feed_timetable::{Standing, Timetable};
+use plain_laws::Groups;
 use plan_patterns::Patterns;
 use std::alloc::{AllocError, Global};
 use std::marker::Model;
@@ -27,6 +29,8 @@ pub struct Rides<'s, 'f> {
     query: &'s Query,
     sought: Sought<'s>,
     patterns: Patterns<'s, 'f>,
+    /// Where and when the patterns serve each stop.
+    served: Groups<TimedServing>,
     deadline: Moment,
 }
 
@@ -38,6 +42,7 @@ impl<'s, 'f> Drop for Rides<'s, 'f> {
             query: _,
             sought: _,
             patterns: _,
+            served: _,
             deadline: _,
         } = self;
     }
@@ -47,14 +52,15 @@ impl<'s, 'f> Model for Rides<'s, 'f> {
     ghost use Rattle.std.specs.Prelude.{◌≡◌};
     ghost use Rattle.plan_rides.specs.Asked.{Asked, asked};
     ghost use Rattle.plan_rides.specs.Boarding.{AreMarks};
-    ghost use Rattle.plan_rides.specs.Departures.{AreDepartures, HoldsRuns};
+    ghost use Rattle.plan_rides.specs.Departures.{HoldsRuns};
     ghost use Rattle.plan_rides.specs.InTime.{IsUsualQuery, IsDeadline};
+    ghost use Rattle.plan_rides.specs.Served.{AreTimedStops};
 
     ghost Value = { Asked };
 
     ghost view = { λ s. asked s.timetable.now s.query.now };
 
-    ghost invariant = { λ s. IsUsualQuery s.query.now × IsDeadline s.query.now s.deadline.0 × AreDepartures s.timetable.now s.sought s.patterns × (s.sought.query ≡ s.query.now) × AreMarks s.timetable.now s.sought × HoldsRuns s.timetable.now s.sought s.patterns };
+    ghost invariant = { λ s. IsUsualQuery s.query.now × IsDeadline s.query.now s.deadline.0 × AreTimedStops s.timetable.now s.sought s.patterns s.served × (s.sought.query ≡ s.query.now) × AreMarks s.timetable.now s.sought × HoldsRuns s.timetable.now s.sought s.patterns };
 }
 
 impl<'s, 'f> Rides<'s, 'f> {
@@ -72,11 +78,13 @@ impl<'s, 'f> Rides<'s, 'f> {
     {
         let sought = Sought::new(alloc, timetable, query)?;
         let patterns = patterns_of(alloc, timetable, &sought)?;
+        let served = served_stops(alloc, timetable, &sought, &patterns)?;
         Ok(Rides {
             timetable,
             query,
             sought,
             patterns,
+            served,
             deadline: deadline(query),
         })
     }
@@ -155,6 +163,7 @@ impl<'s, 'f> Rides<'s, 'f> {
             self.timetable,
             &self.sought,
             &self.patterns,
+            &self.served,
             latest,
             lasts,
             standing,

@@ -1,0 +1,310 @@
+-- The moments between which the rides depart that board at a position.
+use Rattle.std.proofs.Common.{◌≡◌, refl, sym, ◌∙◌, ap, subst, ℕ, ◌+◌, ◌-◌, ◌<◌, ◌≤◌, ◌⊎◌, inl, inr, ⊎_elim, Bool, true, false, ◌&&◌, List, [], ◌∷◌, ◌++◌, length, get_or, arith, ℤ, pos, ◌+ℤ◌, ◌≤ℤ◌}
+use Rattle.std.specs.Prelude.{Option, Some, slice_get, unwrap_or, All, Contains, int_le}
+use Rattle.std.proofs.lemmas.Int.{ints}
+use Rattle.std.proofs.lemmas.Bool.{and_from, both_ways, cases_lt}
+use Rattle.std.proofs.lemmas.List.{get_or_default, length_push}
+use Rattle.std.proofs.lemmas.List.Elements.{All-append, All-cons, All-nil}
+use Rattle.std.proofs.lemmas.Option.{same_Some, slice_get_past, slice_get_within, slice_get-get_or}
+use Rattle.transit_base.specs.declared.moments.Moment.{Moment}
+use Rattle.transit_base.specs.declared.numbers.StopId.{StopId}
+use Rattle.feed_rows.specs.declared.journeys.Query.{Query}
+use Rattle.feed_rows.specs.declared.journeys.Ride.{Ride}
+use Rattle.feed_rows.specs.declared.journeys.RideFacts.{RideFacts}
+use Rattle.feed_rows.specs.FeedRows.{FeedRows}
+use Rattle.feed_rows.specs.JourneyStands.{Stand, way_to}
+use Rattle.feed_rows.specs.Rides.{ride_facts}
+use Rattle.feed_rows.specs.SoundFeed.{IsSoundFeed}
+use Rattle.plain_laws.proofs.Laws.{le-int_le, slice_get-push_before, slice_get-push_last}
+use Rattle.plan_patterns.specs.declared.pattern.Boarding.{Boarding}
+use Rattle.plan_patterns.specs.declared.serving.Serving.{Serving}
+use Rattle.plan_patterns.specs.Columns.{AreBoardable, AreInOrder}
+use Rattle.plan_patterns.specs.Grouping.{PatternOf, PatternsOf, runs_at}
+use Rattle.plan_patterns.specs.Servings.{list_at}
+use Rattle.plan_rides.specs.declared.caught.CaughtRide.{CaughtRide}
+use Rattle.plan_rides.specs.declared.departures.Departure.{Departure}
+use Rattle.plan_rides.specs.declared.servings.TimedServing.{TimedServing}
+use Rattle.plan_rides.specs.Boarding.{MayBoard, Seeking}
+use Rattle.plan_rides.specs.Departures.{AreServed, AreSince, BoardsAt, IsByAmong, Serves, TakesOneOf, TakesServing}
+use Rattle.plan_rides.specs.InTime.{AddsCaught, AreLastDepartures, IsWithinWindow, deadline, is_early, next_in_time}
+use Rattle.plan_rides.specs.Served.{AddsTimed, AreTimed, AreTimedStops, IsTimed, TakesTimed, is_open}
+use Rattle.plan_rides.proofs.CaughtLaws.{IsCaughtRide, adds_more, adds_none, adds_same, by_since, caught_ride, caught_spanned}
+use Rattle.plan_rides.proofs.DepartureLaws.{boarding_for, ride_stop, taken_stop, takes_more}
+use Rattle.plan_rides.proofs.LatestLaws.{caught_parts, earlier_early}
+
+-- the stop of a number
+abbrev stop_id : ℕ → StopId
+stop_id n = record { 0 = n }
+
+-- ---- the positions of a stop
+
+-- a position that is listed is among more
+timed_still : (patterns : List PatternOf) (old : List TimedServing) (timed : TimedServing) (ride : Ride) →
+    TakesTimed patterns old (length old) ride →
+    TakesTimed patterns (old ++ timed ∷ []) (length (old ++ timed ∷ [])) ride
+timed_still patterns old timed ride takes =
+    let lt = takes.1 in
+    let long = length_push old timed in
+    (takes.0, omega (arith, lt, long), takes.2, slice_get-push_before old timed takes.0 lt ∙ takes.3, takes.4)
+
+-- one of which no run departs since the query does needn't be listed
+pub timed_past : (feed : FeedRows) (query : Query) (patterns : List PatternOf) (stop : ℕ) (serving : Serving)
+    (listed : List Boarding) (served : List TimedServing) → length listed ≡ 0 →
+    AreBoardable feed (runs_at patterns serving.pattern) serving.position query.departure.0 listed →
+    AddsTimed feed query patterns stop serving served served
+timed_past feed query patterns stop serving listed served none are = record {
+  still = λ ride takes. takes;
+  all = λ ride facts is since takes.
+      let found = boarding_for feed patterns serving ride facts listed query.departure.0 are is takes since in
+      let lt = found.1.1 in
+      absurd (omega (arith, lt, none));
+  right = λ right. right;
+}
+
+-- one that is listed with its first and its last departure
+pub timed_more : (feed : FeedRows) (query : Query) (patterns : List PatternOf) (stop : ℕ) (serving : Serving)
+    (listed : List Boarding) (x : Boarding) (timed : TimedServing) (old : List TimedServing) → timed.serving ≡ serving →
+    timed.first ≡ (get_or listed 0 x).at → timed.last ≡ (get_or listed (length listed - 1) x).at →
+    Serves feed patterns stop serving →
+    AreBoardable feed (runs_at patterns serving.pattern) serving.position query.departure.0 listed →
+    AddsTimed feed query patterns stop serving old (old ++ timed ∷ [])
+timed_more feed query patterns stop serving listed x timed old is first last serves are = record {
+  still = λ ride takes. timed_still patterns old timed ride takes;
+  all = λ ride facts goes since takes.
+      let long = length_push old timed in (
+        length old,
+        omega (arith, long),
+        timed,
+        slice_get-push_last old timed (length old) refl,
+        subst (λ s. TakesServing patterns s ride) (sym is) takes,
+      );
+  right = λ right. All-append (IsTimed feed query patterns stop) old (timed ∷ []) right
+      (All-cons (IsTimed feed query patterns stop) timed [] here (All-nil (IsTimed feed query patterns stop)));
+}
+  where
+    ordered : (i j : ℕ) → i ≤ j → j < length listed → (get_or listed i x).at.0 ≤ℤ (get_or listed j x).at.0
+    ordered i j le lt = ⊎_elim
+        (λ (before : i < j). are.rises i j x before lt)
+        (λ (past : j ≤ i).
+        let same : i ≡ j = omega (arith, le, past) in
+        subst (λ n. (get_or listed i x).at.0 ≤ℤ (get_or listed n x).at.0) same (omega (arith, ints)))
+        (cases_lt i j)
+
+    here : IsTimed feed query patterns stop timed
+    here = record {
+      serves = subst (Serves feed patterns stop) (sym is) serves;
+      bounds = λ ride facts goes takes since.
+          let found = boarding_for feed patterns serving ride facts listed query.departure.0 are goes
+          (subst (λ s. TakesServing patterns s ride) is takes) since in
+          let i = found.1.0 in
+          let lt = found.1.1 in
+          let there : (get_or listed i x).at.0 ≡ facts.departure.0 =
+          ap (λ (b : Boarding). b.at.0) (get_or_default listed i x found.0 lt ∙ found.1.2) ∙ ap (λ (m : Moment). m.0) found.2 in (
+            subst (λ (m : Moment). m.0 ≤ℤ facts.departure.0) (sym first)
+                (subst (λ z. (get_or listed 0 x).at.0 ≤ℤ z) there (ordered 0 i (omega arith) lt)),
+            subst (λ (m : Moment). facts.departure.0 ≤ℤ m.0) (sym last)
+                (subst (λ z. z ≤ℤ (get_or listed (length listed - 1) x).at.0) there
+                (ordered i (length listed - 1) (omega (arith, lt)) (omega (arith, lt)))),
+          );
+    }
+
+-- of the first n positions that serve a stop, those at which a ride boards since the query departs are listed
+pub record ListsTimed (feed : FeedRows) (query : Query) (patterns : List PatternOf) (stop : ℕ) (servings : List Serving)
+    (n : ℕ) (served : List TimedServing) : Type 0 where
+  pub all : (ride : Ride) (facts : RideFacts) → ride_facts feed ride ≡ Some facts →
+      query.departure.0 ≤ℤ facts.departure.0 → TakesOneOf patterns servings n ride →
+      TakesTimed patterns served (length served) ride
+  pub right : All (IsTimed feed query patterns stop) served
+
+pub lists_none : (feed : FeedRows) (query : Query) (patterns : List PatternOf) (stop : ℕ) (servings : List Serving) →
+    ListsTimed feed query patterns stop servings 0 []
+lists_none feed query patterns stop servings = record {
+  all = λ ride facts is since takes. let below = takes.1 in absurd (omega (arith, below));
+  right = All-nil (IsTimed feed query patterns stop);
+}
+
+pub lists_more : (feed : FeedRows) (query : Query) (patterns : List PatternOf) (stop : ℕ) (servings : List Serving)
+    (k : ℕ) (x : Serving) (old new : List TimedServing) → k < length servings →
+    ListsTimed feed query patterns stop servings k old →
+    AddsTimed feed query patterns stop (get_or servings k x) old new →
+    ListsTimed feed query patterns stop servings (k + 1) new
+lists_more feed query patterns stop servings k x old new lt before adds = record {
+  all = λ ride facts is since takes. ⊎_elim
+      (λ lower. adds.still ride (before.all ride facts is since lower))
+      (λ here. adds.all ride facts is since here)
+      (takes_more patterns servings k x ride lt takes);
+  right = adds.right before.right;
+}
+
+-- so all are that may be caught
+pub are_timed : (feed : FeedRows) (sought : Seeking) (patterns : List PatternOf) (stop n : ℕ) (servings : List Serving)
+    (served : List TimedServing) → AreServed feed sought patterns stop servings → length servings ≤ n →
+    ListsTimed feed sought.query patterns stop servings n served → AreTimed feed sought patterns stop served
+are_timed feed sought patterns stop n servings served are whole lists = record {
+  all = λ ride facts e from.
+      let takes = are.all ride facts e from in
+      let lt = takes.1 in
+      lists.all ride facts e.is e.since (takes.0, omega (arith, lt, whole), takes.2, takes.3, takes.4);
+  right = lists.right;
+}
+
+-- ---- all stops
+
+-- the positions of each of the first n stops
+abbrev pub AreTimedBelow : FeedRows → Seeking → List PatternOf → ℕ → List (List TimedServing) → Type 0
+AreTimedBelow feed sought patterns n by_stop =
+    (stop : ℕ) → stop < n → AreTimed feed sought patterns stop (list_at by_stop stop)
+
+-- with those of one more
+pub stops_more : (feed : FeedRows) (sought : Seeking) (patterns : List PatternOf) (n : ℕ)
+    (by_stop : List (List TimedServing)) (served : List TimedServing) → length by_stop ≡ n →
+    AreTimed feed sought patterns n served → AreTimedBelow feed sought patterns n by_stop →
+    AreTimedBelow feed sought patterns (n + 1) (by_stop ++ served ∷ [])
+stops_more feed sought patterns n by_stop served many here before stop below = ⊎_elim
+    (λ lt. subst (λ o. AreTimed feed sought patterns stop (unwrap_or o []))
+    (sym (slice_get-push_before by_stop served stop (subst (λ m. stop < m) (sym many) lt))) (before stop lt))
+    (λ le.
+    let same : stop ≡ n = omega (arith, le, below) in
+    subst (λ o. AreTimed feed sought patterns stop (unwrap_or o []))
+    (sym (slice_get-push_last by_stop served stop (same ∙ sym many)))
+    (subst (λ s. AreTimed feed sought patterns s served) (sym same) here))
+    (cases_lt stop n)
+
+-- past the last stop no ride boards
+pub stops_all : (feed : FeedRows) (sought : Seeking) (patterns : PatternsOf) (n : ℕ)
+    (by_stop : List (List TimedServing)) → IsSoundFeed feed → patterns.feed ≡ feed → length feed.stops ≤ n →
+    length by_stop ≡ n → AreTimedBelow feed sought patterns.patterns n by_stop →
+    AreTimedStops feed sought patterns by_stop
+stops_all feed sought patterns n by_stop sound of whole many each = record {
+  of = of;
+  each = λ stop. ⊎_elim
+      (λ lt. each stop lt)
+      (λ past. subst (λ o. AreTimed feed sought patterns.patterns stop (unwrap_or o []))
+      (sym (slice_get_past by_stop stop (omega (arith, past, many))))
+      (record {
+        all = λ ride facts e from.
+            let lt = ride_stop feed ride facts sound e.is in
+            absurd (omega (arith, lt, from, past, whole));
+        right = All-nil (IsTimed feed sought.query patterns.patterns stop);
+      }))
+      (cases_lt stop n);
+}
+
+-- ---- rides that are caught at a stop
+
+-- one position more
+timed_step : (patterns : List PatternOf) (served : List TimedServing) (k : ℕ) (x : TimedServing) (ride : Ride) →
+    k < length served → TakesTimed patterns served (k + 1) ride →
+    TakesTimed patterns served k ride ⊎ TakesServing patterns (get_or served k x).serving ride
+timed_step patterns served k x ride lt takes =
+    let below = takes.1 in
+    ⊎_elim (λ lower. inl (takes.0, lower, takes.2, takes.3, takes.4))
+    (λ upper.
+    let same : takes.0 ≡ k = omega (arith, below, upper) in
+    inr (subst (λ (t : TimedServing). TakesServing patterns t.serving ride)
+    (same_Some _ _ (sym takes.3 ∙ ap (slice_get served) same ∙ slice_get-get_or served k x lt)) takes.4))
+    (cases_lt takes.0 k)
+
+-- before the first position
+pub adds_untimed : (feed : FeedRows) (query : Query) (latest : List (Option Moment)) (stand : Stand)
+    (patterns : List PatternOf) (served : List TimedServing) (rides : List CaughtRide) →
+    AddsCaught feed query latest stand (TakesTimed patterns served 0) rides rides
+adds_untimed feed query latest stand patterns served rides =
+    adds_none feed query latest stand (TakesTimed patterns served 0) rides
+    (λ ride next e takes. let below = takes.1 in omega (arith, below))
+
+-- the rides that board at one position more
+pub adds_timed : (feed : FeedRows) (query : Query) (latest : List (Option Moment)) (stand : Stand) (stop : StopId)
+    (way : ℕ) (earliest : ℤ) (patterns : List PatternOf) (served : List TimedServing) (k : ℕ) (x : TimedServing)
+    (departures : List Departure) (old mid new : List CaughtRide) → k < length served →
+    way_to feed query stand stop ≡ Some way → earliest ≡ stand.at +ℤ pos way →
+    IsTimed feed query patterns stop.0 (get_or served k x) →
+    AreSince feed patterns (get_or served k x).serving stop.0 earliest departures →
+    AddsCaught feed query latest stand (TakesTimed patterns served k) old mid →
+    AddsCaught feed query latest stand (IsByAmong feed departures (length departures)) mid new →
+    AddsCaught feed query latest stand (TakesTimed patterns served (k + 1)) old new
+adds_timed feed query latest stand stop way earliest patterns served k x departures old mid new lt way_is at timed since
+    before adds =
+    adds_more feed query latest stand (TakesTimed patterns served k) (IsByAmong feed departures (length departures))
+    (TakesTimed patterns served (k + 1)) old mid new before adds
+    (λ ride next e takes.
+    ⊎_elim inl
+    (λ here. inr (by_since feed query stand stop way earliest patterns (get_or served k x).serving departures ride next way_is
+    at timed.serves since here e))
+    (timed_step patterns served k x ride lt takes))
+
+-- no ride is caught at a position from which the last run has left, or the first departs too late
+never_closed : (feed : FeedRows) (query : Query) (latest lasts : List (Option Moment)) (stand : Stand) (stop : StopId)
+    (way : ℕ) (earliest : ℤ) (patterns : List PatternOf) (timed : TimedServing) (ride : Ride) (next : Stand) →
+    IsWithinWindow query stand.at → AreLastDepartures feed query latest lasts →
+    way_to feed query stand stop ≡ Some way → earliest ≡ stand.at +ℤ pos way →
+    IsTimed feed query patterns stop.0 timed → is_open timed earliest lasts stop.0 ≡ false →
+    next_in_time feed query stand ride ≡ Some next → is_early latest next.stop.0 next.at ≡ true →
+    TakesServing patterns timed.serving ride → ⊥
+never_closed feed query latest lasts stand stop way earliest patterns timed ride next within last way_is at is closed e early
+    takes =
+    both_ways (is_open timed earliest lasts stop.0) closed
+    (and_from (int_le earliest timed.last.0) (is_early lasts stop.0 timed.first.0)
+    (le-int_le earliest timed.last.0 (met stand.at c.facts.departure.0 timed.last.0 c.way c.catches walked bounds.1 at))
+    (earlier_early lasts stop.0 timed.first.0 c.facts.departure.0 bounds.0
+    (subst (λ n. is_early lasts n c.facts.departure.0 ≡ true) boards
+    (last ride c.facts c.is parts.0 parts.1 parts.2))))
+  where
+    c : IsCaughtRide feed query stand ride next
+    c = caught_ride feed query stand ride next e
+
+    parts : (query.departure.0 ≤ℤ c.facts.departure.0) × (c.facts.arrival.0 ≤ℤ deadline query)
+        × (is_early latest c.facts.to.0 c.facts.arrival.0 ≡ true)
+    parts = caught_parts feed query latest stand ride next within early c
+
+    bounds : (timed.first.0 ≤ℤ c.facts.departure.0) × (c.facts.departure.0 ≤ℤ timed.last.0)
+    bounds = is.bounds ride c.facts c.is takes parts.0
+
+    boards : c.facts.from.0 ≡ stop.0
+    boards = taken_stop feed patterns stop.0 timed.serving ride c.facts is.serves takes c.is
+
+    walked : c.way ≡ way
+    walked = same_Some _ _ (sym c.way_is ∙ ap (way_to feed query stand) (ap stop_id boards) ∙ way_is)
+
+    met : (from departs until : ℤ) (walk : ℕ) → (from +ℤ pos walk) ≤ℤ departs → walk ≡ way → departs ≤ℤ until →
+        earliest ≡ from +ℤ pos way → earliest ≤ℤ until
+    met from departs until walk a b d same = omega (arith, ints)
+
+-- so it may be passed over
+pub adds_closed : (feed : FeedRows) (query : Query) (latest lasts : List (Option Moment)) (stand : Stand) (stop : StopId)
+    (way : ℕ) (earliest : ℤ) (patterns : List PatternOf) (served : List TimedServing) (k : ℕ) (x : TimedServing)
+    (old new : List CaughtRide) → k < length served → IsWithinWindow query stand.at →
+    AreLastDepartures feed query latest lasts → way_to feed query stand stop ≡ Some way →
+    earliest ≡ stand.at +ℤ pos way → IsTimed feed query patterns stop.0 (get_or served k x) →
+    is_open (get_or served k x) earliest lasts stop.0 ≡ false →
+    AddsCaught feed query latest stand (TakesTimed patterns served k) old new →
+    AddsCaught feed query latest stand (TakesTimed patterns served (k + 1)) old new
+adds_closed feed query latest lasts stand stop way earliest patterns served k x old new lt within last way_is at timed closed
+    before = record {
+  still = before.still;
+  all = λ ride next e wanted takes. ⊎_elim
+      (λ lower. before.all ride next e wanted lower)
+      (λ here. absurd (never_closed feed query latest lasts stand stop way earliest patterns (get_or served k x) ride next
+      within last way_is at timed closed e wanted here))
+      (timed_step patterns served k x ride lt takes);
+  right = before.right;
+}
+
+-- all positions that serve a stop
+pub adds_stop : (feed : FeedRows) (query : Query) (latest : List (Option Moment)) (sought : Seeking) (stand : Stand)
+    (stop n : ℕ) (patterns : List PatternOf) (served : List TimedServing) (old new : List CaughtRide) →
+    sought.query ≡ query → IsWithinWindow query stand.at → MayBoard feed sought stand →
+    AreTimed feed sought patterns stop served → length served ≤ n →
+    AddsCaught feed query latest stand (TakesTimed patterns served n) old new →
+    AddsCaught feed query latest stand (BoardsAt feed stop) old new
+adds_stop feed query latest sought stand stop n patterns served old new same within board timed all adds =
+    adds_same feed query latest stand (TakesTimed patterns served n) (BoardsAt feed stop) old new adds
+    (λ ride next e boards.
+    let c = caught_ride feed sought.query stand ride next (subst (λ q. next_in_time feed q stand ride ≡ Some next)
+    (sym same) e) in
+    let from : c.facts.from.0 ≡ stop = ap (λ (f : RideFacts). f.from.0) (same_Some _ _ (sym c.is ∙ boards.is)) ∙ boards.at in
+    let spanned = caught_spanned feed sought stand ride next (subst (λ q. IsWithinWindow q stand.at)
+    (sym same) within) board c in
+    let takes = timed.all ride c.facts spanned from in
+    let lt = takes.1 in
+    (takes.0, omega (arith, lt, all), takes.2, takes.3, takes.4))

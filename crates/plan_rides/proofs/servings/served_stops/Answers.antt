@@ -1,0 +1,29 @@
+use Rattle.std.proofs.Common.{◌+◌, ◌∙◌, ◌++◌, ◌∷◌, [], ap, length, subst, sym, arith}
+use Rattle.std.proofs.lemmas.List.{length_push}
+use Rattle.feed_rows.specs.FeedRows.{FeedRows}
+use Rattle.plan_rides.proofs.ServedLaws.{AreTimedBelow, stops_all, stops_more}
+use Rattle.plan_rides.proofs.servings.served_stops.Goals as goal
+
+pub loop-stop-preserved : goal.loop-stop-preserved
+loop-stop-preserved c =
+    let was = c.loop-stop.invariant in
+    let by_stop = c.loop-stop.by_stop in
+    let stop = c.loop-stop.stop in
+    let one = c.serve_stop.new.served.items in
+    let pushed = c.in_ok-push.ensures.ok ∙ ap (λ g. by_stop ++ g ∷ []) c.deref.ensures.value in
+    record {
+      many = ap length pushed ∙ length_push by_stop one ∙ ap (λ n. n + 1) was.many;
+      each = subst (AreTimedBelow c.args.timetable.now c.args.sought.now c.args.patterns.now.patterns (stop + 1)) (sym pushed)
+          (stops_more c.args.timetable.now c.args.sought.now c.args.patterns.now.patterns stop by_stop one was.many
+          c.in_ok-serve_stop.ensures was.each);
+    }
+
+pub returns : goal.returns
+returns c =
+    let past = c.loop-stop-test.false in
+    let stops = ap length c.items-stop-end.ensures.value in
+    let feed = ap (λ (f : FeedRows). length f.stops) c.feed.ensures.value in
+    let view = ap (λ (f : FeedRows). length f.stops) c.behind-timetable.view_is in
+    stops_all c.args.timetable.now c.args.sought.now c.args.patterns.now c.loop-stop.stop c.loop-stop.by_stop
+    c.feed.ensures.sound c.requires.of (omega (arith, past, stops, feed, view)) c.loop-stop.invariant.many
+    c.loop-stop.invariant.each

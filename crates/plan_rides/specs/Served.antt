@@ -1,0 +1,53 @@
+-- Where and when patterns serve stops.
+use Rattle.std.specs.Prelude.{◌≡◌, ℕ, ◌<◌, Bool, ◌&&◌, List, Option, Some, length, slice_get, All, ℤ, ◌≤ℤ◌, int_le}
+use Rattle.transit_base.specs.declared.moments.Moment.{Moment}
+use Rattle.feed_rows.specs.declared.journeys.Query.{Query}
+use Rattle.feed_rows.specs.declared.journeys.Ride.{Ride}
+use Rattle.feed_rows.specs.declared.journeys.RideFacts.{RideFacts}
+use Rattle.feed_rows.specs.FeedRows.{FeedRows}
+use Rattle.feed_rows.specs.Rides.{ride_facts}
+use Rattle.plan_patterns.specs.declared.serving.Serving.{Serving}
+use Rattle.plan_patterns.specs.Grouping.{PatternOf, PatternsOf}
+use Rattle.plan_patterns.specs.Servings.{list_at}
+use Rattle.plan_rides.specs.declared.servings.TimedServing.{TimedServing}
+use Rattle.plan_rides.specs.Boarding.{Seeking}
+use Rattle.plan_rides.specs.Departures.{IsSpanned, Serves, TakesServing}
+use Rattle.plan_rides.specs.InTime.{is_early}
+
+-- the last departure is no earlier than the moment, and the first no later than the last moment at the stop
+abbrev pub is_open : TimedServing → ℤ → List (Option Moment) → ℕ → Bool
+is_open timed from lasts stop = int_le from timed.last.0 && is_early lasts stop timed.first.0
+
+-- a position at which riders may board at this stop; each ride that boards there, no earlier than the query, departs no
+-- earlier than the first moment and no later than the last
+pub record IsTimed (feed : FeedRows) (query : Query) (patterns : List PatternOf) (stop : ℕ) (timed : TimedServing) : Type 0 where
+  pub serves : Serves feed patterns stop timed.serving
+  pub bounds : (ride : Ride) (facts : RideFacts) → ride_facts feed ride ≡ Some facts →
+      TakesServing patterns timed.serving ride → query.departure.0 ≤ℤ facts.departure.0 →
+      (timed.first.0 ≤ℤ facts.departure.0) × (facts.departure.0 ≤ℤ timed.last.0)
+
+-- the ride boards at one of the first n of these positions
+abbrev pub TakesTimed : List PatternOf → List TimedServing → ℕ → Ride → Type 0
+TakesTimed patterns served n ride =
+    (k : ℕ) × (k < n) × (timed : TimedServing) × (slice_get served k ≡ Some timed) × TakesServing patterns timed.serving ride
+
+-- such are these positions, and each ride that may be caught at the stop boards at one of them
+pub record AreTimed (feed : FeedRows) (sought : Seeking) (patterns : List PatternOf) (stop : ℕ)
+    (served : List TimedServing) : Type 0 where
+  pub all : (ride : Ride) (facts : RideFacts) → IsSpanned feed sought ride facts → facts.from.0 ≡ stop →
+      TakesTimed patterns served (length served) ride
+  pub right : All (IsTimed feed sought.query patterns stop) served
+
+-- so it is at each stop, with those that are listed by its number
+pub record AreTimedStops (feed : FeedRows) (sought : Seeking) (patterns : PatternsOf)
+    (by_stop : List (List TimedServing)) : Type 0 where
+  pub of : patterns.feed ≡ feed
+  pub each : (stop : ℕ) → AreTimed feed sought patterns.patterns stop (list_at by_stop stop)
+
+-- the new list has what it had, and the position, where a ride boards there no earlier than the query; and stays right
+pub record AddsTimed (feed : FeedRows) (query : Query) (patterns : List PatternOf) (stop : ℕ) (serving : Serving)
+    (old new : List TimedServing) : Type 0 where
+  pub still : (ride : Ride) → TakesTimed patterns old (length old) ride → TakesTimed patterns new (length new) ride
+  pub all : (ride : Ride) (facts : RideFacts) → ride_facts feed ride ≡ Some facts →
+      query.departure.0 ≤ℤ facts.departure.0 → TakesServing patterns serving ride → TakesTimed patterns new (length new) ride
+  pub right : All (IsTimed feed query patterns stop) old → All (IsTimed feed query patterns stop) new

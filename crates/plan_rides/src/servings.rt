@@ -1,0 +1,99 @@
+//! Where and when patterns serve stops: the moments of the first and of the last departure from each position, since the
+//! query departs, so that it is told without a look into the pattern whether a departure can be caught there.
+ghost use Rattle.std.specs.Prelude.{◌≡◌, IfOk, OnOk};
+ghost use Rattle.plan_rides.specs.Departures.{AreDepartures, Serves};
+ghost use Rattle.plan_rides.specs.Served.{AddsTimed, AreTimed, AreTimedStops, is_open};
+
+use crate::departures::servings_of;
+use crate::latest::is_early;
+use crate::sought::Sought;
+use feed_timetable::Timetable;
+use plain_laws::Groups;
+use plan_patterns::{Patterns, Serving};
+use std::alloc::{AllocError, Global};
+use transit_base::{Moment, StopId};
+
+/// A position of a pattern at which riders may board, and when the first and the last of its runs depart from there that
+/// do so no earlier than the query.
+#[derive(Clone, Copy)]
+pub struct TimedServing {
+    pub serving: Serving,
+    pub first: Moment,
+    pub last: Moment,
+}
+
+impl TimedServing {
+    /// Whether a run may depart there at the moment or later, and no later than the last moment at the stop.
+    pub fn is_open(&self, from: Moment, lasts: &[Option<Moment>], stop: StopId) -> bool
+        ensures { result ≡ is_open self.now from.0 lasts.now stop.0 }
+    {
+        from.0 <= self.last.0 && is_early(lasts, stop, self.first)
+    }
+}
+
+// Appends the position with its moments; nothing where no run departs since the query does.
+fn add_serving(
+    timetable: &Timetable,
+    sought: &Sought,
+    patterns: &Patterns,
+    stop: StopId,
+    serving: &Serving,
+    served: &mut Vec<TimedServing>,
+) -> Result<(), AllocError>
+    requires feed { patterns.now.feed ≡ timetable.now }
+    requires serves { Serves timetable.now patterns.now.patterns stop.0 serving.now }
+    ensures { OnOk result (AddsTimed timetable.now sought.now.query patterns.now.patterns stop.0 serving.now served.old.items served.new.items) }
+{
+    let from = sought.query().departure;
+    let boardings = patterns.boardable(serving.pattern, serving.position, from);
+    if boardings.is_empty() {
+        return Ok(());
+    }
+    served.push(TimedServing {
+        serving: *serving,
+        first: boardings[0].at,
+        last: boardings[boardings.len() - 1].at,
+    })?;
+    Ok(())
+}
+
+// Replaces what `served` holds by the positions at the stop from which a run departs since the query does.
+fn serve_stop(
+    timetable: &Timetable,
+    sought: &Sought,
+    patterns: &Patterns,
+    stop: StopId,
+    served: &mut Vec<TimedServing>,
+) -> Result<(), AllocError>
+    requires { AreDepartures timetable.now sought.now patterns.now }
+    ensures { OnOk result (AreTimed timetable.now sought.now patterns.now.patterns stop.0 served.new.items) }
+{
+    served.clear();
+    let servings = servings_of(timetable, sought, patterns, stop);
+    for k in 0..servings.len() {
+        add_serving(timetable, sought, patterns, stop, &servings[k], served)?;
+    }
+    Ok(())
+}
+
+/// Those of all stops.
+///
+/// # Errors
+/// Want of memory; so counts that there would be 2^32 of them or more.
+pub fn served_stops(
+    alloc: Global,
+    timetable: &Timetable,
+    sought: &Sought,
+    patterns: &Patterns,
+) -> Result<Groups<TimedServing>, AllocError>
+    requires { AreDepartures timetable.now sought.now patterns.now }
+    ensures { IfOk result (λ by_stop. AreTimedStops timetable.now sought.now patterns.now by_stop) }
+{
+    let mut by_stop = Groups::empty(alloc);
+    let mut served = Vec::new(alloc);
+    for stop in 0..timetable.feed().stops.items().len() {
+        serve_stop(timetable, sought, patterns, StopId(stop as u32), &mut served)?;
+        by_stop.push(&served)?;
+    }
+    Ok(by_stop)
+}
