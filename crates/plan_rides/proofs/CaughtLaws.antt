@@ -35,10 +35,10 @@ use Rattle.plan_patterns.specs.Grouping.{PatternOf}
 use Rattle.plan_rides.specs.declared.caught.CaughtRide.{CaughtRide}
 use Rattle.plan_rides.specs.declared.departures.Departure.{Departure}
 use Rattle.plan_rides.specs.Boarding.{Seeking, MayBoard}
-use Rattle.plan_rides.specs.Departures.{IsSpanned, departure_with, AreServed, AreSince, IsDeparture, IsFromStop, IsBy, IsByBefore, IsByTo, IsByAmong, Serves, TakesOneOf, TakesServing, ride_to, facts_to, facts_in_time, BoardsAt, IsReached}
+use Rattle.plan_rides.specs.Departures.{IsSpanned, departure_with, AreSince, IsDeparture, IsFromStop, IsBy, IsByBefore, IsByTo, IsByAmong, Serves, TakesServing, ride_to, facts_to, facts_in_time, BoardsAt, IsReached}
 use Rattle.plan_rides.specs.InTime.{next_in_time, if_in_time, deadline, IsWithinWindow, AddsCaught, IsRight, HasCaughtBy, is_early}
 use Rattle.plan_rides.specs.Travelling.{IsBarred, BoardsNear}
-use Rattle.plan_rides.proofs.DepartureLaws.{ride_stop, taken_stop, takes_more}
+use Rattle.plan_rides.proofs.DepartureLaws.{ride_stop, taken_stop}
 
 -- the stop of a number
 abbrev stop_id : ℕ → StopId
@@ -311,18 +311,8 @@ adds_no_way feed query latest stand stop rides none =
     let from : c.facts.from.0 ≡ stop.0 = ap (λ (f : RideFacts). f.from.0) (same_Some _ _ (sym c.is ∙ boards.is)) ∙ boards.at in
     none-some c.way (sym none ∙ ap (way_to feed query stand) (sym (ap stop_id from)) ∙ c.way_is))
 
--- where a walk leads from a stop to itself, none is barred
-pub adds_unbarred : (feed : FeedRows) (query : Query) (latest : List (Option Moment)) (stand : Stand) (seconds : ℕ) (rides : List CaughtRide) → link feed stand.stop stand.stop ≡ Some seconds → AddsCaught feed query latest stand (IsBarred feed stand) rides rides
-adds_unbarred feed query latest stand seconds rides some = adds_none feed query latest stand (IsBarred feed stand) rides (λ ride next e barred. none-some seconds (sym barred.0 ∙ some))
-
 pub adds_barred : (feed : FeedRows) (query : Query) (latest : List (Option Moment)) (stand : Stand) (old new : List CaughtRide) → AddsCaught feed query latest stand (BoardsAt feed stand.stop.0) old new → AddsCaught feed query latest stand (IsBarred feed stand) old new
 adds_barred feed query latest stand old new adds = adds_same feed query latest stand (BoardsAt feed stand.stop.0) (IsBarred feed stand) old new adds (λ ride next e barred. barred.1)
-
--- before the first walk
-pub adds_near : (feed : FeedRows) (query : Query) (latest : List (Option Moment)) (stand : Stand) (walks : List Step) (old new : List CaughtRide) → AddsCaught feed query latest stand (IsBarred feed stand) old new → AddsCaught feed query latest stand (BoardsNear feed stand walks 0) old new
-adds_near feed query latest stand walks old new adds =
-    adds_same feed query latest stand (IsBarred feed stand) (BoardsNear feed stand walks 0) old new adds
-    (λ ride next e near. ⊎_elim (λ barred. barred) (λ among. let below = among.1 in absurd (omega (arith, below))) near)
 
 -- one walk more
 pub adds_walk : (feed : FeedRows) (query : Query) (latest : List (Option Moment)) (stand : Stand) (walks : List Step) (k : ℕ) (x : Step) (old mid new : List CaughtRide) → k < length walks →

@@ -85,17 +85,6 @@ row_trip feed rows n d sound same lt =
     subst (λ (rs : List StopTimeRow). (get_or rs n d).trip.0 < length feed.trips) (sym same)
     (sound.stop_times.trips n d (subst (λ (rs : List StopTimeRow). n < length rs) same lt))
 
--- where the query has no rides, no trip is wanted
-pub no_boarded : (feed : FeedRows) (sought : Seeking) (trips : List TripId) → sought.query.rides ≡ 0 → trips ≡ [] →
-    AreBoarded feed sought trips
-no_boarded feed sought trips none empty = rw empty (record {
-  of = record {
-    inside = All-nil (λ (t : TripId). t.0 < length feed.trips);
-    once = λ i j d lt within. absurd (omega (arith, within));
-  };
-  all = λ ride facts e. let some = e.some in absurd (omega (arith, some, none));
-})
-
 -- a trip that wasn't marked is listed with its mark
 pub listed_more : (marks more : List Bool) (old new : List TripId) (trip : TripId) → trip.0 < length marks →
     slice_index_or marks trip.0 false ≡ false → AreListed marks old → more ≡ set marks trip.0 true →
@@ -586,17 +575,6 @@ are_since feed patterns stop serving from listed serves are = record {
 
     here : (k : ℕ) (d : Departure) → k < length (map make listed) → get_or (map make listed) k d ≡ make (get_or listed k no_boarding)
     here k d lt = get_or-map make listed k no_boarding d (below k lt)
-
--- each is of one of the runs
-pub boardable_runs : (feed : FeedRows) (runs : List Run) (position : ℕ) (from : ℤ) (listed : List Boarding) →
-    AreBoardable feed runs position from listed → All (λ (b : Boarding). b.run < length runs) listed
-boardable_runs feed runs position from listed are k d lt =
-    let boards = are.right k d lt in slice_get_within runs (get_or listed k d).run boards.run boards.run_is
-
--- and these are of trips of the feed
-pub serving_trips : (feed : FeedRows) (patterns : List PatternOf) (stop : ℕ) (serving : Serving) →
-    Serves feed patterns stop serving → All (λ (r : Run). r.trip.0 < length feed.trips) (runs_at patterns serving.pattern)
-serving_trips feed patterns stop serving serves k d lt = (serves.runs k d lt).goes.served.inside
 
 -- boardings stand in order where the departures by them do
 pub in_order : (feed : FeedRows) (stop : StopId) (position : ℕ) (runs : List Run) (listed : List Boarding) →

@@ -1,6 +1,6 @@
 -- How the last departures from stops are found run by run.
 use Rattle.std.proofs.Common.{◌≡◌, refl, sym, ◌∙◌, ap, subst, ℕ, zero, suc, ◌+◌, ◌<◌, ◌≤◌, ◌⊎◌, inl, inr, ⊎_elim, Bool, true, false, ◌&&◌, ◌||◌, set, List, length, get_or, arith, ℤ, ◌≤ℤ◌}
-use Rattle.std.specs.Prelude.{Option, Some, None, slice_get, unwrap_or, Contains, int_le}
+use Rattle.std.specs.Prelude.{Option, Some, None, slice_get, Contains, int_le}
 use Rattle.std.proofs.Math.ListN.{replicate}
 use Rattle.std.proofs.lemmas.Int.{ints}
 use Rattle.std.proofs.lemmas.Bool.{and_from, and_parts, cases_eq, cases_lt, or_left, or_right}
@@ -23,7 +23,7 @@ use Rattle.plan_rides.specs.declared.departures.Departure.{Departure}
 use Rattle.plan_rides.specs.Boarding.{Seeking}
 use Rattle.plan_rides.specs.Departures.{HoldsRuns, IsDeparture, IsRunOf, departure_from, facts_in_time, facts_to, ride_to, run_by, run_in}
 use Rattle.plan_rides.specs.InTime.{deadline, departure_of, is_by, is_early}
-use Rattle.plan_rides.specs.Lasts.{AddsLasts, AreAllLast, AreAttained, IsEarlyRide, IsOfPatterns, IsOfRun, IsOfRunFrom, IsOfRuns, LeadsFrom, PutsLast, alights_early, arrival_of, boards_since}
+use Rattle.plan_rides.specs.Lasts.{AddsLasts, AreAllLast, IsEarlyRide, IsOfPatterns, IsOfRun, IsOfRunFrom, IsOfRuns, LeadsFrom, PutsLast, alights_early, arrival_of, boards_since}
 use Rattle.plan_rides.specs.Latest.{HasEarlyRide, latest_at}
 use Rattle.plan_rides.specs.Runs.{RunOf}
 use Rattle.plan_rides.proofs.CaughtLaws.{caught_facts}
@@ -60,7 +60,8 @@ set_at_other old stop s one other =
     ∙ sym (unwrap_or-slice_get old s None)
 
 -- where the later of the moment at the stop and of this one is put
-pub puts_later : (old : List (Option Moment)) (stop : ℕ) (at : Moment) (before one : Option Moment) → stop < length old →
+pub puts_later : (old : List (Option Moment)) (stop : ℕ) (at : Moment) (before one : Option Moment) → stop < length old
+    →
     before ≡ latest_at old stop → ((t : ℤ) → is_by before t ≡ true → is_by one t ≡ true) →
     ((t : ℤ) → is_by (Some at) t ≡ true → is_by one t ≡ true) → (one ≡ before) ⊎ (one ≡ Some at) →
     PutsLast true stop at.0 old (set old stop one)
@@ -89,9 +90,11 @@ puts_later old stop at before one lt was still other either = record {
 -- ---- one call more
 
 -- whether riders may alight early enough at a call or at a later one
-pub leads_more : (query : Query) (latest : List (Option Moment)) (run : RunOf) (calls : List Call) (p k : ℕ) (call : Call)
+pub leads_more : (query : Query) (latest : List (Option Moment)) (run : RunOf) (calls : List Call) (p k : ℕ) (call :
+    Call)
     (leads : Bool) → k ≡ p + 1 → slice_get calls p ≡ Some call →
-    ((to : ℕ) (c : Call) → k ≤ to → slice_get calls to ≡ Some c → alights_early query latest run c ≡ true → leads ≡ true) →
+    ((to : ℕ) (c : Call) → k ≤ to → slice_get calls to ≡ Some c → alights_early query latest run c ≡ true → leads ≡
+    true) →
     (to : ℕ) (c : Call) → p ≤ to → slice_get calls to ≡ Some c → alights_early query latest run c ≡ true →
     (leads || alights_early query latest run call) ≡ true
 leads_more query latest run calls p k call leads next is all to c from at early = ⊎_elim
@@ -103,13 +106,15 @@ leads_more query latest run calls p k call leads next is all to c from at early 
     (λ later. or_left leads (alights_early query latest run call) (all to c later at early))
     (cases_lt to k)
 
-pub leads_only : (query : Query) (latest : List (Option Moment)) (run : RunOf) (calls : List Call) (p k : ℕ) (call : Call)
+pub leads_only : (query : Query) (latest : List (Option Moment)) (run : RunOf) (calls : List Call) (p k : ℕ) (call :
+    Call)
     (leads : Bool) → k ≡ p + 1 → slice_get calls p ≡ Some call →
     (leads ≡ true → LeadsFrom query latest run calls k) →
     (leads || alights_early query latest run call) ≡ true → LeadsFrom query latest run calls p
 leads_only query latest run calls p k call leads next is only lead = step leads refl lead
   where
-    step : (b : Bool) → leads ≡ b → (b || alights_early query latest run call) ≡ true → LeadsFrom query latest run calls p
+    step : (b : Bool) → leads ≡ b → (b || alights_early query latest run call) ≡ true → LeadsFrom query latest run calls
+        p
     step true led any =
         let found = only led in
         let from = found.1 in
@@ -211,7 +216,8 @@ pub call_more : (feed : FeedRows) (query : Query) (latest : List (Option Moment)
     alights_early query latest (run_in feed held) c ≡ true → leads ≡ true) →
     (leads ≡ true → LeadsFrom query latest (run_in feed held) (calls_of feed held.trip) k) →
     AddsLasts feed query latest (IsOfRunFrom held k) old mid →
-    PutsLast (leads && boards_since query (run_in feed held) call) call.stop.0 (departure_of (run_in feed held) call) mid new →
+    PutsLast (leads && boards_since query (run_in feed held) call) call.stop.0 (departure_of (run_in feed held) call)
+    mid new →
     AddsLasts feed query latest (IsOfRunFrom held p) old new
 call_more feed query latest held p k call leads old mid new next is runs all only before puts = record {
   many = puts.many ∙ before.many;
@@ -326,7 +332,8 @@ pub runs_more : (feed : FeedRows) (query : Query) (latest : List (Option Moment)
     AddsLasts feed query latest (IsOfRun (get_or runs k x)) mid new →
     AddsLasts feed query latest (IsOfRuns runs (k + 1)) old new
 runs_more feed query latest runs k x old mid new lt before adds =
-    lasts_more feed query latest (IsOfRuns runs k) (IsOfRun (get_or runs k x)) (IsOfRuns runs (k + 1)) old mid new before
+    lasts_more feed query latest (IsOfRuns runs k) (IsOfRun (get_or runs k x)) (IsOfRuns runs (k + 1)) old mid new
+    before
     adds
     (λ ride of.
     let below = of.1 in
@@ -348,7 +355,8 @@ runs_all feed query latest runs n old new all adds = record {
 }
 
 -- one pattern more
-pub patterns_more : (feed : FeedRows) (query : Query) (latest : List (Option Moment)) (patterns : List PatternOf) (k : ℕ)
+pub patterns_more : (feed : FeedRows) (query : Query) (latest : List (Option Moment)) (patterns : List PatternOf) (k :
+    ℕ)
     (runs : List Run) (old mid new : List (Option Moment)) → runs ≡ runs_at patterns k →
     AddsLasts feed query latest (IsOfPatterns patterns k) old mid →
     AddsLasts feed query latest (IsOfRuns runs (length runs)) mid new →
@@ -361,14 +369,16 @@ patterns_more feed query latest patterns k runs old mid new are before adds =
     ⊎_elim (λ lower. inl (of.0, lower, of.2))
     (λ upper.
     let same : of.0 ≡ k = omega (arith, below, upper) in
-    let has = subst (λ rs. Contains rs (run_by ride)) (sym are) (subst (λ i. Contains (runs_at patterns i) (run_by ride)) same of.2) in
+    let has = subst (λ rs. Contains rs (run_by ride)) (sym are) (subst (λ i. Contains (runs_at patterns i) (run_by
+    ride)) same of.2) in
     let place = slice_get-Contains runs (run_by ride) has in
     inr (place.0, slice_get_within runs place.0 (run_by ride) place.1, place.1))
     (cases_lt of.0 k))
 
 -- all of them
 pub patterns_all : (feed : FeedRows) (query : Query) (latest : List (Option Moment)) (patterns : List PatternOf) (n : ℕ)
-    (old new : List (Option Moment)) → length patterns ≤ n → AddsLasts feed query latest (IsOfPatterns patterns n) old new →
+    (old new : List (Option Moment)) → length patterns ≤ n → AddsLasts feed query latest (IsOfPatterns patterns n) old
+    new →
     AddsLasts feed query latest (IsOfPatterns patterns (length patterns)) old new
 patterns_all feed query latest patterns n old new all adds = record {
   many = adds.many;
@@ -397,6 +407,8 @@ pub all_last : (feed : FeedRows) (sought : Seeking) (latest lasts : List (Option
 all_last feed sought latest lasts patterns holds adds = record {
   many = adds.many ∙ length-replicate (length feed.stops) no_last;
   all = λ ride facts e early.
-      adds.all ride facts (record { is = e.is; since = e.since; until = e.until; early = early }) (holds.all ride facts e);
-  attained = adds.attained (λ stop moment is. absurd (none-some moment (sym (no_moment (length feed.stops) stop) ∙ is)));
+      adds.all ride facts (record { is = e.is; since = e.since; until = e.until; early = early }) (holds.all ride facts
+      e);
+  attained = adds.attained (λ stop moment is. absurd (none-some moment (sym (no_moment (length feed.stops) stop) ∙
+      is)));
 }

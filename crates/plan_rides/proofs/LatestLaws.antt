@@ -1,36 +1,27 @@
 -- How late one may be where one more ride is taken first.
-use Rattle.std.proofs.Common.{◌≡◌, refl, sym, ◌∙◌, ap, subst, ℕ, ◌+◌, ◌-◌, ◌<◌, ◌≤◌, ◌⊎◌, inl, inr, ⊎_elim, Bool, true, false, List, [], ◌∷◌, ◌++◌, length, get_or, arith, ℤ, pos, ◌+ℤ◌, ◌≤ℤ◌, ◌<ℤ◌}
-use Rattle.std.specs.Prelude.{◌&&◌, if◌then◌else◌, Option, Some, None, slice_get, unwrap_or, All, Contains, int_le, map}
+use Rattle.std.proofs.Common.{◌≡◌, refl, sym, ◌∙◌, ap, subst, ℕ, ◌+◌, ◌<◌, ◌≤◌, ⊎_elim, true, false, List, [], ◌∷◌, ◌++◌, length, get_or, arith, ℤ, pos, ◌+ℤ◌, ◌≤ℤ◌, ◌<ℤ◌}
+use Rattle.std.specs.Prelude.{if◌then◌else◌, Option, Some, None, slice_get, unwrap_or, All, Contains, map}
 use Rattle.std.specs.List.{AllWithin}
 use Rattle.std.specs.List.Sorted.{IsPartitionedBy}
 use Rattle.std.proofs.lemmas.Int.{ints}
-use Rattle.std.proofs.lemmas.Bool.{and_parts, both_ways, cases_lt}
-use Rattle.std.proofs.lemmas.List.{get_or_default, get_or-map, length-map}
-use Rattle.std.proofs.lemmas.List.Elements.{All-contains}
-use Rattle.std.proofs.lemmas.Option.{none-some, same_Some, slice_get_past, slice_get-get_or}
-use Rattle.transit_base.specs.Moments.{moment_at}
+use Rattle.std.proofs.lemmas.Bool.{both_ways, cases_lt}
+use Rattle.std.proofs.lemmas.List.{get_or-map, length-map}
+use Rattle.std.proofs.lemmas.Option.{same_Some, slice_get_past, slice_get-get_or}
 use Rattle.transit_base.specs.declared.moments.Moment.{Moment}
 use Rattle.transit_base.specs.declared.numbers.StopId.{StopId}
-use Rattle.feed_rows.specs.declared.journeys.Call.{Call}
 use Rattle.feed_rows.specs.declared.journeys.Query.{Query}
 use Rattle.feed_rows.specs.declared.journeys.Ride.{Ride}
-use Rattle.feed_rows.specs.declared.journeys.RideFacts.{RideFacts}
 use Rattle.feed_rows.specs.FeedRows.{FeedRows}
-use Rattle.feed_rows.specs.Rides.{ride_facts}
 use Rattle.feed_rows.specs.SoundFeed.{IsSoundFeed}
 use Rattle.feed_rows.specs.StopLinks.{link}
 use Rattle.feed_rows.specs.Journeys.{access}
 use Rattle.feed_rows.specs.JourneyStands.{Stand}
 use Rattle.feed_walks.specs.OutOf.{out_of}
 use Rattle.feed_walks.specs.declared.steps.Step.{Step}
-use Rattle.plain_laws.specs.Plain.{when}
 use Rattle.plain_laws.proofs.Laws.{int_le-true, le-int_le, slice_get-push_before, slice_get-push_last}
-use Rattle.feed_laws.proofs.RideLaws.{ride_facts_tells}
 use Rattle.plan_patterns.specs.declared.pattern.Boarding.{Boarding}
 use Rattle.plan_patterns.specs.declared.runs.Run.{Run}
-use Rattle.plan_patterns.specs.declared.serving.Serving.{Serving}
 use Rattle.plan_patterns.specs.Columns.{AreInOrder}
-use Rattle.plan_patterns.specs.Grouping.{PatternOf}
 use Rattle.plan_rides.specs.declared.caught.CaughtRide.{CaughtRide}
 use Rattle.plan_rides.specs.declared.departures.Departure.{Departure}
 use Rattle.plan_rides.specs.Boarding.{Seeking, AreMarks}

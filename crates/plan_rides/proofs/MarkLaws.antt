@@ -14,7 +14,7 @@ use Rattle.feed_rows.specs.JourneyStands.{Stand, first_stand, way_to}
 use Rattle.feed_rows.specs.StopLinks.{stop_set}
 use Rattle.feed_walks.specs.OutOf.{out_of}
 use Rattle.feed_walks.specs.declared.steps.Step.{Step}
-use Rattle.plan_rides.specs.Boarding.{Seeking, seeking, is_marked, MarksFrom, AreMarks, AddsMarks, IsNear, MarksFirsts, MayRide, MayBoard, IsAmong}
+use Rattle.plan_rides.specs.Boarding.{Seeking, is_marked, MarksFrom, AreMarks, AddsMarks, IsNear, MarksFirsts, MayRide, MayBoard, IsAmong}
 use Rattle.plan_rides.proofs.CaughtLaws.{walk_or_own, in_walks}
 
 -- the stop of a number
@@ -152,13 +152,6 @@ marks_all feed query firsts marks same all first stands =
     let long = ap length same in
     let lt = member.1 in
     all first (member.0, omega (arith, lt, long), ap (λ stops. slice_get stops member.0) same ∙ member.2)
-
--- no marks count as all
-pub no_marks : (feed : FeedRows) (query : Query) (marks : List Bool) → marks ≡ [] → AreMarks feed (seeking query marks)
-no_marks feed query marks none = subst (λ ms. AreMarks feed (seeking query ms)) (sym none) (record {
-  first = λ first stands stop way is. refl;
-  all = λ more stop. refl;
-})
 
 -- what was written in place
 pub marks_back : {X : Type 0} (items new : List X) (len : ℕ) → len ≡ length items → length new ≡ length items →

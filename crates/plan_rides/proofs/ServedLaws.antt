@@ -1,11 +1,11 @@
 -- The moments between which the rides depart that board at a position.
-use Rattle.std.proofs.Common.{◌≡◌, refl, sym, ◌∙◌, ap, subst, ℕ, ◌+◌, ◌-◌, ◌<◌, ◌≤◌, ◌⊎◌, inl, inr, ⊎_elim, Bool, true, false, ◌&&◌, List, [], ◌∷◌, ◌++◌, length, get_or, arith, ℤ, pos, ◌+ℤ◌, ◌≤ℤ◌}
-use Rattle.std.specs.Prelude.{Option, Some, slice_get, unwrap_or, All, Contains, int_le}
+use Rattle.std.proofs.Common.{◌≡◌, refl, sym, ◌∙◌, ap, subst, ℕ, ◌+◌, ◌-◌, ◌<◌, ◌≤◌, ◌⊎◌, inl, inr, ⊎_elim, true, false, List, [], ◌∷◌, ◌++◌, length, get_or, arith, ℤ, pos, ◌+ℤ◌, ◌≤ℤ◌}
+use Rattle.std.specs.Prelude.{Option, Some, slice_get, unwrap_or, All, int_le}
 use Rattle.std.proofs.lemmas.Int.{ints}
 use Rattle.std.proofs.lemmas.Bool.{and_from, both_ways, cases_lt}
 use Rattle.std.proofs.lemmas.List.{get_or_default, length_push}
 use Rattle.std.proofs.lemmas.List.Elements.{All-append, All-cons, All-nil}
-use Rattle.std.proofs.lemmas.Option.{same_Some, slice_get_past, slice_get_within, slice_get-get_or}
+use Rattle.std.proofs.lemmas.Option.{same_Some, slice_get_past, slice_get-get_or}
 use Rattle.transit_base.specs.declared.moments.Moment.{Moment}
 use Rattle.transit_base.specs.declared.numbers.StopId.{StopId}
 use Rattle.feed_rows.specs.declared.journeys.Query.{Query}
@@ -18,7 +18,7 @@ use Rattle.feed_rows.specs.SoundFeed.{IsSoundFeed}
 use Rattle.plain_laws.proofs.Laws.{le-int_le, slice_get-push_before, slice_get-push_last}
 use Rattle.plan_patterns.specs.declared.pattern.Boarding.{Boarding}
 use Rattle.plan_patterns.specs.declared.serving.Serving.{Serving}
-use Rattle.plan_patterns.specs.Columns.{AreBoardable, AreInOrder}
+use Rattle.plan_patterns.specs.Columns.{AreBoardable}
 use Rattle.plan_patterns.specs.Grouping.{PatternOf, PatternsOf, runs_at}
 use Rattle.plan_patterns.specs.Servings.{list_at}
 use Rattle.plan_rides.specs.declared.caught.CaughtRide.{CaughtRide}
@@ -99,7 +99,8 @@ timed_more feed query patterns stop serving listed x timed old is first last ser
           let i = found.1.0 in
           let lt = found.1.1 in
           let there : (get_or listed i x).at.0 ≡ facts.departure.0 =
-          ap (λ (b : Boarding). b.at.0) (get_or_default listed i x found.0 lt ∙ found.1.2) ∙ ap (λ (m : Moment). m.0) found.2 in (
+          ap (λ (b : Boarding). b.at.0) (get_or_default listed i x found.0 lt ∙ found.1.2) ∙ ap (λ (m : Moment). m.0)
+          found.2 in (
             subst (λ (m : Moment). m.0 ≤ℤ facts.departure.0) (sym first)
                 (subst (λ z. (get_or listed 0 x).at.0 ≤ℤ z) there (ordered 0 i (omega arith) lt)),
             subst (λ (m : Moment). facts.departure.0 ≤ℤ m.0) (sym last)
@@ -229,7 +230,8 @@ adds_timed feed query latest stand stop way earliest patterns served k x departu
     (TakesTimed patterns served (k + 1)) old mid new before adds
     (λ ride next e takes.
     ⊎_elim inl
-    (λ here. inr (by_since feed query stand stop way earliest patterns (get_or served k x).serving departures ride next way_is
+    (λ here. inr (by_since feed query stand stop way earliest patterns (get_or served k x).serving departures ride next
+    way_is
     at timed.serves since here e))
     (timed_step patterns served k x ride lt takes))
 
@@ -241,7 +243,8 @@ never_closed : (feed : FeedRows) (query : Query) (latest lasts : List (Option Mo
     IsTimed feed query patterns stop.0 timed → is_open timed earliest lasts stop.0 ≡ false →
     next_in_time feed query stand ride ≡ Some next → is_early latest next.stop.0 next.at ≡ true →
     TakesServing patterns timed.serving ride → ⊥
-never_closed feed query latest lasts stand stop way earliest patterns timed ride next within last way_is at is closed e early
+never_closed feed query latest lasts stand stop way earliest patterns timed ride next within last way_is at is closed e
+    early
     takes =
     both_ways (is_open timed earliest lasts stop.0) closed
     (and_from (int_le earliest timed.last.0) (is_early lasts stop.0 timed.first.0)
@@ -271,7 +274,8 @@ never_closed feed query latest lasts stand stop way earliest patterns timed ride
     met from departs until walk a b d same = omega (arith, ints)
 
 -- so it may be passed over
-pub adds_closed : (feed : FeedRows) (query : Query) (latest lasts : List (Option Moment)) (stand : Stand) (stop : StopId)
+pub adds_closed : (feed : FeedRows) (query : Query) (latest lasts : List (Option Moment)) (stand : Stand) (stop :
+    StopId)
     (way : ℕ) (earliest : ℤ) (patterns : List PatternOf) (served : List TimedServing) (k : ℕ) (x : TimedServing)
     (old new : List CaughtRide) → k < length served → IsWithinWindow query stand.at →
     AreLastDepartures feed query latest lasts → way_to feed query stand stop ≡ Some way →
@@ -279,16 +283,18 @@ pub adds_closed : (feed : FeedRows) (query : Query) (latest lasts : List (Option
     is_open (get_or served k x) earliest lasts stop.0 ≡ false →
     AddsCaught feed query latest stand (TakesTimed patterns served k) old new →
     AddsCaught feed query latest stand (TakesTimed patterns served (k + 1)) old new
-adds_closed feed query latest lasts stand stop way earliest patterns served k x old new lt within last way_is at timed closed
+adds_closed feed query latest lasts stand stop way earliest patterns served k x old new lt within last way_is at timed
+    closed
     before = record {
-  still = before.still;
-  all = λ ride next e wanted takes. ⊎_elim
-      (λ lower. before.all ride next e wanted lower)
-      (λ here. absurd (never_closed feed query latest lasts stand stop way earliest patterns (get_or served k x) ride next
-      within last way_is at timed closed e wanted here))
-      (timed_step patterns served k x ride lt takes);
-  right = before.right;
-}
+      still = before.still;
+      all = λ ride next e wanted takes. ⊎_elim
+          (λ lower. before.all ride next e wanted lower)
+          (λ here. absurd (never_closed feed query latest lasts stand stop way earliest patterns (get_or served k x) ride
+          next
+          within last way_is at timed closed e wanted here))
+          (timed_step patterns served k x ride lt takes);
+      right = before.right;
+    }
 
 -- all positions that serve a stop
 pub adds_stop : (feed : FeedRows) (query : Query) (latest : List (Option Moment)) (sought : Seeking) (stand : Stand)
@@ -302,7 +308,8 @@ adds_stop feed query latest sought stand stop n patterns served old new same wit
     (λ ride next e boards.
     let c = caught_ride feed sought.query stand ride next (subst (λ q. next_in_time feed q stand ride ≡ Some next)
     (sym same) e) in
-    let from : c.facts.from.0 ≡ stop = ap (λ (f : RideFacts). f.from.0) (same_Some _ _ (sym c.is ∙ boards.is)) ∙ boards.at in
+    let from : c.facts.from.0 ≡ stop = ap (λ (f : RideFacts). f.from.0) (same_Some _ _ (sym c.is ∙ boards.is)) ∙
+    boards.at in
     let spanned = caught_spanned feed sought stand ride next (subst (λ q. IsWithinWindow q stand.at)
     (sym same) within) board c in
     let takes = timed.all ride c.facts spanned from in

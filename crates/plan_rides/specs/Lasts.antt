@@ -32,7 +32,8 @@ alights_early query latest run call =
 -- so they may at the k-th of these calls of the run, or at a later one
 abbrev pub LeadsFrom : Query → List (Option Moment) → RunOf → List Call → ℕ → Type 0
 LeadsFrom query latest run calls k =
-    (to : ℕ) × (k ≤ to) × (call : Call) × (slice_get calls to ≡ Some call) × (alights_early query latest run call ≡ true)
+    (to : ℕ) × (k ≤ to) × (call : Call) × (slice_get calls to ≡ Some call) × (alights_early query latest run call ≡
+    true)
 
 -- the new moments are those before, but that the one at the stop is no earlier than this, where it is put there
 pub record PutsLast (puts : Bool) (stop : ℕ) (at : ℤ) (old new : List (Option Moment)) : Type 0 where

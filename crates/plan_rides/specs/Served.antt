@@ -20,7 +20,8 @@ is_open timed from lasts stop = int_le from timed.last.0 && is_early lasts stop 
 
 -- a position at which riders may board at this stop; each ride that boards there, no earlier than the query, departs no
 -- earlier than the first moment and no later than the last
-pub record IsTimed (feed : FeedRows) (query : Query) (patterns : List PatternOf) (stop : ℕ) (timed : TimedServing) : Type 0 where
+pub record IsTimed (feed : FeedRows) (query : Query) (patterns : List PatternOf) (stop : ℕ) (timed : TimedServing) :
+    Type 0 where
   pub serves : Serves feed patterns stop timed.serving
   pub bounds : (ride : Ride) (facts : RideFacts) → ride_facts feed ride ≡ Some facts →
       TakesServing patterns timed.serving ride → query.departure.0 ≤ℤ facts.departure.0 →
@@ -29,7 +30,8 @@ pub record IsTimed (feed : FeedRows) (query : Query) (patterns : List PatternOf)
 -- the ride boards at one of the first n of these positions
 abbrev pub TakesTimed : List PatternOf → List TimedServing → ℕ → Ride → Type 0
 TakesTimed patterns served n ride =
-    (k : ℕ) × (k < n) × (timed : TimedServing) × (slice_get served k ≡ Some timed) × TakesServing patterns timed.serving ride
+    (k : ℕ) × (k < n) × (timed : TimedServing) × (slice_get served k ≡ Some timed) × TakesServing patterns timed.serving
+    ride
 
 -- such are these positions, and each ride that may be caught at the stop boards at one of them
 pub record AreTimed (feed : FeedRows) (sought : Seeking) (patterns : List PatternOf) (stop : ℕ)
@@ -49,5 +51,6 @@ pub record AddsTimed (feed : FeedRows) (query : Query) (patterns : List PatternO
     (old new : List TimedServing) : Type 0 where
   pub still : (ride : Ride) → TakesTimed patterns old (length old) ride → TakesTimed patterns new (length new) ride
   pub all : (ride : Ride) (facts : RideFacts) → ride_facts feed ride ≡ Some facts →
-      query.departure.0 ≤ℤ facts.departure.0 → TakesServing patterns serving ride → TakesTimed patterns new (length new) ride
+      query.departure.0 ≤ℤ facts.departure.0 → TakesServing patterns serving ride → TakesTimed patterns new (length new)
+      ride
   pub right : All (IsTimed feed query patterns stop) old → All (IsTimed feed query patterns stop) new

@@ -41,8 +41,8 @@ impl Departure {
         Run::new(timetable, self.trip, self.day, self.shift)
     }
 
-    /// Where and when the ride by it goes that alights at the call; none where riders may not alight there, or it ends past the
-    /// window.
+    /// Where and when the ride by it goes that alights at the call; none where riders may not alight there, or it ends
+    /// past the window.
     #[tactic(auto, unfolding(crate::specs::Departures::facts_in_time))]
     pub fn facts_in_time(
         &self,
@@ -199,8 +199,8 @@ fn departure_by(
     }
 }
 
-/// Departures from a stop, all at one position of a pattern, in the order of their moments. Contracts see them as the list
-/// of these.
+/// Departures from a stop, all at one position of a pattern, in the order of their moments. Contracts see them as the
+/// list of these.
 #[derive(Drop)]
 pub struct Departures<'t, 'f> {
     timetable: &'t Timetable<'f>,

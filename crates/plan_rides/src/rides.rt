@@ -138,9 +138,9 @@ impl<'s, 'f> Rides<'s, 'f> {
         Some(arrival)
     }
 
-    /// Replaces what `rides` holds by the rides that are caught from where one stands, end within the window and arrive at a stop
-    /// no later than the latest moment there: at none where that is none, and at any at a stop past their end. `lasts` says
-    /// when the last of them departs from each stop, so that no later ones are looked at.
+    /// Replaces what `rides` holds by the rides that are caught from where one stands, end within the window and arrive at
+    /// a stop no later than the latest moment there: at none where that is none, and at any at a stop past their end.
+    /// `lasts` says when the last of them departs from each stop, so that no later ones are looked at.
     ///
     /// # Errors
     /// Want of memory.

@@ -1,5 +1,5 @@
-//! Where and when patterns serve stops: the moments of the first and of the last departure from each position, since the
-//! query departs, so that it is told without a look into the pattern whether a departure can be caught there.
+//! Where and when patterns serve stops: the moments of the first and of the last departure from each position since the
+//! query departs, which tell without a look into the pattern whether one can be caught there.
 ghost use Rattle.std.specs.Prelude.{◌≡◌, IfOk, OnOk};
 ghost use Rattle.plan_rides.specs.Departures.{AreDepartures, Serves};
 ghost use Rattle.plan_rides.specs.Served.{AddsTimed, AreTimed, AreTimedStops, is_open};
@@ -13,8 +13,8 @@ use plan_patterns::{Patterns, Serving};
 use std::alloc::{AllocError, Global};
 use transit_base::{Moment, StopId};
 
-/// A position of a pattern at which riders may board, and when the first and the last of its runs depart from there that
-/// do so no earlier than the query.
+/// A position of a pattern at which riders may board, and when the first and the last of its runs depart from there, of
+/// those that do so no earlier than the query.
 #[derive(Clone, Copy)]
 pub struct TimedServing {
     pub serving: Serving,
@@ -92,7 +92,13 @@ pub fn served_stops(
     let mut by_stop = Groups::empty(alloc);
     let mut served = Vec::new(alloc);
     for stop in 0..timetable.feed().stops.items().len() {
-        serve_stop(timetable, sought, patterns, StopId(stop as u32), &mut served)?;
+        serve_stop(
+            timetable,
+            sought,
+            patterns,
+            StopId(stop as u32),
+            &mut served,
+        )?;
         by_stop.push(&served)?;
     }
     Ok(by_stop)

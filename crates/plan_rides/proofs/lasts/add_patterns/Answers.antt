@@ -19,7 +19,8 @@ pub loop-pattern-preserved : goal.loop-pattern-preserved
 loop-pattern-preserved c =
     let runs = c.runs.result.now in
     patterns_more _ _ _ _ _ runs _ _ _ c.runs.ensures c.loop-pattern.invariant
-    (subst (λ q. AddsLasts c.args.timetable.now q c.args.latest.now (IsOfRuns runs (length runs)) c.loop-pattern.lasts c.add_runs.new.lasts)
+    (subst (λ q. AddsLasts c.args.timetable.now q c.args.latest.now (IsOfRuns runs (length runs)) c.loop-pattern.lasts
+    c.add_runs.new.lasts)
     c.query-query.ensures c.add_runs.ensures)
 
 pub returns : goal.returns

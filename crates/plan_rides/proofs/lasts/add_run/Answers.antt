@@ -1,4 +1,4 @@
-use Rattle.std.proofs.Common.{◌≡◌, ◌+◌, ◌-◌, ◌<◌, ◌∙◌, ap, false, get_or, length, subst, sym, true, arith}
+use Rattle.std.proofs.Common.{◌≡◌, ◌+◌, ◌-◌, ◌<◌, ◌∙◌, ap, false, get_or, length, subst, sym, arith}
 use Rattle.std.proofs.lemmas.Option.{slice_get-get_or, slice_get_within}
 use Rattle.std.specs.Prelude.{slice_get}
 use mathlib.Core.Bool.{true≢false}
@@ -29,7 +29,15 @@ put_departure-requires-clause-stop c =
     let some = c.loop-k-test.true in
     let lt : c.loop-k.k - 1 < length calls = omega (arith, within, some) in
     let many = c.loop-k.invariant.adds.many ∙ c.requires.many in
-    let x : Call = record { stop = record { 0 = 0 }; sequence = 0; arrival = 0; departure = 0; pickup = false; drop_off = false } in
+    let x : Call = record {
+      stop = record { 0 = 0 };
+      sequence = 0;
+      arrival = 0;
+      departure = 0;
+      pickup = false;
+      drop_off
+          = false;
+    } in
     let stop = call_stop c.args.timetable.now c.args.held.now.trip (c.loop-k.k - 1) (get_or calls (c.loop-k.k - 1) x)
     c.feed-feed.ensures.sound
     (ap (λ cs. slice_get cs (c.loop-k.k - 1)) (sym are) ∙ slice_get-get_or calls (c.loop-k.k - 1) x lt) in
@@ -47,12 +55,16 @@ loop-k-preserved c =
     let was = c.loop-k.invariant in
     record {
       all = λ to call from at early. c.leads_from-leads.ensures ∙ leads_more c.args.query.now c.args.latest.now
-          c.run_in-run.result calls (k - 1) k _ c.loop-k.leads next (slice_get-get_or calls (k - 1) _ lt) was.all to call from at
+          c.run_in-run.result calls (k - 1) k _ c.loop-k.leads next (slice_get-get_or calls (k - 1) _ lt) was.all to
+          call from at
           early;
-      only = λ lead. leads_only c.args.query.now c.args.latest.now c.run_in-run.result calls (k - 1) k _ c.loop-k.leads next
+      only = λ lead. leads_only c.args.query.now c.args.latest.now c.run_in-run.result calls (k - 1) k _ c.loop-k.leads
+          next
           (slice_get-get_or calls (k - 1) _ lt) was.only (sym c.leads_from-leads.ensures ∙ lead);
-      adds = call_step c.args.timetable.now c.args.query.now c.args.latest.now c.args.held.now c.run_in-run.result calls (k - 1) k
-          _ c.loop-k.leads _ _ _ c.run_in-run.ensures are next (slice_get-get_or calls (k - 1) _ lt) c.requires.run was.all was.only
+      adds = call_step c.args.timetable.now c.args.query.now c.args.latest.now c.args.held.now c.run_in-run.result calls
+          (k - 1) k
+          _ c.loop-k.leads _ _ _ c.run_in-run.ensures are next (slice_get-get_or calls (k - 1) _ lt) c.requires.run
+          was.all was.only
           was.adds c.put_departure.ensures;
     }
 

@@ -14,8 +14,10 @@ returns-then-is_empty c =
     let patterns = c.args.patterns.now.patterns in
     let serving = c.args.serving.now in
     let listed = c.boardable-boardings.result.now in
-    let are = subst (λ f. AreBoardable f (runs_at patterns serving.pattern) serving.position query.departure.0 listed) c.requires.feed
-    (subst (λ (q : Query). AreBoardable c.args.patterns.now.feed (runs_at patterns serving.pattern) serving.position q.departure.0 listed)
+    let are = subst (λ f. AreBoardable f (runs_at patterns serving.pattern) serving.position query.departure.0 listed)
+    c.requires.feed
+    (subst (λ (q : Query). AreBoardable c.args.patterns.now.feed (runs_at patterns serving.pattern) serving.position
+    q.departure.0 listed)
     c.query.ensures c.boardable-boardings.ensures) in
     let test = c.if-is_empty.true in
     let is = c.is_empty.ensures in
@@ -29,8 +31,11 @@ returns c =
     let patterns = c.args.patterns.now.patterns in
     let serving = c.args.serving.now in
     let listed = c.boardable-boardings.result.now in
-    let are = subst (λ f. AreBoardable f (runs_at patterns serving.pattern) serving.position query.departure.0 listed) c.requires.feed
-    (subst (λ (q : Query). AreBoardable c.args.patterns.now.feed (runs_at patterns serving.pattern) serving.position q.departure.0 listed)
+    let are = subst (λ f. AreBoardable f (runs_at patterns serving.pattern) serving.position query.departure.0 listed)
+    c.requires.feed
+    (subst (λ (q : Query). AreBoardable c.args.patterns.now.feed (runs_at patterns serving.pattern) serving.position
+    q.departure.0 listed)
     c.query.ensures c.boardable-boardings.ensures) in
     subst (AddsTimed feed query patterns c.args.stop.0 serving c.args.served.now.items) (sym c.in_ok-push.ensures.items)
-    (timed_more feed query patterns c.args.stop.0 serving listed _ _ c.args.served.now.items refl refl refl c.requires.serves are)
+    (timed_more feed query patterns c.args.stop.0 serving listed _ _ c.args.served.now.items refl refl refl
+    c.requires.serves are)

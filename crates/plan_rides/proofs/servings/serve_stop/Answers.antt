@@ -5,7 +5,8 @@ use Rattle.plan_rides.proofs.servings.serve_stop.Goals as goal
 pub loop-k-init : goal.loop-k-init
 loop-k-init c =
     subst
-    (ListsTimed c.args.timetable.now c.args.sought.now.query c.args.patterns.now.patterns c.args.stop.0 c.servings_of-servings.result.now 0)
+    (ListsTimed c.args.timetable.now c.args.sought.now.query c.args.patterns.now.patterns c.args.stop.0
+    c.servings_of-servings.result.now 0)
     (sym c.clear.ensures.items) (lists_none _ _ _ _ _)
 
 pub add_serving-requires-clause-serves : goal.add_serving-requires-clause-serves

@@ -13,7 +13,8 @@ loop-stop-preserved c =
     let pushed = c.in_ok-push.ensures.ok ∙ ap (λ g. by_stop ++ g ∷ []) c.deref.ensures.value in
     record {
       many = ap length pushed ∙ length_push by_stop one ∙ ap (λ n. n + 1) was.many;
-      each = subst (AreTimedBelow c.args.timetable.now c.args.sought.now c.args.patterns.now.patterns (stop + 1)) (sym pushed)
+      each = subst (AreTimedBelow c.args.timetable.now c.args.sought.now c.args.patterns.now.patterns (stop + 1)) (sym
+          pushed)
           (stops_more c.args.timetable.now c.args.sought.now c.args.patterns.now.patterns stop by_stop one was.many
           c.in_ok-serve_stop.ensures was.each);
     }
