@@ -3,4 +3,4 @@ pub mod ShortNames
 pub mod CurrencyLaws
 pub mod FeedLaws
 pub mod IdLaws
-pub mod ValueBounds
+pub mod ValueLaws

@@ -1,7 +1,7 @@
 -- The rows and names of a feed in three groups.
 use Rattle.std.specs.Prelude.{◌≡◌, not}
 use Rattle.plain_laws.specs.Plain.{picks_below}
-use Rattle.feed_faults.specs.Records.{row_count}
+use Rattle.feed_faults.specs.Records.{field, row_count}
 use Rattle.feed_faults.specs.FormFaults.{is_passed_over}
 use Rattle.feed_rows.specs.declared.names.FileName.TheVariants as file
 use Rattle.feed_faults.specs.FeedTables.{FeedTables, table_in}
@@ -19,7 +19,7 @@ pub record IsTimetableOf (t : FeedTables) (timetable : Timetable) : Type 0 where
   pub services : timetable.services ≡ typed_rows (table_in t file.Calendar) (service_row t)
   pub exceptions : timetable.exceptions ≡ typed_rows (table_in t file.CalendarDates) (exception_row t)
   pub frequencies : timetable.frequencies ≡ typed_rows (table_in t file.Frequencies) (frequency_row t)
-  pub links : timetable.links ≡ picks_below (row_count (table_in t file.Transfers)) (λ row. not (is_passed_over (table_in t file.Transfers) row)) (link_row t)
+  pub links : timetable.links ≡ picks_below (row_count (table_in t file.Transfers)) (λ row. not (is_passed_over (field (table_in t file.Transfers) row))) (link_row t)
 
 -- these are the rows of the files of fares
 pub record AreFaresOf (t : FeedTables) (fares : Fares) : Type 0 where

@@ -1,24 +1,23 @@
 //! The rows of the files of fares.
-ghost use Rattle.std.specs.Prelude.{◌≡◌, ◌<◌};
+ghost use Rattle.std.specs.Prelude.{◌≡◌};
 ghost use Rattle.feed_rows.specs.declared.names.FileName.TheVariants as file;
-ghost use Rattle.feed_faults.specs.Records.{row_count};
 ghost use Rattle.feed_faults.specs.FeedTables.{table_in};
-ghost use Rattle.feed_faults.specs.AcceptedFeed.{area_row, stop_area_row, timeframe_row, rider_row, medium_row, product_row, leg_rule_row, limit_of, transfer_rule_row, feed_currency, feed_decimals};
+ghost use Rattle.feed_faults.specs.AcceptedFeed.{area_row, stop_area_row, timeframe_row, rider_row, medium_row, product_row, leg_rule_row, transfer_rule_row, feed_currency, feed_decimals};
 ghost use Rattle.feed_soundness.specs.AcceptedTables.{AreFormed};
 
 use crate::rows::FileRow;
 use crate::source::Source;
-use crate::values::{MOST_INT, filled, finite_count};
+use crate::values::{filled, is_code, natural};
 use feed_rows::{
     AreaRow, ColumnName, FileName, Id, LegRuleRow, Limit, MediumRow, ProductRow, RiderRow,
     StopAreaRow, TimeframeRow, TransferRuleRow,
 };
 use feed_tables::{IdColumn, NamedTable, Tables};
-use feed_text::{amount_or_past, currency_of, int_or_past, optional_int, second_or};
+use feed_text::nat_of;
 use std::alloc::AllocError;
 use transit_base::{
-    AreaId, DAY_SECONDS, FrameId, LegGroupId, MediumId, NetworkId, ProductId, RiderId, ServiceId,
-    StopId,
+    AreaId, DAY_SECONDS, FrameId, LegGroupId, MediumId, Money, NetworkId, ProductId, RiderId,
+    ServiceId, StopId,
 };
 
 // The `is_default_fare_category` of the category of riders who name none.
@@ -32,10 +31,9 @@ impl FileRow for AreaRow {
     const FILE: FileName = FileName::Areas;
 
     #[tactic(auto, unfolding(feed_faults::specs::AcceptedFeed::area_row), using(crate::proofs::IdLaws::area_ids))]
-    fn at(source: &Source, row: u32) -> Result<AreaRow, AllocError> {
-        let id = source.table(Self::FILE).field(row, ColumnName::AreaId);
+    fn at(source: &Source, table: &NamedTable, row: u32) -> Result<AreaRow, AllocError> {
         Ok(AreaRow {
-            id: Id::copy_of(source.alloc, id)?,
+            id: Id::copy_of(source.alloc, table.field(row, ColumnName::AreaId))?,
         })
     }
 }
@@ -48,8 +46,7 @@ impl FileRow for StopAreaRow {
     const FILE: FileName = FileName::StopAreas;
 
     #[tactic(auto, unfolding(feed_faults::specs::AcceptedFeed::stop_area_row))]
-    fn at(source: &Source, row: u32) -> Result<StopAreaRow, AllocError> {
-        let table = source.table(Self::FILE);
+    fn at(source: &Source, table: &NamedTable, row: u32) -> Result<StopAreaRow, AllocError> {
         Ok(StopAreaRow {
             area: AreaId(source.number(IdColumn::Area, table.field(row, ColumnName::AreaId))),
             stop: StopId(source.number(IdColumn::Stop, table.field(row, ColumnName::StopId))),
@@ -64,19 +61,16 @@ impl FileRow for TimeframeRow {
 
     const FILE: FileName = FileName::Timeframes;
 
-    #[tactic(auto, unfolding(feed_faults::specs::AcceptedFeed::timeframe_row))]
-    fn at(source: &Source, row: u32) -> Result<TimeframeRow, AllocError> {
-        let table = source.table(Self::FILE);
+    #[tactic(auto, unfolding(feed_faults::specs::AcceptedFeed::timeframe_row), using(crate::proofs::ValueLaws::values))]
+    fn at(source: &Source, table: &NamedTable, row: u32) -> Result<TimeframeRow, AllocError> {
+        let &[_, start, end, _] = source.numbers::<4>(Self::FILE, row);
         let group = table.field(row, ColumnName::TimeframeGroupId);
+        let service = table.field(row, ColumnName::ServiceId);
         Ok(TimeframeRow {
             frame: FrameId(source.frames.number(group)),
-            start: second_or(table.field(row, ColumnName::StartTime), 0),
-            end: second_or(table.field(row, ColumnName::EndTime), DAY_SECONDS),
-            service: ServiceId(
-                source
-                    .services
-                    .number(table.field(row, ColumnName::ServiceId)),
-            ),
+            start: natural(start).unwrap_or(0),
+            end: natural(end).unwrap_or(DAY_SECONDS),
+            service: ServiceId(source.services.number(service)),
         })
     }
 }
@@ -88,13 +82,12 @@ impl FileRow for RiderRow {
 
     const FILE: FileName = FileName::RiderCategories;
 
-    #[tactic(auto, unfolding(feed_faults::specs::AcceptedFeed::rider_row), using(crate::proofs::IdLaws::rider_ids))]
-    fn at(source: &Source, row: u32) -> Result<RiderRow, AllocError> {
-        let table = source.table(Self::FILE);
-        let default = table.field(row, ColumnName::IsDefaultFareCategory);
+    #[tactic(auto, unfolding(feed_faults::specs::AcceptedFeed::rider_row), using(crate::proofs::IdLaws::rider_ids, crate::proofs::ValueLaws::values))]
+    fn at(source: &Source, table: &NamedTable, row: u32) -> Result<RiderRow, AllocError> {
+        let &[_, default] = source.numbers::<2>(Self::FILE, row);
         Ok(RiderRow {
             id: Id::copy_of(source.alloc, table.field(row, ColumnName::RiderCategoryId))?,
-            default: optional_int(default, 1) == DEFAULT_CATEGORY,
+            default: is_code(default, DEFAULT_CATEGORY),
         })
     }
 }
@@ -107,10 +100,9 @@ impl FileRow for MediumRow {
     const FILE: FileName = FileName::FareMedia;
 
     #[tactic(auto, unfolding(feed_faults::specs::AcceptedFeed::medium_row), using(crate::proofs::IdLaws::medium_ids))]
-    fn at(source: &Source, row: u32) -> Result<MediumRow, AllocError> {
-        let id = source.table(Self::FILE).field(row, ColumnName::FareMediaId);
+    fn at(source: &Source, table: &NamedTable, row: u32) -> Result<MediumRow, AllocError> {
         Ok(MediumRow {
-            id: Id::copy_of(source.alloc, id)?,
+            id: Id::copy_of(source.alloc, table.field(row, ColumnName::FareMediaId))?,
         })
     }
 }
@@ -122,24 +114,20 @@ impl FileRow for ProductRow {
 
     const FILE: FileName = FileName::FareProducts;
 
-    #[tactic(auto, unfolding(feed_faults::specs::AcceptedFeed::product_row))]
-    fn at(source: &Source, row: u32) -> Result<ProductRow, AllocError> {
-        let table = source.table(Self::FILE);
+    #[tactic(auto, unfolding(feed_faults::specs::AcceptedFeed::product_row, feed_faults::specs::FieldValues::amount_or_zero))]
+    fn at(source: &Source, table: &NamedTable, row: u32) -> Result<ProductRow, AllocError> {
+        let &[_, _, _, _, amount] = source.numbers::<5>(Self::FILE, row);
+        let product = table.field(row, ColumnName::FareProductId);
         let rider = table.field(row, ColumnName::RiderCategoryId);
         let medium = table.field(row, ColumnName::FareMediaId);
-        let currency = table.field(row, ColumnName::Currency);
         Ok(ProductRow {
-            product: ProductId(
-                source
-                    .products
-                    .number(table.field(row, ColumnName::FareProductId)),
-            ),
+            product: ProductId(source.products.number(product)),
             rider: filled(
                 rider,
                 RiderId(source.number(IdColumn::RiderCategory, rider)),
             ),
             medium: filled(medium, MediumId(source.number(IdColumn::FareMedia, medium))),
-            amount: amount_or_past(currency, table.field(row, ColumnName::Amount)),
+            amount: Money(amount.unwrap_or(0)),
         })
     }
 }
@@ -151,15 +139,16 @@ impl FileRow for LegRuleRow {
 
     const FILE: FileName = FileName::FareLegRules;
 
-    #[tactic(auto, unfolding(feed_faults::specs::AcceptedFeed::leg_rule_row))]
-    fn at(source: &Source, row: u32) -> Result<LegRuleRow, AllocError> {
-        let table = source.table(Self::FILE);
+    #[tactic(auto, unfolding(feed_faults::specs::AcceptedFeed::leg_rule_row), using(crate::proofs::ValueLaws::values))]
+    fn at(source: &Source, table: &NamedTable, row: u32) -> Result<LegRuleRow, AllocError> {
+        let &[_, _, _, _, _, _, _, priority] = source.numbers::<8>(Self::FILE, row);
         let group = table.field(row, ColumnName::LegGroupId);
         let network = table.field(row, ColumnName::NetworkId);
         let from_area = table.field(row, ColumnName::FromAreaId);
         let to_area = table.field(row, ColumnName::ToAreaId);
         let from_frame = table.field(row, ColumnName::FromTimeframeGroupId);
         let to_frame = table.field(row, ColumnName::ToTimeframeGroupId);
+        let product = table.field(row, ColumnName::FareProductId);
         Ok(LegRuleRow {
             group: filled(group, LegGroupId(source.groups.number(group))),
             network: filled(network, NetworkId(source.networks.number(network))),
@@ -167,31 +156,10 @@ impl FileRow for LegRuleRow {
             to_area: filled(to_area, AreaId(source.number(IdColumn::Area, to_area))),
             from_frame: filled(from_frame, FrameId(source.frames.number(from_frame))),
             to_frame: filled(to_frame, FrameId(source.frames.number(to_frame))),
-            product: ProductId(
-                source
-                    .products
-                    .number(table.field(row, ColumnName::FareProductId)),
-            ),
-            priority: optional_int(table.field(row, ColumnName::RulePriority), MOST_INT),
+            product: ProductId(source.products.number(product)),
+            priority: nat_of(priority),
         })
     }
-}
-
-// How long after a leg a transfer rule still holds.
-#[tactic(auto, unfolding(feed_faults::specs::AcceptedFeed::limit_of))]
-fn limit_of(rules: &NamedTable, row: u32) -> Option<Limit>
-    requires { row < row_count rules.now }
-    ensures { result ≡ limit_of rules.now row }
-{
-    let seconds = rules.field(row, ColumnName::DurationLimit);
-    let kind = int_or_past(rules.field(row, ColumnName::DurationLimitType), 3);
-    filled(
-        seconds,
-        Limit {
-            seconds: int_or_past(seconds, MOST_INT),
-            kind: kind as u8,
-        },
-    )
 }
 
 impl FileRow for TransferRuleRow {
@@ -201,18 +169,22 @@ impl FileRow for TransferRuleRow {
 
     const FILE: FileName = FileName::FareTransferRules;
 
-    #[tactic(auto, unfolding(feed_faults::specs::AcceptedFeed::transfer_rule_row))]
-    fn at(source: &Source, row: u32) -> Result<TransferRuleRow, AllocError> {
-        let table = source.table(Self::FILE);
+    #[tactic(auto, unfolding(feed_faults::specs::AcceptedFeed::transfer_rule_row, feed_faults::specs::AcceptedFeed::limit_of), using(crate::proofs::ValueLaws::values))]
+    fn at(source: &Source, table: &NamedTable, row: u32) -> Result<TransferRuleRow, AllocError> {
+        let &[_, _, count, seconds, limit_kind, kind, _] = source.numbers::<7>(Self::FILE, row);
         let from = table.field(row, ColumnName::FromLegGroupId);
         let to = table.field(row, ColumnName::ToLegGroupId);
+        let limit = Limit {
+            seconds: nat_of(seconds),
+            kind: nat_of(limit_kind) as u8,
+        };
         let product = table.field(row, ColumnName::FareProductId);
         Ok(TransferRuleRow {
             from: filled(from, LegGroupId(source.groups.number(from))),
             to: filled(to, LegGroupId(source.groups.number(to))),
-            count: finite_count(table.field(row, ColumnName::TransferCount)),
-            limit: limit_of(table, row),
-            kind: int_or_past(table.field(row, ColumnName::FareTransferType), 2) as u8,
+            count: natural(count),
+            limit: filled(table.field(row, ColumnName::DurationLimit), limit),
+            kind: nat_of(kind) as u8,
             product: filled(product, ProductId(source.products.number(product))),
         })
     }
@@ -233,16 +205,15 @@ pub fn feed_currency(tables: &Tables) -> Option<[u8; 3]>
 }
 
 /// The decimals of the products' currency; 2 where there is no product.
-#[tactic(auto, unfolding(feed_faults::specs::AcceptedFeed::feed_currency, feed_faults::specs::AcceptedFeed::feed_decimals))]
+#[tactic(auto, unfolding(feed_faults::specs::AcceptedFeed::feed_currency, feed_faults::specs::AcceptedFeed::feed_decimals), using(crate::proofs::ValueLaws::decimals))]
 pub fn feed_decimals(tables: &Tables) -> u8
     ensures { result ≡ feed_decimals (table_in tables.now file.FareProducts) }
 {
-    let products = tables.get(FileName::FareProducts);
-    if products.rows() == 0 {
+    if tables.get(FileName::FareProducts).rows() == 0 {
         return 2;
     }
-    match currency_of(products.field(0, ColumnName::Currency)) {
-        Some(decimals) => decimals,
-        None => 4,
-    }
+    let &[_, _, _, decimals, _] = tables.numbers(FileName::FareProducts, 0) else {
+        unreachable!();
+    };
+    natural(decimals).unwrap_or(2) as u8
 }

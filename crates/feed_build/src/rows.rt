@@ -7,6 +7,7 @@ ghost use Rattle.feed_faults.specs.AcceptedFeed.{typed_rows};
 
 use crate::source::Source;
 use feed_rows::FileName;
+use feed_tables::NamedTable;
 use plain_laws::ItemList;
 use std::alloc::AllocError;
 
@@ -20,12 +21,13 @@ pub trait FileRow: Drop {
 
     const FILE: FileName;
 
-    /// What a row of the file gives.
+    /// What a row of the file's table gives.
     ///
     /// # Errors
     /// Want of memory.
-    fn at(source: &Source, row: u32) -> Result<Self, AllocError>
-        requires { row < row_count (table_in source.now FILE) }
+    fn at(source: &Source, table: &NamedTable, row: u32) -> Result<Self, AllocError>
+        requires table { table.now ≡ table_in source.now FILE }
+        requires within { row < row_count table.now }
         ensures { IfOk result (λ made. made ≡ row_in source.now row) };
 }
 
@@ -36,9 +38,10 @@ pub trait FileRow: Drop {
 pub fn typed_rows<R: FileRow>(source: &Source) -> Result<ItemList<R>, AllocError>
     ensures { IfOk result (λ rows. rows ≡ typed_rows (table_in source.now R.FILE) (R.row_in source.now)) }
 {
+    let table = source.table(R::FILE);
     let mut rows = ItemList::empty(source.alloc);
-    for row in 0..source.table(R::FILE).rows() {
-        rows.push(R::at(source, row)?)?;
+    for row in 0..table.rows() {
+        rows.push(R::at(source, table, row)?)?;
     }
     Ok(rows)
 }

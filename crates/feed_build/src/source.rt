@@ -1,8 +1,11 @@
 //! What the rows of a feed are made of.
-ghost use Rattle.std.specs.Prelude.{◌≡◌, ◌<◌, ◌≤◌, ◌*◌, length, IfOk, IfSome};
+ghost use Rattle.std.specs.Prelude.{◌≡◌, ◌<◌, ◌≤◌, ◌*◌, true, length, IfOk, IfSome};
 ghost use Rattle.feed_rows.specs.Limits.{most_rows};
 ghost use Rattle.feed_tables.specs.IdColumns.{file_of, name_of};
-ghost use Rattle.feed_faults.specs.Records.{row_count};
+ghost use Rattle.feed_tables.specs.RowNumbers.{is_read_whole};
+ghost use Rattle.feed_text.specs.FieldNumbers.{numbers_of};
+ghost use Rattle.feed_faults.specs.FormFaults.{judged_columns};
+ghost use Rattle.feed_faults.specs.Records.{field, row_count};
 ghost use Rattle.feed_faults.specs.RowKeys.{row_of};
 ghost use Rattle.feed_faults.specs.FeedTables.{table_in};
 ghost use Rattle.feed_faults.specs.AcceptedFeed.{row_number, service_names, network_names, frame_names, product_names, group_names};
@@ -187,6 +190,19 @@ impl<'t> Source<'t> {
         ensures { result.now ≡ table_in self.now file }
     {
         self.tables.get(file)
+    }
+
+    /// What a row of a file tells as numbers, one for each column that is judged; not of stop_times.txt.
+    pub fn numbers<const N: usize>(&self, file: FileName, row: u32) -> &'t [Option<i64>; N]
+        requires whole { is_read_whole file ≡ true }
+        requires within { row < row_count (table_in self.now file) }
+        requires columns { length (judged_columns file (field (table_in self.now file) row)) ≡ N }
+        ensures { result.now ≡ numbers_of file (field (table_in self.now file) row) }
+    {
+        let Some(numbers) = self.tables.numbers(file, row).as_array() else {
+            unreachable!();
+        };
+        numbers
     }
 
     /// The earliest row that has the id in a column.

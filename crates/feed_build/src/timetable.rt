@@ -1,24 +1,24 @@
 //! The rows of the files of the timetable.
-ghost use Rattle.std.specs.Prelude.{◌≡◌, ◌<◌, not, IfOk};
+ghost use Rattle.std.specs.Prelude.{◌≡◌, ◌<◌, not, false, IfOk};
 ghost use Rattle.plain_laws.specs.Plain.{picks_below};
 ghost use Rattle.feed_rows.specs.declared.names.FileName.TheVariants as file;
-ghost use Rattle.feed_faults.specs.Records.{row_count};
+ghost use Rattle.feed_faults.specs.Records.{field, row_count};
 ghost use Rattle.feed_faults.specs.FormFaults.{is_passed_over};
 ghost use Rattle.feed_faults.specs.FeedTables.{table_in};
 ghost use Rattle.feed_faults.specs.FieldValues.{stop_kind};
-ghost use Rattle.feed_faults.specs.AcceptedFeed.{accepted_parent, stop_row, network_of_route, route_row, trip_row, runs_on_weekday, service_row, exception_row, frequency_row, link_row};
+ghost use Rattle.feed_faults.specs.AcceptedFeed.{accepted_parent, stop_row, network_of_route, route_row, trip_row, service_row, exception_row, frequency_row, link_row};
 
 use crate::rows::FileRow;
 use crate::source::Source;
-use crate::values::{MOST_INT, filled};
+use crate::values::{filled, is_code, natural};
 use feed_rows::{
     ColumnName, ExceptionRow, FileName, FrequencyRow, Id, LinkRow, LinkRows, PLATFORM, RouteRow,
     ServiceRow, StopRow, TripRow,
 };
-use feed_tables::{IdColumn, NamedTable, is_passed_over, stop_kind};
-use feed_text::{day_or_past, int_or_past, is_filled, optional_int, time_or_past};
+use feed_tables::{IdColumn, NamedTable};
+use feed_text::{is_filled, is_passed_over, nat_of};
 use std::alloc::AllocError;
-use transit_base::{MOST_TIME, NetworkId, RouteId, ServiceId, StopId, TripId};
+use transit_base::{Day, NetworkId, RouteId, ServiceId, StopId, TripId};
 
 // A weekday of `calendar.txt` on which the service runs.
 const SERVICE_AVAILABLE: u32 = 1;
@@ -53,10 +53,10 @@ impl FileRow for StopRow {
 
     const FILE: FileName = FileName::Stops;
 
-    #[tactic(auto, unfolding(feed_faults::specs::AcceptedFeed::stop_row), using(feed_soundness::proofs::IdColumns::stop_id))]
-    fn at(source: &Source, row: u32) -> Result<StopRow, AllocError> {
-        let table = source.table(Self::FILE);
-        let kind = stop_kind(table, row);
+    #[tactic(auto, unfolding(feed_faults::specs::AcceptedFeed::stop_row), using(feed_soundness::proofs::IdColumns::stop_id, crate::proofs::ValueLaws::values))]
+    fn at(source: &Source, table: &NamedTable, row: u32) -> Result<StopRow, AllocError> {
+        let &[_, kind, _] = source.numbers::<3>(Self::FILE, row);
+        let kind = nat_of(kind);
         Ok(StopRow {
             id: Id::copy_of(source.alloc, table.field(row, ColumnName::StopId))?,
             kind: kind as u8,
@@ -93,8 +93,7 @@ impl FileRow for RouteRow {
     const FILE: FileName = FileName::Routes;
 
     #[tactic(auto, unfolding(feed_faults::specs::AcceptedFeed::route_row), using(feed_soundness::proofs::IdColumns::route_id))]
-    fn at(source: &Source, row: u32) -> Result<RouteRow, AllocError> {
-        let table = source.table(Self::FILE);
+    fn at(source: &Source, table: &NamedTable, row: u32) -> Result<RouteRow, AllocError> {
         let network = network_of_route(source, row);
         Ok(RouteRow {
             id: Id::copy_of(source.alloc, table.field(row, ColumnName::RouteId))?,
@@ -111,26 +110,15 @@ impl FileRow for TripRow {
     const FILE: FileName = FileName::Trips;
 
     #[tactic(auto, unfolding(feed_faults::specs::AcceptedFeed::trip_row), using(feed_soundness::proofs::IdColumns::trip_id))]
-    fn at(source: &Source, row: u32) -> Result<TripRow, AllocError> {
-        let table = source.table(Self::FILE);
+    fn at(source: &Source, table: &NamedTable, row: u32) -> Result<TripRow, AllocError> {
+        let route = table.field(row, ColumnName::RouteId);
+        let service = table.field(row, ColumnName::ServiceId);
         Ok(TripRow {
             id: Id::copy_of(source.alloc, table.field(row, ColumnName::TripId))?,
-            route: RouteId(source.number(IdColumn::Route, table.field(row, ColumnName::RouteId))),
-            service: ServiceId(
-                source
-                    .services
-                    .number(table.field(row, ColumnName::ServiceId)),
-            ),
+            route: RouteId(source.number(IdColumn::Route, route)),
+            service: ServiceId(source.services.number(service)),
         })
     }
-}
-
-// Whether a service runs on a weekday.
-fn runs_on(calendar: &NamedTable, row: u32, weekday: ColumnName) -> bool
-    requires { row < row_count calendar.now }
-    ensures { result ≡ runs_on_weekday calendar.now row weekday }
-{
-    int_or_past(calendar.field(row, weekday), 1) == SERVICE_AVAILABLE
 }
 
 impl FileRow for ServiceRow {
@@ -140,26 +128,34 @@ impl FileRow for ServiceRow {
 
     const FILE: FileName = FileName::Calendar;
 
-    #[tactic(auto, unfolding(feed_faults::specs::AcceptedFeed::service_row))]
-    fn at(source: &Source, row: u32) -> Result<ServiceRow, AllocError> {
-        let table = source.table(Self::FILE);
+    #[tactic(auto, unfolding(feed_faults::specs::AcceptedFeed::service_row, feed_faults::specs::FieldValues::int_or_zero, feed_faults::specs::FieldValues::day_or_zero))]
+    fn at(source: &Source, table: &NamedTable, row: u32) -> Result<ServiceRow, AllocError> {
+        let &[
+            _,
+            monday,
+            tuesday,
+            wednesday,
+            thursday,
+            friday,
+            saturday,
+            sunday,
+            first,
+            last,
+        ] = source.numbers::<10>(Self::FILE, row);
+        let service = table.field(row, ColumnName::ServiceId);
         Ok(ServiceRow {
-            service: ServiceId(
-                source
-                    .services
-                    .number(table.field(row, ColumnName::ServiceId)),
-            ),
+            service: ServiceId(source.services.number(service)),
             days: [
-                runs_on(table, row, ColumnName::Monday),
-                runs_on(table, row, ColumnName::Tuesday),
-                runs_on(table, row, ColumnName::Wednesday),
-                runs_on(table, row, ColumnName::Thursday),
-                runs_on(table, row, ColumnName::Friday),
-                runs_on(table, row, ColumnName::Saturday),
-                runs_on(table, row, ColumnName::Sunday),
+                is_code(monday, SERVICE_AVAILABLE),
+                is_code(tuesday, SERVICE_AVAILABLE),
+                is_code(wednesday, SERVICE_AVAILABLE),
+                is_code(thursday, SERVICE_AVAILABLE),
+                is_code(friday, SERVICE_AVAILABLE),
+                is_code(saturday, SERVICE_AVAILABLE),
+                is_code(sunday, SERVICE_AVAILABLE),
             ],
-            first: day_or_past(table.field(row, ColumnName::StartDate)),
-            last: day_or_past(table.field(row, ColumnName::EndDate)),
+            first: Day(first.unwrap_or(0)),
+            last: Day(last.unwrap_or(0)),
         })
     }
 }
@@ -171,17 +167,14 @@ impl FileRow for ExceptionRow {
 
     const FILE: FileName = FileName::CalendarDates;
 
-    #[tactic(auto, unfolding(feed_faults::specs::AcceptedFeed::exception_row))]
-    fn at(source: &Source, row: u32) -> Result<ExceptionRow, AllocError> {
-        let table = source.table(Self::FILE);
+    #[tactic(auto, unfolding(feed_faults::specs::AcceptedFeed::exception_row, feed_faults::specs::FieldValues::int_or_zero, feed_faults::specs::FieldValues::day_or_zero))]
+    fn at(source: &Source, table: &NamedTable, row: u32) -> Result<ExceptionRow, AllocError> {
+        let &[_, date, kind] = source.numbers::<3>(Self::FILE, row);
+        let service = table.field(row, ColumnName::ServiceId);
         Ok(ExceptionRow {
-            service: ServiceId(
-                source
-                    .services
-                    .number(table.field(row, ColumnName::ServiceId)),
-            ),
-            day: day_or_past(table.field(row, ColumnName::Date)),
-            added: int_or_past(table.field(row, ColumnName::ExceptionType), 2) == SERVICE_ADDED,
+            service: ServiceId(source.services.number(service)),
+            day: Day(date.unwrap_or(0)),
+            added: is_code(kind, SERVICE_ADDED),
         })
     }
 }
@@ -193,30 +186,33 @@ impl FileRow for FrequencyRow {
 
     const FILE: FileName = FileName::Frequencies;
 
-    #[tactic(auto, unfolding(feed_faults::specs::AcceptedFeed::frequency_row))]
-    fn at(source: &Source, row: u32) -> Result<FrequencyRow, AllocError> {
-        let table = source.table(Self::FILE);
+    #[tactic(auto, unfolding(feed_faults::specs::AcceptedFeed::frequency_row), using(crate::proofs::ValueLaws::values))]
+    fn at(source: &Source, table: &NamedTable, row: u32) -> Result<FrequencyRow, AllocError> {
+        let &[_, start, end, headway, _] = source.numbers::<5>(Self::FILE, row);
+        let trip = table.field(row, ColumnName::TripId);
         Ok(FrequencyRow {
-            trip: TripId(source.number(IdColumn::Trip, table.field(row, ColumnName::TripId))),
-            start: time_or_past(table.field(row, ColumnName::StartTime), MOST_TIME),
-            end: time_or_past(table.field(row, ColumnName::EndTime), MOST_TIME),
-            headway: int_or_past(table.field(row, ColumnName::HeadwaySecs), MOST_INT),
+            trip: TripId(source.number(IdColumn::Trip, trip)),
+            start: natural(start).unwrap_or(0),
+            end: natural(end).unwrap_or(0),
+            headway: nat_of(headway),
         })
     }
 }
 
 // What a row of transfers.txt gives that isn't passed over.
-#[tactic(auto, unfolding(feed_faults::specs::AcceptedFeed::link_row))]
+#[tactic(auto, unfolding(feed_faults::specs::AcceptedFeed::link_row), using(crate::proofs::ValueLaws::values))]
 fn link_row(source: &Source, row: u32) -> LinkRow
-    requires { row < row_count (table_in source.now file.Transfers) }
+    requires within { row < row_count (table_in source.now file.Transfers) }
+    requires judged { is_passed_over (field (table_in source.now file.Transfers) row) ≡ false }
     ensures { result ≡ link_row source.now row }
 {
+    let &[kind, _, _, seconds] = source.numbers::<4>(FileName::Transfers, row);
     let table = source.table(FileName::Transfers);
     LinkRow {
         from: StopId(source.number(IdColumn::Stop, table.field(row, ColumnName::FromStopId))),
         to: StopId(source.number(IdColumn::Stop, table.field(row, ColumnName::ToStopId))),
-        forbidden: optional_int(table.field(row, ColumnName::TransferType), 5) == CHANGE_FORBIDDEN,
-        seconds: optional_int(table.field(row, ColumnName::MinTransferTime), MOST_INT),
+        forbidden: is_code(kind, CHANGE_FORBIDDEN),
+        seconds: nat_of(seconds),
     }
 }
 
@@ -225,12 +221,12 @@ fn link_row(source: &Source, row: u32) -> LinkRow
 /// # Errors
 /// Want of memory.
 pub fn link_rows(source: &Source) -> Result<LinkRows, AllocError>
-    ensures { IfOk result (λ rows. rows ≡ picks_below (row_count (table_in source.now file.Transfers)) (λ row. not (is_passed_over (table_in source.now file.Transfers) row)) (link_row source.now)) }
+    ensures { IfOk result (λ rows. rows ≡ picks_below (row_count (table_in source.now file.Transfers)) (λ row. not (is_passed_over (field (table_in source.now file.Transfers) row))) (link_row source.now)) }
 {
     let table = source.table(FileName::Transfers);
     let mut rows = LinkRows::empty(source.alloc);
     for row in 0..table.rows() {
-        if !is_passed_over(table, row) {
+        if !is_passed_over(&table.row(row)) {
             rows.push(link_row(source, row))?;
         }
     }

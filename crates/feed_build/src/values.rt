@@ -1,15 +1,10 @@
-//! The values of fields that rows have.
-ghost use Rattle.std.specs.Prelude.{◌≡◌};
-ghost use Rattle.feed_faults.specs.FieldGrammars.{count_value};
-ghost use Rattle.feed_faults.specs.AcceptedFeed.{if_filled, permits, finite_count};
+//! The values that rows have, by what their fields tell as numbers.
+ghost use Rattle.std.specs.Prelude.{◌≡◌, ◌==◌, ◌≤◌, ◌<◌, ◌^◌};
+ghost use Rattle.std.specs.Option.{ForSome};
+ghost use Rattle.feed_faults.specs.FieldValues.{nat_of};
+ghost use Rattle.feed_faults.specs.AcceptedFeed.{if_filled, finite_count};
 
-use feed_text::{count_of, is_filled, optional_int};
-
-// The greatest integer of a column without a limit of its own.
-pub const MOST_INT: u32 = 2_147_483_647;
-
-// The `pickup_type` or `drop_off_type` of a stop where riders may not board, or alight.
-const NOT_AVAILABLE: u32 = 1;
+use feed_text::is_filled;
 
 /// A value, where the text that gives it is filled.
 pub fn filled<T: Copy>(text: &[u8], value: T) -> Option<T>
@@ -18,20 +13,18 @@ pub fn filled<T: Copy>(text: &[u8], value: T) -> Option<T>
     if is_filled(text) { Some(value) } else { None }
 }
 
-/// Whether a pickup or drop-off type permits: one type forbids, and the others and an empty field permit.
-pub fn permits(text: &[u8]) -> bool
-    ensures { result ≡ permits text.now }
+/// Whether a field tells this code. An empty one tells 0.
+pub fn is_code(number: Option<i64>, code: u32) -> bool
+    requires { 1 ≤ code }
+    ensures { result ≡ (nat_of number == code) }
 {
-    optional_int(text, 3) != NOT_AVAILABLE
+    number == Some(i64::from(code))
 }
 
-/// A number of changes; none where it is -1 or empty, which is unlimited.
-pub fn finite_count(text: &[u8]) -> Option<u32>
-    ensures { result ≡ finite_count (count_value text.now) }
+/// A number from 0 on; none where there is none, or it is less, as -1 for changes without a limit.
+pub fn natural(number: Option<i64>) -> Option<u32>
+    requires { ForSome (finite_count number) (λ n. n < 2 ^ 32) }
+    ensures { result ≡ finite_count number }
 {
-    let count = count_of(text)?;
-    if count < 0 {
-        return None;
-    }
-    Some(count as u32)
+    u32::try_from(number?).ok()
 }

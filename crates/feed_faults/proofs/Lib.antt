@@ -1,3 +1,4 @@
+pub mod TimeLaws
 pub mod Folders
 pub mod GrammarChecks
 pub mod ColumnEdges

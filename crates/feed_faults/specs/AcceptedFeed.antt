@@ -36,7 +36,7 @@ use Rattle.feed_rows.specs.TimeGrammar.{time_value}
 use Rattle.feed_faults.specs.FieldGrammars.{most_int, count_value, currency_decimals}
 use Rattle.feed_faults.specs.FormFaults.{is_passed_over}
 use Rattle.feed_faults.specs.FeedTables.{FeedTables, table_in, tables_of}
-use Rattle.feed_faults.specs.FieldValues.{int_or_past, optional_int, time_or_past, day_or_past, amount_or_past, stop_kind, frame_start, frame_end}
+use Rattle.feed_faults.specs.FieldValues.{int_or_zero, time_or, day_or_zero, amount_or_zero, stop_kind, frame_start, frame_end}
 use Rattle.feed_faults.specs.RowKeys.{row_of}
 
 -- what a filled field gives
@@ -132,7 +132,7 @@ trip_row t row =
 
 -- a pickup or drop-off type permits: one type forbids, and the others and an empty field permit
 abbrev pub permits : List ℕ → Bool
-permits text = not (optional_int 3 text == not_available)
+permits text = not (int_or_zero 0 3 text == not_available)
 
 -- stop_times.txt
 unfoldable pub stop_time_row : FeedTables → ℕ → StopTimeRow
@@ -141,7 +141,7 @@ stop_time_row t row =
     record {
       trip = record { 0 = row_number (table_in t file.Trips) column.TripId (at column.TripId) };
       stop = record { 0 = row_number (table_in t file.Stops) column.StopId (at column.StopId) };
-      sequence = int_or_past most_int (at column.StopSequence);
+      sequence = int_or_zero 0 most_int (at column.StopSequence);
       arrival = time_value most_time (at column.ArrivalTime);
       departure = time_value most_time (at column.DepartureTime);
       pickup = permits (at column.PickupType);
@@ -150,7 +150,7 @@ stop_time_row t row =
 
 -- a service runs on a weekday
 abbrev pub runs_on_weekday : FileTable → ℕ → ColumnName → Bool
-runs_on_weekday calendar row weekday = int_or_past 1 (field calendar row weekday) == service_available
+runs_on_weekday calendar row weekday = int_or_zero 0 1 (field calendar row weekday) == service_available
 
 -- calendar.txt
 unfoldable pub service_row : FeedTables → ℕ → ServiceRow
@@ -161,8 +161,8 @@ service_row t row =
       days = runs_on_weekday (table_in t file.Calendar) row column.Monday ∷ runs_on_weekday (table_in t file.Calendar) row column.Tuesday ∷ runs_on_weekday (table_in t file.Calendar) row column.Wednesday
           ∷ runs_on_weekday (table_in t file.Calendar) row column.Thursday ∷ runs_on_weekday (table_in t file.Calendar) row column.Friday ∷ runs_on_weekday (table_in t file.Calendar) row column.Saturday
           ∷ runs_on_weekday (table_in t file.Calendar) row column.Sunday ∷ [];
-      first = record { 0 = day_or_past (at column.StartDate) };
-      last = record { 0 = day_or_past (at column.EndDate) };
+      first = record { 0 = day_or_zero (at column.StartDate) };
+      last = record { 0 = day_or_zero (at column.EndDate) };
     }
 
 -- calendar_dates.txt
@@ -171,8 +171,8 @@ exception_row t row =
     let at = field (table_in t file.CalendarDates) row in
     record {
       service = record { 0 = name_number (service_names t) (at column.ServiceId) };
-      day = record { 0 = day_or_past (at column.Date) };
-      added = int_or_past 2 (at column.ExceptionType) == service_added;
+      day = record { 0 = day_or_zero (at column.Date) };
+      added = int_or_zero 1 2 (at column.ExceptionType) == service_added;
     }
 
 -- frequencies.txt
@@ -181,9 +181,9 @@ frequency_row t row =
     let at = field (table_in t file.Frequencies) row in
     record {
       trip = record { 0 = row_number (table_in t file.Trips) column.TripId (at column.TripId) };
-      start = time_or_past most_time (at column.StartTime);
-      end = time_or_past most_time (at column.EndTime);
-      headway = int_or_past most_int (at column.HeadwaySecs);
+      start = time_or 0 most_time (at column.StartTime);
+      end = time_or 0 most_time (at column.EndTime);
+      headway = int_or_zero 1 most_int (at column.HeadwaySecs);
     }
 
 -- transfers.txt; a row that forbids has its seconds like any other
@@ -193,8 +193,8 @@ link_row t row =
     record {
       from = record { 0 = row_number (table_in t file.Stops) column.StopId (at column.FromStopId) };
       to = record { 0 = row_number (table_in t file.Stops) column.StopId (at column.ToStopId) };
-      forbidden = optional_int 5 (at column.TransferType) == change_forbidden;
-      seconds = optional_int most_int (at column.MinTransferTime);
+      forbidden = int_or_zero 0 5 (at column.TransferType) == change_forbidden;
+      seconds = int_or_zero 0 most_int (at column.MinTransferTime);
     }
 
 -- areas.txt
@@ -226,7 +226,7 @@ unfoldable pub rider_row : FeedTables → ℕ → RiderRow
 rider_row t row =
     record {
       id = field (table_in t file.RiderCategories) row column.RiderCategoryId;
-      default = optional_int 1 (field (table_in t file.RiderCategories) row column.IsDefaultFareCategory) == default_category;
+      default = int_or_zero 0 1 (field (table_in t file.RiderCategories) row column.IsDefaultFareCategory) == default_category;
     }
 
 -- fare_media.txt
@@ -243,7 +243,7 @@ product_row t row =
       product = record { 0 = name_number (product_names t) (at column.FareProductId) };
       rider = if_filled rider (record { 0 = row_number (table_in t file.RiderCategories) column.RiderCategoryId rider });
       medium = if_filled medium (record { 0 = row_number (table_in t file.FareMedia) column.FareMediaId medium });
-      amount = record { 0 = amount_or_past (at column.Currency) (at column.Amount) };
+      amount = record { 0 = amount_or_zero (at column.Currency) (at column.Amount) };
     }
 
 -- fare_leg_rules.txt
@@ -264,7 +264,7 @@ leg_rule_row t row =
       from_frame = if_filled from_frame (record { 0 = name_number (frame_names t) from_frame });
       to_frame = if_filled to_frame (record { 0 = name_number (frame_names t) to_frame });
       product = record { 0 = name_number (product_names t) (at column.FareProductId) };
-      priority = optional_int most_int (at column.RulePriority);
+      priority = int_or_zero 0 most_int (at column.RulePriority);
     }
 
 -- a number from 1 on, if the field is one; -1 and empty stand for no number
@@ -277,7 +277,7 @@ finite_count (Some (negsuc n)) = None
 unfoldable pub limit_of : FileTable → ℕ → Option Limit
 limit_of rules row =
     let seconds = field rules row column.DurationLimit in
-    if_filled seconds (record { seconds = int_or_past most_int seconds; kind = int_or_past 3 (field rules row column.DurationLimitType) })
+    if_filled seconds (record { seconds = int_or_zero 1 most_int seconds; kind = int_or_zero 0 3 (field rules row column.DurationLimitType) })
 
 -- fare_transfer_rules.txt
 unfoldable pub transfer_rule_row : FeedTables → ℕ → TransferRuleRow
@@ -291,7 +291,7 @@ transfer_rule_row t row =
       to = if_filled to (record { 0 = name_number (group_names t) to });
       count = finite_count (count_value (at column.TransferCount));
       limit = limit_of (table_in t file.FareTransferRules) row;
-      kind = int_or_past 2 (at column.FareTransferType);
+      kind = int_or_zero 0 2 (at column.FareTransferType);
       product = if_filled product (record { 0 = name_number (product_names t) product });
     }
 
@@ -299,9 +299,9 @@ transfer_rule_row t row =
 unfoldable pub feed_currency : FileTable → Option (List ℕ)
 feed_currency products = when (nat_lt 0 (row_count products)) (field products 0 column.Currency)
 
--- its decimals, or 2 where there is no product; 4 stands for what is no currency
+-- its decimals; 2 where there is no product
 unfoldable pub feed_decimals : FileTable → ℕ
-feed_decimals products = option_map_or (λ currency. unwrap_or (currency_decimals currency) 4) (feed_currency products) 2
+feed_decimals products = option_map_or (λ currency. unwrap_or (currency_decimals currency) 2) (feed_currency products) 2
 
 -- what a row function gives at each row of a table
 abbrev pub typed_rows : {X : Type 0} → FileTable → (ℕ → X) → List X
@@ -318,7 +318,7 @@ rows_of_tables t =
       services = typed_rows (table_in t file.Calendar) (service_row t);
       exceptions = typed_rows (table_in t file.CalendarDates) (exception_row t);
       frequencies = typed_rows (table_in t file.Frequencies) (frequency_row t);
-      links = picks_below (row_count (table_in t file.Transfers)) (λ row. not (is_passed_over (table_in t file.Transfers) row)) (link_row t);
+      links = picks_below (row_count (table_in t file.Transfers)) (λ row. not (is_passed_over (field (table_in t file.Transfers) row))) (link_row t);
       areas = typed_rows (table_in t file.Areas) (area_row t);
       stop_areas = typed_rows (table_in t file.StopAreas) (stop_area_row t);
       timeframes = typed_rows (table_in t file.Timeframes) (timeframe_row t);

@@ -17,7 +17,7 @@ use Rattle.feed_rows.specs.HeldFiles.{HeldFile}
 use Rattle.feed_faults.specs.declared.columns.EmptyField.{EmptyField}
 use Rattle.feed_faults.specs.declared.columns.EmptyField.TheVariants as empty
 use Rattle.feed_faults.specs.declared.columns.ColumnRule.{ColumnRule}
-use Rattle.feed_faults.specs.Records.{FileTable, table_of_bytes, header, row_count, column_of, field, is_filled, is_long}
+use Rattle.feed_faults.specs.Records.{FileTable, Fields, table_of_bytes, header, row_count, column_of, field, is_filled, is_long}
 use Rattle.feed_faults.specs.FieldGrammars.{int_value}
 use Rattle.feed_faults.specs.FileColumns.{columns_of, fits, misfit}
 use Rattle.feed_faults.specs.FaultPlaces.{file_fault, column_fault, row_fault, field_fault}
@@ -49,42 +49,46 @@ header_fault file table =
     option_or (first_in (columns_of file) (doubled_column file table)) (first_in (columns_of file) (missing_column file table))
 
 -- a stop time names a place of GTFS-Flex: a location group or a location
-unfoldable pub names_flex_place : FileTable → ℕ → Bool
-names_flex_place table row =
-    is_filled (field table row column.LocationGroupId) || is_filled (field table row column.LocationId)
+unfoldable pub names_flex_place : Fields → Bool
+names_flex_place at = is_filled (at column.LocationGroupId) || is_filled (at column.LocationId)
 
 -- what an empty field is: GTFS-Flex is out of scope, so a stop time without a stop is a fault either way
-abbrev pub empty_misfit : FileTable → ℕ → EmptyField → Option FaultKind
-empty_misfit table row empty.Fine = None
-empty_misfit table row empty.Fault = Some kind.EmptyRequired
-empty_misfit table row empty.FaultOrFlex = Some (if names_flex_place table row then kind.FlexRow else kind.EmptyRequired)
+abbrev pub empty_misfit : Fields → EmptyField → Option FaultKind
+empty_misfit at empty.Fine = None
+empty_misfit at empty.Fault = Some kind.EmptyRequired
+empty_misfit at empty.FaultOrFlex = Some (if names_flex_place at then kind.FlexRow else kind.EmptyRequired)
 
 -- what is wrong with the field of a row in a column
-unfoldable pub field_misfit : FileTable → ℕ → ColumnRule → Option FaultKind
-field_misfit table row rule =
-    if is_filled (field table row rule.name)
-    then when (not (fits rule.grammar (field table row column.Currency) (field table row rule.name))) (misfit rule.grammar)
-    else empty_misfit table row rule.empty
+unfoldable pub field_misfit : Fields → ColumnRule → Option FaultKind
+field_misfit at rule =
+    if is_filled (at rule.name)
+    then when (not (fits rule.grammar (at column.Currency) (at rule.name))) (misfit rule.grammar)
+    else empty_misfit at rule.empty
 
 -- a row of transfers.txt is passed over: it is of type 4 or 5, or it names routes or trips (profile)
-unfoldable pub is_passed_over : FileTable → ℕ → Bool
-is_passed_over table row =
-    is_some (int_value (pos 4) (pos 5) (field table row column.TransferType))
-    || is_filled (field table row column.FromRouteId) || is_filled (field table row column.ToRouteId)
-    || is_filled (field table row column.FromTripId) || is_filled (field table row column.ToTripId)
+unfoldable pub is_passed_over : Fields → Bool
+is_passed_over at =
+    is_some (int_value (pos 4) (pos 5) (at column.TransferType))
+    || is_filled (at column.FromRouteId) || is_filled (at column.ToRouteId)
+    || is_filled (at column.FromTripId) || is_filled (at column.ToTripId)
 
 -- the columns of a row that are judged: of a row that is passed over, the type alone
-abbrev pub judged_columns : FileName → FileTable → ℕ → List ColumnRule
-judged_columns file.Transfers table row =
-    if is_passed_over table row then take 1 (columns_of file.Transfers) else columns_of file.Transfers
-judged_columns file table row = columns_of file
+abbrev pub judged_columns : FileName → Fields → List ColumnRule
+judged_columns file.Transfers at = if is_passed_over at then take 1 (columns_of file.Transfers) else columns_of file.Transfers
+judged_columns file at = columns_of file
+
+-- what is wrong with the field of a row in a column, as a fault
+abbrev pub fault_of_field : FileName → ℕ → Fields → ColumnRule → Option FeedFault
+fault_of_field file row at rule = option_map (field_fault file row rule.name) (field_misfit at rule)
+
+-- the first fault of a row's fields, in the order of the columns
+abbrev pub fault_of_fields : FileName → ℕ → Fields → Option FeedFault
+fault_of_fields file row at = first_in (judged_columns file at) (fault_of_field file row at)
 
 -- the first fault of a row: a field past the header, then the columns in order
 unfoldable pub form_fault_of_row : FileName → FileTable → ℕ → Option FeedFault
 form_fault_of_row file table row =
-    option_or (when (is_long table row) (row_fault file row kind.LongRow))
-    (first_in (judged_columns file table row)
-    (λ rule. option_map (field_fault file row rule.name) (field_misfit table row rule)))
+    option_or (when (is_long table row) (row_fault file row kind.LongRow)) (fault_of_fields file row (field table row))
 
 -- the first fault of a table's rows
 unfoldable pub form_fault_of_rows : FileName → FileTable → Option FeedFault

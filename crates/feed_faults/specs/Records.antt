@@ -52,6 +52,10 @@ column_of table name = find_below (length (header table)) (λ c. bytes_eq (get_o
 unfoldable pub field : FileTable → ℕ → ColumnName → List ℕ
 field table row name = option_map_or (λ c. get_or (data_row table row) c []) (column_of table name) []
 
+-- the fields of a row, by the names of their columns
+abbrev pub Fields : Type 0
+Fields = ColumnName → List ℕ
+
 -- a field isn't empty
 abbrev pub is_filled : List ℕ → Bool
 is_filled [] = false

@@ -96,7 +96,7 @@ is_unknown_id t LegGroup id = is_unknown (table_in t file.FareLegRules) LegGroup
 
 -- the ids of a row are looked at: not of a row of transfers.txt that is passed over
 abbrev pub is_judged : FileName → FileTable → ℕ → Bool
-is_judged file.Transfers table row = not (is_passed_over table row)
+is_judged file.Transfers table row = not (is_passed_over (field table row))
 is_judged name table row = true
 
 -- two rows of a file have one key of several columns

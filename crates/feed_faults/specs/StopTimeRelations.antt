@@ -8,7 +8,7 @@ use Rattle.plain_laws.specs.Plain.{filled_and, at_and, any_below, list_below}
 use Rattle.feed_faults.specs.Records.{FileTable, row_count, field}
 use Rattle.feed_rows.specs.TimeGrammar.{time_value}
 use Rattle.feed_faults.specs.FieldGrammars.{most_int}
-use Rattle.feed_faults.specs.FieldValues.{int_or_past, stop_kind}
+use Rattle.feed_faults.specs.FieldValues.{int_or_zero, stop_kind}
 use Rattle.feed_rows.specs.Codes.{platform_type}
 use Rattle.feed_faults.specs.RowKeys.{row_of}
 
@@ -24,7 +24,7 @@ unfoldable pub stop_time_of : FileTable → ℕ → StopTime
 stop_time_of table row =
     record {
       trip = field table row TripId;
-      sequence = int_or_past most_int (field table row StopSequence);
+      sequence = int_or_zero 0 most_int (field table row StopSequence);
       arrival = time_value most_time (field table row ArrivalTime);
       departure = time_value most_time (field table row DepartureTime);
     }

@@ -67,7 +67,7 @@ module _ (t : FeedTables) where
       ),
     ),
   )
-  do_fit file.Calendar = (refl, (λ row has. tt), (tt, (λ row has. tt), tt))
+  do_fit file.Calendar = (refl, (λ row has. tt), (refl, (λ row has. tt), tt))
   do_fit file.CalendarDates = ((λ other. exceptions_tell t), (λ row has. tt), tt)
   do_fit file.Frequencies =
       (tt, (λ row has. tt), ((λ other. frequencies_tell t), (λ row has. passed t file.Frequencies 1 row 0 (Known TripId Trip) has (omega arith) refl), tt))

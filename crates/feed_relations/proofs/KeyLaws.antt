@@ -16,7 +16,7 @@ use Rattle.plain_laws.proofs.Laws.{find_below_some, find_below-same, same_test, 
 use Rattle.feed_faults.specs.declared.checks.RowCheck.TheVariants.{NewKey}
 use Rattle.feed_faults.specs.Records.{FileTable, row_count, field, is_filled}
 use Rattle.feed_faults.specs.FeedTables.{FeedTables, table_in}
-use Rattle.feed_faults.specs.FieldValues.{day_or_past}
+use Rattle.feed_faults.specs.FieldValues.{day_or_zero}
 use Rattle.feed_faults.specs.RowKeys.{row_of, is_unknown, same_field}
 use Rattle.feed_faults.specs.RowChecks.{same_key, fails}
 use Rattle.feed_faults.specs.ServiceRelations.{same_exception, same_start}
@@ -97,7 +97,7 @@ module _ (t : FeedTables) where
   exceptions_tell a b lt within ka kb =
       let table = table_in t file.CalendarDates in
       key_parts (row_key t file.CalendarDates b) (row_key t file.CalendarDates a)
-      ∙ rw (own_same table ServiceId b a within (omega arith), int_eq-int_same (day_or_past (field table b Date)) (day_or_past (field table a Date))) (alone _ _)
+      ∙ rw (own_same table ServiceId b a within (omega arith), int_eq-int_same (day_or_zero (field table b Date)) (day_or_zero (field table a Date))) (alone _ _)
 
   pub frequencies_tell : DoKeysTell t file.Frequencies
   unfolding same_start

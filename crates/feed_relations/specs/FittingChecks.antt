@@ -8,7 +8,7 @@ use Rattle.plain_laws.specs.Plain.{first_below}
 use Rattle.feed_faults.specs.declared.checks.Named.{Named}
 use Rattle.feed_faults.specs.declared.checks.Named.TheVariants.{Trip, Stop}
 use Rattle.feed_faults.specs.declared.checks.RowCheck.{RowCheck}
-use Rattle.feed_faults.specs.declared.checks.RowCheck.TheVariants.{NewId, NewKey, Known, KnownParent, GoodParent, AtPlatform, TimedEnds, RisingTimes, GoodTimeframe}
+use Rattle.feed_faults.specs.declared.checks.RowCheck.TheVariants.{NewId, NewKey, Known, KnownParent, GoodParent, AtPlatform, TimedEnds, RisingTimes, OrderedDays, GoodTimeframe}
 use Rattle.feed_faults.specs.FeedTables.{FeedTables, table_in}
 use Rattle.feed_faults.specs.RowChecks.{checks_of, fault_of_check}
 use Rattle.feed_tables.specs.declared.ids.IdColumn.{IdColumn}
@@ -45,6 +45,7 @@ Fits t name GoodParent = name ≡ file.Stops
 Fits t name AtPlatform = name ≡ file.StopTimes
 Fits t name TimedEnds = name ≡ file.StopTimes
 Fits t name RisingTimes = name ≡ file.StopTimes
+Fits t name OrderedDays = name ≡ file.Calendar
 Fits t name GoodTimeframe = name ≡ file.Timeframes
 Fits t name check = Unit {0}
 

@@ -11,7 +11,7 @@ use Rattle.plain_laws.specs.Plain.{any_below}
 use Rattle.feed_faults.specs.declared.checks.Named.TheVariants.{Trip, RiderCategory, FareMedia}
 use Rattle.feed_faults.specs.Records.{row_count, field}
 use Rattle.feed_faults.specs.FeedTables.{FeedTables, table_in}
-use Rattle.feed_faults.specs.FieldValues.{time_or_past, day_or_past}
+use Rattle.feed_faults.specs.FieldValues.{time_or, day_or_zero}
 use Rattle.feed_faults.specs.AcceptedFeed.{row_number}
 use Rattle.feed_faults.specs.RowChecks.{is_unknown_id, same_key}
 use Rattle.feed_relations.specs.JudgedBy.{IsTripKnown}
@@ -22,13 +22,13 @@ abbrev pub row_key : FeedTables → FileName → ℕ → RowKey
 row_key t file.CalendarDates row =
     record {
       first = row_number (table_in t file.CalendarDates) ServiceId (field (table_in t file.CalendarDates) row ServiceId);
-      second = day_or_past (field (table_in t file.CalendarDates) row Date);
+      second = day_or_zero (field (table_in t file.CalendarDates) row Date);
       third = 0;
     }
 row_key t file.Frequencies row =
     record {
       first = row_number (table_in t file.Trips) TripId (field (table_in t file.Frequencies) row TripId);
-      second = pos (time_or_past most_time (field (table_in t file.Frequencies) row StartTime));
+      second = pos (time_or 0 most_time (field (table_in t file.Frequencies) row StartTime));
       third = 0;
     }
 row_key t file.FareProducts row =

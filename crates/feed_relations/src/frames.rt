@@ -6,7 +6,6 @@ ghost use Rattle.feed_rows.specs.declared.names.FileName.TheVariants as file;
 ghost use Rattle.plain_laws.specs.Plain.{find_below, any_below, list_below};
 ghost use Rattle.feed_faults.specs.Records.{row_count};
 ghost use Rattle.feed_faults.specs.FeedTables.{table_in};
-ghost use Rattle.feed_faults.specs.FieldValues.{frame_start, frame_end};
 ghost use Rattle.feed_faults.specs.FareRelations.{do_frames_overlap, is_bad_frame};
 ghost use Rattle.feed_faults.specs.RowKeys.{is_repeated};
 ghost use Rattle.feed_relations.specs.Frames.{frame_of, is_malformed, IsOpen, do_overlap, overlaps_earlier, has_overlap, DoAscend, neighbours_overlap};
@@ -14,10 +13,8 @@ ghost use Rattle.feed_relations.specs.Frames.{frame_of, is_malformed, IsOpen, do
 use crate::judged::JudgedFeed;
 use crate::rows::is_one_filled;
 use feed_rows::{ColumnName, FileName};
-use feed_tables::{IdColumn, IdIndex, NamedTable};
-use feed_text::second_or;
+use feed_tables::{IdColumn, IdIndex, Tables, frame_end, frame_start};
 use std::alloc::{AllocError, Global};
-use transit_base::DAY_SECONDS;
 
 // A timeframe: the earliest rows of its group and of its service, and its seconds of the day.
 #[derive(Clone, Copy, PartialEq, Eq, PartialOrd, Ord)]
@@ -28,43 +25,28 @@ pub struct Frame {
     pub end: u32,
 }
 
-// The first second of a row's timeframe.
-fn frame_start(frames: &NamedTable, row: u32) -> u32
-    requires { row < row_count frames.now }
-    ensures { result ≡ frame_start frames.now row }
-{
-    second_or(frames.field(row, ColumnName::StartTime), 0)
-}
-
-// The second before which it ends.
-fn frame_end(frames: &NamedTable, row: u32) -> u32
-    requires { row < row_count frames.now }
-    ensures { result ≡ frame_end frames.now row }
-{
-    second_or(frames.field(row, ColumnName::EndTime), DAY_SECONDS)
-}
-
 // Whether a row has one time without the other, or a start not before the end.
 #[tactic(auto, unfolding(crate::specs::Frames::is_malformed))]
-fn is_malformed(frames: &NamedTable, row: u32) -> bool
-    requires { row < row_count frames.now }
-    ensures { result ≡ is_malformed frames.now row }
+fn is_malformed(tables: &Tables, row: u32) -> bool
+    requires { row < row_count (table_in tables.now file.Timeframes) }
+    ensures { result ≡ is_malformed (table_in tables.now file.Timeframes) row }
 {
+    let frames = tables.get(FileName::Timeframes);
     is_one_filled(
         frames.field(row, ColumnName::StartTime),
         frames.field(row, ColumnName::EndTime),
-    ) || frame_start(frames, row) >= frame_end(frames, row)
+    ) || frame_start(tables, row) >= frame_end(tables, row)
 }
 
 // The first of the rows below one that is so.
 #[tactic(auto, using(plain_laws::proofs::Laws::found_firsts))]
-fn first_malformed(frames: &NamedTable, below: u32) -> Option<u32>
-    requires { below ≤ row_count frames.now }
-    ensures value { result ≡ find_below below (is_malformed frames.now) }
+fn first_malformed(tables: &Tables, below: u32) -> Option<u32>
+    requires { below ≤ row_count (table_in tables.now file.Timeframes) }
+    ensures value { result ≡ find_below below (is_malformed (table_in tables.now file.Timeframes)) }
     ensures within { IfSome result (λ row. row < below) }
 {
     for row in 0..below {
-        if is_malformed(frames, row) {
+        if is_malformed(tables, row) {
             return Some(row);
         }
     }
@@ -73,35 +55,40 @@ fn first_malformed(frames: &NamedTable, below: u32) -> Option<u32>
 
 // The timeframe of a row.
 #[tactic(auto, unfolding(crate::specs::Frames::frame_of))]
-fn frame_of(frames: &NamedTable, groups: &IdIndex, services: &IdIndex, row: u32) -> Frame
-    requires groups { groups.now ≡ record { table = frames.now; name = column.TimeframeGroupId } }
-    requires services { services.now ≡ record { table = frames.now; name = column.ServiceId } }
-    requires within { row < row_count frames.now }
-    ensures { result ≡ frame_of frames.now row }
+fn frame_of(tables: &Tables, groups: &IdIndex, services: &IdIndex, row: u32) -> Frame
+    requires groups { groups.now ≡ record { table = table_in tables.now file.Timeframes; name = column.TimeframeGroupId } }
+    requires services { services.now ≡ record { table = table_in tables.now file.Timeframes; name = column.ServiceId } }
+    requires within { row < row_count (table_in tables.now file.Timeframes) }
+    ensures { result ≡ frame_of (table_in tables.now file.Timeframes) row }
 {
+    let frames = tables.get(FileName::Timeframes);
     Frame {
         group: groups.number(frames.field(row, ColumnName::TimeframeGroupId)),
         service: services.number(frames.field(row, ColumnName::ServiceId)),
-        start: frame_start(frames, row),
-        end: frame_end(frames, row),
+        start: frame_start(tables, row),
+        end: frame_end(tables, row),
     }
 }
 
 // The timeframes of the rows below one.
 fn frames_below(
     alloc: Global,
-    frames: &NamedTable,
+    tables: &Tables,
     groups: &IdIndex,
     below: u32,
 ) -> Result<Vec<Frame>, AllocError>
-    requires groups { groups.now ≡ record { table = frames.now; name = column.TimeframeGroupId } }
-    requires within { below ≤ row_count frames.now }
-    ensures { IfOk result (λ list. list.items ≡ list_below below (frame_of frames.now)) }
+    requires groups { groups.now ≡ record { table = table_in tables.now file.Timeframes; name = column.TimeframeGroupId } }
+    requires within { below ≤ row_count (table_in tables.now file.Timeframes) }
+    ensures { IfOk result (λ list. list.items ≡ list_below below (frame_of (table_in tables.now file.Timeframes))) }
 {
-    let services = IdIndex::of(alloc, frames, ColumnName::ServiceId)?;
+    let services = IdIndex::of(
+        alloc,
+        tables.get(FileName::Timeframes),
+        ColumnName::ServiceId,
+    )?;
     let mut list = Vec::with_capacity(alloc, below as usize)?;
     for row in 0..below {
-        list.push(frame_of(frames, groups, &services, row))?;
+        list.push(frame_of(tables, groups, &services, row))?;
     }
     Ok(list)
 }
@@ -196,8 +183,8 @@ fn first_overlapping(
     requires formed { find_below below (is_malformed (table_in feed.now file.Timeframes)) ≡ None }
     ensures { IfOk result (λ found. found ≡ find_below below (is_repeated (do_frames_overlap (table_in feed.now file.Timeframes)))) }
 {
-    let frames = feed.table(FileName::Timeframes);
-    let list = frames_below(alloc, frames, feed.index(IdColumn::TimeframeGroup), below)?;
+    let groups = feed.index(IdColumn::TimeframeGroup);
+    let list = frames_below(alloc, feed.tables(), groups, below)?;
     Ok(first_overlap(alloc, &list)?)
 }
 
@@ -211,7 +198,7 @@ pub fn first_bad_frame(
     requires { below ≤ row_count (table_in feed.now file.Timeframes) }
     ensures { IfOk result (λ found. found ≡ find_below below (is_bad_frame (table_in feed.now file.Timeframes))) }
 {
-    let malformed = first_malformed(feed.table(FileName::Timeframes), below);
+    let malformed = first_malformed(feed.tables(), below);
     let overlapping = first_overlapping(alloc, feed, malformed.unwrap_or(below))?;
     Ok(overlapping.or(malformed))
 }

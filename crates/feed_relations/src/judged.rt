@@ -55,12 +55,13 @@ impl<'t> Drop for JudgedFeed<'t> {
 
 // Which stops are platforms.
 #[tactic(auto, unfolding(crate::specs::JudgedBy::are_platforms))]
-fn platforms_of(alloc: Global, stops: &NamedTable) -> Result<Vec<bool>, AllocError>
-    ensures { IfOk result (λ platforms. platforms.items ≡ are_platforms stops.now) }
+fn platforms_of(alloc: Global, tables: &Tables) -> Result<Vec<bool>, AllocError>
+    ensures { IfOk result (λ platforms. platforms.items ≡ are_platforms (table_in tables.now file.Stops)) }
 {
-    let mut platforms = Vec::with_capacity(alloc, stops.rows() as usize)?;
-    for row in 0..stops.rows() {
-        platforms.push(stop_kind(stops, row) == u32::from(PLATFORM))?;
+    let rows = tables.get(FileName::Stops).rows();
+    let mut platforms = Vec::with_capacity(alloc, rows as usize)?;
+    for row in 0..rows {
+        platforms.push(stop_kind(tables, row) == u32::from(PLATFORM))?;
     }
     Ok(platforms)
 }
@@ -90,7 +91,7 @@ impl<'t> JudgedFeed<'t> {
         ensures { IfOk result (λ feed. feed ≡ tables.now) }
     {
         let _few = tables.get(FileName::StopTimes).rows();
-        let platforms = platforms_of(alloc, tables.get(FileName::Stops))?;
+        let platforms = platforms_of(alloc, tables)?;
         let order = order_faults(alloc, calls)?;
         Ok(JudgedFeed {
             tables,
@@ -99,6 +100,13 @@ impl<'t> JudgedFeed<'t> {
             platforms,
             order,
         })
+    }
+
+    /// The tables.
+    pub fn tables(&self) -> &Tables
+        ensures { result.now ≡ self.now }
+    {
+        self.tables
     }
 
     /// The table of a file.

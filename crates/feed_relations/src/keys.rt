@@ -1,7 +1,11 @@
 //! Keys of several columns.
 ghost use Rattle.std.specs.Prelude.{◌≡◌, ◌<◌, ◌≤◌, ◌+◌, not, IfOk, OnOk};
 ghost use Rattle.plain_laws.specs.Plain.{find_below, any_below};
-ghost use Rattle.feed_faults.specs.Records.{row_count};
+ghost use Rattle.transit_base.specs.Limits.{most_time};
+ghost use Rattle.feed_rows.specs.declared.names.ColumnName.TheVariants as column;
+ghost use Rattle.feed_rows.specs.declared.names.FileName.TheVariants as file;
+ghost use Rattle.feed_faults.specs.Records.{field, row_count};
+ghost use Rattle.feed_faults.specs.FieldValues.{day_or_zero, time_or};
 ghost use Rattle.feed_faults.specs.FeedTables.{table_in};
 ghost use Rattle.feed_faults.specs.AcceptedFeed.{row_number};
 ghost use Rattle.feed_tables.specs.IdColumns.{indexed};
@@ -10,10 +14,9 @@ ghost use Rattle.feed_relations.specs.RowKeys.{row_key, is_key_repeated, AreSeen
 use crate::judged::JudgedFeed;
 use feed_rows::{ColumnName, FileName};
 use feed_tables::IdColumn;
-use feed_text::{day_or_past, time_or_past};
+use feed_text::nat_or;
 use std::alloc::{AllocError, Global};
 use std::collections::BTreeSet;
-use transit_base::MOST_TIME;
 
 // The key of a row, as numbers: of rows that it names, days and times.
 #[derive(Clone, Copy, PartialEq, Eq, PartialOrd, Ord)]
@@ -30,6 +33,30 @@ fn number(feed: &JudgedFeed, column: IdColumn, id: &[u8]) -> u32
     feed.index(column).number(id)
 }
 
+// The day of an exception.
+#[tactic(auto, unfolding(feed_faults::specs::FieldValues::day_or_zero))]
+fn exception_day(feed: &JudgedFeed, row: u32) -> i64
+    requires { row < row_count (table_in feed.now file.CalendarDates) }
+    ensures { result ≡ day_or_zero (field (table_in feed.now file.CalendarDates) row column.Date) }
+{
+    let &[_, day, _] = feed.tables().numbers(FileName::CalendarDates, row) else {
+        unreachable!();
+    };
+    day.unwrap_or(0)
+}
+
+// The first second of a row of frequencies.txt.
+#[tactic(auto, using(feed_text::proofs::ValueLaws::time_is_short, feed_text::proofs::ValueLaws::time_by_number))]
+fn headway_start(feed: &JudgedFeed, row: u32) -> u32
+    requires { row < row_count (table_in feed.now file.Frequencies) }
+    ensures { result ≡ time_or 0 most_time (field (table_in feed.now file.Frequencies) row column.StartTime) }
+{
+    let &[_, start, _, _, _] = feed.tables().numbers(FileName::Frequencies, row) else {
+        unreachable!();
+    };
+    nat_or(start, 0)
+}
+
 // The key of a row; of a file without such keys, its own number.
 fn row_key(feed: &JudgedFeed, file: FileName, row: u32) -> RowKey
     requires { row < row_count (table_in feed.now file) }
@@ -41,15 +68,14 @@ fn row_key(feed: &JudgedFeed, file: FileName, row: u32) -> RowKey
             let service = table.field(row, ColumnName::ServiceId);
             RowKey {
                 first: number(feed, IdColumn::CalendarDate, service),
-                second: day_or_past(table.field(row, ColumnName::Date)).0,
+                second: exception_day(feed, row),
                 third: 0,
             }
         }
         FileName::Frequencies => {
-            let start = table.field(row, ColumnName::StartTime);
             RowKey {
                 first: number(feed, IdColumn::Trip, table.field(row, ColumnName::TripId)),
-                second: i64::from(time_or_past(start, MOST_TIME)),
+                second: i64::from(headway_start(feed, row)),
                 third: 0,
             }
         }

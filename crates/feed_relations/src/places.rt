@@ -2,7 +2,7 @@
 ghost use Rattle.std.specs.Prelude.{◌≡◌, ◌<◌};
 ghost use Rattle.feed_faults.specs.FaultPlaces.{field_fault};
 ghost use Rattle.feed_faults.specs.RowChecks.{column_of_check, kind_of_check};
-ghost use Rattle.feed_tables.specs.RowLimits.{row_limit};
+ghost use Rattle.feed_text.specs.RowLimits.{row_limit};
 
 use feed_faults::RowCheck;
 use feed_rows::{ColumnName, FaultKind, FeedFault, FileName};

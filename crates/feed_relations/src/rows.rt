@@ -16,8 +16,8 @@ ghost use Rattle.feed_relations.specs.FittingChecks.{own_ids, AreCallColumns, Fi
 use crate::judged::JudgedFeed;
 use feed_faults::{Named, RowCheck};
 use feed_rows::{ColumnName, FileName, PLATFORM, STATION};
-use feed_tables::{IdColumn, NamedTable, is_passed_over, stop_kind};
-use feed_text::{day_or_past, is_filled};
+use feed_tables::{IdColumn, NamedTable, Tables, stop_kind};
+use feed_text::{is_filled, is_passed_over};
 
 // The ids of a file's own rows, where a check tells them apart.
 fn own_ids(file: FileName) -> IdColumn
@@ -73,7 +73,7 @@ fn is_judged(file: FileName, table: &NamedTable, row: u32) -> bool
     requires { row < row_count table.now }
     ensures { result ≡ is_judged file table.now row }
 {
-    file != FileName::Transfers || !is_passed_over(table, row)
+    file != FileName::Transfers || !is_passed_over(&table.row(row))
 }
 
 // Whether the id of a row in a column names nothing that is there.
@@ -100,11 +100,12 @@ fn is_reference_unknown(
 
 // Whether a platform or a station names a parent.
 #[tactic(auto, unfolding(feed_faults::specs::StopRelations::has_parent))]
-fn has_parent(stops: &NamedTable, row: u32) -> bool
-    requires { row < row_count stops.now }
-    ensures { result ≡ has_parent stops.now row }
+fn has_parent(tables: &Tables, row: u32) -> bool
+    requires { row < row_count (table_in tables.now file.Stops) }
+    ensures { result ≡ has_parent (table_in tables.now file.Stops) row }
 {
-    stop_kind(stops, row) < 2 && is_filled(stops.field(row, ColumnName::ParentStation))
+    let stops = tables.get(FileName::Stops);
+    stop_kind(tables, row) < 2 && is_filled(stops.field(row, ColumnName::ParentStation))
 }
 
 // Whether the parent of a row is a station.
@@ -118,7 +119,7 @@ fn is_at_station(feed: &JudgedFeed, row: u32) -> bool
         .index(IdColumn::Stop)
         .row_of(stops.field(row, ColumnName::ParentStation))
     {
-        Some(parent) => stop_kind(stops, parent) == u32::from(STATION),
+        Some(parent) => stop_kind(feed.tables(), parent) == u32::from(STATION),
         None => false,
     }
 }
@@ -129,7 +130,7 @@ fn is_parent_unknown(feed: &JudgedFeed, row: u32) -> bool
     ensures { result ≡ (has_parent (table_in feed.now file.Stops) row && is_unknown (table_in feed.now file.Stops) column.StopId (field (table_in feed.now file.Stops) row column.ParentStation)) }
 {
     let stops = feed.table(FileName::Stops);
-    has_parent(stops, row)
+    has_parent(feed.tables(), row)
         && feed
             .index(IdColumn::Stop)
             .is_unknown(stops.field(row, ColumnName::ParentStation))
@@ -140,19 +141,22 @@ fn is_parent_bad(feed: &JudgedFeed, row: u32) -> bool
     requires { row < row_count (table_in feed.now file.Stops) }
     ensures { result ≡ (has_parent (table_in feed.now file.Stops) row && not (is_parent_good (table_in feed.now file.Stops) row)) }
 {
-    let stops = feed.table(FileName::Stops);
-    has_parent(stops, row)
-        && !(stop_kind(stops, row) == u32::from(PLATFORM) && is_at_station(feed, row))
+    let tables = feed.tables();
+    has_parent(tables, row)
+        && !(stop_kind(tables, row) == u32::from(PLATFORM) && is_at_station(feed, row))
 }
 
 // Whether the last day of a row lies before its first.
-#[tactic(auto, unfolding(feed_faults::specs::ServiceRelations::are_dates_reversed))]
-fn are_dates_reversed(calendar: &NamedTable, row: u32) -> bool
-    requires { row < row_count calendar.now }
-    ensures { result ≡ are_dates_reversed calendar.now row }
+#[tactic(auto, unfolding(feed_faults::specs::ServiceRelations::are_dates_reversed, feed_faults::specs::FieldValues::day_or_zero))]
+fn are_dates_reversed(feed: &JudgedFeed, row: u32) -> bool
+    requires { row < row_count (table_in feed.now file.Calendar) }
+    ensures { result ≡ are_dates_reversed (table_in feed.now file.Calendar) row }
 {
-    let start = day_or_past(calendar.field(row, ColumnName::StartDate));
-    day_or_past(calendar.field(row, ColumnName::EndDate)).0 < start.0
+    let &[_, _, _, _, _, _, _, _, first, last] = feed.tables().numbers(FileName::Calendar, row)
+    else {
+        unreachable!();
+    };
+    last.unwrap_or(0) < first.unwrap_or(0)
 }
 
 // Whether the currency differs from that of the first row.
@@ -215,7 +219,7 @@ pub fn row_fails(feed: &JudgedFeed, file: FileName, check: RowCheck, row: u32) -
         RowCheck::AtPlatform => !feed.is_at_platform(row),
         RowCheck::TimedEnds => feed.order(row).is_end_time_missing,
         RowCheck::RisingTimes => feed.order(row).do_times_decrease,
-        RowCheck::OrderedDays => are_dates_reversed(feed.table(file), row),
+        RowCheck::OrderedDays => are_dates_reversed(feed, row),
         RowCheck::GoodTimeframe => unreachable!(),
         RowCheck::OneCurrency => is_currency_mixed(feed.table(file), row),
         RowCheck::GoodCount => is_count_misplaced(feed.table(file), row),

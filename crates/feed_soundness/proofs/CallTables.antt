@@ -8,7 +8,7 @@ use Rattle.plain_laws.specs.Plain.{any_below, at_and}
 use Rattle.plain_laws.proofs.Laws.{any_below_tells, none_any, rest_fails, length-list_below, slice_get-list_below, bytes_eq-true, eq-bytes_eq}
 use Rattle.feed_faults.specs.Records.{FileTable, row_count, field}
 use Rattle.feed_faults.specs.FieldGrammars.{most_int}
-use Rattle.feed_faults.specs.FieldValues.{int_or_past}
+use Rattle.feed_faults.specs.FieldValues.{int_or_zero}
 use Rattle.feed_faults.specs.StopTimeRelations.{StopTime, stop_time_of, stop_times_of, has_time, first_filled, last_filled, is_earlier, same_place, comes_before, is_first, is_last, is_end_time_missing, is_nearest_before, do_times_decrease}
 use Rattle.feed_soundness.proofs.CallOrder.{AtMost, AreRows, never_falls, rank_rises}
 
@@ -46,7 +46,7 @@ module _ (table : FileTable) where
   trip_text row = field table row column.TripId
 
   abbrev pub sequence_at : ℕ → ℕ
-  sequence_at row = int_or_past most_int (field table row column.StopSequence)
+  sequence_at row = int_or_zero 0 most_int (field table row column.StopSequence)
 
   -- what is compared
   pub same_place_told : (i j : ℕ) → i < row_count table → j < row_count table → same_place (stop_times_of table) i j ≡ (bytes_eq (trip_text i) (trip_text j) && (sequence_at i == sequence_at j))

@@ -19,14 +19,14 @@ use Rattle.feed_faults.specs.Records.{FileTable, row_count, column_of, field, is
 use Rattle.feed_faults.specs.FieldGrammars.{most_int}
 use Rattle.feed_faults.specs.FileColumns.{int, day_time, amount, currency}
 use Rattle.feed_faults.specs.FeedTables.{FeedTables, table_in}
-use Rattle.feed_faults.specs.FieldValues.{optional_int, frame_start, frame_end}
+use Rattle.feed_faults.specs.FieldValues.{int_or_zero, frame_start, frame_end}
 use Rattle.feed_faults.specs.RowKeys.{is_repeated}
 use Rattle.feed_faults.specs.FareRelations.{is_one_filled, do_frames_overlap, is_bad_frame, same_product, is_count_misplaced, is_limit_half}
 use Rattle.feed_faults.specs.AcceptedFeed.{if_filled, row_number, name_number, service_names, network_names, frame_names, product_names, group_names, area_row, stop_area_row, timeframe_row, rider_row, medium_row, product_row, leg_rule_row, limit_of, transfer_rule_row, feed_currency, feed_decimals, rows_of_tables}
 use Rattle.feed_soundness.specs.AcceptedTables.{AreFormed, AreRelated}
 use Rattle.plain_laws.proofs.Laws.{length-list_below, All-list_below, AllPairs-list_below, bytes_eq-true, eq-bytes_eq}
 use Rattle.feed_soundness.proofs.FieldLaws.{FieldFits, must_at, may_at, few_rows}
-use Rattle.feed_soundness.proofs.ValueLaws.{int_good, optional_good, time_past_good, count_good, count_filled, amount_good, IsCurrencyText, currency_good}
+use Rattle.feed_soundness.proofs.ValueLaws.{int_good, int_small, int_of_nothing, time_small, count_good, count_filled, amount_good, IsCurrencyText, currency_good}
 use Rattle.feed_soundness.proofs.KeyLaws.{MayBeKnown, same_number, apart, never_both}
 use Rattle.feed_soundness.proofs.NameLaws.{same_name}
 use Rattle.feed_soundness.proofs.IdColumns.{must_id, new_ids, new_keys}
@@ -105,12 +105,8 @@ times_apart same start end later_start later_end e is = step (cases_lt later_sta
 
 module _ (frames : FileTable) (row : ℕ) where
   -- a timeframe ends with the day at the latest
-  end_small : (is_filled (field frames row column.EndTime) ≡ true → FieldFits frames row column.EndTime day_time) → frame_end frames row ≤ day_seconds
-  end_small fit = step (is_filled (field frames row column.EndTime)) refl
-    where
-      step : (b : Bool) → is_filled (field frames row column.EndTime) ≡ b → frame_end frames row ≤ day_seconds
-      step true e = rw e (time_past_good day_seconds (field frames row column.EndTime) (fit e))
-      step false e = rw e (omega arith)
+  end_small : frame_end frames row ≤ day_seconds
+  end_small = time_small day_seconds day_seconds (field frames row column.EndTime) (omega arith)
 
   -- a timeframe that isn't bad
   frame_good : is_bad_frame frames row ≡ false
@@ -153,7 +149,7 @@ module _ (t : FeedTables) (formed : AreFormed t) (related : AreRelated t) where
         ordered = All-list_below (λ f. f.start < f.end) rows row
             (λ i lt. (frame_good frames i (related file.Timeframes i 1 check.GoodTimeframe lt refl)).0);
         ends = All-list_below (λ f. f.end ≤ day_seconds) rows row
-            (λ i lt. end_small frames i (may_at file.Timeframes frames i 2 column.EndTime day_time (formed file.Timeframes) lt refl));
+            (λ i lt. end_small frames i);
         apart =
             AllPairs-list_below (λ f g. f.frame.0 ≡ g.frame.0 → f.service.0 ≡ g.service.0 → (f.end ≤ g.start) ⊎ (g.end ≤ f.start)) rows row frames_apart;
       }
@@ -289,9 +285,9 @@ leg_rules_sound t formed related =
       products = All-list_below (λ r. r.product.0 < length (product_names t)) rows row
           (λ i lt. (leg_rule_product_named t related i lt (must_id t formed file.FareLegRules i 6 column.FareProductId lt refl).2).within);
       priorities = All-list_below (λ r. r.priority ≤ 2_147_483_647) rows row
-          (λ i lt. optional_good most_int _ (may_at file.FareLegRules _ i 7 column.RulePriority (int 0 most_int) (formed file.FareLegRules) lt refl));
+          (λ i lt. int_small 0 most_int _);
       unranked = λ none. All-list_below (λ r. r.priority ≡ 0) rows row
-          (λ i lt. let empty = no_column (table_in t file.FareLegRules) i column.RulePriority none in ap (optional_int most_int) empty);
+          (λ i lt. let empty = no_column (table_in t file.FareLegRules) i column.RulePriority none in ap (int_or_zero 0 most_int) empty ∙ int_of_nothing 0 most_int);
     }
 
 -- a count that isn't misplaced stands between equal groups, or where neither is named
@@ -352,7 +348,7 @@ transfer_rules_sound t formed related =
       products = All-list_below (λ r. ForSome r.product (λ p. p.0 < length (product_names t))) rows row
           (λ i lt. filled_all _ _ (λ p. p.0 < length (product_names t)) (λ filled. (rule_product_named t related i lt filled).within));
       kinds = All-list_below (λ r. r.kind ≤ 2) rows row
-          (λ i lt. (int_good 0 2 _ (must_at file.FareTransferRules _ i 5 column.FareTransferType (int 0 2) (formed file.FareTransferRules) lt refl).fit).high);
+          (λ i lt. int_small 0 2 _);
       counted = All-list_below (λ r. ForSome r.count (λ n. r.from ≡ r.to)) rows row (counted t formed related);
       counts = All-list_below (λ r. ForSome r.count (λ n. (1 ≤ n) × (n ≤ 2_147_483_647))) rows row
           (λ i lt. count_good _);

@@ -25,12 +25,12 @@ pub record IsGood (table : FileTable) (row : ℕ) (name : ColumnName) (grammar :
   pub fit : FieldFits table row name grammar
 
 -- a filled field without a fault is of the grammar
-fits_filled : (table : FileTable) (row : ℕ) (rule : ColumnRule) → field_misfit table row rule ≡ None → is_filled (field table row rule.name) ≡ true → FieldFits table row rule.name rule.grammar
+fits_filled : (table : FileTable) (row : ℕ) (rule : ColumnRule) → field_misfit (field table row) rule ≡ None → is_filled (field table row rule.name) ≡ true → FieldFits table row rule.name rule.grammar
 unfolding field_misfit
 fits_filled table row rule none filled = not-false (fits rule.grammar (field table row Currency) (field table row rule.name)) (none_when _ (misfit rule.grammar) (rw filled at none))
 
 -- a field without a fault is filled and of the grammar, where an empty one has a fault
-good_field : (table : FileTable) (row : ℕ) (rule : ColumnRule) → (empty_misfit table row rule.empty ≡ None → ⊥) → field_misfit table row rule ≡ None → IsGood table row rule.name rule.grammar
+good_field : (table : FileTable) (row : ℕ) (rule : ColumnRule) → (empty_misfit (field table row) rule.empty ≡ None → ⊥) → field_misfit (field table row) rule ≡ None → IsGood table row rule.name rule.grammar
 unfolding field_misfit
 good_field table row rule faulty none = step (is_filled (field table row rule.name)) refl
   where
@@ -39,14 +39,14 @@ good_field table row rule faulty none = step (is_filled (field table row rule.na
     step false e = absurd (faulty (rw e at none))
 
 -- a column that must be there
-pub must_at : (file : FileName) (table : FileTable) (row k : ℕ) (name : ColumnName) (grammar : Grammar) → IsFormed file table → row < row_count table → slice_get (judged_columns file table row) k ≡ Some (must name grammar) → IsGood table row name grammar
+pub must_at : (file : FileName) (table : FileTable) (row k : ℕ) (name : ColumnName) (grammar : Grammar) → IsFormed file table → row < row_count table → slice_get (judged_columns file (field table row)) k ≡ Some (must name grammar) → IsGood table row name grammar
 must_at file table row k name grammar formed lt at = good_field table row (must name grammar) (λ no. absurd (cc)) (formed.fields row k (must name grammar) lt at)
 
-pub flex_at : (file : FileName) (table : FileTable) (row k : ℕ) (name : ColumnName) (grammar : Grammar) → IsFormed file table → row < row_count table → slice_get (judged_columns file table row) k ≡ Some (must_or_flex name grammar) → IsGood table row name grammar
+pub flex_at : (file : FileName) (table : FileTable) (row k : ℕ) (name : ColumnName) (grammar : Grammar) → IsFormed file table → row < row_count table → slice_get (judged_columns file (field table row)) k ≡ Some (must_or_flex name grammar) → IsGood table row name grammar
 flex_at file table row k name grammar formed lt at = good_field table row (must_or_flex name grammar) (λ no. absurd (cc)) (formed.fields row k (must_or_flex name grammar) lt at)
 
 -- a column that may be absent
-pub may_at : (file : FileName) (table : FileTable) (row k : ℕ) (name : ColumnName) (grammar : Grammar) → IsFormed file table → row < row_count table → slice_get (judged_columns file table row) k ≡ Some (may name grammar) → is_filled (field table row name) ≡ true → FieldFits table row name grammar
+pub may_at : (file : FileName) (table : FileTable) (row k : ℕ) (name : ColumnName) (grammar : Grammar) → IsFormed file table → row < row_count table → slice_get (judged_columns file (field table row)) k ≡ Some (may name grammar) → is_filled (field table row name) ≡ true → FieldFits table row name grammar
 may_at file table row k name grammar formed lt at = fits_filled table row (may name grammar) (formed.fields row k (may name grammar) lt at)
 
 -- a file that is formed gives few rows

@@ -12,7 +12,7 @@ use Rattle.feed_rows.specs.Names.{all_files, place}
 use Rattle.feed_rows.specs.HeldFiles.{HeldFile}
 use Rattle.plain_laws.specs.Plain.{when, first_in}
 use Rattle.feed_faults.specs.declared.columns.ColumnRule.{ColumnRule}
-use Rattle.feed_faults.specs.Records.{FileTable, table_of_bytes, row_count, is_long}
+use Rattle.feed_faults.specs.Records.{FileTable, table_of_bytes, row_count, field, is_long}
 use Rattle.feed_faults.specs.FaultPlaces.{file_fault, row_fault, field_fault}
 use Rattle.feed_faults.specs.FormFaults.{field_misfit, judged_columns, form_fault_of_row, form_fault_of_rows, form_fault_of_table, form_fault_of_bytes, form_fault_of_held, is_needed, form_fault, header_fault, first_form_fault}
 use Rattle.feed_faults.specs.FeedTables.{table_in, table_of, tables_of}
@@ -20,14 +20,14 @@ use Rattle.feed_soundness.specs.AcceptedTables.{IsFormed, AreFormed}
 use Rattle.plain_laws.proofs.Laws.{none_either, none_below, none_in, none_when, none_map}
 
 -- a row without a fault
-row_formed : (file : FileName) (table : FileTable) (row k : ℕ) (rule : ColumnRule) → form_fault_of_row file table row ≡ None → slice_get (judged_columns file table row) k ≡ Some rule → field_misfit table row rule ≡ None
+row_formed : (file : FileName) (table : FileTable) (row k : ℕ) (rule : ColumnRule) → form_fault_of_row file table row ≡ None → slice_get (judged_columns file (field table row)) k ≡ Some rule → field_misfit (field table row) rule ≡ None
 unfolding form_fault_of_row
 row_formed file table row k rule none at =
-    let columns = (none_either (when (is_long table row) (row_fault file row kind.LongRow)) (first_in (judged_columns file table row) (λ rule. option_map (field_fault file row rule.name) (field_misfit table row rule))) none).1 in
-    none_map (field_fault file row rule.name) (field_misfit table row rule) (none_in (judged_columns file table row) (λ rule. option_map (field_fault file row rule.name) (field_misfit table row rule)) k rule columns at)
+    let columns = (none_either (when (is_long table row) (row_fault file row kind.LongRow)) (first_in (judged_columns file (field table row)) (λ rule. option_map (field_fault file row rule.name) (field_misfit (field table row) rule))) none).1 in
+    none_map (field_fault file row rule.name) (field_misfit (field table row) rule) (none_in (judged_columns file (field table row)) (λ rule. option_map (field_fault file row rule.name) (field_misfit (field table row) rule)) k rule columns at)
 
 -- the rows without a fault
-rows_formed : (file : FileName) (table : FileTable) (row k : ℕ) (rule : ColumnRule) → form_fault_of_rows file table ≡ None → row < row_count table → slice_get (judged_columns file table row) k ≡ Some rule → field_misfit table row rule ≡ None
+rows_formed : (file : FileName) (table : FileTable) (row k : ℕ) (rule : ColumnRule) → form_fault_of_rows file table ≡ None → row < row_count table → slice_get (judged_columns file (field table row)) k ≡ Some rule → field_misfit (field table row) rule ≡ None
 unfolding form_fault_of_rows
 rows_formed file table row k rule none lt at = row_formed file table row k rule (none_below (form_fault_of_row file table) (row_count table) row none lt) at
 

@@ -37,12 +37,12 @@ good_id table row name good = let text = id_text (field table row name) good.fit
 module _ (t : FeedTables) (formed : AreFormed t) where
   -- by the place of the column among those of its file
   pub must_id : (name : FileName) (row k : ℕ) (column : ColumnName) → row < row_count (table_in t name)
-      → slice_get (judged_columns name (table_in t name) row) k ≡ Some (must column id) → IsIdField (table_in t name) row column
+      → slice_get (judged_columns name (field (table_in t name) row)) k ≡ Some (must column id) → IsIdField (table_in t name) row column
   must_id name row k column lt at =
       good_id (table_in t name) row column (must_at name (table_in t name) row k column id (formed name) lt at)
 
   may_id : (name : FileName) (row k : ℕ) (column : ColumnName) → row < row_count (table_in t name)
-      → slice_get (judged_columns name (table_in t name) row) k ≡ Some (may column id) → MayBeId (table_in t name) row column
+      → slice_get (judged_columns name (field (table_in t name) row)) k ≡ Some (may column id) → MayBeId (table_in t name) row column
   may_id name row k column lt at filled =
       let text = id_text (field (table_in t name) row column) (may_at name (table_in t name) row k column id (formed name) lt at filled) in
       (text.filled, text.short, text)

@@ -52,13 +52,13 @@ module _ (t : FeedTables) (formed : AreFormed t) (related : AreRelated t) where
       known _ _ _ (must_id t formed file.StopAreas row 1 StopId lt refl).2 (related file.StopAreas row 1 (Known StopId Stop) lt refl)
 
   -- of a row of transfers.txt that isn't passed over
-  pub transfer_from_known : (row : ℕ) → row < row_count (table_in t file.Transfers) → is_passed_over (table_in t file.Transfers) row ≡ false
+  pub transfer_from_known : (row : ℕ) → row < row_count (table_in t file.Transfers) → is_passed_over (field (table_in t file.Transfers) row) ≡ false
       → IsKnown (table_in t file.Stops) StopId (field (table_in t file.Transfers) row FromStopId)
   transfer_from_known row lt taken =
       known _ _ _ (must_id t formed file.Transfers row 1 FromStopId lt (rw taken refl)).2
       (rw taken at (related file.Transfers row 0 (Known FromStopId Stop) lt refl))
 
-  pub transfer_to_known : (row : ℕ) → row < row_count (table_in t file.Transfers) → is_passed_over (table_in t file.Transfers) row ≡ false
+  pub transfer_to_known : (row : ℕ) → row < row_count (table_in t file.Transfers) → is_passed_over (field (table_in t file.Transfers) row) ≡ false
       → IsKnown (table_in t file.Stops) StopId (field (table_in t file.Transfers) row ToStopId)
   transfer_to_known row lt taken =
       known _ _ _ (must_id t formed file.Transfers row 2 ToStopId lt (rw taken refl)).2

@@ -18,7 +18,7 @@ use Rattle.feed_faults.specs.FieldGrammars.{most_int}
 use Rattle.feed_faults.specs.FileColumns.{int, date, any_time}
 use Rattle.feed_faults.specs.FormFaults.{is_passed_over}
 use Rattle.feed_faults.specs.FeedTables.{FeedTables, table_in}
-use Rattle.feed_faults.specs.FieldValues.{day_or_past, stop_kind}
+use Rattle.feed_faults.specs.FieldValues.{day_or_zero, stop_kind}
 use Rattle.feed_faults.specs.RowKeys.{is_unknown}
 use Rattle.feed_faults.specs.StopRelations.{has_parent, is_at_station, is_parent_good}
 use Rattle.feed_faults.specs.ServiceRelations.{are_dates_reversed, same_exception, same_start}
@@ -27,7 +27,8 @@ use Rattle.feed_faults.specs.AcceptedFeed.{row_number, service_names, network_na
 use Rattle.feed_soundness.specs.AcceptedTables.{AreFormed, AreRelated}
 use Rattle.plain_laws.proofs.Laws.{length-list_below, All-list_below, AllPairs-list_below, All-picks_below, length-picks_below, get_or-list_below, rest_fails, eq-bytes_eq, eq-int_same}
 use Rattle.feed_soundness.proofs.FieldLaws.{must_at, may_at, few_rows}
-use Rattle.feed_soundness.proofs.ValueLaws.{int_good, optional_good, time_good, time_past_good, day_good}
+use Rattle.feed_faults.proofs.TimeLaws.{time_good}
+use Rattle.feed_soundness.proofs.ValueLaws.{int_good, int_small, time_small, day_good}
 use Rattle.feed_soundness.proofs.KeyLaws.{IsKnown, known, same_number, never_both}
 use Rattle.feed_soundness.proofs.NameLaws.{same_name}
 use Rattle.feed_soundness.proofs.IdColumns.{stop_id, route_id, trip_id, new_ids, new_keys}
@@ -88,7 +89,7 @@ module _ (t : FeedTables) (formed : AreFormed t) (related : AreRelated t) where
         ids = All-list_below (λ s. IsIdText s.id) rows row (λ i lt. (stop_id t formed i lt).3);
         no_doubles = AllPairs-list_below (λ s u. s.id ≢ u.id) rows row (new_ids t related file.Stops column.StopId refl);
         kinds = All-list_below (λ s. s.kind ≤ 4) rows row
-            (λ i lt. optional_good 4 _ (may_at file.Stops _ i 1 column.LocationType (int 0 4) (formed file.Stops) lt refl));
+            (λ i lt. int_small 0 4 _);
         parents = All-list_below (λ s. ForSome s.parent (λ p. p.0 < length (rows_of_tables t).stops)) rows row
             (λ i lt p e. rw length-list_below (stop_parent i lt p e).within);
         stations = All-list_below (λ s. ForSome s.parent (λ p. ForItem (rows_of_tables t).stops p.0 (λ u. u.kind ≡ 1))) rows row
@@ -155,14 +156,14 @@ module _ (t : FeedTables) (formed : AreFormed t) (related : AreRelated t) where
         platforms = All-list_below (λ c. ForItem (rows_of_tables t).stops c.stop.0 (λ s. s.kind ≡ 0)) rows row
             (λ i lt d within. rw (get_or-list_below (row_count (table_in t file.Stops)) (stop_row t) _ d (call_stop_known t formed related i lt).within) (call_platform i lt));
         sequences = All-list_below (λ c. c.sequence ≤ 2_147_483_647) rows row
-            (λ i lt. (int_good 0 most_int _ (must_at file.StopTimes _ i 2 column.StopSequence (int 0 most_int) (formed file.StopTimes) lt refl).fit).high);
+            (λ i lt. int_small 0 most_int _);
         arrivals = All-list_below (λ c. ForSome c.arrival (λ s. s ≤ most_time)) rows row (λ i lt. time_good most_time _);
         departures = All-list_below (λ c. ForSome c.departure (λ s. s ≤ most_time)) rows row (λ i lt. time_good most_time _);
       }
 
   -- calendar.txt
   service_dates : (row : ℕ) → row < row_count (table_in t file.Calendar)
-      → day_or_past (field (table_in t file.Calendar) row column.StartDate) ≤ℤ day_or_past (field (table_in t file.Calendar) row column.EndDate)
+      → day_or_zero (field (table_in t file.Calendar) row column.StartDate) ≤ℤ day_or_zero (field (table_in t file.Calendar) row column.EndDate)
   unfolding are_dates_reversed
   service_dates row lt = not_reversed _ _ (related file.Calendar row 1 check.OrderedDays lt refl)
 
@@ -229,9 +230,9 @@ module _ (t : FeedTables) (formed : AreFormed t) (related : AreRelated t) where
             (λ i lt. rw length-list_below (frequency_trip_known t formed related i lt).within);
         no_doubles = AllPairs-list_below (λ f g. f.trip.0 ≡ g.trip.0 → f.start ≢ g.start) rows row frequencies_apart;
         starts = All-list_below (λ f. f.start ≤ most_time) rows row
-            (λ i lt. time_past_good most_time _ (must_at file.Frequencies _ i 1 column.StartTime any_time (formed file.Frequencies) lt refl).fit);
+            (λ i lt. time_small 0 most_time _ (omega arith));
         ends = All-list_below (λ f. f.end ≤ most_time) rows row
-            (λ i lt. time_past_good most_time _ (must_at file.Frequencies _ i 2 column.EndTime any_time (formed file.Frequencies) lt refl).fit);
+            (λ i lt. time_small 0 most_time _ (omega arith));
         headways = All-list_below (λ f. (1 ≤ f.headway) × (f.headway ≤ 2_147_483_647)) rows row
             (λ i lt. let good = int_good 1 most_int _ (must_at file.Frequencies _ i 3 column.HeadwaySecs (int 1 most_int) (formed file.Frequencies) lt refl).fit in
             (good.low, good.high));
@@ -242,7 +243,7 @@ module _ (t : FeedTables) (formed : AreFormed t) (related : AreRelated t) where
   unfolding rows_of_tables link_row
   links_sound =
       let rows = row_count (table_in t file.Transfers) in
-      let taken = λ (row : ℕ). not (is_passed_over (table_in t file.Transfers) row) in
+      let taken = λ (row : ℕ). not (is_passed_over (field (table_in t file.Transfers) row)) in
       record {
         few = let long = length-picks_below rows taken (link_row t) in let few = (formed file.Transfers).few in omega arith;
         froms = All-picks_below (λ l. l.from.0 < length (rows_of_tables t).stops) rows taken (link_row t)
@@ -250,5 +251,5 @@ module _ (t : FeedTables) (formed : AreFormed t) (related : AreRelated t) where
         tos = All-picks_below (λ l. l.to.0 < length (rows_of_tables t).stops) rows taken (link_row t)
             (λ i lt is. rw length-list_below (transfer_to_known t formed related i lt (not-true _ is)).within);
         seconds = All-picks_below (λ l. l.seconds ≤ 2_147_483_647) rows taken (link_row t)
-            (λ i lt is. optional_good most_int _ (may_at file.Transfers _ i 3 column.MinTransferTime (int 0 most_int) (formed file.Transfers) lt (rw (not-true _ is) refl)));
+            (λ i lt is. int_small 0 most_int _);
       }

@@ -13,13 +13,14 @@ use Rattle.std.proofs.lemmas.Option.{none-some, same_Some, cond_some}
 use Rattle.transit_base.specs.Dates.{is_date, is_dated, day_number}
 use Rattle.feed_laws.proofs.DateLaws.{is_dated-day_number}
 use Rattle.feed_rows.specs.Numerals.{number_value, when_at_most}
-use Rattle.feed_rows.specs.TimeGrammar.{time_with_colon, time_value, clock_seconds}
+use Rattle.feed_rows.specs.TimeGrammar.{time_value}
+use Rattle.feed_faults.proofs.TimeLaws.{time_good}
 use Rattle.plain_laws.specs.Plain.{when, int_same}
 use Rattle.feed_rows.specs.SoundNames.{IsIdText}
 use Rattle.feed_rows.specs.SoundTimetable.{IsCalendarDay}
 use Rattle.feed_faults.specs.Records.{is_filled}
 use Rattle.feed_faults.specs.FieldGrammars.{is_break, is_id, if_between, signed_value, int_value, most_int, count_value, date_value, is_capital, is_currency, is_among, unit_codes, whole_currencies, three_decimal_currencies, currency_decimals, amount_in, amount_value, unsigned_amount, most_amount}
-use Rattle.feed_faults.specs.FieldValues.{nat_or, int_or_past, optional_int, time_or_past, day_or_past, amount_or_past}
+use Rattle.feed_faults.specs.FieldValues.{nat_of, int_or_zero, time_or, day_or_zero, amount_or_zero}
 use Rattle.feed_faults.specs.AcceptedFeed.{finite_count}
 use Rattle.plain_laws.proofs.Laws.{some_value}
 
@@ -49,26 +50,39 @@ pub record IsInt (least most number : ℕ) : Type 0 where
   pub low : least ≤ number
   pub high : number ≤ most
 
-int_between : (least most : ℕ) (o : Option ℤ) → is_some (if_between (pos least) (pos most) o) ≡ true → IsInt least most (nat_or (most + 1) (if_between (pos 0) (pos most) o))
+int_between : (least most : ℕ) (o : Option ℤ) → is_some (if_between (pos least) (pos most) o) ≡ true → IsInt least most (nat_of (if_between (pos least) (pos most) o))
 int_between least most None e = absurd (cc)
 int_between least most (Some (negsuc n)) e = absurd (cc)
 int_between least most (Some (pos n)) e = step (nat_le least n) refl (nat_le n most) refl
   where
-    step : (a : Bool) → nat_le least n ≡ a → (b : Bool) → nat_le n most ≡ b → IsInt least most (nat_or (most + 1) (if_between (pos 0) (pos most) (Some (pos n))))
-    step true low true high =
-        let from : nat_le 0 n ≡ true = grind (arith, nat_tests) in
-        rw (from, high) (record { low = leb-true least n low; high = leb-true n most high })
+    step : (a : Bool) → nat_le least n ≡ a → (b : Bool) → nat_le n most ≡ b → IsInt least most (nat_of (if_between (pos least) (pos most) (Some (pos n))))
+    step true low true high = rw (low, high) (record { low = leb-true least n low; high = leb-true n most high })
     step true low false high = let no = rw (low, high) at e in absurd (cc)
     step false low b high = let no = rw low at e in absurd (cc)
 
-pub int_good : (least most : ℕ) (text : List ℕ) → is_some (int_value (pos least) (pos most) text) ≡ true → IsInt least most (int_or_past most text)
-unfolding int_value int_or_past
+pub int_good : (least most : ℕ) (text : List ℕ) → is_some (int_value (pos least) (pos most) text) ≡ true → IsInt least most (int_or_zero least most text)
+unfolding int_value int_or_zero
 int_good least most text e = int_between least most (signed_value number_value text) e
 
--- an integer that may be empty
-pub optional_good : (most : ℕ) (text : List ℕ) → (is_filled text ≡ true → is_some (int_value (pos 0) (pos most) text) ≡ true) → optional_int most text ≤ most
-optional_good most [] fit = omega arith
-optional_good most (c ∷ cs) fit = (int_good 0 most (c ∷ cs) (fit refl)).high
+-- an integer is at most the greatest, whether it is read or not
+int_below : (least most : ℕ) (o : Option ℤ) → nat_of (if_between (pos least) (pos most) o) ≤ most
+int_below least most None = omega arith
+int_below least most (Some (negsuc n)) = omega arith
+int_below least most (Some (pos n)) = step (nat_le least n) refl (nat_le n most) refl
+  where
+    step : (a : Bool) → nat_le least n ≡ a → (b : Bool) → nat_le n most ≡ b → nat_of (if_between (pos least) (pos most) (Some (pos n))) ≤ most
+    step true low true high = rw (low, high) (leb-true n most high)
+    step true low false high = rw (low, high) (omega arith)
+    step false low b high = rw low (omega arith)
+
+pub int_small : (least most : ℕ) (text : List ℕ) → int_or_zero least most text ≤ most
+unfolding int_value int_or_zero
+int_small least most text = int_below least most (signed_value number_value text)
+
+-- an empty field is no integer
+pub int_of_nothing : (least most : ℕ) → int_or_zero least most [] ≡ 0
+unfolding int_or_zero int_value number_value
+int_of_nothing least most = refl
 
 -- a count of changes
 count_between : (o : Option ℤ) → ForSome (finite_count (option_and_then (λ z. when (not (int_same z (pos 0))) z) (if_between (negsuc 0) (pos most_int) o))) (λ n. (1 ≤ n) × (n ≤ 2_147_483_647))
@@ -101,30 +115,14 @@ unfolding count_value int_value number_value
 count_filled [] n e = absurd (none-some n e)
 count_filled (c ∷ cs) n e = refl
 
-at_most_good : (most : ℕ) (o : Option ℕ) → ForSome (when_at_most most o) (λ n. n ≤ most)
-at_most_good most None n e = absurd (none-some n e)
-at_most_good most (Some k) n e = let both = cond_some (nat_le k most) k n e in let le = leb-true k most both.0 in let is = both.1 in omega arith
-
--- what a test lets through
-if_good : (b : Bool) (o : Option ℕ) (most : ℕ) → ForSome o (λ n. n ≤ most) → ForSome (if b then o else None) (λ n. n ≤ most)
-if_good true o most good n e = good n e
-if_good false o most good n e = absurd (none-some n e)
-
--- a time that is read is at most the greatest
-pub time_good : (most : ℕ) (text : List ℕ) → ForSome (time_value most text) (λ s. s ≤ most)
-unfolding time_value
-time_good most text =
-    let colon = length text - 6 in
-    let clock = clock_seconds (when_at_most 167 (number_value (take colon text))) (when_at_most 59 (number_value (slice_range text (colon + 1) (colon + 3)))) (when_at_most 59 (number_value (drop (colon + 4) text))) in
-    if_good (nat_le 7 (length text) && nat_le (length text) 9) (time_with_colon colon most text) most
-    (if_good ((slice_index text colon == 58) && (slice_index text (colon + 3) == 58)) (when_at_most most clock) most (at_most_good most clock))
-
-pub time_past_good : (most : ℕ) (text : List ℕ) → is_some (time_value most text) ≡ true → time_or_past most text ≤ most
-unfolding time_or_past
-time_past_good most text e =
-    let found = some_value (time_value most text) e in
-    let le = time_good most text found.0 found.1 in
-    rw found.1 le
+-- a time is at most the greatest, whether it is read or another stands in its place
+pub time_small : (other most : ℕ) (text : List ℕ) → other ≤ most → time_or other most text ≤ most
+unfolding time_or
+time_small other most text small = step (time_value most text) refl
+  where
+    step : (o : Option ℕ) → time_value most text ≡ o → time_or other most text ≤ most
+    step None e = rw e small
+    step (Some s) e = rw e (time_good most text s e)
 
 -- a date that is read is a day of the calendar
 calendar_day : (day : ℤ) → is_dated day ≡ true → IsCalendarDay (record { 0 = day })
@@ -144,8 +142,8 @@ date_good text day e =
     let dated = is_dated-day_number year month number (and_parts ((length text == 8) && all_ascii_digits text) (is_date year month number) both.0).1 in
     calendar_day day (subst (λ d. is_dated d ≡ true) both.1 dated)
 
-pub day_good : (text : List ℕ) → is_some (date_value text) ≡ true → IsCalendarDay (record { 0 = day_or_past text })
-unfolding day_or_past
+pub day_good : (text : List ℕ) → is_some (date_value text) ≡ true → IsCalendarDay (record { 0 = day_or_zero text })
+unfolding day_or_zero
 day_good text e =
     let found = some_value (date_value text) e in
     rw found.1 (date_good text found.0 found.1)
@@ -168,8 +166,8 @@ unfolding amount_value
 amount_of None text z e = absurd (none-some z e)
 amount_of (Some decimals) text z e = amount_between (signed_value (unsigned_amount decimals) text) z e
 
-pub amount_good : (currency text : List ℕ) → is_some (amount_in currency text) ≡ true → nat_abs (amount_or_past currency text) ≤ 10 ^ 12
-unfolding amount_or_past
+pub amount_good : (currency text : List ℕ) → is_some (amount_in currency text) ≡ true → nat_abs (amount_or_zero currency text) ≤ 10 ^ 12
+unfolding amount_or_zero
 amount_good currency text e =
     let found = some_value (amount_in currency text) e in
     rw found.1 (amount_of (currency_decimals currency) text found.0 found.1)
@@ -193,7 +191,7 @@ which false false = inr (inl refl)
 pub record IsCurrencyText (text : List ℕ) : Type 0 where
   pub code : length text ≡ 3
   pub letters : All (λ b. (65 ≤ b) × (b ≤ 90)) text
-  pub decimals : (unwrap_or (currency_decimals text) 4 ≡ 0) ⊎ (unwrap_or (currency_decimals text) 4 ≡ 2) ⊎ (unwrap_or (currency_decimals text) 4 ≡ 3)
+  pub decimals : (unwrap_or (currency_decimals text) 2 ≡ 0) ⊎ (unwrap_or (currency_decimals text) 2 ≡ 2) ⊎ (unwrap_or (currency_decimals text) 2 ≡ 3)
 
 pub currency_good : (text : List ℕ) → is_some (currency_decimals text) ≡ true → IsCurrencyText text
 unfolding currency_decimals

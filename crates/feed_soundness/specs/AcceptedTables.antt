@@ -4,7 +4,7 @@ use Rattle.feed_rows.specs.Limits.{most_rows}
 use Rattle.feed_rows.specs.declared.names.FileName.{FileName}
 use Rattle.feed_faults.specs.declared.columns.ColumnRule.{ColumnRule}
 use Rattle.feed_faults.specs.declared.checks.RowCheck.{RowCheck}
-use Rattle.feed_faults.specs.Records.{FileTable, row_count}
+use Rattle.feed_faults.specs.Records.{FileTable, row_count, field}
 use Rattle.feed_faults.specs.FormFaults.{field_misfit, judged_columns}
 use Rattle.feed_faults.specs.FeedTables.{FeedTables, table_in}
 use Rattle.feed_faults.specs.RowChecks.{checks_of, fails}
@@ -12,7 +12,7 @@ use Rattle.feed_faults.specs.RowChecks.{checks_of, fails}
 -- a file is formed: it hasn't too many rows, and no judged field of them has a fault
 pub record IsFormed (file : FileName) (table : FileTable) : Type 0 where
   pub few : row_count table ≤ most_rows
-  pub fields : (row k : ℕ) (rule : ColumnRule) → row < row_count table → slice_get (judged_columns file table row) k ≡ Some rule → field_misfit table row rule ≡ None
+  pub fields : (row k : ℕ) (rule : ColumnRule) → row < row_count table → slice_get (judged_columns file (field table row)) k ≡ Some rule → field_misfit (field table row) rule ≡ None
 
 -- all files are formed
 abbrev pub AreFormed : FeedTables → Type 0

@@ -5,12 +5,13 @@ ghost use Rattle.feed_rows.specs.HeldFiles.{HeldFile, most_bytes};
 ghost use Rattle.feed_faults.specs.Records.{row_count, table_of_bytes};
 ghost use Rattle.feed_faults.specs.FaultPlaces.{file_fault};
 ghost use Rattle.feed_faults.specs.FeedTables.{table_of};
-ghost use Rattle.feed_faults.specs.FormFaults.{has_record, is_always_needed, is_needed, form_fault_of_bytes, form_fault_of_held, form_fault};
+ghost use Rattle.feed_faults.specs.FormFaults.{has_record, is_always_needed, is_needed, form_fault_of_bytes};
 ghost use Rattle.feed_text.specs.TextErrors.{IsErrorOf};
+ghost use Rattle.feed_tables.specs.RowNumbers.{held_fault_before_rows, read_of, reading_fault};
 ghost use Rattle.folder_io.specs.KeptFiles.{held_of, held_in, IsWithin, AreWithin};
 
 use crate::named::NamedTable;
-use crate::rows::fault_of_rows;
+use crate::read_table::ReadTable;
 use feed_rows::{FaultKind, FeedFault, FileName};
 use feed_text::{Table, TextError, has_record, is_always_needed};
 use folder_io::{FileBytes, Files};
@@ -53,13 +54,6 @@ fn is_needed(alloc: Global, files: &Files, file: FileName) -> Result<bool, Alloc
     Ok(is_always_needed(file))
 }
 
-// The table without a record.
-fn no_table(alloc: Global) -> Result<NamedTable, AllocError>
-    ensures { IfOk result (λ table. table ≡ []) }
-{
-    NamedTable::of(alloc, Table::empty(alloc))
-}
-
 // The table of a file's bytes, judged before its rows.
 #[tactic(auto, using(crate::proofs::HeldLaws::fault_before_rows, crate::proofs::HeldLaws::missing_before_rows, crate::proofs::HeldLaws::none_before_rows, crate::proofs::HeldLaws::few_rows))]
 fn table_before_rows(
@@ -82,63 +76,55 @@ fn table_before_rows(
     Ok(table)
 }
 
-// The table of a file's bytes, judged whole.
-#[tactic(auto, using(crate::proofs::PassLaws::error_first))]
-fn table_of_text(
-    alloc: Global,
-    bytes: &[u8],
-    file: FileName,
-    needed: bool,
-) -> Result<NamedTable, TextError>
-    requires within { length bytes.now ≤ most_bytes }
-    requires always { is_always_needed file ≡ true → needed ≡ true }
-    ensures fault { IfErr result (IsErrorOf (form_fault_of_held needed file (HeldFile.Bytes bytes.now))) }
-    ensures sound { OnOk result (form_fault_of_held needed file (HeldFile.Bytes bytes.now) ≡ None) }
-    ensures table { IfOk result (λ table. table ≡ table_of_bytes bytes.now) }
-{
-    let table = NamedTable::of(alloc, table_before_rows(alloc, bytes, file, needed)?)?;
-    if let Some(fault) = fault_of_rows(file, &table) {
-        return Err(TextError::Fault(fault));
-    }
-    Ok(table)
-}
-
-// The table of what is held of a file, judged whole.
-fn judged_table(
+// The table of what is held of a file, judged before its rows.
+fn table_of_held(
     alloc: Global,
     held: &FileBytes,
     file: FileName,
     needed: bool,
-) -> Result<NamedTable, TextError>
+) -> Result<Table, TextError>
     requires within { IsWithin most_bytes held.now }
     requires always { is_always_needed file ≡ true → needed ≡ true }
-    ensures fault { IfErr result (IsErrorOf (form_fault_of_held needed file (held_of held.now))) }
-    ensures sound { OnOk result (form_fault_of_held needed file (held_of held.now) ≡ None) }
+    ensures fault { IfErr result (IsErrorOf (held_fault_before_rows needed file (held_of held.now))) }
+    ensures sound { OnOk result (held_fault_before_rows needed file (held_of held.now) ≡ None) }
     ensures table { IfOk result (λ table. table ≡ table_of (held_of held.now)) }
+    ensures few { IfOk result (λ table. row_count table ≤ most_rows) }
 {
     match held {
         FileBytes::Absent => {
             if needed {
                 return Err(TextError::Fault(file_fault(file, FaultKind::MissingFile)));
             }
-            Ok(no_table(alloc)?)
+            Ok(Table::empty(alloc))
         }
         FileBytes::TooLarge => Err(TextError::Fault(file_fault(file, FaultKind::FileTooLarge))),
-        FileBytes::Bytes(text) => table_of_text(alloc, text.bytes(), file, needed),
+        FileBytes::Bytes(text) => table_before_rows(alloc, text.bytes(), file, needed),
     }
 }
 
-/// The table of a file, judged by itself.
-///
-/// # Errors
-/// The file's first fault; want of memory.
-#[tactic(auto, unfolding(feed_faults::specs::FormFaults::form_fault))]
-pub fn file_table(alloc: Global, files: &Files, file: FileName) -> Result<NamedTable, TextError>
+// The table of a file, judged before its rows.
+fn file_table(alloc: Global, files: &Files, file: FileName) -> Result<NamedTable, TextError>
     requires { AreWithin files.now }
-    ensures fault { IfErr result (IsErrorOf (form_fault (held_in files.now) file)) }
-    ensures sound { OnOk result (form_fault (held_in files.now) file ≡ None) }
+    ensures fault { IfErr result (IsErrorOf (held_fault_before_rows (is_needed (held_in files.now) file) file (held_in files.now file))) }
+    ensures sound { OnOk result (held_fault_before_rows (is_needed (held_in files.now) file) file (held_in files.now file) ≡ None) }
     ensures table { IfOk result (λ table. table ≡ table_of (held_in files.now file)) }
 {
     let needed = is_needed(alloc, files, file)?;
-    judged_table(alloc, files.get(file), file, needed)
+    let table = table_of_held(alloc, files.get(file), file, needed)?;
+    Ok(NamedTable::of(alloc, table)?)
+}
+
+/// The table of a file, judged by itself, but for the rows of stop_times.txt.
+///
+/// # Errors
+/// The file's first fault; want of memory.
+#[tactic(auto, using(crate::proofs::PassLaws::error_first, crate::proofs::PassLaws::error_later))]
+pub fn read_file(alloc: Global, files: &Files, file: FileName) -> Result<ReadTable, TextError>
+    requires { AreWithin files.now }
+    ensures fault { IfErr result (IsErrorOf (reading_fault (held_in files.now) file)) }
+    ensures sound { OnOk result (reading_fault (held_in files.now) file ≡ None) }
+    ensures table { IfOk result (λ read. read ≡ read_of (held_in files.now) file) }
+{
+    let table = file_table(alloc, files, file)?;
+    ReadTable::of(alloc, file, table)
 }

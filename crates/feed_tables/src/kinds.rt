@@ -1,17 +1,47 @@
-//! The kinds of stops.
+//! Values of rows by which faults among files are found.
 ghost use Rattle.std.specs.Prelude.{◌≡◌, ◌<◌, ◌≤◌};
+ghost use Rattle.feed_rows.specs.declared.names.FileName.TheVariants as file;
+ghost use Rattle.feed_faults.specs.FeedTables.{table_in};
 ghost use Rattle.feed_faults.specs.Records.{row_count};
-ghost use Rattle.feed_faults.specs.FieldValues.{stop_kind};
+ghost use Rattle.feed_faults.specs.FieldValues.{stop_kind, frame_start, frame_end};
 
-use crate::named::NamedTable;
-use feed_rows::ColumnName;
-use feed_text::optional_int;
+use crate::tables::Tables;
+use feed_rows::FileName;
+use feed_text::{nat_of, nat_or};
+use transit_base::DAY_SECONDS;
 
-/// The kind of a stop: its `location_type`, where an empty one is 0; 5 where it is none.
-pub fn stop_kind(stops: &NamedTable, row: u32) -> u32
-    requires { row < row_count stops.now }
-    ensures value { result ≡ stop_kind stops.now row }
-    ensures most { result ≤ 5 }
+/// The kind of a stop: its `location_type`, where an empty one is 0.
+#[tactic(auto, using(feed_text::proofs::ValueLaws::int_is_short), unfolding(feed_faults::specs::FieldValues::int_or_zero))]
+pub fn stop_kind(tables: &Tables, row: u32) -> u32
+    requires { row < row_count (table_in tables.now file.Stops) }
+    ensures { result ≡ stop_kind (table_in tables.now file.Stops) row }
 {
-    optional_int(stops.field(row, ColumnName::LocationType), 4)
+    let &[_, kind, _] = tables.numbers(FileName::Stops, row) else {
+        unreachable!();
+    };
+    nat_of(kind)
+}
+
+/// The first second of a timeframe, where an empty one is that of the day.
+#[tactic(auto, using(feed_text::proofs::ValueLaws::time_is_short, feed_text::proofs::ValueLaws::time_by_number))]
+pub fn frame_start(tables: &Tables, row: u32) -> u32
+    requires { row < row_count (table_in tables.now file.Timeframes) }
+    ensures { result ≡ frame_start (table_in tables.now file.Timeframes) row }
+{
+    let &[_, start, _, _] = tables.numbers(FileName::Timeframes, row) else {
+        unreachable!();
+    };
+    nat_or(start, 0)
+}
+
+/// The second before which a timeframe ends, where an empty one is the end of the day.
+#[tactic(auto, using(feed_text::proofs::ValueLaws::time_is_short, feed_text::proofs::ValueLaws::time_by_number))]
+pub fn frame_end(tables: &Tables, row: u32) -> u32
+    requires { row < row_count (table_in tables.now file.Timeframes) }
+    ensures { result ≡ frame_end (table_in tables.now file.Timeframes) row }
+{
+    let &[_, _, end, _] = tables.numbers(FileName::Timeframes, row) else {
+        unreachable!();
+    };
+    nat_or(end, DAY_SECONDS)
 }

@@ -1,7 +1,6 @@
 //! The tables of a feed's files, with the first pass of faults: what is wrong with a file by itself.
 #![tactic(auto)]
 
-mod fields;
 mod files;
 mod guesses;
 mod id_rows;
@@ -9,6 +8,7 @@ mod ids;
 mod index;
 mod kinds;
 mod named;
+mod read_table;
 mod reading;
 mod rows;
 mod tables;
@@ -16,7 +16,7 @@ mod tables;
 pub use files::MOST_ROWS;
 pub use ids::{IdColumn, Ids};
 pub use index::IdIndex;
-pub use kinds::stop_kind;
-pub use named::NamedTable;
-pub use rows::is_passed_over;
+pub use kinds::{frame_end, frame_start, stop_kind};
+pub use named::{NamedTable, TableRow};
+pub use rows::read_row;
 pub use tables::Tables;

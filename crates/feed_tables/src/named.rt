@@ -2,10 +2,11 @@
 ghost use Rattle.std.specs.Prelude.{◌≡◌, ◌<◌, ◌≤◌, map, length, get_or, [], is_some, IfOk, IfSome};
 ghost use Rattle.feed_faults.specs.Records.{header, data_row, row_count, column_of, field, is_long};
 ghost use Rattle.feed_rows.specs.Names.{all_columns};
-ghost use Rattle.feed_tables.specs.RowLimits.{row_limit};
+ghost use Rattle.feed_tables.specs.Columns.{row_of_table};
+ghost use Rattle.feed_text.specs.RowLimits.{row_limit};
 
 use feed_rows::ColumnName;
-use feed_text::Table;
+use feed_text::{Fields, Table};
 use std::alloc::{AllocError, Global};
 use std::marker::Model;
 
@@ -19,7 +20,7 @@ pub struct NamedTable {
 impl Model for NamedTable {
     ghost use Rattle.feed_faults.specs.Records.{FileTable};
     ghost use Rattle.feed_tables.specs.Columns.{ArePlaces};
-    ghost use Rattle.feed_tables.specs.RowLimits.{row_limit};
+    ghost use Rattle.feed_text.specs.RowLimits.{row_limit};
 
     ghost Value = { FileTable };
 
@@ -96,11 +97,51 @@ impl NamedTable {
         }
     }
 
+    /// A data row.
+    pub fn row(&self, row: u32) -> TableRow<'_>
+        requires { row < row_count self.now }
+        ensures is { result ≡ row_of_table self.now row }
+        ensures few { row < row_limit }
+    {
+        let _places = &self.places;
+        TableRow { table: self, row }
+    }
+
     /// Whether a data row has a field past the header that isn't empty.
     pub fn is_long(&self, row: u32) -> bool
         requires { row < row_count self.now }
         ensures { result ≡ is_long self.now row }
     {
         self.table.extra(row)
+    }
+}
+
+/// A data row of a table. Contracts see it as the two.
+#[derive(Drop)]
+pub struct TableRow<'t> {
+    table: &'t NamedTable,
+    row: u32,
+}
+
+impl<'t> Model for TableRow<'t> {
+    ghost use Rattle.std.specs.Prelude.{◌<◌};
+    ghost use Rattle.feed_faults.specs.Records.{row_count};
+    ghost use Rattle.feed_tables.specs.Columns.{RowOfTable, row_of_table};
+
+    ghost Value = { RowOfTable };
+
+    ghost view = { λ r. row_of_table r.table.now r.row };
+
+    ghost invariant = { λ r. r.row < row_count r.table.now };
+}
+
+impl<'t> Fields for TableRow<'t> {
+    ghost use Rattle.feed_faults.specs.Records.{field};
+    ghost use Rattle.feed_tables.specs.Columns.{RowOfTable};
+
+    ghost at = { λ (r : RowOfTable). field r.table r.row };
+
+    fn field(&self, name: ColumnName) -> &[u8] {
+        self.table.field(self.row, name)
     }
 }

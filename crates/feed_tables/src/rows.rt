@@ -1,108 +1,112 @@
-//! The first fault of a table's rows by themselves.
-ghost use Rattle.std.specs.Prelude.{◌≡◌, ◌<◌};
-ghost use Rattle.plain_laws.specs.Plain.{first_in};
-ghost use Rattle.feed_faults.specs.Records.{row_count};
-ghost use Rattle.feed_faults.specs.FormFaults.{is_passed_over, judged_columns, form_fault_of_row, form_fault_of_rows};
-ghost use Rattle.feed_tables.specs.FieldFaults.{fault_of_field};
-ghost use Rattle.feed_tables.specs.RowLimits.{row_limit};
+//! The rows of a table: what they tell, or their first fault.
+ghost use Rattle.std.specs.Prelude.{◌≡◌, ◌<◌, ◌++◌, ◌∷◌, [], None, IfOk, IfErr, OnOk};
+ghost use Rattle.feed_rows.specs.declared.faults.FaultKind.TheVariants as kind;
+ghost use Rattle.feed_faults.specs.FaultPlaces.{row_fault};
+ghost use Rattle.feed_faults.specs.Records.{field, row_count};
+ghost use Rattle.feed_faults.specs.FormFaults.{form_fault_of_row, form_fault_of_rows};
+ghost use Rattle.feed_text.specs.FieldNumbers.{numbers_of};
+ghost use Rattle.feed_text.specs.RowLimits.{row_limit};
+ghost use Rattle.feed_text.specs.TextErrors.{IsErrorOf};
+ghost use Rattle.feed_tables.specs.RowNumbers.{numbers_by_row};
 
-use crate::fields::field_misfit;
 use crate::named::NamedTable;
-use feed_faults::{ColumnRule, columns_of};
-use feed_rows::{ColumnName, FaultKind, FeedFault, FileName};
-use feed_text::{int_of, is_filled};
+use feed_rows::{FaultKind, FeedFault, FileName};
+use feed_text::{TextError, read_fields};
+use plain_laws::Groups;
+use std::alloc::{AllocError, Global};
 
-/// Whether a row of `transfers.txt` is passed over: it is of type 4 or 5, or it names routes or trips.
-#[tactic(auto, unfolding(feed_faults::specs::FormFaults::is_passed_over))]
-pub fn is_passed_over(table: &NamedTable, row: u32) -> bool
-    requires { row < row_count table.now }
-    ensures { result ≡ is_passed_over table.now row }
+// The fault of a row that has a field past the header.
+fn long_row(file: FileName, row: u32) -> FeedFault
+    requires { row < row_limit }
+    ensures { result ≡ row_fault file row kind.LongRow }
 {
-    int_of(table.field(row, ColumnName::TransferType), 4, 5).is_some()
-        || is_filled(table.field(row, ColumnName::FromRouteId))
-        || is_filled(table.field(row, ColumnName::ToRouteId))
-        || is_filled(table.field(row, ColumnName::FromTripId))
-        || is_filled(table.field(row, ColumnName::ToTripId))
-}
-
-// The columns of a row that are judged: of a row that is passed over, the type alone.
-fn judged_columns(file: FileName, table: &NamedTable, row: u32) -> &'static [ColumnRule]
-    requires { row < row_count table.now }
-    ensures { result.now ≡ judged_columns file table.now row }
-{
-    if file == FileName::Transfers && is_passed_over(table, row) {
-        return &columns_of(FileName::Transfers)[..1];
-    }
-    columns_of(file)
-}
-
-// The fault of a row's field in a column.
-#[tactic(auto, unfolding(crate::specs::FieldFaults::fault_of_field))]
-fn fault_of_field(
-    file: FileName,
-    table: &NamedTable,
-    row: u32,
-    rule: ColumnRule,
-) -> Option<FeedFault>
-    requires within { row < row_count table.now }
-    requires few { row < row_limit }
-    ensures { result ≡ fault_of_field file table.now row rule }
-{
-    let kind = field_misfit(table, row, rule)?;
-    Some(FeedFault {
-        kind,
+    FeedFault {
+        kind: FaultKind::LongRow,
         file,
         row: row + 1,
-        column: Some(rule.name),
-    })
+        column: None,
+    }
 }
 
-// The first fault of a row's fields in these columns.
-fn fault_of_fields(
+/// Replaces what `numbers` holds by what the fields of a row tell, in the order of the columns that are judged. Answers the
+/// first fault of the row, where it has one.
+///
+/// # Errors
+/// Want of memory.
+#[tactic(auto, unfolding(feed_faults::specs::FormFaults::form_fault_of_row))]
+pub fn read_row(
     file: FileName,
     table: &NamedTable,
     row: u32,
-    rules: &[ColumnRule],
-) -> Option<FeedFault>
-    requires within { row < row_count table.now }
-    requires few { row < row_limit }
-    ensures { result ≡ first_in rules.now (fault_of_field file table.now row) }
+    numbers: &mut Vec<Option<i64>>,
+) -> Result<Option<FeedFault>, AllocError>
+    requires { row < row_count table.now }
+    ensures fault { IfOk result (λ fault. fault ≡ form_fault_of_row file table.now row) }
+    ensures numbers { IfOk result (λ fault. fault ≡ None → numbers.new.items ≡ numbers_of file (field table.now row)) }
 {
-    for (i, rule) in rules.iter().enumerate() {
-        if let Some(fault) = fault_of_field(file, table, row, *rule) {
-            return Some(fault);
-        }
-    }
-    None
-}
-
-// The first fault of a row.
-#[tactic(auto, unfolding(feed_faults::specs::FormFaults::form_fault_of_row, crate::specs::FieldFaults::fault_of_field))]
-fn fault_of_row(file: FileName, table: &NamedTable, row: u32) -> Option<FeedFault>
-    requires within { row < row_count table.now }
-    requires few { row < row_limit }
-    ensures { result ≡ form_fault_of_row file table.now row }
-{
+    let fields = table.row(row);
     if table.is_long(row) {
-        return Some(FeedFault {
-            kind: FaultKind::LongRow,
-            file,
-            row: row + 1,
-            column: None,
-        });
+        return Ok(Some(long_row(file, row)));
     }
-    fault_of_fields(file, table, row, judged_columns(file, table, row))
+    read_fields(file, row, &fields, numbers)
 }
 
 /// The first fault of a table's rows.
+///
+/// # Errors
+/// Want of memory.
 #[tactic(auto, using(plain_laws::proofs::Laws::firsts), unfolding(feed_faults::specs::FormFaults::form_fault_of_rows))]
-pub fn fault_of_rows(file: FileName, table: &NamedTable) -> Option<FeedFault>
-    ensures { result ≡ form_fault_of_rows file table.now }
+pub fn fault_of_rows(
+    alloc: Global,
+    file: FileName,
+    table: &NamedTable,
+) -> Result<Option<FeedFault>, AllocError>
+    ensures { IfOk result (λ fault. fault ≡ form_fault_of_rows file table.now) }
 {
+    let mut numbers = Vec::new(alloc);
     for row in 0..table.rows() {
-        if let Some(fault) = fault_of_row(file, table, row) {
-            return Some(fault);
+        if let Some(fault) = read_row(file, table, row, &mut numbers)? {
+            return Ok(Some(fault));
         }
     }
-    None
+    Ok(None)
+}
+
+// Reads a row, and keeps what it tells behind what the rows before it told. `Fault` is the fault of the row.
+fn keep_row(
+    file: FileName,
+    table: &NamedTable,
+    row: u32,
+    numbers: &mut Vec<Option<i64>>,
+    rows: &mut Groups<Option<i64>>,
+) -> Result<(), TextError>
+    requires { row < row_count table.now }
+    ensures fault { IfErr result (IsErrorOf (form_fault_of_row file table.now row)) }
+    ensures sound { OnOk result (form_fault_of_row file table.now row ≡ None) }
+    ensures kept { OnOk result (rows.new ≡ rows.old ++ numbers_of file (field table.now row) ∷ []) }
+{
+    if let Some(fault) = read_row(file, table, row, numbers)? {
+        return Err(TextError::Fault(fault));
+    }
+    rows.push(numbers)?;
+    Ok(())
+}
+
+/// What the rows of a table tell, row by row. `Fault` is their first fault.
+#[tactic(auto, unfolding(feed_faults::specs::FormFaults::form_fault_of_rows))]
+pub fn read_rows(
+    alloc: Global,
+    file: FileName,
+    table: &NamedTable,
+) -> Result<Groups<Option<i64>>, TextError>
+    ensures fault { IfErr result (IsErrorOf (form_fault_of_rows file table.now)) }
+    ensures sound { OnOk result (form_fault_of_rows file table.now ≡ None) }
+    ensures numbers { IfOk result (λ rows. rows ≡ numbers_by_row file table.now) }
+{
+    let mut numbers = Vec::new(alloc);
+    let mut rows = Groups::empty(alloc);
+    for row in 0..table.rows() {
+        keep_row(file, table, row, &mut numbers, &mut rows)?;
+    }
+    Ok(rows)
 }

@@ -9,3 +9,4 @@ pub mod ReaderLaws
 pub mod HeaderLaws
 pub mod Utf8Laws
 pub mod ValueLaws
+pub mod NumberLaws

@@ -1,13 +1,16 @@
--- Values of fields.
+-- Values of fields that are short: from 0 to 2^31 - 1.
 use Rattle.std.proofs.Common.{◌≡◌, refl, ℕ, ◌≤◌, ◌⊎◌, inl, inr, true, false, List, Option, Some, None, arith}
-use Rattle.std.specs.Prelude.{◌&&◌, ℤ, pos, negsuc, int_le, ◌≤ℤ◌}
+use Rattle.std.specs.Prelude.{◌&&◌, ℤ, pos, negsuc, int_le, ◌≤ℤ◌, option_map, unwrap_or}
 use lib.IntN.{nat_abs}
 use Rattle.std.proofs.lemmas.Bool.{cases_Bool, and_parts}
 use Rattle.std.proofs.lemmas.Bool.Decides.{nat_tests}
 use Rattle.std.proofs.lemmas.Option.{same_Some, none-some}
 use Rattle.feed_faults.specs.FieldGrammars.{int_value, if_between, signed_value}
 use Rattle.feed_rows.specs.Numerals.{number_value}
-use Rattle.feed_faults.specs.FieldValues.{nat_or}
+use Rattle.feed_rows.specs.TimeGrammar.{time_value}
+use Rattle.feed_faults.proofs.TimeLaws.{time_good}
+use Rattle.feed_faults.specs.FieldValues.{nat_of, time_or}
+use Rattle.feed_text.specs.FieldNumbers.{IsShort, nat_or}
 
 -- a value between two is one of them or between
 between : (least most z : ℤ) (o : Option ℤ) → if_between least most o ≡ Some z → (int_le least z && int_le z most) ≡ true
@@ -15,29 +18,51 @@ between least most z None e = absurd (none-some z e)
 between least most z (Some y) e = step (cases_Bool (int_le least y && int_le y most))
   where
     step : ((int_le least y && int_le y most) ≡ true) ⊎ ((int_le least y && int_le y most) ≡ false) → (int_le least z && int_le z most) ≡ true
-    step (inl yes') = let is : Some y ≡ Some z = rw yes' at e in let same : y ≡ z = same_Some y z is in rw (← same) yes'
     step (inr no') = absurd (let is : None ≡ Some z = rw no' at e in none-some z is)
+    step (inl yes') = let is : Some y ≡ Some z = rw yes' at e in let same : y ≡ z = same_Some y z is in rw (← same) yes'
 
--- an integer from 0 to most is a number up to it
-pub nat_between : (most : ℕ) (text : List ℕ) (z : ℤ) → int_value (pos 0) (pos most) text ≡ Some z → (n : ℕ) × (z ≡ pos n) × (n ≤ most)
+-- an integer from least to most is a number up to it
+nat_between : (least most : ℕ) (text : List ℕ) (z : ℤ) → int_value (pos least) (pos most) text ≡ Some z → (n : ℕ) × (z ≡ pos n) × (n ≤ most)
 unfolding int_value
-nat_between most text z e = number z (between (pos 0) (pos most) z (signed_value number_value text) e)
+nat_between least most text z e = number z (between (pos least) (pos most) z (signed_value number_value text) e)
   where
-    number : (y : ℤ) → (int_le (pos 0) y && int_le y (pos most)) ≡ true → (n : ℕ) × (y ≡ pos n) × (n ≤ most)
-    number (pos n) is = (n, refl, small n ((and_parts (int_le (pos 0) (pos n)) (int_le (pos n) (pos most)) is).1))
+    number : (y : ℤ) → (int_le (pos least) y && int_le y (pos most)) ≡ true → (n : ℕ) × (y ≡ pos n) × (n ≤ most)
+    number (pos n) is = (n, refl, small n ((and_parts (int_le (pos least) (pos n)) (int_le (pos n) (pos most)) is).1))
       where
         small : (m : ℕ) → int_le (pos m) (pos most) ≡ true → m ≤ most
         small m e = grind (arith, nat_tests)
     number (negsuc n) is = absurd (cc)
 
--- so it isn't less than 0, and at most that
-pub value_low : (most : ℕ) (text : List ℕ) (z : ℤ) → int_value (pos 0) (pos most) text ≡ Some z → pos 0 ≤ℤ z
-value_low most text z e = let is = nat_between most text z e in let same = is.1 in rw same (grind arith)
+-- an integer is short where the greatest is
+pub int_is_short : (least most : ℕ) (text : List ℕ) → most ≤ 2147483647 → IsShort (int_value (pos least) (pos most) text)
+int_is_short least most text le = step (int_value (pos least) (pos most) text) refl
+  where
+    step : (o : Option ℤ) → int_value (pos least) (pos most) text ≡ o → IsShort o
+    step None e = tt
+    step (Some z) e =
+        let is = nat_between least most text z e in
+        let same = is.1 in
+        let small = is.2 in
+        rw same (grind arith, grind (arith, small, le))
 
-pub value_high : (most : ℕ) (text : List ℕ) (z : ℤ) → int_value (pos 0) (pos most) text ≡ Some z → z ≤ℤ pos most
-value_high most text z e = let is = nat_between most text z e in let same = is.1 in let le = is.2 in rw same (grind (arith, le))
+-- so is a time
+pub time_is_short : (most : ℕ) (text : List ℕ) → most ≤ 2147483647 → IsShort (option_map pos (time_value most text))
+time_is_short most text le = step (time_value most text) refl
+  where
+    step : (o : Option ℕ) → time_value most text ≡ o → IsShort (option_map pos o)
+    step None e = tt
+    step (Some s) e = let small = time_good most text s e in (grind arith, grind (arith, small, le))
 
--- and is the number that it is
-pub nat_or_some : (other : ℕ) (z : ℤ) → pos 0 ≤ℤ z → nat_or other (Some z) ≡ nat_abs z
-nat_or_some other (pos n) low = refl
-nat_or_some other (negsuc n) low = absurd (grind (arith, low))
+-- a short number from 0 on is the number that it is
+pub nat_of_some : (z : ℤ) → pos 0 ≤ℤ z → nat_of (Some z) ≡ nat_abs z
+nat_of_some (pos n) low = refl
+nat_of_some (negsuc n) low = absurd (grind (arith, low))
+
+-- the seconds of a time, or another number
+pub time_by_number : (other most : ℕ) (text : List ℕ) → nat_or other (option_map pos (time_value most text)) ≡ time_or other most text
+unfolding time_or
+time_by_number other most text = step (time_value most text)
+  where
+    step : (o : Option ℕ) → nat_or other (option_map pos o) ≡ unwrap_or o other
+    step None = refl
+    step (Some s) = refl

@@ -1,3 +1,5 @@
 pub mod TableFields
 pub mod Reader
 pub mod TextErrors
+pub mod FieldNumbers
+pub mod RowLimits

@@ -4,7 +4,6 @@ use Rattle.feed_rows.specs.declared.rows.StopTimeRow.{StopTimeRow}
 use Rattle.feed_faults.specs.FeedTables.{table_in}
 use Rattle.feed_faults.specs.Records.{row_count}
 use Rattle.stop_order.specs.Numbered.{named_times, IsOneTrip, no_faults, faults_at}
-use Rattle.feed_relations.specs.JudgedBy.{are_platforms}
 use Rattle.feed_relations.proofs.TripNumberLaws.{length_rows, judged}
 use Rattle.feed_relations.proofs.judged.JudgedFeed.of.Goals as goal
 
@@ -23,7 +22,7 @@ invariant_of-result c =
       ids_are = c.requires.ids;
       named = c.requires.named;
       calls_are = c.requires.calls;
-      platforms_are = c.in_ok-platforms.ensures ∙ ap are_platforms c.get-2.ensures;
+      platforms_are = c.in_ok-platforms.ensures;
       count = c.in_ok-order.ensures.count ∙ length_rows t c.args.calls.now c.requires.calls;
       order_is = judged t c.requires.named c.in_ok-order.order.items said;
     }

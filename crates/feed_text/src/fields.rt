@@ -1,0 +1,236 @@
+//! The fields of a row: what they tell, or what is wrong with them.
+ghost use Rattle.std.specs.Prelude.{◌≡◌, ◌<◌, ◌^◌, ℕ, List, true, false, IfOk, IfErr, OnOk, None, Some};
+ghost use Rattle.feed_rows.specs.declared.names.ColumnName.TheVariants as column;
+ghost use Rattle.feed_faults.specs.FaultPlaces.{field_fault};
+ghost use Rattle.feed_faults.specs.FieldGrammars.{amount_in};
+ghost use Rattle.feed_faults.specs.FileColumns.{fits, misfit};
+ghost use Rattle.feed_faults.specs.FormFaults.{names_flex_place, empty_misfit, field_misfit, is_passed_over, judged_columns, fault_of_fields};
+ghost use Rattle.feed_faults.specs.FieldValues.{nat_of};
+ghost use Rattle.feed_faults.specs.Records.{is_filled};
+ghost use Rattle.feed_text.specs.FieldNumbers.{number_by, field_number, numbers_of, nat_or, IsShort};
+ghost use Rattle.feed_text.specs.RowLimits.{row_limit};
+
+use crate::amounts::amount_of;
+use crate::dates::date_of;
+use crate::ids::{currency_of, id_ok};
+use crate::numbers::{count_of, int_of, time_of};
+use feed_faults::{ColumnRule, EmptyField, Grammar, columns_of};
+use feed_rows::{ColumnName, FaultKind, FeedFault, FileName};
+use std::alloc::AllocError;
+
+/// The fields of a row, by the names of their columns.
+pub trait Fields {
+    ghost use Rattle.std.specs.Prelude.{◌≡◌};
+    ghost use Rattle.feed_faults.specs.Records.{Fields};
+
+    /// What they are.
+    ghost at: { Self → Fields };
+
+    /// The field in a column, without the blanks at its ends; empty where the row is short or has no such column.
+    fn field(&self, name: ColumnName) -> &[u8]
+        ensures { result.now ≡ at self.now name };
+}
+
+/// Whether a field isn't empty.
+pub fn is_filled(text: &[u8]) -> bool
+    ensures { result ≡ is_filled text.now }
+{
+    match text {
+        [] => false,
+        [_, ..] => true,
+    }
+}
+
+// The amount that a text tells in the currency of this code.
+fn amount_in(currency: &[u8], text: &[u8]) -> Option<i64>
+    ensures { result ≡ amount_in currency.now text.now }
+{
+    let decimals = currency_of(currency)?;
+    let amount = amount_of(text, decimals)?;
+    Some(amount.0)
+}
+
+// What a text of the grammar tells.
+fn number_by<F: Fields>(grammar: Grammar, fields: &F, text: &[u8]) -> Option<i64>
+    ensures { result ≡ number_by grammar (F.at fields.now column.Currency) text.now }
+{
+    match grammar {
+        Grammar::Id => None,
+        Grammar::Int { least, most } => int_of(text, least, most),
+        Grammar::Count => count_of(text),
+        Grammar::Time { most } => time_of(text, most).map(i64::from),
+        Grammar::Date => date_of(text).map(|day| day.0),
+        Grammar::Currency => currency_of(text).map(i64::from),
+        Grammar::Amount => amount_in(fields.field(ColumnName::Currency), text),
+    }
+}
+
+// Whether a text that tells this number is of the grammar.
+fn fits(grammar: Grammar, number: Option<i64>, text: &[u8]) -> bool
+    ensures { (row_currency : List ℕ) → number ≡ number_by grammar row_currency text.now → result ≡ fits grammar row_currency text.now }
+{
+    match grammar {
+        Grammar::Id => id_ok(text),
+        Grammar::Int { .. }
+        | Grammar::Count
+        | Grammar::Time { .. }
+        | Grammar::Date
+        | Grammar::Currency
+        | Grammar::Amount => number.is_some(),
+    }
+}
+
+// The fault of a text that isn't of the grammar.
+fn misfit(grammar: Grammar) -> FaultKind
+    ensures { result ≡ misfit grammar }
+{
+    match grammar {
+        Grammar::Id => FaultKind::BadText,
+        Grammar::Int { .. } | Grammar::Count => FaultKind::BadNumber,
+        Grammar::Time { .. } => FaultKind::BadTime,
+        Grammar::Date => FaultKind::BadDate,
+        Grammar::Currency => FaultKind::BadCurrency,
+        Grammar::Amount => FaultKind::BadAmount,
+    }
+}
+
+// Whether a stop time names a place of GTFS-Flex.
+#[tactic(auto, unfolding(feed_faults::specs::FormFaults::names_flex_place))]
+fn names_flex_place<F: Fields>(fields: &F) -> bool
+    ensures { result ≡ names_flex_place (F.at fields.now) }
+{
+    is_filled(fields.field(ColumnName::LocationGroupId))
+        || is_filled(fields.field(ColumnName::LocationId))
+}
+
+// What is wrong with an empty field.
+fn empty_misfit<F: Fields>(fields: &F, empty: EmptyField) -> Option<FaultKind>
+    ensures { result ≡ empty_misfit (F.at fields.now) empty }
+{
+    match empty {
+        EmptyField::Fine => None,
+        EmptyField::Fault => Some(FaultKind::EmptyRequired),
+        EmptyField::FaultOrFlex => {
+            if names_flex_place(fields) {
+                Some(FaultKind::FlexRow)
+            } else {
+                Some(FaultKind::EmptyRequired)
+            }
+        }
+    }
+}
+
+// What a filled text tells, or what is wrong with it.
+fn read_text<F: Fields>(fields: &F, grammar: Grammar, text: &[u8]) -> Result<Option<i64>, FaultKind>
+    ensures fault { IfErr result (λ kind. (fits grammar (F.at fields.now column.Currency) text.now ≡ false) × (kind ≡ misfit grammar)) }
+    ensures sound { OnOk result (fits grammar (F.at fields.now column.Currency) text.now ≡ true) }
+    ensures number { IfOk result (λ number. number ≡ number_by grammar (F.at fields.now column.Currency) text.now) }
+{
+    let number = number_by(grammar, fields, text);
+    if !fits(grammar, number, text) {
+        return Err(misfit(grammar));
+    }
+    Ok(number)
+}
+
+// What the field of a row in a column tells, or what is wrong with it.
+#[tactic(auto, unfolding(feed_faults::specs::FormFaults::field_misfit), using(crate::proofs::NumberLaws::nothing_told))]
+fn read_field<F: Fields>(fields: &F, rule: ColumnRule) -> Result<Option<i64>, FaultKind>
+    ensures fault { IfErr result (λ kind. field_misfit (F.at fields.now) rule ≡ Some kind) }
+    ensures sound { OnOk result (field_misfit (F.at fields.now) rule ≡ None) }
+    ensures number { IfOk result (λ number. number ≡ field_number (F.at fields.now) rule) }
+{
+    let text = fields.field(rule.name);
+    if is_filled(text) {
+        return read_text(fields, rule.grammar, text);
+    }
+    match empty_misfit(fields, rule.empty) {
+        Some(kind) => Err(kind),
+        None => Ok(None),
+    }
+}
+
+/// Whether a row of `transfers.txt` is passed over: it is of type 4 or 5, or it names routes or trips.
+#[tactic(auto, unfolding(feed_faults::specs::FormFaults::is_passed_over))]
+pub fn is_passed_over<F: Fields>(fields: &F) -> bool
+    ensures { result ≡ is_passed_over (F.at fields.now) }
+{
+    int_of(fields.field(ColumnName::TransferType), 4, 5).is_some()
+        || is_filled(fields.field(ColumnName::FromRouteId))
+        || is_filled(fields.field(ColumnName::ToRouteId))
+        || is_filled(fields.field(ColumnName::FromTripId))
+        || is_filled(fields.field(ColumnName::ToTripId))
+}
+
+// The columns of a row that are judged: of a row that is passed over, the type alone.
+fn judged_columns<F: Fields>(file: FileName, fields: &F) -> &'static [ColumnRule]
+    ensures { result.now ≡ judged_columns file (F.at fields.now) }
+{
+    if file == FileName::Transfers && is_passed_over(fields) {
+        return &columns_of(FileName::Transfers)[..1];
+    }
+    columns_of(file)
+}
+
+// The fault of a row, which is numbered from 0 here, in a column.
+fn field_fault(file: FileName, row: u32, column: ColumnName, kind: FaultKind) -> FeedFault
+    requires { row < row_limit }
+    ensures { result ≡ field_fault file row column kind }
+{
+    FeedFault {
+        kind,
+        file,
+        row: row + 1,
+        column: Some(column),
+    }
+}
+
+/// Replaces what `numbers` holds by what the fields of a row of the file tell: of each column that is judged, in their
+/// order, the number of the field; none where it is empty, or an id. Answers the first fault of the fields, where they have
+/// one; then `numbers` is cut short.
+///
+/// # Errors
+/// Want of memory.
+pub fn read_fields<F: Fields>(
+    file: FileName,
+    row: u32,
+    fields: &F,
+    numbers: &mut Vec<Option<i64>>,
+) -> Result<Option<FeedFault>, AllocError>
+    requires { row < row_limit }
+    ensures fault { IfOk result (λ fault. fault ≡ fault_of_fields file row (F.at fields.now)) }
+    ensures numbers { IfOk result (λ fault. fault ≡ None → numbers.new.items ≡ numbers_of file (F.at fields.now)) }
+{
+    numbers.clear();
+    let rules = judged_columns(file, fields);
+    for (i, rule) in rules.iter().enumerate() {
+        match read_field(fields, *rule) {
+            Ok(number) => numbers.push(number)?,
+            Err(kind) => return Ok(Some(field_fault(file, row, rule.name, kind))),
+        }
+    }
+    Ok(None)
+}
+
+/// A number that may not be there as one from 0 on; `other` where it isn't there.
+pub fn nat_or(number: Option<i64>, other: u32) -> u32
+    requires { IsShort number }
+    ensures { result ≡ nat_or other number }
+{
+    match number {
+        Some(value) => value as u32,
+        None => other,
+    }
+}
+
+/// The same, where 0 stands for none.
+pub fn nat_of(number: Option<i64>) -> u32
+    requires { IsShort number }
+    ensures value { result ≡ nat_of number }
+    ensures most { result < 2 ^ 31 }
+{
+    match number {
+        Some(value) => value as u32,
+        None => 0,
+    }
+}
