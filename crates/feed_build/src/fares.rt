@@ -7,13 +7,13 @@ ghost use Rattle.feed_soundness.specs.AcceptedTables.{AreFormed};
 
 use crate::rows::FileRow;
 use crate::source::Source;
-use crate::values::{filled, is_code, natural};
+use crate::values::{filled, is_code};
 use feed_rows::{
     AreaRow, ColumnName, FileName, Id, LegRuleRow, Limit, MediumRow, ProductRow, RiderRow,
     StopAreaRow, TimeframeRow, TransferRuleRow,
 };
 use feed_tables::{IdColumn, NamedTable, Tables};
-use feed_text::nat_of;
+use feed_text::{nat_of, natural};
 use std::alloc::AllocError;
 use transit_base::{
     AreaId, DAY_SECONDS, FrameId, LegGroupId, MediumId, Money, NetworkId, ProductId, RiderId,
@@ -63,7 +63,7 @@ impl FileRow for TimeframeRow {
 
     #[tactic(auto, unfolding(feed_faults::specs::AcceptedFeed::timeframe_row), using(crate::proofs::ValueLaws::values))]
     fn at(source: &Source, table: &NamedTable, row: u32) -> Result<TimeframeRow, AllocError> {
-        let &[_, start, end, _] = source.numbers::<4>(Self::FILE, row);
+        let &[_, start, end, _] = source.tables().numbers::<4>(Self::FILE, row);
         let group = table.field(row, ColumnName::TimeframeGroupId);
         let service = table.field(row, ColumnName::ServiceId);
         Ok(TimeframeRow {
@@ -84,7 +84,7 @@ impl FileRow for RiderRow {
 
     #[tactic(auto, unfolding(feed_faults::specs::AcceptedFeed::rider_row), using(crate::proofs::IdLaws::rider_ids, crate::proofs::ValueLaws::values))]
     fn at(source: &Source, table: &NamedTable, row: u32) -> Result<RiderRow, AllocError> {
-        let &[_, default] = source.numbers::<2>(Self::FILE, row);
+        let &[_, default] = source.tables().numbers::<2>(Self::FILE, row);
         Ok(RiderRow {
             id: Id::copy_of(source.alloc, table.field(row, ColumnName::RiderCategoryId))?,
             default: is_code(default, DEFAULT_CATEGORY),
@@ -116,7 +116,7 @@ impl FileRow for ProductRow {
 
     #[tactic(auto, unfolding(feed_faults::specs::AcceptedFeed::product_row, feed_faults::specs::FieldValues::amount_or_zero))]
     fn at(source: &Source, table: &NamedTable, row: u32) -> Result<ProductRow, AllocError> {
-        let &[_, _, _, _, amount] = source.numbers::<5>(Self::FILE, row);
+        let &[_, _, _, _, amount] = source.tables().numbers::<5>(Self::FILE, row);
         let product = table.field(row, ColumnName::FareProductId);
         let rider = table.field(row, ColumnName::RiderCategoryId);
         let medium = table.field(row, ColumnName::FareMediaId);
@@ -141,7 +141,7 @@ impl FileRow for LegRuleRow {
 
     #[tactic(auto, unfolding(feed_faults::specs::AcceptedFeed::leg_rule_row), using(crate::proofs::ValueLaws::values))]
     fn at(source: &Source, table: &NamedTable, row: u32) -> Result<LegRuleRow, AllocError> {
-        let &[_, _, _, _, _, _, _, priority] = source.numbers::<8>(Self::FILE, row);
+        let &[_, _, _, _, _, _, _, priority] = source.tables().numbers::<8>(Self::FILE, row);
         let group = table.field(row, ColumnName::LegGroupId);
         let network = table.field(row, ColumnName::NetworkId);
         let from_area = table.field(row, ColumnName::FromAreaId);
@@ -171,7 +171,9 @@ impl FileRow for TransferRuleRow {
 
     #[tactic(auto, unfolding(feed_faults::specs::AcceptedFeed::transfer_rule_row, feed_faults::specs::AcceptedFeed::limit_of), using(crate::proofs::ValueLaws::values))]
     fn at(source: &Source, table: &NamedTable, row: u32) -> Result<TransferRuleRow, AllocError> {
-        let &[_, _, count, seconds, limit_kind, kind, _] = source.numbers::<7>(Self::FILE, row);
+        let &[_, _, count, seconds, limit_kind, kind, _] = source
+            .tables()
+            .numbers::<7>(Self::FILE, row);
         let from = table.field(row, ColumnName::FromLegGroupId);
         let to = table.field(row, ColumnName::ToLegGroupId);
         let limit = Limit {
@@ -212,8 +214,6 @@ pub fn feed_decimals(tables: &Tables) -> u8
     if tables.get(FileName::FareProducts).rows() == 0 {
         return 2;
     }
-    let &[_, _, _, decimals, _] = tables.numbers(FileName::FareProducts, 0) else {
-        unreachable!();
-    };
+    let &[_, _, _, decimals, _] = tables.numbers::<5>(FileName::FareProducts, 0);
     natural(decimals).unwrap_or(2) as u8
 }

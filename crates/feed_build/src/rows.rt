@@ -38,7 +38,7 @@ pub trait FileRow: Drop {
 pub fn typed_rows<R: FileRow>(source: &Source) -> Result<ItemList<R>, AllocError>
     ensures { IfOk result (λ rows. rows ≡ typed_rows (table_in source.now R.FILE) (R.row_in source.now)) }
 {
-    let table = source.table(R::FILE);
+    let table = source.tables().get(R::FILE);
     let mut rows = ItemList::empty(source.alloc);
     for row in 0..table.rows() {
         rows.push(R::at(source, table, row)?)?;

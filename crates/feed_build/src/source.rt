@@ -1,11 +1,8 @@
 //! What the rows of a feed are made of.
-ghost use Rattle.std.specs.Prelude.{◌≡◌, ◌<◌, ◌≤◌, ◌*◌, true, length, IfOk, IfSome};
+ghost use Rattle.std.specs.Prelude.{◌≡◌, ◌<◌, ◌≤◌, ◌*◌, length, IfOk, IfSome};
 ghost use Rattle.feed_rows.specs.Limits.{most_rows};
 ghost use Rattle.feed_tables.specs.IdColumns.{file_of, name_of};
-ghost use Rattle.feed_tables.specs.RowNumbers.{is_read_whole};
-ghost use Rattle.feed_text.specs.FieldNumbers.{numbers_of};
-ghost use Rattle.feed_faults.specs.FormFaults.{judged_columns};
-ghost use Rattle.feed_faults.specs.Records.{field, row_count};
+ghost use Rattle.feed_faults.specs.Records.{row_count};
 ghost use Rattle.feed_faults.specs.RowKeys.{row_of};
 ghost use Rattle.feed_faults.specs.FeedTables.{table_in};
 ghost use Rattle.feed_faults.specs.AcceptedFeed.{row_number, service_names, network_names, frame_names, product_names, group_names};
@@ -15,7 +12,7 @@ ghost use Rattle.feed_build.specs.NameNumbers.{calendar_services};
 use crate::name_hash::NameHash;
 use crate::numbering::Numbering;
 use feed_rows::{ColumnName, FileName};
-use feed_tables::{IdColumn, Ids, NamedTable, Tables};
+use feed_tables::{IdColumn, Ids, Tables};
 use std::alloc::{AllocError, Global};
 use std::marker::Model;
 
@@ -185,24 +182,11 @@ impl<'t> Source<'t> {
         })
     }
 
-    /// The table of a file.
-    pub fn table(&self, file: FileName) -> &'t NamedTable
-        ensures { result.now ≡ table_in self.now file }
+    /// The tables.
+    pub fn tables(&self) -> &'t Tables
+        ensures { result.now ≡ self.now }
     {
-        self.tables.get(file)
-    }
-
-    /// What a row of a file tells as numbers, one for each column that is judged; not of stop_times.txt.
-    pub fn numbers<const N: usize>(&self, file: FileName, row: u32) -> &'t [Option<i64>; N]
-        requires whole { is_read_whole file ≡ true }
-        requires within { row < row_count (table_in self.now file) }
-        requires columns { length (judged_columns file (field (table_in self.now file) row)) ≡ N }
-        ensures { result.now ≡ numbers_of file (field (table_in self.now file) row) }
-    {
-        let Some(numbers) = self.tables.numbers(file, row).as_array() else {
-            unreachable!();
-        };
-        numbers
+        self.tables
     }
 
     /// The earliest row that has the id in a column.

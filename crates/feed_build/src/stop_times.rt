@@ -8,10 +8,10 @@ ghost use Rattle.feed_faults.specs.AcceptedFeed.{stop_time_row, typed_rows};
 ghost use Rattle.feed_text.specs.TextErrors.{IsErrorOf};
 ghost use Rattle.feed_build.specs.CallTrips.{trip_of_call, IsTripBefore};
 
-use crate::values::{is_code, natural};
+use crate::values::is_code;
 use feed_rows::{ColumnName, FileName, StopTimeRow, StopTimeRows};
 use feed_tables::{IdColumn, Ids, Tables, read_row};
-use feed_text::{TextError, nat_of};
+use feed_text::{TextError, nat_of, natural};
 use std::alloc::Global;
 use transit_base::{StopId, TripId};
 

@@ -10,13 +10,13 @@ ghost use Rattle.feed_faults.specs.AcceptedFeed.{accepted_parent, stop_row, netw
 
 use crate::rows::FileRow;
 use crate::source::Source;
-use crate::values::{filled, is_code, natural};
+use crate::values::{filled, is_code};
 use feed_rows::{
     ColumnName, ExceptionRow, FileName, FrequencyRow, Id, LinkRow, LinkRows, PLATFORM, RouteRow,
     ServiceRow, StopRow, TripRow,
 };
 use feed_tables::{IdColumn, NamedTable};
-use feed_text::{is_filled, is_passed_over, nat_of};
+use feed_text::{is_filled, is_passed_over, nat_of, natural};
 use std::alloc::AllocError;
 use transit_base::{Day, NetworkId, RouteId, ServiceId, StopId, TripId};
 
@@ -37,7 +37,8 @@ fn parent_of(source: &Source, kind: u32, row: u32) -> Option<StopId>
     ensures { result ≡ accepted_parent (table_in source.now file.Stops) row }
 {
     let parent = source
-        .table(FileName::Stops)
+        .tables()
+        .get(FileName::Stops)
         .field(row, ColumnName::ParentStation);
     if kind == u32::from(PLATFORM) && is_filled(parent) {
         Some(StopId(source.number(IdColumn::Stop, parent)))
@@ -55,7 +56,7 @@ impl FileRow for StopRow {
 
     #[tactic(auto, unfolding(feed_faults::specs::AcceptedFeed::stop_row), using(feed_soundness::proofs::IdColumns::stop_id, crate::proofs::ValueLaws::values))]
     fn at(source: &Source, table: &NamedTable, row: u32) -> Result<StopRow, AllocError> {
-        let &[_, kind, _] = source.numbers::<3>(Self::FILE, row);
+        let &[_, kind, _] = source.tables().numbers::<3>(Self::FILE, row);
         let kind = nat_of(kind);
         Ok(StopRow {
             id: Id::copy_of(source.alloc, table.field(row, ColumnName::StopId))?,
@@ -71,7 +72,7 @@ fn network_of_route<'t>(source: &Source<'t>, row: u32) -> &'t [u8]
     requires { row < row_count (table_in source.now file.Routes) }
     ensures { result.now ≡ network_of_route source.now row }
 {
-    let routes = source.table(FileName::Routes);
+    let routes = source.tables().get(FileName::Routes);
     let own = routes.field(row, ColumnName::NetworkId);
     if is_filled(own) {
         return own;
@@ -79,7 +80,8 @@ fn network_of_route<'t>(source: &Source<'t>, row: u32) -> &'t [u8]
     let route = routes.field(row, ColumnName::RouteId);
     match source.row_of(IdColumn::NetworkRoute, route) {
         Some(member) => source
-            .table(FileName::RouteNetworks)
+            .tables()
+            .get(FileName::RouteNetworks)
             .field(member, ColumnName::NetworkId),
         None => &[],
     }
@@ -141,7 +143,7 @@ impl FileRow for ServiceRow {
             sunday,
             first,
             last,
-        ] = source.numbers::<10>(Self::FILE, row);
+        ] = source.tables().numbers::<10>(Self::FILE, row);
         let service = table.field(row, ColumnName::ServiceId);
         Ok(ServiceRow {
             service: ServiceId(source.services.number(service)),
@@ -169,7 +171,7 @@ impl FileRow for ExceptionRow {
 
     #[tactic(auto, unfolding(feed_faults::specs::AcceptedFeed::exception_row, feed_faults::specs::FieldValues::int_or_zero, feed_faults::specs::FieldValues::day_or_zero))]
     fn at(source: &Source, table: &NamedTable, row: u32) -> Result<ExceptionRow, AllocError> {
-        let &[_, date, kind] = source.numbers::<3>(Self::FILE, row);
+        let &[_, date, kind] = source.tables().numbers::<3>(Self::FILE, row);
         let service = table.field(row, ColumnName::ServiceId);
         Ok(ExceptionRow {
             service: ServiceId(source.services.number(service)),
@@ -188,7 +190,7 @@ impl FileRow for FrequencyRow {
 
     #[tactic(auto, unfolding(feed_faults::specs::AcceptedFeed::frequency_row), using(crate::proofs::ValueLaws::values))]
     fn at(source: &Source, table: &NamedTable, row: u32) -> Result<FrequencyRow, AllocError> {
-        let &[_, start, end, headway, _] = source.numbers::<5>(Self::FILE, row);
+        let &[_, start, end, headway, _] = source.tables().numbers::<5>(Self::FILE, row);
         let trip = table.field(row, ColumnName::TripId);
         Ok(FrequencyRow {
             trip: TripId(source.number(IdColumn::Trip, trip)),
@@ -206,8 +208,8 @@ fn link_row(source: &Source, row: u32) -> LinkRow
     requires judged { is_passed_over (field (table_in source.now file.Transfers) row) ≡ false }
     ensures { result ≡ link_row source.now row }
 {
-    let &[kind, _, _, seconds] = source.numbers::<4>(FileName::Transfers, row);
-    let table = source.table(FileName::Transfers);
+    let &[kind, _, _, seconds] = source.tables().numbers::<4>(FileName::Transfers, row);
+    let table = source.tables().get(FileName::Transfers);
     LinkRow {
         from: StopId(source.number(IdColumn::Stop, table.field(row, ColumnName::FromStopId))),
         to: StopId(source.number(IdColumn::Stop, table.field(row, ColumnName::ToStopId))),
@@ -223,7 +225,7 @@ fn link_row(source: &Source, row: u32) -> LinkRow
 pub fn link_rows(source: &Source) -> Result<LinkRows, AllocError>
     ensures { IfOk result (λ rows. rows ≡ picks_below (row_count (table_in source.now file.Transfers)) (λ row. not (is_passed_over (field (table_in source.now file.Transfers) row))) (link_row source.now)) }
 {
-    let table = source.table(FileName::Transfers);
+    let table = source.tables().get(FileName::Transfers);
     let mut rows = LinkRows::empty(source.alloc);
     for row in 0..table.rows() {
         if !is_passed_over(&table.row(row)) {

@@ -1,8 +1,7 @@
 //! The values that rows have, by what their fields tell as numbers.
-ghost use Rattle.std.specs.Prelude.{◌≡◌, ◌==◌, ◌≤◌, ◌<◌, ◌^◌};
-ghost use Rattle.std.specs.Option.{ForSome};
+ghost use Rattle.std.specs.Prelude.{◌≡◌, ◌==◌, ◌≤◌};
 ghost use Rattle.feed_faults.specs.FieldValues.{nat_of};
-ghost use Rattle.feed_faults.specs.AcceptedFeed.{if_filled, finite_count};
+ghost use Rattle.feed_faults.specs.AcceptedFeed.{if_filled};
 
 use feed_text::is_filled;
 
@@ -19,12 +18,4 @@ pub fn is_code(number: Option<i64>, code: u32) -> bool
     ensures { result ≡ (nat_of number == code) }
 {
     number == Some(i64::from(code))
-}
-
-/// A number from 0 on; none where there is none, or it is less, as -1 for changes without a limit.
-pub fn natural(number: Option<i64>) -> Option<u32>
-    requires { ForSome (finite_count number) (λ n. n < 2 ^ 32) }
-    ensures { result ≡ finite_count number }
-{
-    u32::try_from(number?).ok()
 }

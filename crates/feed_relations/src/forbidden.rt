@@ -1,12 +1,11 @@
 //! Networks of routes in files of their own.
 ghost use Rattle.std.specs.Prelude.{◌≡◌};
-ghost use Rattle.feed_faults.specs.FaultPlaces.{file_fault};
 ghost use Rattle.feed_faults.specs.NetworkRelations.{has_own_networks, are_networks_forbidden, forbidden_fault};
 
 use crate::judged::JudgedFeed;
 use feed_rows::{ColumnName, FaultKind, FeedFault, FileName};
 use feed_tables::NamedTable;
-use feed_text::is_filled;
+use feed_text::{file_fault, is_filled};
 
 // Whether some route has a network of its own.
 #[tactic(auto, using(plain_laws::proofs::Laws::any_below_hit, plain_laws::proofs::Laws::any_below_next), unfolding(feed_faults::specs::NetworkRelations::has_own_networks))]
@@ -39,10 +38,5 @@ pub fn forbidden_fault(feed: &JudgedFeed, file: FileName) -> Option<FeedFault>
     if !are_networks_forbidden(feed, file) {
         return None;
     }
-    Some(FeedFault {
-        kind: FaultKind::ForbiddenTogether,
-        file,
-        row: 0,
-        column: None,
-    })
+    Some(file_fault(file, FaultKind::ForbiddenTogether))
 }

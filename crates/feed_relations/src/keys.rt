@@ -14,7 +14,7 @@ ghost use Rattle.feed_relations.specs.RowKeys.{row_key, is_key_repeated, AreSeen
 use crate::judged::JudgedFeed;
 use feed_rows::{ColumnName, FileName};
 use feed_tables::IdColumn;
-use feed_text::nat_or;
+use feed_text::natural;
 use std::alloc::{AllocError, Global};
 use std::collections::BTreeSet;
 
@@ -33,31 +33,8 @@ fn number(feed: &JudgedFeed, column: IdColumn, id: &[u8]) -> u32
     feed.index(column).number(id)
 }
 
-// The day of an exception.
-#[tactic(auto, unfolding(feed_faults::specs::FieldValues::day_or_zero))]
-fn exception_day(feed: &JudgedFeed, row: u32) -> i64
-    requires { row < row_count (table_in feed.now file.CalendarDates) }
-    ensures { result ≡ day_or_zero (field (table_in feed.now file.CalendarDates) row column.Date) }
-{
-    let &[_, day, _] = feed.tables().numbers(FileName::CalendarDates, row) else {
-        unreachable!();
-    };
-    day.unwrap_or(0)
-}
-
-// The first second of a row of frequencies.txt.
-#[tactic(auto, using(feed_text::proofs::ValueLaws::time_is_short, feed_text::proofs::ValueLaws::time_by_number))]
-fn headway_start(feed: &JudgedFeed, row: u32) -> u32
-    requires { row < row_count (table_in feed.now file.Frequencies) }
-    ensures { result ≡ time_or 0 most_time (field (table_in feed.now file.Frequencies) row column.StartTime) }
-{
-    let &[_, start, _, _, _] = feed.tables().numbers(FileName::Frequencies, row) else {
-        unreachable!();
-    };
-    nat_or(start, 0)
-}
-
 // The key of a row; of a file without such keys, its own number.
+#[tactic(auto, unfolding(feed_faults::specs::FieldValues::day_or_zero), using(feed_text::proofs::ValueLaws::times))]
 fn row_key(feed: &JudgedFeed, file: FileName, row: u32) -> RowKey
     requires { row < row_count (table_in feed.now file) }
     ensures { result ≡ row_key feed.now file row }
@@ -65,17 +42,19 @@ fn row_key(feed: &JudgedFeed, file: FileName, row: u32) -> RowKey
     let table = feed.table(file);
     match file {
         FileName::CalendarDates => {
+            let &[_, day, _] = feed.tables().numbers::<3>(file, row);
             let service = table.field(row, ColumnName::ServiceId);
             RowKey {
                 first: number(feed, IdColumn::CalendarDate, service),
-                second: exception_day(feed, row),
+                second: day.unwrap_or(0),
                 third: 0,
             }
         }
         FileName::Frequencies => {
+            let &[_, start, _, _, _] = feed.tables().numbers::<5>(file, row);
             RowKey {
                 first: number(feed, IdColumn::Trip, table.field(row, ColumnName::TripId)),
-                second: i64::from(headway_start(feed, row)),
+                second: i64::from(natural(start).unwrap_or(0)),
                 third: 0,
             }
         }

@@ -6,6 +6,7 @@ ghost use Rattle.feed_text.specs.RowLimits.{row_limit};
 
 use feed_faults::RowCheck;
 use feed_rows::{ColumnName, FaultKind, FeedFault, FileName};
+use feed_text::field_fault;
 
 // The column under which it is told that a check fails.
 fn column_of_check(check: RowCheck) -> ColumnName
@@ -47,10 +48,5 @@ pub fn check_fault(file: FileName, row: u32, check: RowCheck) -> FeedFault
     requires { row < row_limit }
     ensures { result ≡ field_fault file row (column_of_check check) (kind_of_check check) }
 {
-    FeedFault {
-        kind: kind_of_check(check),
-        file,
-        row: row + 1,
-        column: Some(column_of_check(check)),
-    }
+    field_fault(file, row, column_of_check(check), kind_of_check(check))
 }

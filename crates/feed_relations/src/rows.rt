@@ -152,10 +152,9 @@ fn are_dates_reversed(feed: &JudgedFeed, row: u32) -> bool
     requires { row < row_count (table_in feed.now file.Calendar) }
     ensures { result ≡ are_dates_reversed (table_in feed.now file.Calendar) row }
 {
-    let &[_, _, _, _, _, _, _, _, first, last] = feed.tables().numbers(FileName::Calendar, row)
-    else {
-        unreachable!();
-    };
+    let &[_, _, _, _, _, _, _, _, first, last] = feed
+        .tables()
+        .numbers::<10>(FileName::Calendar, row);
     last.unwrap_or(0) < first.unwrap_or(0)
 }
 

@@ -3,7 +3,6 @@ ghost use Rattle.std.specs.Prelude.{◌≡◌, ◌≤◌, nat_lt, true, length, 
 ghost use Rattle.feed_rows.specs.Limits.{most_rows};
 ghost use Rattle.feed_rows.specs.HeldFiles.{HeldFile, most_bytes};
 ghost use Rattle.feed_faults.specs.Records.{row_count, table_of_bytes};
-ghost use Rattle.feed_faults.specs.FaultPlaces.{file_fault};
 ghost use Rattle.feed_faults.specs.FeedTables.{table_of};
 ghost use Rattle.feed_faults.specs.FormFaults.{has_record, is_always_needed, is_needed, form_fault_of_bytes};
 ghost use Rattle.feed_text.specs.TextErrors.{IsErrorOf};
@@ -12,25 +11,13 @@ ghost use Rattle.folder_io.specs.KeptFiles.{held_of, held_in, IsWithin, AreWithi
 
 use crate::named::NamedTable;
 use crate::read_table::ReadTable;
-use feed_rows::{FaultKind, FeedFault, FileName};
-use feed_text::{Table, TextError, has_record, is_always_needed};
+use feed_rows::{FaultKind, FileName};
+use feed_text::{Table, TextError, file_fault, has_record, is_always_needed};
 use folder_io::{FileBytes, Files};
 use std::alloc::{AllocError, Global};
 
 /// The greatest number of data rows of a file.
 pub const MOST_ROWS: u32 = 4_000_000;
-
-// A fault of a whole file.
-fn file_fault(file: FileName, kind: FaultKind) -> FeedFault
-    ensures { result ≡ file_fault file kind }
-{
-    FeedFault {
-        kind,
-        file,
-        row: 0,
-        column: None,
-    }
-}
 
 // Whether a file has a record; one that is too large counts as having records.
 fn file_has_record(alloc: Global, held: &FileBytes) -> Result<bool, AllocError>

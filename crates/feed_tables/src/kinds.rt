@@ -7,7 +7,7 @@ ghost use Rattle.feed_faults.specs.FieldValues.{stop_kind, frame_start, frame_en
 
 use crate::tables::Tables;
 use feed_rows::FileName;
-use feed_text::{nat_of, nat_or};
+use feed_text::{nat_of, natural};
 use transit_base::DAY_SECONDS;
 
 /// The kind of a stop: its `location_type`, where an empty one is 0.
@@ -16,32 +16,26 @@ pub fn stop_kind(tables: &Tables, row: u32) -> u32
     requires { row < row_count (table_in tables.now file.Stops) }
     ensures { result ≡ stop_kind (table_in tables.now file.Stops) row }
 {
-    let &[_, kind, _] = tables.numbers(FileName::Stops, row) else {
-        unreachable!();
-    };
+    let &[_, kind, _] = tables.numbers::<3>(FileName::Stops, row);
     nat_of(kind)
 }
 
 /// The first second of a timeframe, where an empty one is that of the day.
-#[tactic(auto, using(feed_text::proofs::ValueLaws::time_is_short, feed_text::proofs::ValueLaws::time_by_number))]
+#[tactic(auto, using(feed_text::proofs::ValueLaws::times))]
 pub fn frame_start(tables: &Tables, row: u32) -> u32
     requires { row < row_count (table_in tables.now file.Timeframes) }
     ensures { result ≡ frame_start (table_in tables.now file.Timeframes) row }
 {
-    let &[_, start, _, _] = tables.numbers(FileName::Timeframes, row) else {
-        unreachable!();
-    };
-    nat_or(start, 0)
+    let &[_, start, _, _] = tables.numbers::<4>(FileName::Timeframes, row);
+    natural(start).unwrap_or(0)
 }
 
 /// The second before which a timeframe ends, where an empty one is the end of the day.
-#[tactic(auto, using(feed_text::proofs::ValueLaws::time_is_short, feed_text::proofs::ValueLaws::time_by_number))]
+#[tactic(auto, using(feed_text::proofs::ValueLaws::times))]
 pub fn frame_end(tables: &Tables, row: u32) -> u32
     requires { row < row_count (table_in tables.now file.Timeframes) }
     ensures { result ≡ frame_end (table_in tables.now file.Timeframes) row }
 {
-    let &[_, _, end, _] = tables.numbers(FileName::Timeframes, row) else {
-        unreachable!();
-    };
-    nat_or(end, DAY_SECONDS)
+    let &[_, _, end, _] = tables.numbers::<4>(FileName::Timeframes, row);
+    natural(end).unwrap_or(DAY_SECONDS)
 }

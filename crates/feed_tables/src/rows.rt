@@ -1,32 +1,16 @@
 //! The rows of a table: what they tell, or their first fault.
 ghost use Rattle.std.specs.Prelude.{◌≡◌, ◌<◌, ◌++◌, ◌∷◌, [], None, IfOk, IfErr, OnOk};
-ghost use Rattle.feed_rows.specs.declared.faults.FaultKind.TheVariants as kind;
-ghost use Rattle.feed_faults.specs.FaultPlaces.{row_fault};
 ghost use Rattle.feed_faults.specs.Records.{field, row_count};
 ghost use Rattle.feed_faults.specs.FormFaults.{form_fault_of_row, form_fault_of_rows};
 ghost use Rattle.feed_text.specs.FieldNumbers.{numbers_of};
-ghost use Rattle.feed_text.specs.RowLimits.{row_limit};
 ghost use Rattle.feed_text.specs.TextErrors.{IsErrorOf};
 ghost use Rattle.feed_tables.specs.RowNumbers.{numbers_by_row};
 
 use crate::named::NamedTable;
 use feed_rows::{FaultKind, FeedFault, FileName};
-use feed_text::{TextError, read_fields};
+use feed_text::{TextError, read_fields, row_fault};
 use plain_laws::Groups;
 use std::alloc::{AllocError, Global};
-
-// The fault of a row that has a field past the header.
-fn long_row(file: FileName, row: u32) -> FeedFault
-    requires { row < row_limit }
-    ensures { result ≡ row_fault file row kind.LongRow }
-{
-    FeedFault {
-        kind: FaultKind::LongRow,
-        file,
-        row: row + 1,
-        column: None,
-    }
-}
 
 /// Replaces what `numbers` holds by what the fields of a row tell, in the order of the columns that are judged. Answers the
 /// first fault of the row, where it has one.
@@ -46,7 +30,7 @@ pub fn read_row(
 {
     let fields = table.row(row);
     if table.is_long(row) {
-        return Ok(Some(long_row(file, row)));
+        return Ok(Some(row_fault(file, row, FaultKind::LongRow)));
     }
     read_fields(file, row, &fields, numbers)
 }

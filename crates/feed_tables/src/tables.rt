@@ -1,7 +1,8 @@
 //! The tables of a feed's files.
-ghost use Rattle.std.specs.Prelude.{◌≡◌, ◌<◌, true};
+ghost use Rattle.std.specs.Prelude.{◌≡◌, ◌<◌, true, length};
 ghost use Rattle.feed_rows.specs.Names.{place};
 ghost use Rattle.feed_faults.specs.FeedTables.{table_in};
+ghost use Rattle.feed_faults.specs.FormFaults.{judged_columns};
 ghost use Rattle.feed_faults.specs.Records.{field, row_count};
 ghost use Rattle.feed_text.specs.FieldNumbers.{numbers_of};
 ghost use Rattle.feed_tables.specs.RowNumbers.{is_read_whole};
@@ -52,13 +53,26 @@ impl Tables {
         self.tables[file as usize].table()
     }
 
-    /// What a row of a file tells, but for those of stop_times.txt: of each column that is judged, in their order, the
-    /// number of the field; none where it is empty, or an id.
-    pub fn numbers(&self, file: FileName, row: u32) -> &[Option<i64>]
+    // What a row of a file tells, in the order of the columns that are judged.
+    fn row_numbers(&self, file: FileName, row: u32) -> &[Option<i64>]
         requires whole { is_read_whole file ≡ true }
         requires within { row < row_count (table_in self.now file) }
         ensures { result.now ≡ numbers_of file (field (table_in self.now file) row) }
     {
         self.tables[place_of(file)].numbers(row)
+    }
+
+    /// What a row of a file tells, but for those of stop_times.txt: of each column that is judged, in their order, the
+    /// number of the field; none where it is empty, or an id.
+    pub fn numbers<const N: usize>(&self, file: FileName, row: u32) -> &[Option<i64>; N]
+        requires whole { is_read_whole file ≡ true }
+        requires within { row < row_count (table_in self.now file) }
+        requires columns { length (judged_columns file (field (table_in self.now file) row)) ≡ N }
+        ensures { result.now ≡ numbers_of file (field (table_in self.now file) row) }
+    {
+        let Some(numbers) = self.row_numbers(file, row).as_array() else {
+            unreachable!();
+        };
+        numbers
     }
 }

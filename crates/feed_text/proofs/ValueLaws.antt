@@ -1,6 +1,7 @@
--- Values of fields that are short: from 0 to 2^31 - 1.
-use Rattle.std.proofs.Common.{◌≡◌, refl, ℕ, ◌≤◌, ◌⊎◌, inl, inr, true, false, List, Option, Some, None, arith}
+-- Values of fields by the numbers that they tell.
+use Rattle.std.proofs.Common.{◌≡◌, refl, ℕ, ◌≤◌, ◌<◌, ◌^◌, ◌⊎◌, inl, inr, true, false, List, Option, Some, None, arith}
 use Rattle.std.specs.Prelude.{◌&&◌, ℤ, pos, negsuc, int_le, ◌≤ℤ◌, option_map, unwrap_or}
+use Rattle.std.specs.Option.{ForSome}
 use lib.IntN.{nat_abs}
 use Rattle.std.proofs.lemmas.Bool.{cases_Bool, and_parts}
 use Rattle.std.proofs.lemmas.Bool.Decides.{nat_tests}
@@ -10,7 +11,8 @@ use Rattle.feed_rows.specs.Numerals.{number_value}
 use Rattle.feed_rows.specs.TimeGrammar.{time_value}
 use Rattle.feed_faults.proofs.TimeLaws.{time_good}
 use Rattle.feed_faults.specs.FieldValues.{nat_of, time_or}
-use Rattle.feed_text.specs.FieldNumbers.{IsShort, nat_or}
+use Rattle.feed_faults.specs.AcceptedFeed.{finite_count}
+use Rattle.feed_text.specs.FieldNumbers.{IsShort}
 
 -- a value between two is one of them or between
 between : (least most z : ℤ) (o : Option ℤ) → if_between least most o ≡ Some z → (int_le least z && int_le z most) ≡ true
@@ -45,24 +47,25 @@ int_is_short least most text le = step (int_value (pos least) (pos most) text) r
         let small = is.2 in
         rw same (grind arith, grind (arith, small, le))
 
--- so is a time
-pub time_is_short : (most : ℕ) (text : List ℕ) → most ≤ 2147483647 → IsShort (option_map pos (time_value most text))
-time_is_short most text le = step (time_value most text) refl
-  where
-    step : (o : Option ℕ) → time_value most text ≡ o → IsShort (option_map pos o)
-    step None e = tt
-    step (Some s) e = let small = time_good most text s e in (grind arith, grind (arith, small, le))
-
 -- a short number from 0 on is the number that it is
 pub nat_of_some : (z : ℤ) → pos 0 ≤ℤ z → nat_of (Some z) ≡ nat_abs z
 nat_of_some (pos n) low = refl
 nat_of_some (negsuc n) low = absurd (grind (arith, low))
 
--- the seconds of a time, or another number
-pub time_by_number : (other most : ℕ) (text : List ℕ) → nat_or other (option_map pos (time_value most text)) ≡ time_or other most text
+-- a number from 0 on
+pub natural_is : (o : Option ℕ) → finite_count (option_map pos o) ≡ o
+natural_is None = refl
+natural_is (Some n) = refl
+
+-- a time, or another in its place
+pub time_is : (other most : ℕ) (text : List ℕ) → unwrap_or (time_value most text) other ≡ time_or other most text
 unfolding time_or
-time_by_number other most text = step (time_value most text)
-  where
-    step : (o : Option ℕ) → nat_or other (option_map pos o) ≡ unwrap_or o other
-    step None = refl
-    step (Some s) = refl
+time_is other most text = refl
+
+pub time_fits : (most : ℕ) (text : List ℕ) → most < 2 ^ 32
+    → ForSome (finite_count (option_map pos (time_value most text))) (λ n. n < 2 ^ 32)
+time_fits most text lt n e =
+    let le = time_good most text n (rw (natural_is (time_value most text)) at e) in omega (arith, le, lt)
+
+-- the seconds of a row's times
+pub ruleset times = (natural_is, time_is, time_fits)

@@ -1,5 +1,5 @@
 -- What the fields of a row tell as numbers, by the grammars of their columns.
-use Rattle.std.specs.Prelude.{◌≤ℤ◌, ℕ, List, Option, None, Some, IfSome, option_map, map, ℤ, pos, negsuc}
+use Rattle.std.specs.Prelude.{◌≤ℤ◌, ℕ, List, Option, None, Some, IfSome, option_map, map, ℤ, pos}
 use Rattle.feed_rows.specs.declared.names.FileName.{FileName}
 use Rattle.feed_rows.specs.declared.names.ColumnName.TheVariants as column
 use Rattle.feed_rows.specs.TimeGrammar.{time_value}
@@ -32,9 +32,3 @@ numbers_of file at = map (field_number at) (judged_columns file at)
 -- a number that isn't there, or that is from 0 to 2^31 - 1
 abbrev pub IsShort : Option ℤ → Type 0
 IsShort number = IfSome number (λ z. (pos 0 ≤ℤ z) × (z ≤ℤ pos 2147483647))
-
--- a number from 0 on, or this one
-abbrev pub nat_or : ℕ → Option ℤ → ℕ
-nat_or other None = other
-nat_or other (Some (pos n)) = n
-nat_or other (Some (negsuc n)) = other

@@ -1,17 +1,19 @@
 //! The fields of a row: what they tell, or what is wrong with them.
 ghost use Rattle.std.specs.Prelude.{◌≡◌, ◌<◌, ◌^◌, ℕ, List, true, false, IfOk, IfErr, OnOk, None, Some};
+ghost use Rattle.std.specs.Option.{ForSome};
 ghost use Rattle.feed_rows.specs.declared.names.ColumnName.TheVariants as column;
-ghost use Rattle.feed_faults.specs.FaultPlaces.{field_fault};
 ghost use Rattle.feed_faults.specs.FieldGrammars.{amount_in};
 ghost use Rattle.feed_faults.specs.FileColumns.{fits, misfit};
 ghost use Rattle.feed_faults.specs.FormFaults.{names_flex_place, empty_misfit, field_misfit, is_passed_over, judged_columns, fault_of_fields};
+ghost use Rattle.feed_faults.specs.AcceptedFeed.{finite_count};
 ghost use Rattle.feed_faults.specs.FieldValues.{nat_of};
 ghost use Rattle.feed_faults.specs.Records.{is_filled};
-ghost use Rattle.feed_text.specs.FieldNumbers.{number_by, field_number, numbers_of, nat_or, IsShort};
+ghost use Rattle.feed_text.specs.FieldNumbers.{number_by, field_number, numbers_of, IsShort};
 ghost use Rattle.feed_text.specs.RowLimits.{row_limit};
 
 use crate::amounts::amount_of;
 use crate::dates::date_of;
+use crate::faults::field_fault;
 use crate::ids::{currency_of, id_ok};
 use crate::numbers::{count_of, int_of, time_of};
 use feed_faults::{ColumnRule, EmptyField, Grammar, columns_of};
@@ -172,19 +174,6 @@ fn judged_columns<F: Fields>(file: FileName, fields: &F) -> &'static [ColumnRule
     columns_of(file)
 }
 
-// The fault of a row, which is numbered from 0 here, in a column.
-fn field_fault(file: FileName, row: u32, column: ColumnName, kind: FaultKind) -> FeedFault
-    requires { row < row_limit }
-    ensures { result ≡ field_fault file row column kind }
-{
-    FeedFault {
-        kind,
-        file,
-        row: row + 1,
-        column: Some(column),
-    }
-}
-
 /// Replaces what `numbers` holds by what the fields of a row of the file tell: of each column that is judged, in their
 /// order, the number of the field; none where it is empty, or an id. Answers the first fault of the fields, where they have
 /// one; then `numbers` is cut short.
@@ -212,18 +201,15 @@ pub fn read_fields<F: Fields>(
     Ok(None)
 }
 
-/// A number that may not be there as one from 0 on; `other` where it isn't there.
-pub fn nat_or(number: Option<i64>, other: u32) -> u32
-    requires { IsShort number }
-    ensures { result ≡ nat_or other number }
+/// A number from 0 on; none where there is none, or it is less, as -1 for changes without a limit.
+pub fn natural(number: Option<i64>) -> Option<u32>
+    requires { ForSome (finite_count number) (λ n. n < 2 ^ 32) }
+    ensures { result ≡ finite_count number }
 {
-    match number {
-        Some(value) => value as u32,
-        None => other,
-    }
+    u32::try_from(number?).ok()
 }
 
-/// The same, where 0 stands for none.
+/// A number that is short, from 0 on; 0 where there is none.
 pub fn nat_of(number: Option<i64>) -> u32
     requires { IsShort number }
     ensures value { result ≡ nat_of number }

@@ -4,40 +4,16 @@ ghost use Rattle.std.specs.Str.{is_utf8};
 ghost use Rattle.plain_laws.specs.Plain.{first_in};
 ghost use Rattle.feed_rows.specs.HeldFiles.{most_bytes};
 ghost use Rattle.feed_faults.specs.Records.{table_of_bytes};
-ghost use Rattle.feed_faults.specs.FaultPlaces.{file_fault, column_fault};
 ghost use Rattle.feed_faults.specs.FormFaults.{doubled_column, missing_column, is_needed_column, header_fault, form_fault_of_table, form_fault_of_bytes, is_always_needed};
 ghost use Rattle.feed_faults.specs.FileColumns.{columns_of};
 ghost use Rattle.feed_text.specs.TextErrors.{IsErrorOf};
 
 use crate::errors::TextError;
+use crate::faults::{column_fault, file_fault};
 use crate::table::{Table, table_within};
 use feed_faults::{ColumnRule, EmptyField, columns_of};
-use feed_rows::{ColumnName, FaultKind, FeedFault, FileName};
+use feed_rows::{FaultKind, FeedFault, FileName};
 use std::alloc::Global;
-
-// A fault of a whole file.
-fn file_fault(file: FileName, kind: FaultKind) -> FeedFault
-    ensures { result ≡ file_fault file kind }
-{
-    FeedFault {
-        kind,
-        file,
-        row: 0,
-        column: None,
-    }
-}
-
-// A fault of a column of a header.
-fn column_fault(file: FileName, name: ColumnName, kind: FaultKind) -> FeedFault
-    ensures { result ≡ column_fault file name kind }
-{
-    FeedFault {
-        kind,
-        file,
-        row: 0,
-        column: Some(name),
-    }
-}
 
 /// Whether a feed needs the file, whatever else it holds.
 pub fn is_always_needed(file: FileName) -> bool

@@ -1,6 +1,6 @@
 use Rattle.std.proofs.Common.{refl}
 use Rattle.feed_tables.proofs.NumberLaws.{file_at, table_at}
-use Rattle.feed_tables.proofs.tables.Tables.numbers.Goals as goal
+use Rattle.feed_tables.proofs.tables.Tables.row_numbers.Goals as goal
 
 pub numbers-requires-clause-whole : goal.numbers-requires-clause-whole
 numbers-requires-clause-whole c =
