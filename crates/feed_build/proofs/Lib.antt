@@ -4,3 +4,4 @@ pub mod CurrencyLaws
 pub mod FeedLaws
 pub mod IdLaws
 pub mod ValueLaws
+pub mod CallLaws

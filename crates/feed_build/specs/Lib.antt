@@ -1,4 +1,6 @@
 pub mod NameNumbers
-pub mod CallTrips
+pub mod CallRows
+pub mod CallsSoFar
+pub mod CallErrors
 pub mod Sources
 pub mod FeedParts

@@ -1,5 +1,5 @@
 //! The rows of the files of fares.
-ghost use Rattle.std.specs.Prelude.{◌≡◌};
+ghost use Rattle.std.specs.Prelude.{◌≡◌, refl};
 ghost use Rattle.feed_rows.specs.declared.names.FileName.TheVariants as file;
 ghost use Rattle.feed_faults.specs.FeedTables.{table_in};
 ghost use Rattle.feed_faults.specs.AcceptedFeed.{area_row, stop_area_row, timeframe_row, rider_row, medium_row, product_row, leg_rule_row, transfer_rule_row, feed_currency, feed_decimals};
@@ -12,7 +12,7 @@ use feed_rows::{
     AreaRow, ColumnName, FileName, Id, LegRuleRow, Limit, MediumRow, ProductRow, RiderRow,
     StopAreaRow, TimeframeRow, TransferRuleRow,
 };
-use feed_tables::{IdColumn, NamedTable, Tables};
+use feed_tables::{CallTable, IdColumn, NamedTable, Tables};
 use feed_text::{nat_of, natural};
 use std::alloc::AllocError;
 use transit_base::{
@@ -26,12 +26,18 @@ const DEFAULT_CATEGORY: u32 = 1;
 impl FileRow for AreaRow {
     ghost FILE = { file.Areas };
 
+    ghost kept = { refl };
+
     ghost row_in = { area_row };
 
     const FILE: FileName = FileName::Areas;
 
     #[tactic(auto, unfolding(feed_faults::specs::AcceptedFeed::area_row), using(crate::proofs::IdLaws::area_ids))]
-    fn at(source: &Source, table: &NamedTable, row: u32) -> Result<AreaRow, AllocError> {
+    fn at<C: CallTable>(
+        source: &Source<C>,
+        table: &NamedTable,
+        row: u32,
+    ) -> Result<AreaRow, AllocError> {
         Ok(AreaRow {
             id: Id::copy_of(source.alloc, table.field(row, ColumnName::AreaId))?,
         })
@@ -41,12 +47,18 @@ impl FileRow for AreaRow {
 impl FileRow for StopAreaRow {
     ghost FILE = { file.StopAreas };
 
+    ghost kept = { refl };
+
     ghost row_in = { stop_area_row };
 
     const FILE: FileName = FileName::StopAreas;
 
     #[tactic(auto, unfolding(feed_faults::specs::AcceptedFeed::stop_area_row))]
-    fn at(source: &Source, table: &NamedTable, row: u32) -> Result<StopAreaRow, AllocError> {
+    fn at<C: CallTable>(
+        source: &Source<C>,
+        table: &NamedTable,
+        row: u32,
+    ) -> Result<StopAreaRow, AllocError> {
         Ok(StopAreaRow {
             area: AreaId(source.number(IdColumn::Area, table.field(row, ColumnName::AreaId))),
             stop: StopId(source.number(IdColumn::Stop, table.field(row, ColumnName::StopId))),
@@ -57,12 +69,18 @@ impl FileRow for StopAreaRow {
 impl FileRow for TimeframeRow {
     ghost FILE = { file.Timeframes };
 
+    ghost kept = { refl };
+
     ghost row_in = { timeframe_row };
 
     const FILE: FileName = FileName::Timeframes;
 
     #[tactic(auto, unfolding(feed_faults::specs::AcceptedFeed::timeframe_row), using(crate::proofs::ValueLaws::values))]
-    fn at(source: &Source, table: &NamedTable, row: u32) -> Result<TimeframeRow, AllocError> {
+    fn at<C: CallTable>(
+        source: &Source<C>,
+        table: &NamedTable,
+        row: u32,
+    ) -> Result<TimeframeRow, AllocError> {
         let &[_, start, end, _] = source.tables().numbers::<4>(Self::FILE, row);
         let group = table.field(row, ColumnName::TimeframeGroupId);
         let service = table.field(row, ColumnName::ServiceId);
@@ -78,12 +96,18 @@ impl FileRow for TimeframeRow {
 impl FileRow for RiderRow {
     ghost FILE = { file.RiderCategories };
 
+    ghost kept = { refl };
+
     ghost row_in = { rider_row };
 
     const FILE: FileName = FileName::RiderCategories;
 
     #[tactic(auto, unfolding(feed_faults::specs::AcceptedFeed::rider_row), using(crate::proofs::IdLaws::rider_ids, crate::proofs::ValueLaws::values))]
-    fn at(source: &Source, table: &NamedTable, row: u32) -> Result<RiderRow, AllocError> {
+    fn at<C: CallTable>(
+        source: &Source<C>,
+        table: &NamedTable,
+        row: u32,
+    ) -> Result<RiderRow, AllocError> {
         let &[_, default] = source.tables().numbers::<2>(Self::FILE, row);
         Ok(RiderRow {
             id: Id::copy_of(source.alloc, table.field(row, ColumnName::RiderCategoryId))?,
@@ -95,12 +119,18 @@ impl FileRow for RiderRow {
 impl FileRow for MediumRow {
     ghost FILE = { file.FareMedia };
 
+    ghost kept = { refl };
+
     ghost row_in = { medium_row };
 
     const FILE: FileName = FileName::FareMedia;
 
     #[tactic(auto, unfolding(feed_faults::specs::AcceptedFeed::medium_row), using(crate::proofs::IdLaws::medium_ids))]
-    fn at(source: &Source, table: &NamedTable, row: u32) -> Result<MediumRow, AllocError> {
+    fn at<C: CallTable>(
+        source: &Source<C>,
+        table: &NamedTable,
+        row: u32,
+    ) -> Result<MediumRow, AllocError> {
         Ok(MediumRow {
             id: Id::copy_of(source.alloc, table.field(row, ColumnName::FareMediaId))?,
         })
@@ -110,12 +140,18 @@ impl FileRow for MediumRow {
 impl FileRow for ProductRow {
     ghost FILE = { file.FareProducts };
 
+    ghost kept = { refl };
+
     ghost row_in = { product_row };
 
     const FILE: FileName = FileName::FareProducts;
 
     #[tactic(auto, unfolding(feed_faults::specs::AcceptedFeed::product_row, feed_faults::specs::FieldValues::amount_or_zero))]
-    fn at(source: &Source, table: &NamedTable, row: u32) -> Result<ProductRow, AllocError> {
+    fn at<C: CallTable>(
+        source: &Source<C>,
+        table: &NamedTable,
+        row: u32,
+    ) -> Result<ProductRow, AllocError> {
         let &[_, _, _, _, amount] = source.tables().numbers::<5>(Self::FILE, row);
         let product = table.field(row, ColumnName::FareProductId);
         let rider = table.field(row, ColumnName::RiderCategoryId);
@@ -135,12 +171,18 @@ impl FileRow for ProductRow {
 impl FileRow for LegRuleRow {
     ghost FILE = { file.FareLegRules };
 
+    ghost kept = { refl };
+
     ghost row_in = { leg_rule_row };
 
     const FILE: FileName = FileName::FareLegRules;
 
     #[tactic(auto, unfolding(feed_faults::specs::AcceptedFeed::leg_rule_row), using(crate::proofs::ValueLaws::values))]
-    fn at(source: &Source, table: &NamedTable, row: u32) -> Result<LegRuleRow, AllocError> {
+    fn at<C: CallTable>(
+        source: &Source<C>,
+        table: &NamedTable,
+        row: u32,
+    ) -> Result<LegRuleRow, AllocError> {
         let &[_, _, _, _, _, _, _, priority] = source.tables().numbers::<8>(Self::FILE, row);
         let group = table.field(row, ColumnName::LegGroupId);
         let network = table.field(row, ColumnName::NetworkId);
@@ -165,12 +207,18 @@ impl FileRow for LegRuleRow {
 impl FileRow for TransferRuleRow {
     ghost FILE = { file.FareTransferRules };
 
+    ghost kept = { refl };
+
     ghost row_in = { transfer_rule_row };
 
     const FILE: FileName = FileName::FareTransferRules;
 
     #[tactic(auto, unfolding(feed_faults::specs::AcceptedFeed::transfer_rule_row, feed_faults::specs::AcceptedFeed::limit_of), using(crate::proofs::ValueLaws::values))]
-    fn at(source: &Source, table: &NamedTable, row: u32) -> Result<TransferRuleRow, AllocError> {
+    fn at<C: CallTable>(
+        source: &Source<C>,
+        table: &NamedTable,
+        row: u32,
+    ) -> Result<TransferRuleRow, AllocError> {
         let &[_, _, count, seconds, limit_kind, kind, _] = source
             .tables()
             .numbers::<7>(Self::FILE, row);
@@ -194,7 +242,7 @@ impl FileRow for TransferRuleRow {
 
 /// The currency of the products, that of the first; none where there is no product.
 #[tactic(auto, unfolding(feed_faults::specs::AcceptedFeed::feed_currency), using(crate::proofs::CurrencyLaws::currency_of_three, crate::proofs::CurrencyLaws::three_bytes))]
-pub fn feed_currency(tables: &Tables) -> Option<[u8; 3]>
+pub fn feed_currency<C: CallTable>(tables: &Tables<C>) -> Option<[u8; 3]>
     requires { AreFormed tables.now }
     ensures { result ≡ feed_currency (table_in tables.now file.FareProducts) }
 {
@@ -208,7 +256,7 @@ pub fn feed_currency(tables: &Tables) -> Option<[u8; 3]>
 
 /// The decimals of the products' currency; 2 where there is no product.
 #[tactic(auto, unfolding(feed_faults::specs::AcceptedFeed::feed_currency, feed_faults::specs::AcceptedFeed::feed_decimals), using(crate::proofs::ValueLaws::decimals))]
-pub fn feed_decimals(tables: &Tables) -> u8
+pub fn feed_decimals<C: CallTable>(tables: &Tables<C>) -> u8
     ensures { result ≡ feed_decimals (table_in tables.now file.FareProducts) }
 {
     if tables.get(FileName::FareProducts).rows() == 0 {

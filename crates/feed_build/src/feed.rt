@@ -10,12 +10,17 @@ use crate::fares::{feed_currency, feed_decimals};
 use crate::parts::{Fares, Names, Timetable};
 use crate::source::Source;
 use feed_rows::{ColumnName, Feed, FileName, StopTimeRows};
-use feed_tables::{Ids, Tables};
+use feed_tables::{CallTable, Ids, Tables};
 use std::alloc::{AllocError, Global};
 
 // The feed of these parts.
 #[tactic(auto, unfolding(feed_faults::specs::AcceptedFeed::rows_of_tables))]
-fn joined(tables: &Tables, timetable: Timetable, fares: Fares, names: Names) -> Feed
+fn joined<C: CallTable>(
+    tables: &Tables<C>,
+    timetable: Timetable,
+    fares: Fares,
+    names: Names,
+) -> Feed
     requires formed { AreFormed tables.now }
     requires related { AreRelated tables.now }
     requires timetable { IsTimetableOf tables.now timetable }
@@ -61,10 +66,10 @@ fn joined(tables: &Tables, timetable: Timetable, fares: Fares, names: Names) -> 
 ///
 /// # Errors
 /// Want of memory.
-pub fn feed_of_tables(
+pub fn feed_of_tables<C: CallTable>(
     alloc: Global,
-    tables: &Tables,
-    ids: &Ids,
+    tables: &Tables<C>,
+    ids: &Ids<C>,
     stop_times: StopTimeRows,
 ) -> Result<Feed, AllocError>
     requires formed { AreFormed tables.now }

@@ -2,8 +2,10 @@
 //! names numbered by their first appearance.
 #![tactic(auto)]
 
+mod call_rows;
 mod fares;
 mod feed;
+mod last_trip;
 mod name_hash;
 mod numbering;
 mod parts;
@@ -14,4 +16,4 @@ mod timetable;
 mod values;
 
 pub use feed::feed_of_tables;
-pub use stop_times::stop_time_rows;
+pub use stop_times::{CallError, StopTimes, read_stop_times};

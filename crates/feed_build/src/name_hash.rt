@@ -4,7 +4,7 @@ ghost use Rattle.std.specs.Hash as fed;
 ghost use Rattle.std.specs.Prelude.{fold};
 
 use feed_rows::{ColumnName, FileName};
-use feed_tables::{NamedTable, Tables};
+use feed_tables::{CallTable, NamedTable, Tables};
 use std::hash::{BuildHasher, DefaultHasher, Hasher};
 
 /// A hash with a seed. Names are a stranger's text, and no random number is at hand where a feed is read, so the seed is made
@@ -15,19 +15,6 @@ pub struct NameHash {
     seed: u64,
 }
 
-// The columns of names.
-const NAME_COLUMNS: [(FileName, ColumnName); 9] = [
-    (FileName::Trips, ColumnName::ServiceId),
-    (FileName::Calendar, ColumnName::ServiceId),
-    (FileName::CalendarDates, ColumnName::ServiceId),
-    (FileName::Routes, ColumnName::NetworkId),
-    (FileName::Networks, ColumnName::NetworkId),
-    (FileName::Timeframes, ColumnName::ServiceId),
-    (FileName::Timeframes, ColumnName::TimeframeGroupId),
-    (FileName::FareProducts, ColumnName::FareProductId),
-    (FileName::FareLegRules, ColumnName::LegGroupId),
-];
-
 // Reads the fields of a column into a seed.
 fn write_column(hasher: &mut DefaultHasher, table: &NamedTable, column: ColumnName) {
     for row in 0..table.rows() {
@@ -37,11 +24,53 @@ fn write_column(hasher: &mut DefaultHasher, table: &NamedTable, column: ColumnNa
 
 impl NameHash {
     /// The hash for the names of these tables.
-    pub fn of(tables: &Tables) -> NameHash {
+    pub fn of<C: CallTable>(tables: &Tables<C>) -> NameHash {
         let mut hasher = DefaultHasher::new();
-        for (file, column) in NAME_COLUMNS {
-            write_column(&mut hasher, tables.get(file), column);
-        }
+        write_column(
+            &mut hasher,
+            tables.get(FileName::Trips),
+            ColumnName::ServiceId,
+        );
+        write_column(
+            &mut hasher,
+            tables.get(FileName::Calendar),
+            ColumnName::ServiceId,
+        );
+        write_column(
+            &mut hasher,
+            tables.get(FileName::CalendarDates),
+            ColumnName::ServiceId,
+        );
+        write_column(
+            &mut hasher,
+            tables.get(FileName::Routes),
+            ColumnName::NetworkId,
+        );
+        write_column(
+            &mut hasher,
+            tables.get(FileName::Networks),
+            ColumnName::NetworkId,
+        );
+        write_column(
+            &mut hasher,
+            tables.get(FileName::Timeframes),
+            ColumnName::ServiceId,
+        );
+        write_column(
+            &mut hasher,
+            tables.get(FileName::Timeframes),
+            ColumnName::TimeframeGroupId,
+        );
+        write_column(
+            &mut hasher,
+            tables.get(FileName::FareProducts),
+            ColumnName::FareProductId,
+        );
+        write_column(
+            &mut hasher,
+            tables.get(FileName::FareLegRules),
+            ColumnName::LegGroupId,
+        );
         NameHash {
             seed: hasher.finish(),
         }

@@ -1,14 +1,15 @@
 //! Names numbered by their first appearance.
-ghost use Rattle.std.specs.Prelude.{◌≡◌, ◌+◌, ◌-◌, ◌<◌, ◌≤◌, ◌^◌, ℕ, List, [], length, IfOk, OnOk};
+ghost use Rattle.std.specs.Prelude.{◌≡◌, ◌+◌, ◌-◌, ◌<◌, ◌≤◌, ◌^◌, ℕ, List, [], true, length, IfOk, OnOk};
 ghost use Rattle.feed_rows.specs.Limits.{most_rows};
 ghost use Rattle.feed_faults.specs.FeedTables.{table_in};
 ghost use Rattle.feed_soundness.specs.AcceptedTables.{AreFormed};
+ghost use Rattle.feed_tables.specs.RowNumbers.{has_table};
 ghost use Rattle.feed_faults.specs.AcceptedFeed.{name_number, with_name, with_column};
 ghost use Rattle.feed_build.specs.NameNumbers.{IsNumbering, IsShort, AreShort, names_in};
 
 use crate::name_hash::NameHash;
 use feed_rows::{ColumnName, FileName, Id, NameList};
-use feed_tables::Tables;
+use feed_tables::{CallTable, Tables};
 use feed_text::is_filled;
 use indexmap::IndexSet;
 use std::alloc::{AllocError, Global};
@@ -68,13 +69,14 @@ impl<'t> Numbering<'t> {
     /// # Errors
     /// Want of memory.
     #[tactic(auto, using(crate::proofs::ShortNames::few_rows))]
-    pub fn with_column(
+    pub fn with_column<C: CallTable>(
         self,
-        tables: &'t Tables,
+        tables: &Tables<'t, C>,
         file: FileName,
         column: ColumnName,
     ) -> Result<Numbering<'t>, AllocError>
         requires formed { AreFormed tables.now }
+        requires kept { has_table file ≡ true }
         requires short { AreShort (table_in tables.now file) column }
         requires few { length self + most_rows < 2 ^ 32 }
         ensures names { IfOk result (λ names. names ≡ with_column self.entry (table_in tables.now file) column) }

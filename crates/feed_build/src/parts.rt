@@ -13,6 +13,7 @@ use feed_rows::{
     ProductRows, RiderRows, RouteRows, ServiceRows, StopAreaRows, StopRows, StopTimeRows,
     TimeframeRows, TransferRuleRows, TripRows,
 };
+use feed_tables::CallTable;
 use std::alloc::AllocError;
 
 /// The rows of the files of the timetable and of footways.
@@ -33,7 +34,10 @@ impl Timetable {
     ///
     /// # Errors
     /// Want of memory.
-    pub fn of(source: &Source, stop_times: StopTimeRows) -> Result<Timetable, AllocError>
+    pub fn of<C: CallTable>(
+        source: &Source<C>,
+        stop_times: StopTimeRows,
+    ) -> Result<Timetable, AllocError>
         requires { stop_times ≡ typed_rows (table_in source.now file.StopTimes) (stop_time_row source.now) }
         ensures { IfOk result (IsTimetableOf source.now) }
     {
@@ -68,7 +72,7 @@ impl Fares {
     ///
     /// # Errors
     /// Want of memory.
-    pub fn of(source: &Source) -> Result<Fares, AllocError>
+    pub fn of<C: CallTable>(source: &Source<C>) -> Result<Fares, AllocError>
         ensures { IfOk result (AreFaresOf source.now) }
     {
         Ok(Fares {
@@ -99,7 +103,7 @@ impl Names {
     ///
     /// # Errors
     /// Want of memory.
-    pub fn of(source: &Source) -> Result<Names, AllocError>
+    pub fn of<C: CallTable>(source: &Source<C>) -> Result<Names, AllocError>
         ensures { IfOk result (AreNamesOf source.now) }
     {
         Ok(Names {

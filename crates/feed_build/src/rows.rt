@@ -1,13 +1,14 @@
 //! The typed rows of a file.
-ghost use Rattle.std.specs.Prelude.{◌≡◌, ◌<◌, ℕ, IfOk};
+ghost use Rattle.std.specs.Prelude.{◌≡◌, ◌<◌, true, ℕ, IfOk};
 ghost use Rattle.feed_rows.specs.declared.names.FileName.{FileName};
 ghost use Rattle.feed_faults.specs.Records.{row_count};
 ghost use Rattle.feed_faults.specs.FeedTables.{FeedTables, table_in};
 ghost use Rattle.feed_faults.specs.AcceptedFeed.{typed_rows};
+ghost use Rattle.feed_tables.specs.RowNumbers.{has_table};
 
 use crate::source::Source;
 use feed_rows::FileName;
-use feed_tables::NamedTable;
+use feed_tables::{CallTable, NamedTable};
 use plain_laws::ItemList;
 use std::alloc::AllocError;
 
@@ -15,6 +16,9 @@ use std::alloc::AllocError;
 pub trait FileRow: Drop {
     /// The file.
     ghost FILE: { FileName };
+
+    /// Its table is kept.
+    ghost kept: { has_table FILE ≡ true };
 
     /// What its rows give, by their numbers.
     ghost row_in: { FeedTables → ℕ → Self };
@@ -25,7 +29,11 @@ pub trait FileRow: Drop {
     ///
     /// # Errors
     /// Want of memory.
-    fn at(source: &Source, table: &NamedTable, row: u32) -> Result<Self, AllocError>
+    fn at<C: CallTable>(
+        source: &Source<C>,
+        table: &NamedTable,
+        row: u32,
+    ) -> Result<Self, AllocError>
         requires table { table.now ≡ table_in source.now FILE }
         requires within { row < row_count table.now }
         ensures { IfOk result (λ made. made ≡ row_in source.now row) };
@@ -35,7 +43,7 @@ pub trait FileRow: Drop {
 ///
 /// # Errors
 /// Want of memory.
-pub fn typed_rows<R: FileRow>(source: &Source) -> Result<ItemList<R>, AllocError>
+pub fn typed_rows<R: FileRow, C: CallTable>(source: &Source<C>) -> Result<ItemList<R>, AllocError>
     ensures { IfOk result (λ rows. rows ≡ typed_rows (table_in source.now R.FILE) (R.row_in source.now)) }
 {
     let table = source.tables().get(R::FILE);

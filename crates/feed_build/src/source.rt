@@ -12,16 +12,16 @@ ghost use Rattle.feed_build.specs.NameNumbers.{calendar_services};
 use crate::name_hash::NameHash;
 use crate::numbering::Numbering;
 use feed_rows::{ColumnName, FileName};
-use feed_tables::{IdColumn, Ids, Tables};
+use feed_tables::{CallTable, IdColumn, Ids, Tables};
 use std::alloc::{AllocError, Global};
 use std::marker::Model;
 
 /// The tables of a feed whose files have no fault by themselves, with their rows by id and with the names that have no rows of
 /// their own. Contracts see it as the tables.
-pub struct Source<'t> {
+pub struct Source<'t, C: CallTable> {
     pub alloc: Global,
-    tables: &'t Tables,
-    ids: &'t Ids<'t>,
+    tables: &'t Tables<'t, C>,
+    ids: &'t Ids<'t, C>,
     pub services: Numbering<'t>,
     pub networks: Numbering<'t>,
     pub frames: Numbering<'t>,
@@ -29,7 +29,7 @@ pub struct Source<'t> {
     pub groups: Numbering<'t>,
 }
 
-impl<'t> Model for Source<'t> {
+impl<'t, C: CallTable> Model for Source<'t, C> {
     ghost use Rattle.feed_faults.specs.FeedTables.{FeedTables};
 
     ghost Value = { FeedTables };
@@ -38,11 +38,11 @@ impl<'t> Model for Source<'t> {
 
     ghost view = { λ s. s.tables.now };
 
-    ghost invariant = { IsSource };
+    ghost invariant = { λ s. IsSource s.tables.now s.ids.now s.services s.networks s.frames s.products s.groups };
 }
 
 // Written out, so that what lets go of a source needn't look into it.
-impl<'t> Drop for Source<'t> {
+impl<'t, C: CallTable> Drop for Source<'t, C> {
     fn drop(self) {
         let Source {
             alloc: _,
@@ -59,10 +59,10 @@ impl<'t> Drop for Source<'t> {
 
 // The names of services in trips, and behind them the new ones of calendars.
 #[tactic(auto, using(crate::proofs::ShortNames::trip_services_short, crate::proofs::ShortNames::calendar_services_short))]
-fn calendar_services<'t>(
+fn calendar_services<'t, C: CallTable>(
     alloc: Global,
     hash: NameHash,
-    tables: &'t Tables,
+    tables: &Tables<'t, C>,
 ) -> Result<Numbering<'t>, AllocError>
     requires { AreFormed tables.now }
     ensures names { IfOk result (λ names. names ≡ calendar_services tables.now) }
@@ -75,10 +75,10 @@ fn calendar_services<'t>(
 
 // The names of services: behind those the new ones of the exceptions of calendars, and of timeframes.
 #[tactic(auto, unfolding(feed_faults::specs::AcceptedFeed::service_names), using(crate::proofs::ShortNames::exception_services_short, crate::proofs::ShortNames::frame_services_short))]
-fn service_names<'t>(
+fn service_names<'t, C: CallTable>(
     alloc: Global,
     hash: NameHash,
-    tables: &'t Tables,
+    tables: &Tables<'t, C>,
 ) -> Result<Numbering<'t>, AllocError>
     requires { AreFormed tables.now }
     ensures { IfOk result (λ names. names ≡ service_names tables.now) }
@@ -90,10 +90,10 @@ fn service_names<'t>(
 
 // The names of fare networks: those of routes, and behind them the new ones of networks.txt.
 #[tactic(auto, unfolding(feed_faults::specs::AcceptedFeed::network_names), using(crate::proofs::ShortNames::route_networks_short, crate::proofs::ShortNames::networks_short))]
-fn network_names<'t>(
+fn network_names<'t, C: CallTable>(
     alloc: Global,
     hash: NameHash,
-    tables: &'t Tables,
+    tables: &Tables<'t, C>,
 ) -> Result<Numbering<'t>, AllocError>
     requires { AreFormed tables.now }
     ensures { IfOk result (λ names. names ≡ network_names tables.now) }
@@ -105,10 +105,10 @@ fn network_names<'t>(
 
 // The names of timeframe groups.
 #[tactic(auto, unfolding(feed_faults::specs::AcceptedFeed::frame_names), using(crate::proofs::ShortNames::frame_groups_short))]
-fn frame_names<'t>(
+fn frame_names<'t, C: CallTable>(
     alloc: Global,
     hash: NameHash,
-    tables: &'t Tables,
+    tables: &Tables<'t, C>,
 ) -> Result<Numbering<'t>, AllocError>
     requires { AreFormed tables.now }
     ensures { IfOk result (λ names. names ≡ frame_names tables.now) }
@@ -122,10 +122,10 @@ fn frame_names<'t>(
 
 // The names of fare products.
 #[tactic(auto, unfolding(feed_faults::specs::AcceptedFeed::product_names), using(crate::proofs::ShortNames::products_short))]
-fn product_names<'t>(
+fn product_names<'t, C: CallTable>(
     alloc: Global,
     hash: NameHash,
-    tables: &'t Tables,
+    tables: &Tables<'t, C>,
 ) -> Result<Numbering<'t>, AllocError>
     requires { AreFormed tables.now }
     ensures { IfOk result (λ names. names ≡ product_names tables.now) }
@@ -139,10 +139,10 @@ fn product_names<'t>(
 
 // The names of leg groups.
 #[tactic(auto, unfolding(feed_faults::specs::AcceptedFeed::group_names), using(crate::proofs::ShortNames::leg_groups_short))]
-fn group_names<'t>(
+fn group_names<'t, C: CallTable>(
     alloc: Global,
     hash: NameHash,
-    tables: &'t Tables,
+    tables: &Tables<'t, C>,
 ) -> Result<Numbering<'t>, AllocError>
     requires { AreFormed tables.now }
     ensures { IfOk result (λ names. names ≡ group_names tables.now) }
@@ -154,12 +154,16 @@ fn group_names<'t>(
     )
 }
 
-impl<'t> Source<'t> {
+impl<'t, C: CallTable> Source<'t, C> {
     /// The source of these tables.
     ///
     /// # Errors
     /// Want of memory.
-    pub fn of(alloc: Global, tables: &'t Tables, ids: &'t Ids<'t>) -> Result<Source<'t>, AllocError>
+    pub fn of(
+        alloc: Global,
+        tables: &'t Tables<'t, C>,
+        ids: &'t Ids<'t, C>,
+    ) -> Result<Source<'t, C>, AllocError>
         requires formed { AreFormed tables.now }
         requires ids { ids.now ≡ tables.now }
         ensures { IfOk result (λ source. source ≡ tables.now) }
@@ -183,7 +187,7 @@ impl<'t> Source<'t> {
     }
 
     /// The tables.
-    pub fn tables(&self) -> &'t Tables
+    pub fn tables(&self) -> &'t Tables<'t, C>
         ensures { result.now ≡ self.now }
     {
         self.tables

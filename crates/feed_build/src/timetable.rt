@@ -1,5 +1,5 @@
 //! The rows of the files of the timetable.
-ghost use Rattle.std.specs.Prelude.{◌≡◌, ◌<◌, not, false, IfOk};
+ghost use Rattle.std.specs.Prelude.{◌≡◌, ◌<◌, not, false, IfOk, refl};
 ghost use Rattle.plain_laws.specs.Plain.{picks_below};
 ghost use Rattle.feed_rows.specs.declared.names.FileName.TheVariants as file;
 ghost use Rattle.feed_faults.specs.Records.{field, row_count};
@@ -15,7 +15,7 @@ use feed_rows::{
     ColumnName, ExceptionRow, FileName, FrequencyRow, Id, LinkRow, LinkRows, PLATFORM, RouteRow,
     ServiceRow, StopRow, TripRow,
 };
-use feed_tables::{IdColumn, NamedTable};
+use feed_tables::{CallTable, IdColumn, NamedTable};
 use feed_text::{is_filled, is_passed_over, nat_of, natural};
 use std::alloc::AllocError;
 use transit_base::{Day, NetworkId, RouteId, ServiceId, StopId, TripId};
@@ -31,7 +31,7 @@ const CHANGE_FORBIDDEN: u32 = 3;
 
 // The parent of a stop of this kind: the station that a platform names.
 #[tactic(auto, unfolding(feed_faults::specs::AcceptedFeed::accepted_parent))]
-fn parent_of(source: &Source, kind: u32, row: u32) -> Option<StopId>
+fn parent_of<C: CallTable>(source: &Source<C>, kind: u32, row: u32) -> Option<StopId>
     requires within { row < row_count (table_in source.now file.Stops) }
     requires kind { kind ≡ stop_kind (table_in source.now file.Stops) row }
     ensures { result ≡ accepted_parent (table_in source.now file.Stops) row }
@@ -50,12 +50,18 @@ fn parent_of(source: &Source, kind: u32, row: u32) -> Option<StopId>
 impl FileRow for StopRow {
     ghost FILE = { file.Stops };
 
+    ghost kept = { refl };
+
     ghost row_in = { stop_row };
 
     const FILE: FileName = FileName::Stops;
 
     #[tactic(auto, unfolding(feed_faults::specs::AcceptedFeed::stop_row), using(feed_soundness::proofs::IdColumns::stop_id, crate::proofs::ValueLaws::values))]
-    fn at(source: &Source, table: &NamedTable, row: u32) -> Result<StopRow, AllocError> {
+    fn at<C: CallTable>(
+        source: &Source<C>,
+        table: &NamedTable,
+        row: u32,
+    ) -> Result<StopRow, AllocError> {
         let &[_, kind, _] = source.tables().numbers::<3>(Self::FILE, row);
         let kind = nat_of(kind);
         Ok(StopRow {
@@ -68,7 +74,7 @@ impl FileRow for StopRow {
 
 // The name of a route's network: that of its own row, or else that of its row in route_networks.txt.
 #[tactic(auto, unfolding(feed_faults::specs::AcceptedFeed::network_of_route))]
-fn network_of_route<'t>(source: &Source<'t>, row: u32) -> &'t [u8]
+fn network_of_route<'t, C: CallTable>(source: &Source<'t, C>, row: u32) -> &'t [u8]
     requires { row < row_count (table_in source.now file.Routes) }
     ensures { result.now ≡ network_of_route source.now row }
 {
@@ -90,12 +96,18 @@ fn network_of_route<'t>(source: &Source<'t>, row: u32) -> &'t [u8]
 impl FileRow for RouteRow {
     ghost FILE = { file.Routes };
 
+    ghost kept = { refl };
+
     ghost row_in = { route_row };
 
     const FILE: FileName = FileName::Routes;
 
     #[tactic(auto, unfolding(feed_faults::specs::AcceptedFeed::route_row), using(feed_soundness::proofs::IdColumns::route_id))]
-    fn at(source: &Source, table: &NamedTable, row: u32) -> Result<RouteRow, AllocError> {
+    fn at<C: CallTable>(
+        source: &Source<C>,
+        table: &NamedTable,
+        row: u32,
+    ) -> Result<RouteRow, AllocError> {
         let network = network_of_route(source, row);
         Ok(RouteRow {
             id: Id::copy_of(source.alloc, table.field(row, ColumnName::RouteId))?,
@@ -107,12 +119,18 @@ impl FileRow for RouteRow {
 impl FileRow for TripRow {
     ghost FILE = { file.Trips };
 
+    ghost kept = { refl };
+
     ghost row_in = { trip_row };
 
     const FILE: FileName = FileName::Trips;
 
     #[tactic(auto, unfolding(feed_faults::specs::AcceptedFeed::trip_row), using(feed_soundness::proofs::IdColumns::trip_id))]
-    fn at(source: &Source, table: &NamedTable, row: u32) -> Result<TripRow, AllocError> {
+    fn at<C: CallTable>(
+        source: &Source<C>,
+        table: &NamedTable,
+        row: u32,
+    ) -> Result<TripRow, AllocError> {
         let route = table.field(row, ColumnName::RouteId);
         let service = table.field(row, ColumnName::ServiceId);
         Ok(TripRow {
@@ -126,12 +144,18 @@ impl FileRow for TripRow {
 impl FileRow for ServiceRow {
     ghost FILE = { file.Calendar };
 
+    ghost kept = { refl };
+
     ghost row_in = { service_row };
 
     const FILE: FileName = FileName::Calendar;
 
     #[tactic(auto, unfolding(feed_faults::specs::AcceptedFeed::service_row, feed_faults::specs::FieldValues::int_or_zero, feed_faults::specs::FieldValues::day_or_zero))]
-    fn at(source: &Source, table: &NamedTable, row: u32) -> Result<ServiceRow, AllocError> {
+    fn at<C: CallTable>(
+        source: &Source<C>,
+        table: &NamedTable,
+        row: u32,
+    ) -> Result<ServiceRow, AllocError> {
         let &[
             _,
             monday,
@@ -165,12 +189,18 @@ impl FileRow for ServiceRow {
 impl FileRow for ExceptionRow {
     ghost FILE = { file.CalendarDates };
 
+    ghost kept = { refl };
+
     ghost row_in = { exception_row };
 
     const FILE: FileName = FileName::CalendarDates;
 
     #[tactic(auto, unfolding(feed_faults::specs::AcceptedFeed::exception_row, feed_faults::specs::FieldValues::int_or_zero, feed_faults::specs::FieldValues::day_or_zero))]
-    fn at(source: &Source, table: &NamedTable, row: u32) -> Result<ExceptionRow, AllocError> {
+    fn at<C: CallTable>(
+        source: &Source<C>,
+        table: &NamedTable,
+        row: u32,
+    ) -> Result<ExceptionRow, AllocError> {
         let &[_, date, kind] = source.tables().numbers::<3>(Self::FILE, row);
         let service = table.field(row, ColumnName::ServiceId);
         Ok(ExceptionRow {
@@ -184,12 +214,18 @@ impl FileRow for ExceptionRow {
 impl FileRow for FrequencyRow {
     ghost FILE = { file.Frequencies };
 
+    ghost kept = { refl };
+
     ghost row_in = { frequency_row };
 
     const FILE: FileName = FileName::Frequencies;
 
     #[tactic(auto, unfolding(feed_faults::specs::AcceptedFeed::frequency_row), using(crate::proofs::ValueLaws::values))]
-    fn at(source: &Source, table: &NamedTable, row: u32) -> Result<FrequencyRow, AllocError> {
+    fn at<C: CallTable>(
+        source: &Source<C>,
+        table: &NamedTable,
+        row: u32,
+    ) -> Result<FrequencyRow, AllocError> {
         let &[_, start, end, headway, _] = source.tables().numbers::<5>(Self::FILE, row);
         let trip = table.field(row, ColumnName::TripId);
         Ok(FrequencyRow {
@@ -203,7 +239,7 @@ impl FileRow for FrequencyRow {
 
 // What a row of transfers.txt gives that isn't passed over.
 #[tactic(auto, unfolding(feed_faults::specs::AcceptedFeed::link_row), using(crate::proofs::ValueLaws::values))]
-fn link_row(source: &Source, row: u32) -> LinkRow
+fn link_row<C: CallTable>(source: &Source<C>, row: u32) -> LinkRow
     requires within { row < row_count (table_in source.now file.Transfers) }
     requires judged { is_passed_over (field (table_in source.now file.Transfers) row) ≡ false }
     ensures { result ≡ link_row source.now row }
@@ -222,7 +258,7 @@ fn link_row(source: &Source, row: u32) -> LinkRow
 ///
 /// # Errors
 /// Want of memory.
-pub fn link_rows(source: &Source) -> Result<LinkRows, AllocError>
+pub fn link_rows<C: CallTable>(source: &Source<C>) -> Result<LinkRows, AllocError>
     ensures { IfOk result (λ rows. rows ≡ picks_below (row_count (table_in source.now file.Transfers)) (λ row. not (is_passed_over (field (table_in source.now file.Transfers) row))) (link_row source.now)) }
 {
     let table = source.tables().get(FileName::Transfers);

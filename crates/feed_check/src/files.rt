@@ -1,40 +1,50 @@
 //! The feed that files make.
-ghost use Rattle.std.specs.Prelude.{◌≡◌, IfOk, IfErr, OnOk, None};
+ghost use Rattle.std.specs.Prelude.{◌≡◌, IfOk, IfErr, OnOk, None, length};
 ghost use Rattle.feed_rows.specs.declared.names.FileName.TheVariants as file;
 ghost use Rattle.feed_faults.specs.FeedTables.{table_in};
 ghost use Rattle.feed_faults.specs.AcceptedFeed.{feed_of, rows_of_tables, stop_time_row, typed_rows};
 ghost use Rattle.feed_faults.specs.FirstFault.{first_relation_fault, first_fault};
 ghost use Rattle.feed_soundness.specs.AcceptedTables.{AreFormed};
 ghost use Rattle.folder_io.specs.KeptFiles.{AreWithin, held_in};
+ghost use Rattle.feed_tables.specs.IdColumns.{call_ids};
+ghost use Rattle.feed_tables.specs.KeptTables.{tables_with, AreKept};
 ghost use Rattle.feed_text.specs.TextErrors.{IsErrorOf};
 
-use feed_build::{feed_of_tables, stop_time_rows};
+use crate::stop_times::held_stop_times;
+use feed_build::{StopTimes, feed_of_tables};
 use feed_relations::first_relation_fault;
-use feed_rows::{Feed, StopTimeRows};
-use feed_tables::{Ids, Tables};
+use feed_rows::{Feed, FileName};
+use feed_tables::{CallIds, CallTable, Ids, ReadTable, Tables, read_tables};
 use feed_text::TextError;
-use folder_io::Files;
+use folder_io::{FileBytes, Files};
 use std::alloc::Global;
+use std::marker::Brand;
 
-// The feed of tables whose files have no fault by themselves, with their rows by ids and the rows of stop_times.txt. `Fault`
-// is exactly the first fault of the files among each other.
-fn related_feed(
+// The feed of tables whose files have no fault by themselves, with the rows of stop_times.txt. `Fault` is exactly the first
+// fault of the files among each other.
+fn related_feed<C: CallTable>(
     alloc: Global,
-    tables: &Tables,
-    ids: &Ids,
-    stop_times: StopTimeRows,
+    first: &[ReadTable],
+    others: &[ReadTable],
+    calls: &CallIds,
+    stop_times: StopTimes,
 ) -> Result<Feed, TextError>
-    requires formed { AreFormed tables.now }
-    requires ids { ids.now ≡ tables.now }
-    requires stop_times { stop_times ≡ typed_rows (table_in tables.now file.StopTimes) (stop_time_row tables.now) }
-    ensures fault { IfErr result (IsErrorOf (first_relation_fault tables.now)) }
-    ensures sound { OnOk result (first_relation_fault tables.now ≡ None) }
-    ensures feed { IfOk result (λ feed. feed ≡ rows_of_tables tables.now) }
+    requires kept { AreKept first.now others.now C.table (length stop_times.rows) }
+    requires formed { AreFormed (tables_with first.now C.table others.now) }
+    requires calls { calls.now ≡ call_ids (tables_with first.now C.table others.now) }
+    requires stop_times { stop_times.rows ≡ typed_rows C.table (stop_time_row (tables_with first.now C.table others.now)) }
+    ensures fault { IfErr result (IsErrorOf (first_relation_fault (tables_with first.now C.table others.now))) }
+    ensures sound { OnOk result (first_relation_fault (tables_with first.now C.table others.now) ≡ None) }
+    ensures feed { IfOk result (λ feed. feed ≡ rows_of_tables (tables_with first.now C.table others.now)) }
 {
-    if let Some(fault) = first_relation_fault(alloc, tables, ids, stop_times.items())? {
+    let rows = stop_times.rows;
+    let count = rows.items().len();
+    let tables: Tables<C> = Tables::of(first, others, count as u32);
+    let ids = Ids::of(alloc, &tables, calls)?;
+    if let Some(fault) = first_relation_fault(alloc, &tables, &ids, rows.items())? {
         return Err(TextError::Fault(fault));
     }
-    Ok(feed_of_tables(alloc, tables, ids, stop_times)?)
+    Ok(feed_of_tables(alloc, &tables, &ids, rows)?)
 }
 
 /// The feed of files that have no fault. `Fault` is exactly their first fault: of each file by itself, in the order of the
@@ -46,8 +56,11 @@ pub fn check(alloc: Global, files: Files) -> Result<Feed, TextError>
     ensures sound { OnOk result (first_fault (held_in files) ≡ None) }
     ensures feed { IfOk result (λ feed. feed ≡ feed_of (held_in files)) }
 {
-    let tables = Tables::read(alloc, files)?;
-    let ids = Ids::of(alloc, &tables)?;
-    let stop_times = stop_time_rows(alloc, &tables, &ids)?;
-    related_feed(alloc, &tables, &ids, stop_times)
+    let mut files = files;
+    let first = read_tables(alloc, &mut files, &FileName::all()[..3])?;
+    let calls = CallIds::of(alloc, &first)?;
+    let stop_times = held_stop_times(alloc, files.get(FileName::StopTimes), &calls)?;
+    files.put(FileName::StopTimes, FileBytes::Absent);
+    let others = read_tables(alloc, &mut files, &FileName::all()[4..])?;
+    related_feed::<Brand>(alloc, &first, &others, &calls, stop_times)
 }

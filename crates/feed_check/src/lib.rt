@@ -3,6 +3,7 @@
 
 mod files;
 mod folder;
+mod stop_times;
 
 pub use files::check;
 pub use folder::{LoadError, load};

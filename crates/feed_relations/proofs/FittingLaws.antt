@@ -88,14 +88,14 @@ module _ (t : FeedTables) where
       (
         (λ other. products_tell t),
         (λ row has. (passed t file.FareProducts 2 row 0 (Known RiderCategoryId RiderCategory) has (omega arith) refl, passed t file.FareProducts 2 row 1 (Known FareMediaId FareMedia) has (omega arith) refl)),
-        (tt, (λ row has. tt), tt),
+        (refl, (λ row has. tt), tt),
       ),
     ),
   )
   do_fit file.FareLegRules =
       (tt, (λ row has. tt), (tt, (λ row has. tt), (tt, (λ row has. tt), (tt, (λ row has. tt), (tt, (λ row has. tt), (tt, (λ row has. tt), tt))))))
   do_fit file.FareTransferRules =
-      (tt, (λ row has. tt), (tt, (λ row has. tt), (tt, (λ row has. tt), (tt, (λ row has. tt), (tt, (λ row has. tt), tt)))))
+      (refl, (λ row has. tt), (refl, (λ row has. tt), (tt, (λ row has. tt), (tt, (λ row has. tt), (tt, (λ row has. tt), tt)))))
 
   pub fits : (name : FileName) (k : ℕ) (d : RowCheck) → k < length (checks_of name) → Fits t name (get_or (checks_of name) k d)
   fits name k d lt = fit_at t name 0 (checks_of name) k d (do_fit name) lt

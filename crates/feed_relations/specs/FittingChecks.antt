@@ -1,5 +1,5 @@
 -- What a check of a file's rows needs of the file, and of rows that have passed the checks before it.
-use Rattle.std.specs.Prelude.{◌≡◌, ℕ, slice_get, option_and_then, None}
+use Rattle.std.specs.Prelude.{◌≡◌, ℕ, true, slice_get, option_and_then, None}
 use Rattle.feed_rows.specs.declared.names.FileName.{FileName}
 use Rattle.feed_rows.specs.declared.names.FileName.TheVariants as file
 use Rattle.feed_rows.specs.declared.names.ColumnName.{ColumnName}
@@ -8,12 +8,13 @@ use Rattle.plain_laws.specs.Plain.{first_below}
 use Rattle.feed_faults.specs.declared.checks.Named.{Named}
 use Rattle.feed_faults.specs.declared.checks.Named.TheVariants.{Trip, Stop}
 use Rattle.feed_faults.specs.declared.checks.RowCheck.{RowCheck}
-use Rattle.feed_faults.specs.declared.checks.RowCheck.TheVariants.{NewId, NewKey, Known, KnownParent, GoodParent, AtPlatform, TimedEnds, RisingTimes, OrderedDays, GoodTimeframe}
+use Rattle.feed_faults.specs.declared.checks.RowCheck.TheVariants.{NewId, NewKey, Known, KnownParent, GoodParent, AtPlatform, TimedEnds, RisingTimes, OrderedDays, GoodTimeframe, OneCurrency, GoodCount, WholeLimit}
 use Rattle.feed_faults.specs.FeedTables.{FeedTables, table_in}
 use Rattle.feed_faults.specs.RowChecks.{checks_of, fault_of_check}
 use Rattle.feed_tables.specs.declared.ids.IdColumn.{IdColumn}
 use Rattle.feed_tables.specs.declared.ids.IdColumn.TheVariants as id
 use Rattle.feed_tables.specs.IdColumns.{indexed}
+use Rattle.feed_tables.specs.RowNumbers.{has_table}
 use Rattle.feed_relations.specs.JudgedBy.{IsTripKnown}
 use Rattle.feed_relations.specs.RowKeys.{IsKeyKnown, DoKeysTell}
 
@@ -33,6 +34,7 @@ own_ids name = id.FareMedia
 abbrev pub AreCallColumns : FileName → ColumnName → Named → Type 0
 AreCallColumns file.StopTimes column Trip = column ≡ TripId
 AreCallColumns file.StopTimes column Stop = column ≡ StopId
+AreCallColumns file.StopTimes column named = ⊥
 AreCallColumns name column named = Unit {0}
 
 -- a check fits its file
@@ -47,7 +49,9 @@ Fits t name TimedEnds = name ≡ file.StopTimes
 Fits t name RisingTimes = name ≡ file.StopTimes
 Fits t name OrderedDays = name ≡ file.Calendar
 Fits t name GoodTimeframe = name ≡ file.Timeframes
-Fits t name check = Unit {0}
+Fits t name OneCurrency = has_table name ≡ true
+Fits t name GoodCount = has_table name ≡ true
+Fits t name WholeLimit = has_table name ≡ true
 
 -- what a check takes as known of a row
 abbrev pub Knows : FeedTables → FileName → RowCheck → ℕ → Type 0

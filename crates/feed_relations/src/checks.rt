@@ -12,11 +12,17 @@ use crate::keys::first_repeated;
 use crate::rows::row_fails;
 use feed_faults::RowCheck;
 use feed_rows::FileName;
+use feed_tables::CallTable;
 use std::alloc::{AllocError, Global};
 
 // The first row below one at which a check fails that is judged row by row.
 #[tactic(auto, using(plain_laws::proofs::Laws::found_firsts))]
-fn first_failing_row(feed: &JudgedFeed, file: FileName, check: RowCheck, below: u32) -> Option<u32>
+fn first_failing_row<C: CallTable>(
+    feed: &JudgedFeed<C>,
+    file: FileName,
+    check: RowCheck,
+    below: u32,
+) -> Option<u32>
     requires within { below ≤ row_count (table_in feed.now file) }
     requires fits { Fits feed.now file check }
     requires knows { (row : ℕ) → row < below → Knows feed.now file check row }
@@ -32,9 +38,9 @@ fn first_failing_row(feed: &JudgedFeed, file: FileName, check: RowCheck, below: 
 }
 
 // The first row below one at which a check of its file fails.
-pub fn first_failing(
+pub fn first_failing<C: CallTable>(
     alloc: Global,
-    feed: &JudgedFeed,
+    feed: &JudgedFeed<C>,
     file: FileName,
     check: RowCheck,
     below: u32,

@@ -4,7 +4,7 @@ ghost use Rattle.feed_faults.specs.NetworkRelations.{has_own_networks, are_netwo
 
 use crate::judged::JudgedFeed;
 use feed_rows::{ColumnName, FaultKind, FeedFault, FileName};
-use feed_tables::NamedTable;
+use feed_tables::{CallTable, NamedTable};
 use feed_text::{file_fault, is_filled};
 
 // Whether some route has a network of its own.
@@ -22,14 +22,14 @@ fn has_own_networks(routes: &NamedTable) -> bool
 
 // Whether a file of networks has a row beside a route with a network of its own.
 #[tactic(auto, unfolding(feed_faults::specs::NetworkRelations::are_networks_forbidden))]
-fn are_networks_forbidden(feed: &JudgedFeed, file: FileName) -> bool
+fn are_networks_forbidden<C: CallTable>(feed: &JudgedFeed<C>, file: FileName) -> bool
     ensures { result ≡ are_networks_forbidden feed.now file }
 {
-    feed.table(file).rows() > 0 && has_own_networks(feed.table(FileName::Routes))
+    feed.rows(file) > 0 && has_own_networks(feed.table(FileName::Routes))
 }
 
 // The fault of a file before those of its rows.
-pub fn forbidden_fault(feed: &JudgedFeed, file: FileName) -> Option<FeedFault>
+pub fn forbidden_fault<C: CallTable>(feed: &JudgedFeed<C>, file: FileName) -> Option<FeedFault>
     ensures { result ≡ forbidden_fault feed.now file }
 {
     if file != FileName::Networks && file != FileName::RouteNetworks {

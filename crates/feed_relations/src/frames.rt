@@ -13,7 +13,7 @@ ghost use Rattle.feed_relations.specs.Frames.{frame_of, is_malformed, IsOpen, do
 use crate::judged::JudgedFeed;
 use crate::rows::is_one_filled;
 use feed_rows::{ColumnName, FileName};
-use feed_tables::{IdColumn, IdIndex, Tables, frame_end, frame_start};
+use feed_tables::{CallTable, IdColumn, IdIndex, Tables, frame_end, frame_start};
 use std::alloc::{AllocError, Global};
 
 // A timeframe: the earliest rows of its group and of its service, and its seconds of the day.
@@ -27,7 +27,7 @@ pub struct Frame {
 
 // Whether a row has one time without the other, or a start not before the end.
 #[tactic(auto, unfolding(crate::specs::Frames::is_malformed))]
-fn is_malformed(tables: &Tables, row: u32) -> bool
+fn is_malformed<C: CallTable>(tables: &Tables<C>, row: u32) -> bool
     requires { row < row_count (table_in tables.now file.Timeframes) }
     ensures { result ≡ is_malformed (table_in tables.now file.Timeframes) row }
 {
@@ -40,7 +40,7 @@ fn is_malformed(tables: &Tables, row: u32) -> bool
 
 // The first of the rows below one that is so.
 #[tactic(auto, using(plain_laws::proofs::Laws::found_firsts))]
-fn first_malformed(tables: &Tables, below: u32) -> Option<u32>
+fn first_malformed<C: CallTable>(tables: &Tables<C>, below: u32) -> Option<u32>
     requires { below ≤ row_count (table_in tables.now file.Timeframes) }
     ensures value { result ≡ find_below below (is_malformed (table_in tables.now file.Timeframes)) }
     ensures within { IfSome result (λ row. row < below) }
@@ -55,7 +55,12 @@ fn first_malformed(tables: &Tables, below: u32) -> Option<u32>
 
 // The timeframe of a row.
 #[tactic(auto, unfolding(crate::specs::Frames::frame_of))]
-fn frame_of(tables: &Tables, groups: &IdIndex, services: &IdIndex, row: u32) -> Frame
+fn frame_of<C: CallTable>(
+    tables: &Tables<C>,
+    groups: &IdIndex,
+    services: &IdIndex,
+    row: u32,
+) -> Frame
     requires groups { groups.now ≡ record { table = table_in tables.now file.Timeframes; name = column.TimeframeGroupId } }
     requires services { services.now ≡ record { table = table_in tables.now file.Timeframes; name = column.ServiceId } }
     requires within { row < row_count (table_in tables.now file.Timeframes) }
@@ -71,9 +76,9 @@ fn frame_of(tables: &Tables, groups: &IdIndex, services: &IdIndex, row: u32) -> 
 }
 
 // The timeframes of the rows below one.
-fn frames_below(
+fn frames_below<C: CallTable>(
     alloc: Global,
-    tables: &Tables,
+    tables: &Tables<C>,
     groups: &IdIndex,
     below: u32,
 ) -> Result<Vec<Frame>, AllocError>
@@ -174,9 +179,9 @@ fn first_overlap(alloc: Global, frames: &[Frame]) -> Result<Option<u32>, AllocEr
 }
 
 // The first row of timeframes.txt below one that overlaps an earlier one. No row below it is malformed.
-fn first_overlapping(
+fn first_overlapping<C: CallTable>(
     alloc: Global,
-    feed: &JudgedFeed,
+    feed: &JudgedFeed<C>,
     below: u32,
 ) -> Result<Option<u32>, AllocError>
     requires within { below ≤ row_count (table_in feed.now file.Timeframes) }
@@ -190,9 +195,9 @@ fn first_overlapping(
 
 // The first row of timeframes.txt below one whose timeframe is bad.
 #[tactic(auto, using(crate::proofs::FrameLaws::formed_before, crate::proofs::FrameLaws::first_bad))]
-pub fn first_bad_frame(
+pub fn first_bad_frame<C: CallTable>(
     alloc: Global,
-    feed: &JudgedFeed,
+    feed: &JudgedFeed<C>,
     below: u32,
 ) -> Result<Option<u32>, AllocError>
     requires { below ≤ row_count (table_in feed.now file.Timeframes) }

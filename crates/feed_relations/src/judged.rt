@@ -1,5 +1,5 @@
 //! What the rows of a feed are judged by.
-ghost use Rattle.std.specs.Prelude.{◌≡◌, ◌<◌, ◌==◌, false, get_or, IfOk};
+ghost use Rattle.std.specs.Prelude.{◌≡◌, ◌<◌, ◌≤◌, ◌==◌, true, false, get_or, IfOk};
 ghost use Rattle.feed_rows.specs.Codes.{platform_type};
 ghost use Rattle.feed_rows.specs.declared.names.FileName.TheVariants as file;
 ghost use Rattle.feed_rows.specs.declared.names.ColumnName.TheVariants as column;
@@ -9,27 +9,29 @@ ghost use Rattle.feed_faults.specs.declared.checks.Named.TheVariants.{Trip, Stop
 ghost use Rattle.feed_faults.specs.FeedTables.{table_in};
 ghost use Rattle.feed_faults.specs.StopTimeRelations.{stop_times_of, is_at_platform};
 ghost use Rattle.feed_faults.specs.AcceptedFeed.{typed_rows, stop_time_row};
+ghost use Rattle.feed_text.specs.RowLimits.{row_limit};
 ghost use Rattle.feed_tables.specs.IdColumns.{indexed};
+ghost use Rattle.feed_tables.specs.RowNumbers.{has_table};
 ghost use Rattle.stop_order.specs.Numbered.{faults_at};
 ghost use Rattle.feed_relations.specs.JudgedBy.{AreCallsNamed, AreJudged, IsTripKnown, are_platforms};
 
 use feed_rows::{FileName, PLATFORM, StopTimeRow};
-use feed_tables::{IdColumn, IdIndex, Ids, NamedTable, Tables, stop_kind};
+use feed_tables::{CallTable, IdColumn, IdIndex, Ids, NamedTable, Tables, stop_kind};
 use std::alloc::{AllocError, Global};
 use std::marker::Model;
 use stop_order::{OrderFaults, order_faults};
 
 /// What the rows of a feed are judged by: its tables, their rows by ids, the stop times as rows, which stops are platforms, and
 /// what is wrong with each stop time in its trip. Contracts see it as the tables.
-pub struct JudgedFeed<'t> {
-    tables: &'t Tables,
-    ids: &'t Ids<'t>,
+pub struct JudgedFeed<'t, C: CallTable> {
+    tables: &'t Tables<'t, C>,
+    ids: &'t Ids<'t, C>,
     calls: &'t [StopTimeRow],
     platforms: Vec<bool>,
     order: Vec<OrderFaults>,
 }
 
-impl<'t> Model for JudgedFeed<'t> {
+impl<'t, C: CallTable> Model for JudgedFeed<'t, C> {
     ghost use Rattle.feed_faults.specs.FeedTables.{FeedTables};
     ghost use Rattle.feed_relations.specs.JudgedBy.{AreJudged};
 
@@ -41,7 +43,7 @@ impl<'t> Model for JudgedFeed<'t> {
 }
 
 // Written out, so that what lets go of it needn't look into it.
-impl<'t> Drop for JudgedFeed<'t> {
+impl<'t, C: CallTable> Drop for JudgedFeed<'t, C> {
     fn drop(self) {
         let JudgedFeed {
             tables: _,
@@ -55,7 +57,7 @@ impl<'t> Drop for JudgedFeed<'t> {
 
 // Which stops are platforms.
 #[tactic(auto, unfolding(crate::specs::JudgedBy::are_platforms))]
-fn platforms_of(alloc: Global, tables: &Tables) -> Result<Vec<bool>, AllocError>
+fn platforms_of<C: CallTable>(alloc: Global, tables: &Tables<C>) -> Result<Vec<bool>, AllocError>
     ensures { IfOk result (λ platforms. platforms.items ≡ are_platforms (table_in tables.now file.Stops)) }
 {
     let rows = tables.get(FileName::Stops).rows();
@@ -74,23 +76,23 @@ fn is_marked(marks: &[bool], number: u32) -> bool
     number < marks.len() && marks[number]
 }
 
-impl<'t> JudgedFeed<'t> {
+impl<'t, C: CallTable> JudgedFeed<'t, C> {
     /// What the rows of a feed of these tables are judged by.
     ///
     /// # Errors
     /// Want of memory.
     pub fn of(
         alloc: Global,
-        tables: &'t Tables,
-        ids: &'t Ids<'t>,
+        tables: &'t Tables<'t, C>,
+        ids: &'t Ids<'t, C>,
         calls: &'t [StopTimeRow],
-    ) -> Result<JudgedFeed<'t>, AllocError>
+    ) -> Result<JudgedFeed<'t, C>, AllocError>
         requires ids { ids.now ≡ tables.now }
         requires named { AreCallsNamed tables.now }
         requires calls { calls.now ≡ typed_rows (table_in tables.now file.StopTimes) (stop_time_row tables.now) }
         ensures { IfOk result (λ feed. feed ≡ tables.now) }
     {
-        let _few = tables.get(FileName::StopTimes).rows();
+        let _few = tables.rows(FileName::StopTimes);
         let platforms = platforms_of(alloc, tables)?;
         let order = order_faults(alloc, calls)?;
         Ok(JudgedFeed {
@@ -103,17 +105,26 @@ impl<'t> JudgedFeed<'t> {
     }
 
     /// The tables.
-    pub fn tables(&self) -> &Tables
+    pub fn tables(&self) -> &Tables<'t, C>
         ensures { result.now ≡ self.now }
     {
         self.tables
     }
 
     /// The table of a file.
-    pub fn table(&self, file: FileName) -> &NamedTable
+    pub fn table(&self, file: FileName) -> &'t NamedTable
+        requires { has_table file ≡ true }
         ensures { result.now ≡ table_in self.now file }
     {
         self.tables.get(file)
+    }
+
+    /// How many rows a file has.
+    pub fn rows(&self, file: FileName) -> u32
+        ensures count { result ≡ row_count (table_in self.now file) }
+        ensures few { result ≤ row_limit }
+    {
+        self.tables.rows(file)
     }
 
     /// The rows by the ids of a column.

@@ -1,5 +1,5 @@
 //! Keys of several columns.
-ghost use Rattle.std.specs.Prelude.{◌≡◌, ◌<◌, ◌≤◌, ◌+◌, not, IfOk, OnOk};
+ghost use Rattle.std.specs.Prelude.{◌≡◌, ◌<◌, ◌≤◌, ◌+◌, true, not, IfOk, OnOk};
 ghost use Rattle.plain_laws.specs.Plain.{find_below, any_below};
 ghost use Rattle.transit_base.specs.Limits.{most_time};
 ghost use Rattle.feed_rows.specs.declared.names.ColumnName.TheVariants as column;
@@ -9,11 +9,12 @@ ghost use Rattle.feed_faults.specs.FieldValues.{day_or_zero, time_or};
 ghost use Rattle.feed_faults.specs.FeedTables.{table_in};
 ghost use Rattle.feed_faults.specs.AcceptedFeed.{row_number};
 ghost use Rattle.feed_tables.specs.IdColumns.{indexed};
+ghost use Rattle.feed_tables.specs.RowNumbers.{has_table};
 ghost use Rattle.feed_relations.specs.RowKeys.{row_key, is_key_repeated, AreSeen};
 
 use crate::judged::JudgedFeed;
 use feed_rows::{ColumnName, FileName};
-use feed_tables::IdColumn;
+use feed_tables::{CallTable, IdColumn};
 use feed_text::natural;
 use std::alloc::{AllocError, Global};
 use std::collections::BTreeSet;
@@ -27,7 +28,7 @@ pub struct RowKey {
 }
 
 // The number of the row that an id names.
-fn number(feed: &JudgedFeed, column: IdColumn, id: &[u8]) -> u32
+fn number<C: CallTable>(feed: &JudgedFeed<C>, column: IdColumn, id: &[u8]) -> u32
     ensures { result ≡ row_number (indexed feed.now column).table (indexed feed.now column).name id.now }
 {
     feed.index(column).number(id)
@@ -35,8 +36,9 @@ fn number(feed: &JudgedFeed, column: IdColumn, id: &[u8]) -> u32
 
 // The key of a row; of a file without such keys, its own number.
 #[tactic(auto, unfolding(feed_faults::specs::FieldValues::day_or_zero), using(feed_text::proofs::ValueLaws::times))]
-fn row_key(feed: &JudgedFeed, file: FileName, row: u32) -> RowKey
-    requires { row < row_count (table_in feed.now file) }
+fn row_key<C: CallTable>(feed: &JudgedFeed<C>, file: FileName, row: u32) -> RowKey
+    requires kept { has_table file ≡ true }
+    requires within { row < row_count (table_in feed.now file) }
     ensures { result ≡ row_key feed.now file row }
 {
     let table = feed.table(file);
@@ -78,12 +80,13 @@ fn row_key(feed: &JudgedFeed, file: FileName, row: u32) -> RowKey
 
 // Puts the key of a row among those of the rows before it, and says whether it is new.
 #[tactic(auto, unfolding(crate::specs::RowKeys::is_key_repeated))]
-fn put_key(
+fn put_key<C: CallTable>(
     seen: &mut BTreeSet<RowKey>,
-    feed: &JudgedFeed,
+    feed: &JudgedFeed<C>,
     file: FileName,
     row: u32,
 ) -> Result<bool, AllocError>
+    requires kept { has_table file ≡ true }
     requires within { row < row_count (table_in feed.now file) }
     requires seen { AreSeen seen.old feed.now file row }
     ensures new { IfOk result (λ new. new ≡ not (is_key_repeated feed.now file row)) }
@@ -94,13 +97,14 @@ fn put_key(
 
 // The first row below one whose key an earlier row has.
 #[tactic(auto, using(plain_laws::proofs::Laws::found_firsts))]
-pub fn first_repeated(
+pub fn first_repeated<C: CallTable>(
     alloc: Global,
-    feed: &JudgedFeed,
+    feed: &JudgedFeed<C>,
     file: FileName,
     below: u32,
 ) -> Result<Option<u32>, AllocError>
-    requires { below ≤ row_count (table_in feed.now file) }
+    requires kept { has_table file ≡ true }
+    requires within { below ≤ row_count (table_in feed.now file) }
     ensures { IfOk result (λ found. found ≡ find_below below (is_key_repeated feed.now file)) }
 {
     let mut seen = BTreeSet::new(alloc);

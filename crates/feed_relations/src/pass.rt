@@ -15,19 +15,19 @@ use crate::judged::JudgedFeed;
 use crate::places::check_fault;
 use feed_faults::checks_of;
 use feed_rows::{FeedFault, FileName, StopTimeRow};
-use feed_tables::{Ids, Tables};
+use feed_tables::{CallTable, Ids, Tables};
 use std::alloc::{AllocError, Global};
 
 // The first fault of a file's rows: the least row at which a check fails, and at that row the earliest of its checks. Each check
 // looks only at the rows before those at which an earlier one failed.
-fn fault_of_rows(
+fn fault_of_rows<C: CallTable>(
     alloc: Global,
-    feed: &JudgedFeed,
+    feed: &JudgedFeed<C>,
     file: FileName,
 ) -> Result<Option<FeedFault>, AllocError>
     ensures { IfOk result (λ fault. fault ≡ first_below (row_count (table_in feed.now file)) (relation_fault_of_row feed.now file)) }
 {
-    let mut below = feed.table(file).rows();
+    let mut below = feed.rows(file);
     let mut fault = None;
     for (i, check) in checks_of(file).iter().enumerate() {
         if let Some(row) = first_failing(alloc, feed, file, *check, below)? {
@@ -40,9 +40,9 @@ fn fault_of_rows(
 
 // The first fault of a file among the others: that it is forbidden comes before its rows.
 #[tactic(auto, unfolding(feed_faults::specs::FirstFault::relation_fault))]
-fn relation_fault(
+fn relation_fault<C: CallTable>(
     alloc: Global,
-    feed: &JudgedFeed,
+    feed: &JudgedFeed<C>,
     file: FileName,
 ) -> Result<Option<FeedFault>, AllocError>
     ensures { IfOk result (λ fault. fault ≡ relation_fault feed.now file) }
@@ -55,7 +55,10 @@ fn relation_fault(
 
 // The first fault of the files, by what their rows are judged by.
 #[tactic(auto, unfolding(feed_faults::specs::FirstFault::first_relation_fault))]
-fn fault_of_files(alloc: Global, feed: &JudgedFeed) -> Result<Option<FeedFault>, AllocError>
+fn fault_of_files<C: CallTable>(
+    alloc: Global,
+    feed: &JudgedFeed<C>,
+) -> Result<Option<FeedFault>, AllocError>
     ensures { IfOk result (λ fault. fault ≡ first_relation_fault feed.now) }
 {
     for (i, file) in FileName::all().iter().enumerate() {
@@ -71,10 +74,10 @@ fn fault_of_files(alloc: Global, feed: &JudgedFeed) -> Result<Option<FeedFault>,
 ///
 /// # Errors
 /// Want of memory.
-pub fn first_relation_fault(
+pub fn first_relation_fault<C: CallTable>(
     alloc: Global,
-    tables: &Tables,
-    ids: &Ids,
+    tables: &Tables<C>,
+    ids: &Ids<C>,
     stop_times: &[StopTimeRow],
 ) -> Result<Option<FeedFault>, AllocError>
     requires ids { ids.now ≡ tables.now }

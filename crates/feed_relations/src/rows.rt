@@ -1,5 +1,5 @@
 //! What fails at a row.
-ghost use Rattle.std.specs.Prelude.{◌≡◌, ◌<◌, ◌&&◌, not};
+ghost use Rattle.std.specs.Prelude.{◌≡◌, ◌<◌, ◌&&◌, true, not};
 ghost use Rattle.feed_rows.specs.declared.names.ColumnName.TheVariants as column;
 ghost use Rattle.feed_rows.specs.declared.names.FileName.TheVariants as file;
 ghost use Rattle.feed_faults.specs.Records.{row_count, field};
@@ -11,12 +11,13 @@ ghost use Rattle.feed_faults.specs.FareRelations.{is_one_filled, is_currency_mix
 ghost use Rattle.feed_faults.specs.RowChecks.{is_judged, is_unknown_id, fails};
 ghost use Rattle.feed_faults.specs.declared.checks.RowCheck.TheVariants.{Known};
 ghost use Rattle.feed_tables.specs.IdColumns.{indexed};
+ghost use Rattle.feed_tables.specs.RowNumbers.{has_table};
 ghost use Rattle.feed_relations.specs.FittingChecks.{own_ids, AreCallColumns, Fits, Knows, IsByRow};
 
 use crate::judged::JudgedFeed;
 use feed_faults::{Named, RowCheck};
 use feed_rows::{ColumnName, FileName, PLATFORM, STATION};
-use feed_tables::{IdColumn, NamedTable, Tables, stop_kind};
+use feed_tables::{CallTable, IdColumn, NamedTable, Tables, stop_kind};
 use feed_text::{is_filled, is_passed_over};
 
 // The ids of a file's own rows, where a check tells them apart.
@@ -37,14 +38,19 @@ fn own_ids(file: FileName) -> IdColumn
 }
 
 // Whether an id is filled and in neither of two columns.
-fn is_in_neither(feed: &JudgedFeed, first: IdColumn, second: IdColumn, id: &[u8]) -> bool
+fn is_in_neither<C: CallTable>(
+    feed: &JudgedFeed<C>,
+    first: IdColumn,
+    second: IdColumn,
+    id: &[u8],
+) -> bool
     ensures { result ≡ (is_unknown (indexed feed.now first).table (indexed feed.now first).name id.now && is_unknown (indexed feed.now second).table (indexed feed.now second).name id.now) }
 {
     feed.index(first).is_unknown(id) && feed.index(second).is_unknown(id)
 }
 
 // Whether an id is filled and names nothing that is there.
-fn is_unknown_id(feed: &JudgedFeed, named: Named, id: &[u8]) -> bool
+fn is_unknown_id<C: CallTable>(feed: &JudgedFeed<C>, named: Named, id: &[u8]) -> bool
     ensures { result ≡ is_unknown_id feed.now named id.now }
 {
     let column = match named {
@@ -77,30 +83,42 @@ fn is_judged(file: FileName, table: &NamedTable, row: u32) -> bool
 }
 
 // Whether the id of a row in a column names nothing that is there.
-fn is_reference_unknown(
-    feed: &JudgedFeed,
+fn is_reference_unknown<C: CallTable>(
+    feed: &JudgedFeed<C>,
     file: FileName,
     name: ColumnName,
     named: Named,
     row: u32,
 ) -> bool
+    requires kept { has_table file ≡ true }
     requires within { row < row_count (table_in feed.now file) }
-    requires calls { AreCallColumns file name named }
     ensures { result ≡ fails feed.now file (Known name named) row }
 {
-    match (file, named) {
-        (FileName::StopTimes, Named::Trip) => feed.is_trip_unknown(row),
-        (FileName::StopTimes, Named::Stop) => feed.is_stop_unknown(row),
-        _ => {
-            let table = feed.table(file);
-            is_judged(file, table, row) && is_unknown_id(feed, named, table.field(row, name))
-        }
+    let table = feed.table(file);
+    is_judged(file, table, row) && is_unknown_id(feed, named, table.field(row, name))
+}
+
+// Whether the trip or the stop of a stop time isn't there.
+fn is_call_unknown<C: CallTable>(
+    feed: &JudgedFeed<C>,
+    name: ColumnName,
+    named: Named,
+    row: u32,
+) -> bool
+    requires within { row < row_count (table_in feed.now file.StopTimes) }
+    requires calls { AreCallColumns file.StopTimes name named }
+    ensures { result ≡ fails feed.now file.StopTimes (Known name named) row }
+{
+    match named {
+        Named::Trip => feed.is_trip_unknown(row),
+        Named::Stop => feed.is_stop_unknown(row),
+        _ => unreachable!(),
     }
 }
 
 // Whether a platform or a station names a parent.
 #[tactic(auto, unfolding(feed_faults::specs::StopRelations::has_parent))]
-fn has_parent(tables: &Tables, row: u32) -> bool
+fn has_parent<C: CallTable>(tables: &Tables<C>, row: u32) -> bool
     requires { row < row_count (table_in tables.now file.Stops) }
     ensures { result ≡ has_parent (table_in tables.now file.Stops) row }
 {
@@ -110,7 +128,7 @@ fn has_parent(tables: &Tables, row: u32) -> bool
 
 // Whether the parent of a row is a station.
 #[tactic(auto, unfolding(feed_faults::specs::StopRelations::is_at_station))]
-fn is_at_station(feed: &JudgedFeed, row: u32) -> bool
+fn is_at_station<C: CallTable>(feed: &JudgedFeed<C>, row: u32) -> bool
     requires { row < row_count (table_in feed.now file.Stops) }
     ensures { result ≡ is_at_station (table_in feed.now file.Stops) row }
 {
@@ -125,7 +143,7 @@ fn is_at_station(feed: &JudgedFeed, row: u32) -> bool
 }
 
 // Whether the parent that a platform or a station names isn't there.
-fn is_parent_unknown(feed: &JudgedFeed, row: u32) -> bool
+fn is_parent_unknown<C: CallTable>(feed: &JudgedFeed<C>, row: u32) -> bool
     requires { row < row_count (table_in feed.now file.Stops) }
     ensures { result ≡ (has_parent (table_in feed.now file.Stops) row && is_unknown (table_in feed.now file.Stops) column.StopId (field (table_in feed.now file.Stops) row column.ParentStation)) }
 {
@@ -137,7 +155,7 @@ fn is_parent_unknown(feed: &JudgedFeed, row: u32) -> bool
 }
 
 // Whether a parent is named that isn't good: only a platform has a parent, which is a station.
-fn is_parent_bad(feed: &JudgedFeed, row: u32) -> bool
+fn is_parent_bad<C: CallTable>(feed: &JudgedFeed<C>, row: u32) -> bool
     requires { row < row_count (table_in feed.now file.Stops) }
     ensures { result ≡ (has_parent (table_in feed.now file.Stops) row && not (is_parent_good (table_in feed.now file.Stops) row)) }
 {
@@ -148,7 +166,7 @@ fn is_parent_bad(feed: &JudgedFeed, row: u32) -> bool
 
 // Whether the last day of a row lies before its first.
 #[tactic(auto, unfolding(feed_faults::specs::ServiceRelations::are_dates_reversed, feed_faults::specs::FieldValues::day_or_zero))]
-fn are_dates_reversed(feed: &JudgedFeed, row: u32) -> bool
+fn are_dates_reversed<C: CallTable>(feed: &JudgedFeed<C>, row: u32) -> bool
     requires { row < row_count (table_in feed.now file.Calendar) }
     ensures { result ≡ are_dates_reversed (table_in feed.now file.Calendar) row }
 {
@@ -201,8 +219,13 @@ fn is_limit_half(rules: &NamedTable, row: u32) -> bool
 }
 
 // Whether a check of a row fails, where it is judged row by row.
-#[tactic(auto, unfolding(stop_order::specs::Numbered::faults_at))]
-pub fn row_fails(feed: &JudgedFeed, file: FileName, check: RowCheck, row: u32) -> bool
+#[tactic(auto, using(feed_tables::proofs::NumberLaws::kept_unless), unfolding(stop_order::specs::Numbered::faults_at))]
+pub fn row_fails<C: CallTable>(
+    feed: &JudgedFeed<C>,
+    file: FileName,
+    check: RowCheck,
+    row: u32,
+) -> bool
     requires within { row < row_count (table_in feed.now file) }
     requires fits { Fits feed.now file check }
     requires knows { Knows feed.now file check row }
@@ -212,7 +235,12 @@ pub fn row_fails(feed: &JudgedFeed, file: FileName, check: RowCheck, row: u32) -
     match check {
         RowCheck::NewId(_) => feed.index(own_ids(file)).is_doubled(row),
         RowCheck::NewKey(_) => feed.order(row).is_repeated,
-        RowCheck::Known(name, named) => is_reference_unknown(feed, file, name, named, row),
+        RowCheck::Known(name, named) => {
+            if file == FileName::StopTimes {
+                return is_call_unknown(feed, name, named, row);
+            }
+            is_reference_unknown(feed, file, name, named, row)
+        }
         RowCheck::KnownParent => is_parent_unknown(feed, row),
         RowCheck::GoodParent => is_parent_bad(feed, row),
         RowCheck::AtPlatform => !feed.is_at_platform(row),

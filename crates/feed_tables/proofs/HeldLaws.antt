@@ -10,7 +10,10 @@ use Rattle.feed_rows.specs.declared.faults.FaultKind.TheVariants as kind
 use Rattle.plain_laws.specs.Plain.{when}
 use Rattle.feed_faults.specs.Records.{row_count, table_of_bytes}
 use Rattle.feed_faults.specs.FaultPlaces.{file_fault}
-use Rattle.feed_faults.specs.FormFaults.{header_fault, form_fault_of_bytes, form_fault_of_table, is_always_needed}
+use Rattle.feed_rows.specs.HeldFiles.{HeldFile}
+use Rattle.feed_faults.specs.FeedTables.{table_of}
+use Rattle.feed_tables.specs.RowNumbers.{held_fault_before_rows}
+use Rattle.feed_faults.specs.FormFaults.{header_fault, form_fault_of_held, form_fault_of_rows, form_fault_of_bytes, form_fault_of_table, is_always_needed}
 use Rattle.feed_text.specs.declared.errors.TextError.{TextError}
 use Rattle.feed_text.specs.declared.errors.TextError.TheVariants as error
 use Rattle.feed_text.specs.TextErrors.{IsErrorOf}
@@ -70,3 +73,15 @@ few_rows needed most file bytes none = step (is_utf8 bytes) (nat_lt 0 (length (t
     step true true true some over e = absurd (none-some (file_fault file kind.TooManyRows) (sym e))
     step true true false some over e = grind (arith, nat_tests, over)
     step true false many some over e = grind (arith, nat_tests, some)
+
+or_none : {X : Type 0} (o : Option X) → option_or o None ≡ o
+or_none None = refl
+or_none (Some x) = refl
+
+-- a file's fault is that which is found before its rows, or else that of its rows
+pub held_both : (needed : Bool) (name : FileName) (held : HeldFile)
+    → form_fault_of_held needed name held ≡ option_or (held_fault_before_rows needed name held) (form_fault_of_rows name (table_of held))
+unfolding form_fault_of_rows
+held_both needed name HeldFile.Missing = sym (or_none (form_fault_of_held needed name HeldFile.Missing))
+held_both needed name HeldFile.TooLarge = refl
+held_both needed name (HeldFile.Bytes bytes) = refl

@@ -4,5 +4,4 @@ pub mod GuessLaws
 pub mod PassLaws
 pub mod HeldLaws
 pub mod TakenFiles
-pub mod RowsLast
 pub mod NumberLaws

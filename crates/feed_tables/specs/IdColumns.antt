@@ -1,18 +1,19 @@
 -- The columns of ids by which rows are found.
-use Rattle.std.specs.Prelude.{List, [], ◌∷◌}
+use Rattle.std.specs.Prelude.{◌≡◌, List, [], ◌∷◌, map}
 use Rattle.feed_rows.specs.declared.names.FileName.{FileName}
 use Rattle.feed_rows.specs.declared.names.FileName.TheVariants as file
 use Rattle.feed_rows.specs.declared.names.ColumnName.{ColumnName}
 use Rattle.feed_rows.specs.declared.names.ColumnName.TheVariants as column
 use Rattle.feed_faults.specs.FeedTables.{FeedTables, table_in}
 use Rattle.feed_tables.specs.IndexedColumns.{IndexedColumn}
+use Rattle.feed_tables.specs.declared.ids.CallIds.{CallIds}
 use Rattle.feed_tables.specs.declared.ids.IdColumn.{IdColumn}
 use Rattle.feed_tables.specs.declared.ids.IdColumn.TheVariants.{Stop, Route, RouteNetwork, Trip, Calendar, CalendarDate, Area, Network, NetworkRoute, TimeframeGroup, RiderCategory, FareMedia, FareProduct, LegGroup}
 
--- the columns, in the order in which they are declared
-abbrev pub all_id_columns : List IdColumn
-all_id_columns =
-    Stop ∷ Route ∷ RouteNetwork ∷ Trip ∷ Calendar ∷ CalendarDate ∷ Area ∷ Network ∷ NetworkRoute ∷ TimeframeGroup
+-- the columns behind those that stop times name, in the order in which they are declared
+abbrev pub other_id_columns : List IdColumn
+other_id_columns =
+    Route ∷ RouteNetwork ∷ Calendar ∷ CalendarDate ∷ Area ∷ Network ∷ NetworkRoute ∷ TimeframeGroup
     ∷ RiderCategory ∷ FareMedia ∷ FareProduct ∷ LegGroup ∷ []
 
 -- the file of a column
@@ -52,3 +53,12 @@ name_of LegGroup = column.LegGroupId
 -- the rows of the tables by the ids of a column
 abbrev pub indexed : FeedTables → IdColumn → IndexedColumn
 indexed t column = record { table = table_in t (file_of column); name = name_of column }
+
+-- the rows by the ids that stop times name
+abbrev pub call_ids : FeedTables → CallIds
+call_ids t = record { stops = indexed t Stop; trips = indexed t Trip }
+
+-- these are the rows of the tables by all ids
+pub record AreIds (t : FeedTables) (calls : CallIds) (others : List IndexedColumn) : Type 0 where
+  pub calls_are : calls ≡ call_ids t
+  pub others_are : others ≡ map (indexed t) other_id_columns

@@ -4,9 +4,9 @@ ghost use Rattle.feed_rows.specs.Limits.{most_rows};
 ghost use Rattle.feed_rows.specs.HeldFiles.{HeldFile, most_bytes};
 ghost use Rattle.feed_faults.specs.Records.{row_count, table_of_bytes};
 ghost use Rattle.feed_faults.specs.FeedTables.{table_of};
-ghost use Rattle.feed_faults.specs.FormFaults.{has_record, is_always_needed, is_needed, form_fault_of_bytes};
+ghost use Rattle.feed_faults.specs.FormFaults.{has_record, is_always_needed, is_needed, form_fault, form_fault_of_bytes};
 ghost use Rattle.feed_text.specs.TextErrors.{IsErrorOf};
-ghost use Rattle.feed_tables.specs.RowNumbers.{held_fault_before_rows, read_of, reading_fault};
+ghost use Rattle.feed_tables.specs.RowNumbers.{held_fault_before_rows, read_of};
 ghost use Rattle.folder_io.specs.KeptFiles.{held_of, held_in, IsWithin, AreWithin};
 
 use crate::named::NamedTable;
@@ -101,15 +101,15 @@ fn file_table(alloc: Global, files: &Files, file: FileName) -> Result<NamedTable
     Ok(NamedTable::of(alloc, table)?)
 }
 
-/// The table of a file, judged by itself, but for the rows of stop_times.txt.
+/// The table of a file, judged by itself.
 ///
 /// # Errors
 /// The file's first fault; want of memory.
-#[tactic(auto, using(crate::proofs::PassLaws::error_first, crate::proofs::PassLaws::error_later))]
+#[tactic(auto, unfolding(feed_faults::specs::FormFaults::form_fault), using(crate::proofs::HeldLaws::held_both, crate::proofs::PassLaws::error_first, crate::proofs::PassLaws::error_later))]
 pub fn read_file(alloc: Global, files: &Files, file: FileName) -> Result<ReadTable, TextError>
     requires { AreWithin files.now }
-    ensures fault { IfErr result (IsErrorOf (reading_fault (held_in files.now) file)) }
-    ensures sound { OnOk result (reading_fault (held_in files.now) file ≡ None) }
+    ensures fault { IfErr result (IsErrorOf (form_fault (held_in files.now) file)) }
+    ensures sound { OnOk result (form_fault (held_in files.now) file ≡ None) }
     ensures table { IfOk result (λ read. read ≡ read_of (held_in files.now) file) }
 {
     let table = file_table(alloc, files, file)?;

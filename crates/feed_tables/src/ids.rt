@@ -1,9 +1,13 @@
 //! The rows of a feed by the ids that others name.
-ghost use Rattle.std.specs.Prelude.{◌≡◌, IfOk};
-ghost use Rattle.feed_tables.specs.IdColumns.{file_of, name_of, indexed};
+ghost use Rattle.std.specs.Prelude.{◌≡◌, List, map, IfOk};
+ghost use Rattle.feed_faults.specs.Records.{FileTable};
+ghost use Rattle.feed_tables.specs.IdColumns.{file_of, name_of, indexed, call_ids};
+ghost use Rattle.feed_tables.specs.KeptTables.{tables_with};
+ghost use Rattle.feed_tables.specs.RowNumbers.{TableOf, first_files};
 
 use crate::index::IdIndex;
-use crate::tables::Tables;
+use crate::read_table::ReadTable;
+use crate::tables::{CallTable, Tables};
 use feed_rows::{ColumnName, FileName};
 use std::alloc::{AllocError, Global};
 use std::marker::Model;
@@ -13,12 +17,12 @@ use std::marker::Model;
 pub enum IdColumn {
     /// `stop_id` of `stops.txt`
     Stop,
+    /// `trip_id` of `trips.txt`
+    Trip,
     /// `route_id` of `routes.txt`
     Route,
     /// `network_id` of `routes.txt`
     RouteNetwork,
-    /// `trip_id` of `trips.txt`
-    Trip,
     /// `service_id` of `calendar.txt`
     Calendar,
     /// `service_id` of `calendar_dates.txt`
@@ -42,12 +46,10 @@ pub enum IdColumn {
 }
 
 impl IdColumn {
-    // The columns, in the order in which they are declared.
-    const ALL: [IdColumn; 14] = [
-        IdColumn::Stop,
+    // The columns behind those that stop times name, in the order in which they are declared.
+    const OTHERS: [IdColumn; 12] = [
         IdColumn::Route,
         IdColumn::RouteNetwork,
-        IdColumn::Trip,
         IdColumn::Calendar,
         IdColumn::CalendarDate,
         IdColumn::Area,
@@ -101,39 +103,69 @@ impl IdColumn {
     }
 }
 
-/// The rows of a feed's tables by their ids, each column sorted once. Contracts see them as the tables.
-pub struct Ids<'t> {
-    tables: &'t Tables,
-    // In the order of `IdColumn::ALL`.
-    indexes: Vec<IdIndex<'t>>,
+/// The rows of stops.txt and of trips.txt by the ids that stop times name.
+pub struct CallIds<'t> {
+    pub stops: IdIndex<'t>,
+    pub trips: IdIndex<'t>,
 }
 
-impl<'t> Model for Ids<'t> {
-    ghost use Rattle.std.specs.Prelude.{◌≡◌, map};
+// Written out, so that what lets go of the rows needn't look into them.
+impl<'t> Drop for CallIds<'t> {
+    fn drop(self) {
+        let CallIds { stops: _, trips: _ } = self;
+    }
+}
+
+impl<'t> CallIds<'t> {
+    /// Those of the tables of the files before stop_times.txt.
+    ///
+    /// # Errors
+    /// Want of memory.
+    pub fn of(alloc: Global, first: &'t [ReadTable]) -> Result<CallIds<'t>, AllocError>
+        requires { map (λ read. read.file) first.now ≡ first_files }
+        ensures { IfOk result (λ ids. (calls : FileTable) (others : List TableOf) → ids ≡ call_ids (tables_with first.now calls others)) }
+    {
+        Ok(CallIds {
+            stops: IdIndex::of(alloc, first[0].table(), ColumnName::StopId)?,
+            trips: IdIndex::of(alloc, first[2].table(), ColumnName::TripId)?,
+        })
+    }
+}
+
+/// The rows of a feed's tables by their ids, each column sorted once. Contracts see them as the tables.
+pub struct Ids<'t, C: CallTable> {
+    tables: &'t Tables<'t, C>,
+    calls: &'t CallIds<'t>,
+    // In the order of `IdColumn::OTHERS`.
+    others: Vec<IdIndex<'t>>,
+}
+
+impl<'t, C: CallTable> Model for Ids<'t, C> {
     ghost use Rattle.feed_faults.specs.FeedTables.{FeedTables};
-    ghost use Rattle.feed_tables.specs.IdColumns.{indexed, all_id_columns};
+    ghost use Rattle.feed_tables.specs.IdColumns.{AreIds};
 
     ghost Value = { FeedTables };
 
     ghost view = { λ i. i.tables.now };
 
-    ghost invariant = { λ i. i.indexes.items ≡ map (indexed i.tables.now) all_id_columns };
+    ghost invariant = { λ i. AreIds i.tables.now i.calls.now i.others.items };
 }
 
 // Written out, so that what lets go of the rows needn't look into them.
-impl<'t> Drop for Ids<'t> {
+impl<'t, C: CallTable> Drop for Ids<'t, C> {
     fn drop(self) {
         let Ids {
             tables: _,
-            indexes: _,
+            calls: _,
+            others: _,
         } = self;
     }
 }
 
 // The rows of the tables by the ids of a column.
-fn index_of<'t>(
+fn index_of<'t, C: CallTable>(
     alloc: Global,
-    tables: &'t Tables,
+    tables: &Tables<'t, C>,
     column: IdColumn,
 ) -> Result<IdIndex<'t>, AllocError>
     ensures { IfOk result (λ index. index ≡ indexed tables.now column) }
@@ -141,25 +173,38 @@ fn index_of<'t>(
     IdIndex::of(alloc, tables.get(column.file()), column.name())
 }
 
-impl<'t> Ids<'t> {
-    /// The rows of the tables by their ids.
+impl<'t, C: CallTable> Ids<'t, C> {
+    /// The rows of the tables by their ids, of which those that stop times name stand.
     ///
     /// # Errors
     /// Want of memory.
-    pub fn of(alloc: Global, tables: &'t Tables) -> Result<Ids<'t>, AllocError>
+    pub fn of(
+        alloc: Global,
+        tables: &'t Tables<'t, C>,
+        calls: &'t CallIds<'t>,
+    ) -> Result<Ids<'t, C>, AllocError>
+        requires { calls.now ≡ call_ids tables.now }
         ensures { IfOk result (λ ids. ids ≡ tables.now) }
     {
-        let mut indexes = Vec::with_capacity(alloc, IdColumn::ALL.len())?;
-        for (i, column) in IdColumn::ALL.iter().enumerate() {
-            indexes.push(index_of(alloc, tables, *column)?)?;
+        let mut others = Vec::with_capacity(alloc, IdColumn::OTHERS.len())?;
+        for (i, column) in IdColumn::OTHERS.iter().enumerate() {
+            others.push(index_of(alloc, tables, *column)?)?;
         }
-        Ok(Ids { tables, indexes })
+        Ok(Ids {
+            tables,
+            calls,
+            others,
+        })
     }
 
     /// The rows by the ids of a column.
     pub fn get(&self, column: IdColumn) -> &IdIndex<'t>
         ensures { result.now ≡ indexed self.now column }
     {
-        &self.indexes[column as usize]
+        match column {
+            IdColumn::Stop => &self.calls.stops,
+            IdColumn::Trip => &self.calls.trips,
+            _ => &self.others[column as usize - 2],
+        }
     }
 }

@@ -5,14 +5,14 @@ ghost use Rattle.feed_faults.specs.FeedTables.{table_in};
 ghost use Rattle.feed_faults.specs.Records.{row_count};
 ghost use Rattle.feed_faults.specs.FieldValues.{stop_kind, frame_start, frame_end};
 
-use crate::tables::Tables;
+use crate::tables::{CallTable, Tables};
 use feed_rows::FileName;
 use feed_text::{nat_of, natural};
 use transit_base::DAY_SECONDS;
 
 /// The kind of a stop: its `location_type`, where an empty one is 0.
 #[tactic(auto, using(feed_text::proofs::ValueLaws::int_is_short), unfolding(feed_faults::specs::FieldValues::int_or_zero))]
-pub fn stop_kind(tables: &Tables, row: u32) -> u32
+pub fn stop_kind<C: CallTable>(tables: &Tables<C>, row: u32) -> u32
     requires { row < row_count (table_in tables.now file.Stops) }
     ensures { result ≡ stop_kind (table_in tables.now file.Stops) row }
 {
@@ -22,7 +22,7 @@ pub fn stop_kind(tables: &Tables, row: u32) -> u32
 
 /// The first second of a timeframe, where an empty one is that of the day.
 #[tactic(auto, using(feed_text::proofs::ValueLaws::times))]
-pub fn frame_start(tables: &Tables, row: u32) -> u32
+pub fn frame_start<C: CallTable>(tables: &Tables<C>, row: u32) -> u32
     requires { row < row_count (table_in tables.now file.Timeframes) }
     ensures { result ≡ frame_start (table_in tables.now file.Timeframes) row }
 {
@@ -32,7 +32,7 @@ pub fn frame_start(tables: &Tables, row: u32) -> u32
 
 /// The second before which a timeframe ends, where an empty one is the end of the day.
 #[tactic(auto, using(feed_text::proofs::ValueLaws::times))]
-pub fn frame_end(tables: &Tables, row: u32) -> u32
+pub fn frame_end<C: CallTable>(tables: &Tables<C>, row: u32) -> u32
     requires { row < row_count (table_in tables.now file.Timeframes) }
     ensures { result ≡ frame_end (table_in tables.now file.Timeframes) row }
 {

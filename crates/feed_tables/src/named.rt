@@ -70,8 +70,15 @@ impl NamedTable {
         self.table.rows()
     }
 
+    // How many columns the header has.
+    pub(crate) fn width(&self) -> usize
+        ensures { result ≡ length (header self.now) }
+    {
+        self.table.columns() as usize
+    }
+
     // The place of a column in the header.
-    fn column(&self, name: ColumnName) -> Option<u32>
+    pub(crate) fn column(&self, name: ColumnName) -> Option<u32>
         ensures { result ≡ column_of self.now name }
     {
         self.places[name as usize]

@@ -1,9 +1,9 @@
 //! A file's table with what its rows tell.
-ghost use Rattle.std.specs.Prelude.{◌≡◌, ◌<◌, true, None, IfErr, IfOk, OnOk};
+ghost use Rattle.std.specs.Prelude.{◌≡◌, ◌<◌, None, IfErr, IfOk, OnOk};
+ghost use Rattle.feed_faults.specs.FormFaults.{form_fault_of_rows};
 ghost use Rattle.feed_faults.specs.Records.{field, row_count};
 ghost use Rattle.feed_text.specs.FieldNumbers.{numbers_of};
 ghost use Rattle.feed_text.specs.TextErrors.{IsErrorOf};
-ghost use Rattle.feed_tables.specs.RowNumbers.{fault_of_read_rows, is_read_whole};
 
 use crate::named::NamedTable;
 use crate::rows::read_rows;
@@ -13,7 +13,7 @@ use plain_laws::Groups;
 use std::alloc::Global;
 use std::marker::Model;
 
-/// A file's table, and what its rows tell, but for those of stop_times.txt. Contracts see it as the file and the table.
+/// A file's table, and what its rows tell. Contracts see it as the file and the table.
 pub struct ReadTable {
     file: FileName,
     table: NamedTable,
@@ -21,14 +21,14 @@ pub struct ReadTable {
 }
 
 impl Model for ReadTable {
-    ghost use Rattle.std.specs.Prelude.{◌≡◌, true};
-    ghost use Rattle.feed_tables.specs.RowNumbers.{TableOf, is_read_whole, numbers_by_row};
+    ghost use Rattle.std.specs.Prelude.{◌≡◌};
+    ghost use Rattle.feed_tables.specs.RowNumbers.{TableOf, numbers_by_row};
 
     ghost Value = { TableOf };
 
     ghost view = { λ t. record { file = t.file; table = t.table } };
 
-    ghost invariant = { λ t. is_read_whole t.file ≡ true → t.numbers ≡ numbers_by_row t.file t.table };
+    ghost invariant = { λ t. t.numbers ≡ numbers_by_row t.file t.table };
 }
 
 // Written out, so that what lets go of many tables needn't look into each.
@@ -42,25 +42,14 @@ impl Drop for ReadTable {
     }
 }
 
-// Whether a file's rows are read with its table.
-fn is_read_whole(file: FileName) -> bool
-    ensures { result ≡ is_read_whole file }
-{
-    file != FileName::StopTimes
-}
-
 impl ReadTable {
-    /// The table with what its rows tell. `Fault` is the first fault of its rows; those of stop_times.txt aren't looked at.
+    /// The table with what its rows tell. `Fault` is the first fault of its rows.
     pub fn of(alloc: Global, file: FileName, table: NamedTable) -> Result<ReadTable, TextError>
-        ensures fault { IfErr result (IsErrorOf (fault_of_read_rows file table)) }
-        ensures sound { OnOk result (fault_of_read_rows file table ≡ None) }
+        ensures fault { IfErr result (IsErrorOf (form_fault_of_rows file table)) }
+        ensures sound { OnOk result (form_fault_of_rows file table ≡ None) }
         ensures is { IfOk result (λ read. read ≡ record { file = file; table = table }) }
     {
-        let numbers = if is_read_whole(file) {
-            read_rows(alloc, file, &table)?
-        } else {
-            Groups::empty(alloc)
-        };
+        let numbers = read_rows(alloc, file, &table)?;
         Ok(ReadTable {
             file,
             table,
@@ -79,8 +68,7 @@ impl ReadTable {
     /// an id.
     #[tactic(auto, using(crate::proofs::NumberLaws::kept_within, crate::proofs::NumberLaws::kept_row))]
     pub fn numbers(&self, row: u32) -> &[Option<i64>]
-        requires whole { is_read_whole self.now.file ≡ true }
-        requires within { row < row_count self.now.table }
+        requires { row < row_count self.now.table }
         ensures { result.now ≡ numbers_of self.now.file (field self.now.table row) }
     {
         self.numbers.group(row as usize)

@@ -1,20 +1,16 @@
-//! The tables of a feed, read and judged file by file.
-ghost use Rattle.std.specs.Prelude.{◌≡◌, ◌≢◌, ◌∷◌, ◌++◌, [], ℕ, Option, None, IfOk, IfErr, OnOk};
-ghost use Rattle.std.specs.Option.{option_or};
-ghost use Rattle.feed_rows.specs.declared.faults.FeedFault.{FeedFault};
+//! The tables of files, read and judged one by one.
+ghost use Rattle.std.specs.Prelude.{◌≡◌, ◌≢◌, ◌∷◌, ◌++◌, [], None, map, IfOk, IfErr, OnOk};
+ghost use Rattle.plain_laws.specs.Plain.{first_in};
 ghost use Rattle.feed_rows.specs.declared.names.FileName.{FileName};
-ghost use Rattle.feed_rows.specs.declared.names.FileName.TheVariants as file;
 ghost use Rattle.feed_rows.specs.Names.{place};
-ghost use Rattle.feed_faults.specs.FeedTables.{table_in, table_of, tables_of};
-ghost use Rattle.feed_faults.specs.FormFaults.{first_form_fault, form_fault_of_rows};
+ghost use Rattle.feed_faults.specs.FormFaults.{form_fault};
 ghost use Rattle.feed_text.specs.TextErrors.{IsErrorOf};
-ghost use Rattle.feed_tables.specs.RowNumbers.{read_of, reading_fault, rows_fault_in};
+ghost use Rattle.feed_tables.specs.LeftFiles.{AreLeftBehind};
+ghost use Rattle.feed_tables.specs.RowNumbers.{read_of, AreInOrder};
 ghost use Rattle.folder_io.specs.KeptFiles.{file_in, held_in, AreWithin};
 
 use crate::files::read_file;
 use crate::read_table::ReadTable;
-use crate::rows::fault_of_rows;
-use crate::tables::Tables;
 use feed_rows::FileName;
 use feed_text::TextError;
 use folder_io::{FileBytes, Files};
@@ -30,8 +26,8 @@ fn push_table(tables: &mut Vec<ReadTable>, table: ReadTable) -> Result<(), Alloc
 // The table of a file, whose bytes are let go of.
 fn taken_table(alloc: Global, files: &mut Files, file: FileName) -> Result<ReadTable, TextError>
     requires { AreWithin files.old }
-    ensures fault { IfErr result (IsErrorOf (reading_fault (held_in files.old) file)) }
-    ensures sound { OnOk result (reading_fault (held_in files.old) file ≡ None) }
+    ensures fault { IfErr result (IsErrorOf (form_fault (held_in files.old) file)) }
+    ensures sound { OnOk result (form_fault (held_in files.old) file ≡ None) }
     ensures table { IfOk result (λ read. read ≡ read_of (held_in files.old) file) }
     ensures others { (other : FileName) → place other ≢ place file → file_in files.new other ≡ file_in files.old other }
     ensures within { AreWithin files.new }
@@ -41,41 +37,29 @@ fn taken_table(alloc: Global, files: &mut Files, file: FileName) -> Result<ReadT
     Ok(table)
 }
 
-// The error of a file behind these tables: a fault of the rows of stop_times.txt, where it is among them, comes before it.
-fn first_error(alloc: Global, tables: &[ReadTable], error: TextError) -> TextError
-    ensures { (later : Option FeedFault) → IsErrorOf later error → IsErrorOf (option_or (rows_fault_in tables.now) later) result }
+/// The tables of files that follow one another in the order of the files. The bytes of each are let go of once its table
+/// stands.
+///
+/// # Errors
+/// Their first fault: of the files in their order, as a whole, then of the header, then row by row and in a row column by
+/// column; want of memory.
+pub fn read_tables(
+    alloc: Global,
+    files: &mut Files,
+    names: &[FileName],
+) -> Result<Vec<ReadTable>, TextError>
+    requires within { AreWithin files.old }
+    requires order { AreInOrder names.now }
+    ensures fault { IfErr result (IsErrorOf (first_in names.now (form_fault (held_in files.old)))) }
+    ensures sound { OnOk result (first_in names.now (form_fault (held_in files.old)) ≡ None) }
+    ensures tables { IfOk result (λ tables. tables.items ≡ map (read_of (held_in files.old)) names.now) }
+    ensures left { OnOk result (AreLeftBehind files.old files.new names.now) }
+    ensures still_within { AreWithin files.new }
 {
-    let place = FileName::StopTimes as usize;
-    if place >= tables.len() {
-        return error;
+    let mut tables = Vec::with_capacity(alloc, names.len())?;
+    for (i, file) in names.iter().enumerate() {
+        let table = taken_table(alloc, files, *file)?;
+        push_table(&mut tables, table)?;
     }
-    match fault_of_rows(alloc, FileName::StopTimes, tables[place].table()) {
-        Ok(Some(fault)) => TextError::Fault(fault),
-        Ok(None) => error,
-        Err(_) => TextError::NoMemory,
-    }
-}
-
-impl Tables {
-    /// The tables of a feed's files, of which none has a fault by itself, but that the rows of stop_times.txt aren't read:
-    /// their first fault is the one that is left. The bytes of a file are let go of once its table stands.
-    ///
-    /// # Errors
-    /// The first fault: of the files in their order, as a whole, then of the header, then row by row and in a row column
-    /// by column; want of memory.
-    pub fn read(alloc: Global, mut files: Files) -> Result<Tables, TextError>
-        requires { AreWithin files }
-        ensures fault { IfErr result (IsErrorOf (first_form_fault (held_in files))) }
-        ensures left { IfOk result (λ tables. first_form_fault (held_in files) ≡ form_fault_of_rows file.StopTimes (table_in tables file.StopTimes)) }
-        ensures tables { IfOk result (λ tables. tables ≡ tables_of (held_in files)) }
-    {
-        let mut tables = Vec::with_capacity(alloc, FileName::all().len())?;
-        for (i, file) in FileName::all().iter().enumerate() {
-            match taken_table(alloc, &mut files, *file) {
-                Ok(table) => push_table(&mut tables, table)?,
-                Err(error) => return Err(first_error(alloc, &tables, error)),
-            }
-        }
-        Ok(Tables { tables })
-    }
+    Ok(tables)
 }

@@ -1,40 +1,64 @@
 //! The tables of a feed's files.
-ghost use Rattle.std.specs.Prelude.{◌≡◌, ◌<◌, true, length};
+ghost use Rattle.std.specs.Prelude.{◌≡◌, ◌<◌, ◌≤◌, true, length};
 ghost use Rattle.feed_rows.specs.Names.{place};
 ghost use Rattle.feed_faults.specs.FeedTables.{table_in};
 ghost use Rattle.feed_faults.specs.FormFaults.{judged_columns};
 ghost use Rattle.feed_faults.specs.Records.{field, row_count};
 ghost use Rattle.feed_text.specs.FieldNumbers.{numbers_of};
-ghost use Rattle.feed_tables.specs.RowNumbers.{is_read_whole};
+ghost use Rattle.feed_text.specs.RowLimits.{row_limit};
+ghost use Rattle.feed_tables.specs.KeptTables.{tables_with, AreKept};
+ghost use Rattle.feed_tables.specs.RowNumbers.{has_table};
 
 use crate::named::NamedTable;
 use crate::read_table::ReadTable;
 use feed_rows::FileName;
-use std::marker::Model;
+use std::marker::{Brand, Model, PhantomData};
 
-/// The table of each file of a feed; a file that isn't there has one without a record. Contracts see it as the list of the
-/// tables, in the order of the files.
-pub struct Tables {
-    pub(crate) tables: Vec<ReadTable>,
+/// The table of stop_times.txt, of which only rows are kept. Contracts alone know it: a call of a function over a
+/// `CallTable` passes [`Brand`], and its proof picks the table.
+pub trait CallTable {
+    ghost use Rattle.feed_faults.specs.Records.{FileTable};
+
+    /// The table.
+    ghost table: { FileTable };
 }
 
-impl Model for Tables {
-    ghost use Rattle.std.specs.Prelude.{◌≡◌, map};
-    ghost use Rattle.feed_rows.specs.Names.{all_files};
+impl CallTable for Brand {
+    ghost use Rattle.std.specs.Prelude.{[]};
+
+    ghost table = { [] };
+}
+
+/// The table of each file of a feed, of which that of stop_times.txt isn't kept; a file that isn't there has one without a
+/// record. Contracts see it as the list of all tables, in the order of the files.
+pub struct Tables<'t, C: CallTable> {
+    first: &'t [ReadTable],
+    others: &'t [ReadTable],
+    // How many rows stop_times.txt has.
+    calls: u32,
+    call_table: PhantomData<C>,
+}
+
+impl<'t, C: CallTable> Model for Tables<'t, C> {
     ghost use Rattle.feed_faults.specs.FeedTables.{FeedTables};
-    ghost use Rattle.feed_tables.specs.RowNumbers.{TableOf};
+    ghost use Rattle.feed_tables.specs.KeptTables.{tables_with, AreKept};
 
     ghost Value = { FeedTables };
 
-    ghost view = { λ t. map (λ (read : TableOf). read.table) t.tables.items };
+    ghost view = { λ t. tables_with t.first.now C.table t.others.now };
 
-    ghost invariant = { λ t. map (λ (read : TableOf). read.file) t.tables.items ≡ all_files };
+    ghost invariant = { λ t. AreKept t.first.now t.others.now C.table t.calls };
 }
 
 // Written out, so that what lets go of the tables needn't look into them.
-impl Drop for Tables {
+impl<'t, C: CallTable> Drop for Tables<'t, C> {
     fn drop(self) {
-        let Tables { tables: _ } = self;
+        let Tables {
+            first: _,
+            others: _,
+            calls: _,
+            call_table: _,
+        } = self;
     }
 }
 
@@ -45,27 +69,67 @@ fn place_of(file: FileName) -> usize
     file as usize
 }
 
-impl Tables {
+impl<'t, C: CallTable> Tables<'t, C> {
+    /// The tables of the files before stop_times.txt and behind it, and of so many stop times.
+    pub fn of(first: &'t [ReadTable], others: &'t [ReadTable], calls: u32) -> Tables<'t, C>
+        requires { AreKept first.now others.now C.table calls }
+        ensures { result ≡ tables_with first.now C.table others.now }
+    {
+        Tables {
+            first,
+            others,
+            calls,
+            call_table: PhantomData,
+        }
+    }
+
+    // The table of a file with what its rows tell.
+    fn read_table(&self, file: FileName) -> &'t ReadTable
+        requires { has_table file ≡ true }
+        ensures file { result.now.file ≡ file }
+        ensures table { result.now.table ≡ table_in self.now file }
+    {
+        let place = place_of(file);
+        if place < 3 {
+            &self.first[place]
+        } else {
+            &self.others[place - 4]
+        }
+    }
+
     /// The table of a file.
-    pub fn get(&self, file: FileName) -> &NamedTable
+    pub fn get(&self, file: FileName) -> &'t NamedTable
+        requires { has_table file ≡ true }
         ensures { result.now ≡ table_in self.now file }
     {
-        self.tables[file as usize].table()
+        self.read_table(file).table()
+    }
+
+    /// How many data rows a file has.
+    pub fn rows(&self, file: FileName) -> u32
+        ensures count { result ≡ row_count (table_in self.now file) }
+        ensures few { result ≤ row_limit }
+    {
+        if file == FileName::StopTimes {
+            self.calls
+        } else {
+            self.get(file).rows()
+        }
     }
 
     // What a row of a file tells, in the order of the columns that are judged.
-    fn row_numbers(&self, file: FileName, row: u32) -> &[Option<i64>]
-        requires whole { is_read_whole file ≡ true }
+    fn row_numbers(&self, file: FileName, row: u32) -> &'t [Option<i64>]
+        requires kept { has_table file ≡ true }
         requires within { row < row_count (table_in self.now file) }
         ensures { result.now ≡ numbers_of file (field (table_in self.now file) row) }
     {
-        self.tables[place_of(file)].numbers(row)
+        self.read_table(file).numbers(row)
     }
 
-    /// What a row of a file tells, but for those of stop_times.txt: of each column that is judged, in their order, the
-    /// number of the field; none where it is empty, or an id.
-    pub fn numbers<const N: usize>(&self, file: FileName, row: u32) -> &[Option<i64>; N]
-        requires whole { is_read_whole file ≡ true }
+    /// What a row of a file tells: of each column that is judged, in their order, the number of the field; none where it is
+    /// empty, or an id.
+    pub fn numbers<const N: usize>(&self, file: FileName, row: u32) -> &'t [Option<i64>; N]
+        requires kept { has_table file ≡ true }
         requires within { row < row_count (table_in self.now file) }
         requires columns { length (judged_columns file (field (table_in self.now file) row)) ≡ N }
         ensures { result.now ≡ numbers_of file (field (table_in self.now file) row) }

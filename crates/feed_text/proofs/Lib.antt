@@ -10,3 +10,4 @@ pub mod HeaderLaws
 pub mod Utf8Laws
 pub mod ValueLaws
 pub mod NumberLaws
+pub mod TextLaws

@@ -1,7 +1,10 @@
 -- The records that a reader gives one by one are those of the whole text.
 use Rattle.std.proofs.Common.{◌≡◌, ℕ, ◌+◌, ◌<◌, ◌≤◌, ◌⊎◌, inl, inr, ◌++◌, List, [], ◌∷◌, Bool, true, false, zero, suc, length, Option, None, Some, refl, ap, arith}
-use Rattle.std.specs.Prelude.{if◌then◌else◌}
+use Rattle.std.specs.Prelude.{if◌then◌else◌, map}
 use Rattle.csv.specs.Machine.{Read, next_record, step, is_end, fields_after, field_after, ends_at_end}
+use Rattle.csv.specs.Writing.{read_back}
+use Rattle.csv.specs.declared.parser.Action.{Action}
+use Rattle.csv.specs.declared.parser.Action.TheVariants as act
 use Rattle.csv.specs.Reading.{records_from, Reached, records}
 use Rattle.csv.specs.declared.parser.Config.{Config}
 use Rattle.csv.specs.declared.parser.State.{State}
@@ -76,3 +79,31 @@ fewer cfg (suc n) s s2 xs ys (r ∷ rs) h le =
 pub some_records : (cfg : Config) (s2 : State) (xs ys : List ℕ) (rows : List (List (List ℕ)))
     → Reached cfg st.StartRecord xs rows s2 ys → length rows ≤ length (records cfg xs)
 some_records cfg s2 xs ys rows h = fewer cfg (length xs + 1) st.StartRecord s2 xs ys rows h (rows_bound cfg st.StartRecord s2 xs ys rows h)
+
+-- a record has a field
+kept_back : (f : List (List ℕ)) (g : List ℕ) → read_back (f ++ (g ∷ [])) ≡ f ++ (g ∷ [])
+kept_back [] g = refl
+kept_back (x ∷ f) g = refl
+
+next_kept : (cfg : Config) (s : State) (f : List (List ℕ)) (g : List ℕ) (xs : List ℕ) (p : Read) → next_record cfg s f g xs ≡ Some p → read_back p.0 ≡ p.0
+unfolding next_record
+next_kept cfg s f g [] p e =
+    elim (chosen (ends_at_end s) (Some (f ++ (g ∷ []), st.StartRecord, [])) None p e) as (λ _. read_back p.0 ≡ p.0) [
+      | inl h ↦ let same : f ++ (g ∷ []) ≡ p.0 = cc in rw (← same) (kept_back f g)
+      | inr h ↦ absurd (cc)
+    ]
+next_kept cfg s f g (c ∷ rest) p e = each (step cfg s c).1 e (λ f2 g2 e2. next_kept cfg (step cfg s c).0 f2 g2 rest p e2)
+  where
+    each : (a : Action) → (if is_end a then Some (fields_after a f g, (step cfg s c).0, rest) else next_record cfg (step cfg s c).0 (fields_after a f g) (field_after a c g) rest) ≡ Some p
+        → ((f2 : List (List ℕ)) (g2 : List ℕ) → next_record cfg (step cfg s c).0 f2 g2 rest ≡ Some p → read_back p.0 ≡ p.0) → read_back p.0 ≡ p.0
+    each act.EndRecord e later = let same : f ++ (g ∷ []) ≡ p.0 = cc in rw (← same) (kept_back f g)
+    each act.Copy e later = later f (g ++ c ∷ []) e
+    each act.Skip e later = later f g e
+    each act.EndField e later = later (f ++ (g ∷ [])) [] e
+
+pub rows_kept : (cfg : Config) (s s2 : State) (xs ys : List ℕ) (rows : List (List (List ℕ))) → Reached cfg s xs rows s2 ys → map read_back rows ≡ rows
+unfolding Reached
+rows_kept cfg s s2 xs ys [] h = refl
+rows_kept cfg s s2 xs ys (r ∷ rs) h =
+    let one : read_back r ≡ r = rw h.2 (next_kept cfg s [] [] xs h.0 h.1) in
+    rw (one, rows_kept cfg h.0.1 s2 h.0.2 ys rs h.3) refl

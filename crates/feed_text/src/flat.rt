@@ -1,22 +1,21 @@
 //! Records that are kept flat.
-ghost use Rattle.std.specs.Prelude.{◌≡◌, ◌++◌, ◌∷◌, [], map, OnOk};
-ghost use Rattle.csv.specs.Records.{fields_of};
-ghost use Rattle.feed_faults.specs.Records.{cut};
+ghost use Rattle.std.specs.Prelude.{◌≡◌, ◌++◌, OnOk};
+ghost use Rattle.feed_text.specs.Reader.{last_record};
 
-use crate::blanks::cut_of;
-use csv::ByteRecord;
+use crate::records::Records;
 use plain_laws::Groups;
 use std::alloc::AllocError;
+use std::io::Read;
 
-// Puts the fields of a record behind those that are kept.
-pub(crate) fn push_fields(fields: &mut Groups<u8>, row: &ByteRecord) -> Result<(), AllocError>
-    ensures { OnOk result (fields.new ≡ fields.old ++ map cut (fields_of row.now)) }
+// Puts the fields of the last record behind those that are kept.
+pub(crate) fn push_fields<R: Read>(
+    fields: &mut Groups<u8>,
+    records: &Records<R>,
+) -> Result<(), AllocError>
+    ensures { OnOk result (fields.new ≡ fields.old ++ last_record records.now) }
 {
-    for i in 0..row.len() {
-        let Some(field) = row.get(i) else {
-            unreachable!();
-        };
-        fields.push(cut_of(field))?;
+    for place in 0..records.len() {
+        fields.push(records.field(place))?;
     }
     Ok(())
 }

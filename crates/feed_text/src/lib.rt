@@ -11,6 +11,8 @@ mod flat;
 mod ids;
 mod numbers;
 mod reading;
+mod records;
+mod seen;
 mod table;
 
 pub use amounts::amount_of;
@@ -20,5 +22,7 @@ pub use faults::{field_fault, file_fault, row_fault};
 pub use fields::{Fields, is_filled, is_passed_over, nat_of, natural, read_fields};
 pub use ids::{currency_of, id_ok};
 pub use numbers::{count_of, int_of, time_of};
-pub use reading::is_always_needed;
+pub use reading::{header_fault, is_always_needed, is_text};
+pub use records::{RecordError, Records};
+pub use seen::SeenTable;
 pub use table::{Table, has_record};

@@ -101,9 +101,9 @@ fn first_missing(file: FileName, table: &Table) -> Option<FeedFault>
     None
 }
 
-// The first fault of a header.
+/// The first fault of a table's header: every doubled column comes before every missing one.
 #[tactic(auto, unfolding(feed_faults::specs::FormFaults::header_fault))]
-fn header_fault(file: FileName, table: &Table) -> Option<FeedFault>
+pub fn header_fault(file: FileName, table: &Table) -> Option<FeedFault>
     ensures { result ≡ header_fault file table.now }
 {
     if let Some(fault) = first_doubled(file, table) {
@@ -129,8 +129,8 @@ fn table_fault(file: FileName, table: &Table, max_rows: u32) -> Option<FeedFault
     header_fault(file, table)
 }
 
-// Whether the bytes are UTF-8.
-fn is_text(bytes: &[u8]) -> bool
+/// Whether the bytes are UTF-8.
+pub fn is_text(bytes: &[u8]) -> bool
     ensures { result ≡ is_utf8 bytes.now }
 {
     std::str::from_utf8(bytes).is_ok()

@@ -1,21 +1,19 @@
 //! A file as a table, kept flat.
 ghost use Rattle.std.specs.Prelude.{◌≡◌, ◌≤◌, ◌<◌, ◌+◌, ◌-◌, ◌^◌, ◌++◌, ◌∷◌, [], true, List, ℕ, length, map, get_or, slice_index, IfOk, OnOk, IfSome, Some, bytes_eq, nat_le, nat_lt, not};
-ghost use Rattle.csv.specs.Records.{fields_of};
-ghost use Rattle.csv.specs.Reading.{Ready, ReadRecord, reader_trim, took_first, strip_bom};
-ghost use Rattle.csv.specs.declared.reader.Trim.TheVariants as trim;
 ghost use Rattle.plain_laws.specs.Plain.{when, any_below};
 ghost use Rattle.feed_rows.specs.Names.{column_text};
 ghost use Rattle.feed_faults.specs.Records.{FileTable, table_of_bytes, cut, header, row_count, data_row, column_of, field, is_filled, is_long};
 ghost use Rattle.feed_faults.specs.FormFaults.{is_twice};
 ghost use Rattle.feed_text.specs.TableFields.{field_in};
-ghost use Rattle.feed_text.specs.Reader.{StandsBehind};
+ghost use Rattle.feed_text.specs.Reader.{last_record};
 ghost use Rattle.plain_laws.specs.Plain.{parts, Rise};
 
 use crate::flat::push_fields;
-use csv::{ByteRecord, Reader, ReaderBuilder};
+use crate::records::Records;
 use feed_rows::ColumnName;
 use plain_laws::{Groups, part_of, push_end};
 use std::alloc::{AllocError, Global};
+use std::io::Read;
 use std::marker::Model;
 
 /// A file as a table: its header and its data rows, which are numbered from 0, each field without the blanks at its ends.
@@ -44,55 +42,19 @@ impl Model for Table {
     ghost invariant = { λ t. Rise 0 t.rows.items (length t.fields) × (length t.rows.items ≤ 2 ^ 32) };
 }
 
-// Reads the next record into `row`. Answers whether there is one.
-fn read_record(reader: &mut Reader<&[u8]>, row: &mut ByteRecord) -> Result<bool, AllocError>
-    ensures ready { reader_trim reader.old ≡ trim.None → OnOk result (took_first reader.new ≡ true) }
-    ensures reads { IfOk result (λ found. reader_trim reader.old ≡ trim.None → Ready reader.old → ReadRecord (λ s. Some s.now) reader.old reader.new found (fields_of row.new)) }
-{
-    match reader.read_byte_record(row) {
-        Ok(found) => Ok(found),
-        // A read over bytes in memory fails for want of memory alone.
-        Err(_) => Err(AllocError),
-    }
-}
-
 // Puts a record behind those that are kept.
-fn push_record(
+fn push_record<R: Read>(
     fields: &mut Groups<u8>,
     rows: &mut Vec<u32>,
-    row: &ByteRecord,
+    records: &Records<R>,
 ) -> Result<(), AllocError>
     requires { Rise 0 rows.old.items (length fields.old) }
     ensures rise { OnOk result (Rise 0 rows.new.items (length fields.new)) }
-    ensures parts { OnOk result (parts 0 rows.new.items fields.new ≡ parts 0 rows.old.items fields.old ++ map cut (fields_of row.now) ∷ []) }
+    ensures parts { OnOk result (parts 0 rows.new.items fields.new ≡ parts 0 rows.old.items fields.old ++ last_record records.now ∷ []) }
     ensures count { OnOk result (length rows.new.items ≡ length rows.old.items + 1) }
 {
-    push_fields(fields, row)?;
+    push_fields(fields, records)?;
     push_end(rows, fields.count())
-}
-
-// Keeps the records that a reader gives, up to the first that is one too many. Answers whether none is too many.
-fn push_records(
-    reader: &mut Reader<&[u8]>,
-    row: &mut ByteRecord,
-    fields: &mut Groups<u8>,
-    rows: &mut Vec<u32>,
-    max_rows: u32,
-) -> Result<bool, AllocError>
-    requires no_fields { fields.old ≡ [] }
-    requires no_rows { rows.old.items ≡ [] }
-    ensures rise { OnOk result (Rise 0 rows.new.items (length fields.new)) }
-    ensures few { IfOk result (λ all. all ≡ true → length rows.new.items ≤ 2 ^ 32) }
-    ensures table { IfOk result (λ all. (bytes : List ℕ) → StandsBehind (λ s. Some s.now) reader.old (strip_bom bytes) [] → when all (parts 0 rows.new.items fields.new) ≡ when (nat_le (row_count (table_of_bytes bytes)) max_rows) (table_of_bytes bytes)) }
-{
-    // The header, the rows, and one record more, which is one too many.
-    for _ in 0..u64::from(max_rows) + 2 {
-        if !read_record(reader, row)? {
-            return Ok(true);
-        }
-        push_record(fields, rows, row)?;
-    }
-    Ok(false)
 }
 
 // Keeps the records of a file's bytes, up to the first that is one too many. Answers whether none is too many.
@@ -109,12 +71,17 @@ fn keep_records(
     ensures few { IfOk result (λ all. all ≡ true → length rows.new.items ≤ 2 ^ 32) }
     ensures table { IfOk result (λ all. when all (parts 0 rows.new.items fields.new) ≡ when (nat_le (row_count (table_of_bytes text.now)) max_rows) (table_of_bytes text.now)) }
 {
-    let mut reader = ReaderBuilder::new()
-        .has_headers(false)
-        .flexible(true)
-        .from_reader(alloc, text);
-    let mut row = ByteRecord::new(alloc);
-    push_records(&mut reader, &mut row, fields, rows, max_rows)
+    let mut records = Records::of(alloc, text);
+    // The header, the rows, and one record more, which is one too many.
+    for _ in 0..u64::from(max_rows) + 2 {
+        match records.next() {
+            Ok(true) => push_record(fields, rows, &records)?,
+            Ok(false) => return Ok(true),
+            // A read over bytes in memory fails for want of memory alone.
+            Err(_) => return Err(AllocError),
+        }
+    }
+    Ok(false)
 }
 
 // The table of a file's bytes, where it has at most so many data rows.
@@ -156,6 +123,19 @@ impl Table {
             fields: Groups::empty(alloc),
             rows: Vec::new(alloc),
         }
+    }
+
+    /// The table of the last record alone, which is its header.
+    ///
+    /// # Errors
+    /// Want of memory.
+    pub fn of_record<R: Read>(alloc: Global, records: &Records<R>) -> Result<Table, AllocError>
+        ensures { IfOk result (λ table. table ≡ last_record records.now ∷ []) }
+    {
+        let mut fields = Groups::empty(alloc);
+        let mut rows = Vec::new(alloc);
+        push_record(&mut fields, &mut rows, records)?;
+        Ok(Table { fields, rows })
     }
 
     /// Whether there is no record, not even a header.
@@ -205,7 +185,7 @@ impl Table {
 
     // How many columns the header has.
     #[tactic(auto, using(crate::proofs::HeaderLaws::no_header))]
-    pub(crate) fn columns(&self) -> u32
+    pub fn columns(&self) -> u32
         ensures { result ≡ length (header self.now) }
     {
         if self.records() == 0 {

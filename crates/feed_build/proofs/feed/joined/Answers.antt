@@ -6,4 +6,4 @@ use Rattle.feed_build.proofs.feed.joined.Goals as goal
 
 pub invariant_of-result : goal.invariant_of-result
 unfolding rows_of_tables
-invariant_of-result c = sound_rows _ _ c.requires.formed c.requires.related (grind (arith, common_steps))
+invariant_of-result g c = sound_rows _ _ c.requires.formed c.requires.related (grind (arith, common_steps))

@@ -6,4 +6,4 @@ use Rattle.feed_faults.specs.AcceptedFeed.{link_row}
 use Rattle.feed_build.proofs.timetable.link_rows.Given as goal
 
 abbrev pub invariant-loop-row : goal.invariant-loop-row
-invariant-loop-row l = l.rows ≡ picks_below l.row (λ row. not (is_passed_over (field l.table row))) (link_row l.source)
+invariant-loop-row g l = l.rows ≡ picks_below l.row (λ row. not (is_passed_over (field l.table row))) (link_row l.source)

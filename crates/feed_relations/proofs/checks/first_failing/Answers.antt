@@ -8,7 +8,7 @@ use Rattle.feed_relations.proofs.KeyLaws.{repeated_by_numbers}
 use Rattle.feed_relations.proofs.checks.first_failing.Goals as goal
 
 pub returns-in_ok-first_repeated-in-NewKey : goal.returns-in_ok-first_repeated-in-NewKey
-returns-in_ok-first_repeated-in-NewKey c =
+returns-in_ok-first_repeated-in-NewKey g c =
     let t = c.args.feed.now in
     let other : c.args.file ≡ file.StopTimes → ⊥ = λ same. let e = rw same at c.eq.ensures in let no = c.if-eq.false in cc in
     c.in_ok-first_repeated-in-NewKey.ensures
@@ -16,3 +16,8 @@ returns-in_ok-first_repeated-in-NewKey c =
     (subst (λ (check : RowCheck). Fits t c.args.file check) c.in-NewKey.is c.requires.fits other)
     (λ row lt. subst (λ (check : RowCheck). Knows t c.args.file check row) c.in-NewKey.is (c.requires.knows row lt))
     ∙ ap (λ (check : RowCheck). find_below c.args.below (fails t c.args.file check)) (sym c.in-NewKey.is)
+
+pub returns-in-GoodTimeframe : goal.returns-in-GoodTimeframe
+returns-in-GoodTimeframe g c =
+    let timeframes = rw c.in-GoodTimeframe.is at c.requires.fits in
+    rw (c.in-GoodTimeframe.is, timeframes) c.first_bad_frame.ensures

@@ -6,4 +6,4 @@ use Rattle.feed_relations.specs.Frames.{is_malformed}
 use Rattle.feed_relations.proofs.frames.first_malformed.Given as goal
 
 abbrev pub invariant-loop-row : goal.invariant-loop-row
-invariant-loop-row l = find_below l.row (is_malformed (table_in l.tables file.Timeframes)) ≡ None
+invariant-loop-row g l = find_below l.row (is_malformed (table_in l.tables file.Timeframes)) ≡ None

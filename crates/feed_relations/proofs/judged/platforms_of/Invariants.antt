@@ -8,4 +8,4 @@ use Rattle.feed_faults.specs.FieldValues.{stop_kind}
 use Rattle.feed_relations.proofs.judged.platforms_of.Given as goal
 
 abbrev pub invariant-loop-row : goal.invariant-loop-row
-invariant-loop-row l = l.platforms.items ≡ list_below l.row (λ row. stop_kind (table_in l.tables file.Stops) row == platform_type)
+invariant-loop-row g l = l.platforms.items ≡ list_below l.row (λ row. stop_kind (table_in l.tables file.Stops) row == platform_type)

@@ -4,4 +4,4 @@ use Rattle.feed_relations.specs.RowKeys.{is_key_repeated, AreSeen}
 use Rattle.feed_relations.proofs.keys.first_repeated.Given as goal
 
 abbrev pub invariant-loop-row : goal.invariant-loop-row
-invariant-loop-row l = (find_below l.row (is_key_repeated l.feed l.file) ≡ None) × AreSeen l.seen l.feed l.file l.row
+invariant-loop-row g l = (find_below l.row (is_key_repeated l.feed l.file) ≡ None) × AreSeen l.seen l.feed l.file l.row

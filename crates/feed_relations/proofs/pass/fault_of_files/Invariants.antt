@@ -6,4 +6,4 @@ use Rattle.feed_faults.specs.FirstFault.{relation_fault}
 use Rattle.feed_relations.proofs.pass.fault_of_files.Given as goal
 
 abbrev pub invariant-loop-i : goal.invariant-loop-i
-invariant-loop-i l = first_below l.i (at_item all_files (relation_fault l.feed)) ≡ None
+invariant-loop-i g l = first_below l.i (at_item all_files (relation_fault l.feed)) ≡ None

@@ -1,4 +1,4 @@
-use Rattle.std.proofs.Common.{◌≡◌, ◌∙◌, sym, ap, subst, arith, ◌<◌, ℕ, List, length}
+use Rattle.std.proofs.Common.{◌≡◌, ◌∙◌, sym, subst, arith, ◌<◌, ℕ, List, length}
 use Rattle.plain_laws.proofs.Laws.{find_below_tells}
 use Rattle.feed_faults.specs.declared.checks.RowCheck.{RowCheck}
 use Rattle.feed_faults.specs.Records.{row_count}
@@ -10,24 +10,24 @@ use Rattle.feed_relations.proofs.pass.fault_of_rows.Goals as goal
 use Rattle.feed_relations.proofs.pass.fault_of_rows.Goals.{in-Some, in_default}
 
 pub first_failing-requires-clause-fits : goal.first_failing-requires-clause-fits
-first_failing-requires-clause-fits c =
+first_failing-requires-clause-fits g c =
     rw c.checks_of-check-items.ensures (fits c.args.feed.now c.args.file c.loop-i.i _ (subst (λ (checks : List RowCheck). c.loop-i.i < length checks) c.checks_of-check-items.ensures c.loop-i-test.true))
 
 pub first_failing-requires-clause-knows : goal.first_failing-requires-clause-knows
-first_failing-requires-clause-knows c =
+first_failing-requires-clause-knows g c =
     rw c.checks_of-check-items.ensures (λ row lt. knows c.args.feed.now c.args.file c.loop-i.i _ row (subst (λ (checks : List RowCheck). c.loop-i.i < length checks) c.checks_of-check-items.ensures c.loop-i-test.true) (c.loop-i.invariant.none row lt))
 
 pub check_fault-requires : goal.check_fault-requires
-check_fault-requires c =
+check_fault-requires g c =
     let first = find_below_tells _ c.loop-i.below c.in-Some.row (sym c.in_ok-row.ensures ∙ c.in-Some.is) in
     let less = first.within in
-    let rows : c.rows-below.result ≡ row_count (table_in c.args.feed.now c.args.file) = c.rows-below.ensures.count ∙ ap row_count c.table.ensures in
+    let rows : c.rows-below.result ≡ row_count (table_in c.args.feed.now c.args.file) = c.rows-below.ensures.count in
     let few = c.rows-below.ensures.few in
     let le = c.loop-i.invariant.within in
     omega arith
 
 pub loop-i-preserved : goal.loop-i-preserved
-loop-i-preserved c =
+loop-i-preserved g c =
     elim c.match-branch-2.branch [
       | in-Some w ↦
           rw (w.below-is, w.fault-is, w.check_fault.ensures)
@@ -39,7 +39,7 @@ loop-i-preserved c =
 
 pub returns : goal.returns
 unfolding relation_fault_of_row
-returns c =
+returns g c =
     let checks = checks_of c.args.file in
     let n = row_count (table_in c.args.feed.now c.args.file) in
     let all : c.loop-i.i ≡ length checks = subst (λ (xs : List RowCheck). c.loop-i.i ≡ length xs) c.checks_of-check-items.ensures (omega (arith, c.loop-i-test.false, c.loop-i.auto.i-end)) in

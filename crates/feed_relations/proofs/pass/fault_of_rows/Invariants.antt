@@ -5,4 +5,4 @@ use Rattle.feed_relations.proofs.LeastLaws.{IsLeast}
 use Rattle.feed_relations.proofs.pass.fault_of_rows.Given as goal
 
 abbrev pub invariant-loop-i : goal.invariant-loop-i
-invariant-loop-i l = IsLeast (checks_of l.file) (fault_of_check l.feed l.file) l.i (row_count (table_in l.feed l.file)) l.below l.fault
+invariant-loop-i g l = IsLeast (checks_of l.file) (fault_of_check l.feed l.file) l.i (row_count (table_in l.feed l.file)) l.below l.fault

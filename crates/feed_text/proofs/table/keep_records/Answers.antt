@@ -1,12 +1,29 @@
-use Rattle.std.proofs.lemmas.Result.{IfOk-weaker}
-use Rattle.feed_text.proofs.ReaderLaws.{begins}
+use Rattle.std.proofs.Common.{Some, arith}
+use Rattle.plain_laws.specs.Plain.{parts}
+use Rattle.plain_laws.proofs.Laws.{length_parts}
+use Rattle.feed_faults.specs.Records.{table_of_bytes}
+use Rattle.feed_text.proofs.ReaderLaws.{goes_within, kept_within, too_long}
 use Rattle.feed_text.proofs.table.keep_records.Goals as goal
+
+pub loop-preserved : goal.loop-preserved
+loop-preserved c =
+    let pushed = c.in_ok-push_record-in-Ok-true.ensures in
+    record {
+      rows = pushed.rise;
+      count = omega (arith, pushed.count, c.loop.invariant.count);
+      stands = rw pushed.parts (rw c.in-Ok-true.field-0-test at (c.in-Ok-true.ensures.goes_on (Some c.args.text.now) (parts 0 c.loop.rows.items c.loop.fields) c.loop.invariant.stands));
+    }
+
+pub returns-in-Ok-false-clause-table : goal.returns-in-Ok-false-clause-table
+returns-in-Ok-false-clause-table c =
+    let all = rw c.in-Ok-false.field-0-test at (c.in-Ok-false.ensures.goes_on (Some c.args.text.now) (parts 0 c.loop.rows.items c.loop.fields) c.loop.invariant.stands) in
+    let size = length_parts 0 c.loop.rows.items c.loop.fields in
+    kept_within (parts 0 c.loop.rows.items c.loop.fields) (table_of_bytes c.args.text.now) c.args.max_rows (rw all.is_of.told at all.is_table)
+    (omega (arith, size, c.loop.invariant.count, c.loop-test.true, c.from-end.ensures))
 
 pub returns-clause-table : goal.returns-clause-table
 returns-clause-table c =
-    IfOk-weaker c.push_records.result _ _
-    (λ all rest. rest c.args.text.now
-    (begins _ _ _ c.new.result c.has_headers.result.now c.flexible.result.now c.new.ensures.config c.new.ensures.trim c.has_headers.ensures c.flexible.ensures
-    c.from_reader-reader.ensures.config c.from_reader-reader.ensures.has_headers c.from_reader-reader.ensures.trim
-    c.from_reader-reader.ensures.headers c.from_reader-reader.ensures.state c.from_reader-reader.ensures.source))
-    c.push_records.ensures.table
+    let within = goes_within (λ s. Some s.now) c.loop.records c.args.text.now (parts 0 c.loop.rows.items c.loop.fields) c.loop.invariant.stands in
+    let size = length_parts 0 c.loop.rows.items c.loop.fields in
+    too_long (table_of_bytes c.args.text.now) c.args.max_rows
+    (omega (arith, within, size, c.loop.invariant.count, c.loop-test.false, c.from-end.ensures))

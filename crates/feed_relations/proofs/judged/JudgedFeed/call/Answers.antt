@@ -10,24 +10,24 @@ use Rattle.feed_relations.proofs.TripNumberLaws.{length_rows, row_is, unknown_by
 use Rattle.feed_relations.proofs.judged.JudgedFeed.call.Goals as goal
 
 pub bounds-self-inside-row : goal.bounds-self-inside-row
-bounds-self-inside-row c =
+bounds-self-inside-row g c =
     let long = length_rows c.self.inside.tables.now c.self.inside.calls.now c.self.invariant.calls_are in
     let lt = rw (← c.self.view_is) at c.requires in
     omega arith
 
 pub returns-clause-row : goal.returns-clause-row
-returns-clause-row c =
+returns-clause-row g c =
     row_is c.self.inside.tables.now c.self.inside.calls.now c.args.row _ c.self.invariant.calls_are (rw (← c.self.view_is) at c.requires)
     ∙ ap (λ (t : FeedTables). stop_time_row t c.args.row) c.self.view_is
 
 pub returns-clause-trip : goal.returns-clause-trip
 unfolding stop_time_row
-returns-clause-trip c =
+returns-clause-trip g c =
     let named = subst AreCallsNamed c.self.view_is c.self.invariant.named in
-    rw (ap (λ (x : StopTimeRow). x.trip.0) (returns-clause-row c)) (unknown_by_number (table_in c.args.self.now file.Trips) TripId (field (table_in c.args.self.now file.StopTimes) c.args.row TripId) (named.trips c.args.row c.requires))
+    rw (ap (λ (x : StopTimeRow). x.trip.0) (returns-clause-row g c)) (unknown_by_number (table_in c.args.self.now file.Trips) TripId (field (table_in c.args.self.now file.StopTimes) c.args.row TripId) (named.trips c.args.row c.requires))
 
 pub returns-clause-stop : goal.returns-clause-stop
 unfolding stop_time_row
-returns-clause-stop c =
+returns-clause-stop g c =
     let named = subst AreCallsNamed c.self.view_is c.self.invariant.named in
-    rw (ap (λ (x : StopTimeRow). x.stop.0) (returns-clause-row c)) (unknown_by_number (table_in c.args.self.now file.Stops) StopId (field (table_in c.args.self.now file.StopTimes) c.args.row StopId) (named.stops c.args.row c.requires))
+    rw (ap (λ (x : StopTimeRow). x.stop.0) (returns-clause-row g c)) (unknown_by_number (table_in c.args.self.now file.Stops) StopId (field (table_in c.args.self.now file.StopTimes) c.args.row StopId) (named.stops c.args.row c.requires))

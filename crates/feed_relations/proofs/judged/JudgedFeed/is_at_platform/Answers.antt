@@ -9,7 +9,7 @@ use Rattle.feed_relations.proofs.judged.JudgedFeed.is_at_platform.Goals as goal
 
 pub returns : goal.returns
 unfolding stop_time_row
-returns c =
+returns g c =
     let platforms = c.self.inside.platforms.items in
     let are = subst (λ (t : FeedTables). platforms ≡ are_platforms (table_in t file.Stops)) c.self.view_is c.self.invariant.platforms_are in
     c.is_marked.ensures

@@ -1,4 +1,4 @@
-use Rattle.std.proofs.Common.{◌≡◌, ◌∙◌, ap, subst, ℕ, List, ◌<◌, length, get_or, arith}
+use Rattle.std.proofs.Common.{◌≡◌, ◌∙◌, subst, ℕ, List, ◌<◌, length, get_or, arith}
 use Rattle.feed_rows.specs.declared.names.FileName.TheVariants as file
 use Rattle.feed_rows.specs.declared.rows.StopTimeRow.{StopTimeRow}
 use Rattle.feed_faults.specs.FeedTables.{table_in}
@@ -8,14 +8,14 @@ use Rattle.feed_relations.proofs.TripNumberLaws.{length_rows, judged}
 use Rattle.feed_relations.proofs.judged.JudgedFeed.of.Goals as goal
 
 pub order_faults-requires : goal.order_faults-requires
-order_faults-requires c =
+order_faults-requires g c =
     let long = length_rows c.args.tables.now c.args.calls.now c.requires.calls in
     let few = c.rows-few.ensures.few in
-    let rows : c.rows-few.result ≡ row_count (table_in c.args.tables.now file.StopTimes) = c.rows-few.ensures.count ∙ ap row_count c.get.ensures in
+    let rows : c.rows-few.result ≡ row_count (table_in c.args.tables.now file.StopTimes) = c.rows-few.ensures.count in
     omega arith
 
 pub invariant_of-result : goal.invariant_of-result
-invariant_of-result c =
+invariant_of-result g c =
     let t = c.args.tables.now in
     let said = subst (λ (ts : List StopTimeRow). (text : ℕ → List ℕ) (row : ℕ) → row < length ts → IsOneTrip ts text row → get_or c.in_ok-order.order.items row no_faults ≡ faults_at (named_times ts text) row) c.requires.calls c.in_ok-order.ensures.value in
     record {

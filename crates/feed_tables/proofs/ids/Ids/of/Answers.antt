@@ -1,8 +1,8 @@
 use Rattle.std.proofs.Common.{sym}
 use Rattle.std.proofs.lemmas.List.{map_more}
-use Rattle.feed_tables.specs.IdColumns.{indexed, all_id_columns}
+use Rattle.feed_tables.specs.IdColumns.{indexed, other_id_columns}
 use Rattle.feed_tables.proofs.ids.Ids.of.Goals as goal
 
 pub loop-i-preserved : goal.loop-i-preserved
-loop-i-preserved c =
-    rw (c.in_ok-push.ensures.items, c.loop-i.invariant, c.in_ok-index_of.ensures) (sym (map_more (indexed c.args.tables.now) all_id_columns c.loop-i.i _ c.loop-i-test.true))
+loop-i-preserved g c =
+    rw (c.in_ok-push.ensures.items, c.loop-i.invariant, c.in_ok-index_of.ensures) (sym (map_more (indexed c.args.tables.now) other_id_columns c.loop-i.i _ c.loop-i-test.true))

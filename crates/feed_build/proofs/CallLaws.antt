@@ -1,0 +1,201 @@
+-- The rows of stop times, one record after another.
+use Rattle.std.proofs.Common.{◌≡◌, refl, sym, ap, ◌∙◌, ℕ, zero, suc, ◌+◌, ◌<◌, ◌≤◌, ◌++◌, List, [], ◌∷◌, length, get_or, true, false, nat_lt, Option, Some, None, add-one, arith}
+use Rattle.std.specs.Prelude.{is_some}
+use Rattle.std.specs.Option.{option_or, option_map_or}
+use Rattle.std.proofs.lemmas.Bool.Decides.{nat_tests}
+use Rattle.std.proofs.lemmas.List.{length-append, get_or-append-add}
+use Rattle.std.proofs.lemmas.Option.{none-some}
+use Rattle.std.proofs.Math.ListN.{get_or-append}
+use Rattle.feed_rows.specs.Limits.{most_rows}
+use Rattle.feed_rows.specs.declared.names.FileName.TheVariants as file
+use Rattle.feed_rows.specs.declared.faults.FaultKind.TheVariants as kind
+use Rattle.feed_rows.specs.declared.faults.FeedFault.{FeedFault}
+use Rattle.plain_laws.specs.Plain.{list_below, first_below}
+use Rattle.plain_laws.proofs.Laws.{list_below-same}
+use Rattle.feed_faults.specs.Records.{FileTable, table_of_bytes, header, row_count, column_of, field, is_long}
+use Rattle.feed_faults.specs.FaultPlaces.{file_fault}
+use Rattle.feed_faults.specs.FormFaults.{header_fault, doubled_column, missing_column, is_twice, form_fault_of_row, form_fault_of_rows, form_fault_of_table}
+use Rattle.feed_tables.specs.declared.ids.CallIds.{CallIds}
+use Rattle.feed_build.specs.CallRows.{call_row, call_rows, call_fault, calls_fault, fields_behind}
+use Rattle.feed_text.specs.Reader.{StandsBehind, IsTableOf}
+use Rattle.feed_text.specs.declared.records.Records.{Records}
+use Rattle.feed_text.proofs.ReaderLaws.{text_begins}
+use Rattle.feed_build.specs.CallErrors.{AreCallsOf, IsFaultOf, IsCallError}
+use Rattle.feed_build.specs.declared.stop_times.CallError.{CallError}
+use Rattle.feed_build.specs.declared.stop_times.StopTimes.{StopTimes}
+use Rattle.feed_build.specs.declared.stop_times.CallError.TheVariants.{Fault, Record}
+use Rattle.feed_build.specs.CallsSoFar.{HasCalls, IsOwnFault}
+use Rattle.feed_build.specs.declared.call_rows.CallRows.{CallRows}
+
+-- one record more
+module _ (rs : List (List (List ℕ))) (r : List (List ℕ)) where
+  longer : length (rs ++ r ∷ []) ≡ suc (length rs)
+  longer = length-append rs (r ∷ []) ∙ add-one (length rs)
+
+  earlier : (k : ℕ) → k < length rs → get_or (rs ++ r ∷ []) k [] ≡ get_or rs k []
+  earlier k lt = get_or-append rs (r ∷ []) [] k lt
+
+  last : get_or (rs ++ r ∷ []) (length rs) [] ≡ r
+  last = let e : length rs ≡ length rs + 0 = omega arith in ap (λ k. get_or (rs ++ r ∷ []) k []) e ∙ get_or-append-add rs (r ∷ []) 0 []
+
+  first_same : {X : Type 0} (f g : ℕ → Option X) (n : ℕ) → ((k : ℕ) → k < n → f k ≡ g k) → first_below n f ≡ first_below n g
+  first_same f g zero same = refl
+  first_same f g (suc n) same = rw (first_same f g n (λ k lt. same k (omega (arith, lt))), same n (omega arith)) refl
+
+  first_more : {X : Type 0} (f : ℕ → List (List ℕ) → Option X)
+      → first_below (length (rs ++ r ∷ [])) (λ k. f k (get_or (rs ++ r ∷ []) k [])) ≡ option_or (first_below (length rs) (λ k. f k (get_or rs k []))) (f (length rs) r)
+  first_more f = rw (longer, last, first_same (λ k. f k (get_or (rs ++ r ∷ []) k [])) (λ k. f k (get_or rs k [])) (length rs) (λ k lt. ap (f k) (earlier k lt))) refl
+
+  list_more : {X : Type 0} (f : List (List ℕ) → X)
+      → list_below (length (rs ++ r ∷ [])) (λ k. f (get_or (rs ++ r ∷ []) k [])) ≡ list_below (length rs) (λ k. f (get_or rs k [])) ++ f r ∷ []
+  list_more f = rw (longer, last, list_below-same (length rs) (λ k. f (get_or (rs ++ r ∷ []) k [])) (λ k. f (get_or rs k [])) (λ k lt. ap f (earlier k lt))) refl
+
+or_assoc : {X : Type 0} (a b c : Option X) → option_or a (option_or b c) ≡ option_or (option_or a b) c
+or_assoc None b c = refl
+or_assoc (Some x) b c = refl
+
+or_none : {X : Type 0} (a b : Option X) → a ≡ None → option_or a b ≡ b
+or_none a b e = rw e refl
+
+or_some : {X : Type 0} (a b : Option X) → is_some a ≡ true → option_or a b ≡ a
+or_some None b e = absurd (cc)
+or_some (Some x) b e = refl
+
+no_some : {X : Type 0} (a : Option X) → is_some a ≡ false → a ≡ None
+no_some None e = refl
+no_some (Some x) e = absurd (cc)
+
+-- the first fault of the header and of records behind it
+abbrev faults : List (List ℕ) → List (List (List ℕ)) → Option FeedFault
+faults head rs = option_or (header_fault file.StopTimes (head ∷ [])) (first_below (length rs) (λ k. call_fault head k (get_or rs k [])))
+
+faults_more : (head : List (List ℕ)) (rs : List (List (List ℕ))) (r : List (List ℕ)) → faults head (rs ++ r ∷ []) ≡ option_or (faults head rs) (call_fault head (length rs) r)
+faults_more head rs r =
+    ap (option_or (header_fault file.StopTimes (head ∷ []))) (first_more rs r (call_fault head))
+    ∙ or_assoc (header_fault file.StopTimes (head ∷ [])) (first_below (length rs) (λ k. call_fault head k (get_or rs k []))) (call_fault head (length rs) r)
+
+module _ (ids : CallIds) (head : List (List ℕ)) (rs : List (List (List ℕ))) (r : List (List ℕ)) (before now : CallRows) (has : HasCalls ids head rs before)
+    (same_ids : now.ids ≡ before.ids) (same_trip : now.trip ≡ before.trip) (same_header : now.header ≡ before.header) (seen : now.table ≡ before.table ++ r ∷ []) where
+  still_ids : now.ids.now ≡ ids
+  still_ids = rw same_ids has.ids_are
+
+  still_trip : now.trip ≡ now.ids.now.trips
+  still_trip = rw (same_ids, same_trip) has.trip_is
+
+  still_header : header now.header ≡ head
+  still_header = rw same_header has.header_is
+
+  more_seen : now.table ≡ head ∷ (rs ++ r ∷ [])
+  more_seen = rw (seen, has.table_is) refl
+
+  -- where a fault was found before, it is the first
+  pub keeps_fault : is_some before.fault ≡ true → now.fault ≡ before.fault → HasCalls ids head (rs ++ r ∷ []) now
+  keeps_fault some same = record {
+    ids_are = still_ids;
+    trip_is = still_trip;
+    header_is = still_header;
+    table_is = more_seen;
+    fault_is = rw (same, faults_more head rs r, ← has.fault_is, or_some before.fault (call_fault head (length rs) r) some) refl;
+    rows_are = λ none. absurd (let wrong : true ≡ false = sym some ∙ ap is_some (sym same ∙ none) in cc);
+  }
+
+  -- else that of the record, if it has one
+  pub finds_fault : (fault : FeedFault) → is_some before.fault ≡ false → call_fault head (length rs) r ≡ Some fault → now.fault ≡ Some fault → HasCalls ids head (rs ++ r ∷ []) now
+  finds_fault fault none own is = record {
+    ids_are = still_ids;
+    trip_is = still_trip;
+    header_is = still_header;
+    table_is = more_seen;
+    fault_is = rw (is, faults_more head rs r, ← has.fault_is, or_none before.fault (call_fault head (length rs) r) (no_some before.fault none)) (sym own);
+    rows_are = λ gone. absurd (none-some fault (sym gone ∙ is));
+  }
+
+  -- and else its row is one more
+  pub adds_row : is_some before.fault ≡ false → call_fault head (length rs) r ≡ None → now.fault ≡ before.fault → now.rows ≡ before.rows ++ call_row ids (fields_behind head r) ∷ [] → HasCalls ids head (rs ++ r ∷ []) now
+  adds_row none own same rows = record {
+    ids_are = still_ids;
+    trip_is = still_trip;
+    header_is = still_header;
+    table_is = more_seen;
+    fault_is = rw (same, faults_more head rs r, ← has.fault_is, no_some before.fault none) (sym own);
+    rows_are = λ gone. rw (rows, has.rows_are (no_some before.fault none), list_more rs r (λ x. call_row ids (fields_behind head x))) refl;
+  }
+
+-- the table of a header and records
+module _ (ids : CallIds) (head : List (List ℕ)) (rs : List (List (List ℕ))) where
+  count : row_count (head ∷ rs) ≡ length rs
+  count = omega arith
+
+  row_is : (k : ℕ) → field (head ∷ rs) k ≡ fields_behind head (get_or rs k [])
+  unfolding field column_of
+  row_is k = ap (λ m name. option_map_or (λ c. get_or (get_or (head ∷ rs) m []) c []) (column_of (head ∷ rs) name) []) (add-one k)
+
+  long_is : (k : ℕ) → is_long (head ∷ rs) k ≡ is_long (head ∷ get_or rs k [] ∷ []) 0
+  unfolding is_long
+  long_is k = rw (add-one k) refl
+
+  fault_at : (k : ℕ) → form_fault_of_row file.StopTimes (head ∷ rs) k ≡ call_fault head k (get_or rs k [])
+  unfolding form_fault_of_row
+  fault_at k = rw (row_is k, long_is k) refl
+
+  pub rows_of_table : call_rows ids (head ∷ rs) ≡ list_below (length rs) (λ k. call_row ids (fields_behind head (get_or rs k [])))
+  rows_of_table =
+      ap (λ n. list_below n (λ k. call_row ids (field (head ∷ rs) k))) count
+      ∙ list_below-same (length rs) (λ k. call_row ids (field (head ∷ rs) k)) (λ k. call_row ids (fields_behind head (get_or rs k []))) (λ k lt. ap (call_row ids) (row_is k))
+
+  header_same : header_fault file.StopTimes (head ∷ rs) ≡ header_fault file.StopTimes (head ∷ [])
+  unfolding header_fault doubled_column missing_column is_twice column_of
+  header_same = refl
+
+  -- the first fault of a table that isn't too long
+  pub faults_of_table : length rs ≤ most_rows → calls_fault (head ∷ rs) ≡ faults head rs
+  unfolding form_fault_of_table form_fault_of_rows
+  faults_of_table few =
+      let some : nat_lt 0 (suc (length rs)) ≡ true = grind (arith, nat_tests) in
+      let short : nat_lt most_rows (length rs) ≡ false = grind (arith, nat_tests, few) in
+      rw (some, count, short, header_same, first_same [] [] (form_fault_of_row file.StopTimes (head ∷ rs)) (λ k. call_fault head k (get_or rs k [])) (length rs) (λ k lt. fault_at k)) refl
+
+-- the fault of a table that is too long
+pub too_long : (table : FileTable) → most_rows + 2 ≤ length table → calls_fault table ≡ Some (file_fault file.StopTimes kind.TooManyRows)
+unfolding form_fault_of_table
+too_long table le =
+    let some : nat_lt 0 (length table) ≡ true = grind (arith, nat_tests, le) in
+    let long : nat_lt most_rows (row_count table) ≡ true = grind (arith, nat_tests, le) in
+    rw (some, long) refl
+
+-- that of one without a record
+pub no_record : calls_fault [] ≡ Some (file_fault file.StopTimes kind.MissingFile)
+unfolding form_fault_of_table form_fault_of_rows
+no_record = refl
+
+-- what is answered at the end
+module _ (ids : CallIds) (head : List (List ℕ)) (rs : List (List (List ℕ))) (calls : CallRows) (has : HasCalls ids head rs calls) (few : length rs ≤ most_rows)
+    (start : Option (List ℕ)) (all : IsTableOf start (head ∷ rs)) where
+  pub are_calls : (made : StopTimes) → calls.fault ≡ None → made.rows ≡ calls.rows → made.table ≡ calls.table → AreCallsOf start ids made
+  are_calls made none rows table = record {
+    text = all.text;
+    is_of = all.is_of;
+    sound = rw (← all.is_table) (faults_of_table ids head rs few ∙ sym has.fault_is ∙ none);
+    table_is = table ∙ has.table_is ∙ all.is_table;
+    rows_are = rows ∙ has.rows_are none ∙ sym (rows_of_table ids head rs) ∙ ap (call_rows ids) all.is_table;
+  }
+
+  is_fault : (fault : FeedFault) → calls.fault ≡ Some fault → IsFaultOf start fault
+  is_fault fault is = record {
+    text = all.text;
+    is_of = all.is_of;
+    is_first = rw (← all.is_table) (faults_of_table ids head rs few ∙ sym has.fault_is ∙ is);
+  }
+
+  pub is_own_fault : (error : CallError) → IsOwnFault calls.fault error → IsCallError start error
+  is_own_fault (Fault fault) own = is_fault fault own
+  is_own_fault (Record why) own = absurd own
+
+pub is_missing : (start : Option (List ℕ)) → IsTableOf start [] → IsFaultOf start (file_fault file.StopTimes kind.MissingFile)
+is_missing start all = record { text = all.text; is_of = all.is_of; is_first = rw (← all.is_table) no_record }
+
+pub too_many : {R : Type 0} (rem : R → Option (List ℕ)) (start : Option (List ℕ)) (table : FileTable) (records : Records R)
+    → StandsBehind rem start table records → most_rows + 2 ≤ length table → IsFaultOf start (file_fault file.StopTimes kind.TooManyRows)
+too_many rem start table records stands long =
+    let begins = text_begins rem records start table stands in
+    record { text = begins.0; is_of = begins.1; is_first = too_long (table_of_bytes begins.0) (omega (arith, long, begins.2)) }

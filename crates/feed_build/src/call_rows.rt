@@ -1,0 +1,155 @@
+//! The rows of stop_times.txt so far.
+ghost use Rattle.std.specs.Prelude.{◌≡◌, ◌<◌, ◌++◌, ◌∷◌, [], List, ℕ, Option, None, length, IfOk, IfErr, OnOk};
+ghost use Rattle.feed_rows.specs.declared.names.FileName.TheVariants as file;
+ghost use Rattle.feed_faults.specs.Records.{header};
+ghost use Rattle.feed_text.specs.Reader.{StandsBehind, last_record};
+ghost use Rattle.feed_text.specs.RowLimits.{row_limit};
+ghost use Rattle.feed_text.specs.TextErrors.{IsErrorOf};
+ghost use Rattle.feed_build.specs.CallRows.{call_row, call_fault, fields_behind};
+ghost use Rattle.feed_build.specs.CallsSoFar.{HasCalls, IsOwnFault};
+
+use crate::last_trip::LastTrip;
+use crate::stop_times::{CallError, StopTimes};
+use crate::values::is_code;
+use feed_rows::{ColumnName, FeedFault, FileName, StopTimeRow, StopTimeRows};
+use feed_tables::{CallIds, NamedTable, RecordRow, read_row};
+use feed_text::{Fields, Records, SeenTable, Table, TextError, header_fault, nat_of, natural};
+use std::alloc::{AllocError, Global};
+use std::io::Read;
+use transit_base::{StopId, TripId};
+
+// The `pickup_type` or `drop_off_type` of a stop where riders may not board, or alight.
+const NOT_AVAILABLE: u32 = 1;
+
+/// The rows of the stop times that were read, up to the first fault.
+pub struct CallRows<'i, 't> {
+    ids: &'i CallIds<'t>,
+    header: NamedTable,
+    trip: LastTrip<'i, 't>,
+    numbers: Vec<Option<i64>>,
+    rows: StopTimeRows,
+    table: SeenTable,
+    // The first fault of the header and of the rows.
+    fault: Option<FeedFault>,
+}
+
+// Written out, so that what lets go of the rows needn't look into them.
+impl<'i, 't> Drop for CallRows<'i, 't> {
+    fn drop(self) {
+        let CallRows {
+            ids: _,
+            header: _,
+            trip: _,
+            numbers: _,
+            rows: _,
+            table: _,
+            fault: _,
+        } = self;
+    }
+}
+
+// The row that a record makes, judged as it is read. `Fault` is its fault.
+#[tactic(auto, unfolding(crate::specs::CallRows::call_row), using(crate::proofs::ValueLaws::values))]
+fn read_call<R: Read>(
+    ids: &CallIds,
+    trip: &mut LastTrip,
+    row: u32,
+    record: &RecordRow<R>,
+    numbers: &mut Vec<Option<i64>>,
+) -> Result<StopTimeRow, TextError>
+    requires few { row < row_limit }
+    requires trip { trip.old ≡ ids.now.trips }
+    ensures fault { IfErr result (IsErrorOf (call_fault (header record.now.header) row record.now.fields)) }
+    ensures sound { OnOk result (call_fault (header record.now.header) row record.now.fields ≡ None) }
+    ensures row { IfOk result (λ call. call ≡ call_row ids.now (fields_behind (header record.now.header) record.now.fields)) }
+    ensures same { trip.new ≡ trip.old }
+{
+    if let Some(fault) = read_row(FileName::StopTimes, row, record.is_long(), record, numbers)? {
+        return Err(TextError::Fault(fault));
+    }
+    let &[_, _, sequence, arrival, departure, pickup, drop_off] = numbers.as_slice() else {
+        unreachable!();
+    };
+    let trip = trip.number(record.field(ColumnName::TripId))?;
+    let stop = ids.stops.number(record.field(ColumnName::StopId));
+    Ok(StopTimeRow {
+        trip: TripId(trip),
+        stop: StopId(stop),
+        sequence: nat_of(sequence),
+        arrival: natural(arrival),
+        departure: natural(departure),
+        pickup: !is_code(pickup, NOT_AVAILABLE),
+        drop_off: !is_code(drop_off, NOT_AVAILABLE),
+    })
+}
+
+impl<'i, 't> CallRows<'i, 't> {
+    /// None yet, behind the header that was read last.
+    ///
+    /// # Errors
+    /// Want of memory.
+    pub fn behind<R: Read>(
+        alloc: Global,
+        ids: &'i CallIds<'t>,
+        records: &Records<R>,
+    ) -> Result<CallRows<'i, 't>, AllocError>
+        ensures { IfOk result (HasCalls ids.now (last_record records.now) []) }
+    {
+        let header = Table::of_record(alloc, records)?;
+        let fault = header_fault(FileName::StopTimes, &header);
+        let mut table = SeenTable::none(alloc);
+        table.see(records)?;
+        Ok(CallRows {
+            ids,
+            header: NamedTable::of(alloc, header)?,
+            trip: LastTrip::none(alloc, &ids.trips),
+            numbers: Vec::new(alloc),
+            rows: StopTimeRows::empty(alloc),
+            table,
+            fault,
+        })
+    }
+
+    /// Takes the record that was read last as the next row; where a fault was found before, the row isn't looked at.
+    ///
+    /// # Errors
+    /// Want of memory.
+    pub fn take<R: Read>(&mut self, row: u32, records: &Records<R>) -> Result<(), AllocError>
+        requires few { row < row_limit }
+        requires trip { self.old.trip ≡ self.old.ids.now.trips }
+        ensures trip { self.new.trip ≡ self.new.ids.now.trips }
+        ensures calls { OnOk result ((ids : CallIds) (head : List (List ℕ)) (rows : List (List (List ℕ))) → row ≡ length rows → HasCalls ids head rows self.old → HasCalls ids head (rows ++ last_record records.now ∷ []) self.new) }
+    {
+        self.table.see(records)?;
+        if self.fault.is_some() {
+            return Ok(());
+        }
+        let record = RecordRow::of(&self.header, records);
+        match read_call(self.ids, &mut self.trip, row, &record, &mut self.numbers) {
+            Ok(call) => self.rows.push(call)?,
+            Err(TextError::Fault(fault)) => self.fault = Some(fault),
+            Err(TextError::NoMemory) => return Err(AllocError),
+        }
+        Ok(())
+    }
+
+    /// The rows, or the first fault.
+    pub fn end(self) -> Result<StopTimes, CallError>
+        ensures rows { IfOk result (λ calls. (self.entry.fault ≡ None) × (calls.rows ≡ self.entry.rows) × (calls.table ≡ self.entry.table)) }
+        ensures fault { IfErr result (IsOwnFault self.entry.fault) }
+    {
+        let CallRows {
+            ids: _,
+            header: _,
+            trip: _,
+            numbers: _,
+            rows,
+            table,
+            fault,
+        } = self;
+        match fault {
+            Some(fault) => Err(CallError::Fault(fault)),
+            None => Ok(StopTimes { rows, table }),
+        }
+    }
+}

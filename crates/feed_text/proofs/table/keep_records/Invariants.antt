@@ -1,0 +1,11 @@
+use Rattle.std.proofs.Common.{◌≡◌, length, Some}
+use Rattle.plain_laws.specs.Plain.{parts, Rise}
+use Rattle.feed_text.specs.Reader.{StandsBehind}
+use Rattle.feed_text.proofs.table.keep_records.Given as goal
+
+abbrev pub invariant-loop : goal.invariant-loop
+invariant-loop l = record {
+  rows : Rise 0 l.rows.items (length l.fields);
+  count : length l.rows.items ≡ l.counter;
+  stands : StandsBehind (λ s. Some s.now) (Some l.text) (parts 0 l.rows.items l.fields) l.records;
+}
