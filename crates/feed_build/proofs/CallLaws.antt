@@ -11,7 +11,7 @@ use Rattle.feed_rows.specs.declared.names.FileName.TheVariants as file
 use Rattle.feed_rows.specs.declared.faults.FaultKind.TheVariants as kind
 use Rattle.feed_rows.specs.declared.faults.FeedFault.{FeedFault}
 use Rattle.plain_laws.specs.Plain.{list_below, first_below}
-use Rattle.plain_laws.proofs.Laws.{list_below-same}
+use Rattle.plain_laws.proofs.Laws.{list_below-same, option_or-assoc}
 use Rattle.feed_faults.specs.Records.{FileTable, table_of_bytes, header, row_count, column_of, field, is_long}
 use Rattle.feed_faults.specs.FaultPlaces.{file_fault}
 use Rattle.feed_faults.specs.FormFaults.{header_fault, doubled_column, missing_column, is_twice, form_fault_of_row, form_fault_of_rows, form_fault_of_table}
@@ -50,10 +50,6 @@ module _ (rs : List (List (List ℕ))) (r : List (List ℕ)) where
       → list_below (length (rs ++ r ∷ [])) (λ k. f (get_or (rs ++ r ∷ []) k [])) ≡ list_below (length rs) (λ k. f (get_or rs k [])) ++ f r ∷ []
   list_more f = rw (longer, last, list_below-same (length rs) (λ k. f (get_or (rs ++ r ∷ []) k [])) (λ k. f (get_or rs k [])) (λ k lt. ap f (earlier k lt))) refl
 
-or_assoc : {X : Type 0} (a b c : Option X) → option_or a (option_or b c) ≡ option_or (option_or a b) c
-or_assoc None b c = refl
-or_assoc (Some x) b c = refl
-
 or_none : {X : Type 0} (a b : Option X) → a ≡ None → option_or a b ≡ b
 or_none a b e = rw e refl
 
@@ -72,7 +68,7 @@ faults head rs = option_or (header_fault file.StopTimes (head ∷ [])) (first_be
 faults_more : (head : List (List ℕ)) (rs : List (List (List ℕ))) (r : List (List ℕ)) → faults head (rs ++ r ∷ []) ≡ option_or (faults head rs) (call_fault head (length rs) r)
 faults_more head rs r =
     ap (option_or (header_fault file.StopTimes (head ∷ []))) (first_more rs r (call_fault head))
-    ∙ or_assoc (header_fault file.StopTimes (head ∷ [])) (first_below (length rs) (λ k. call_fault head k (get_or rs k []))) (call_fault head (length rs) r)
+    ∙ sym (option_or-assoc (header_fault file.StopTimes (head ∷ [])) (first_below (length rs) (λ k. call_fault head k (get_or rs k []))) (call_fault head (length rs) r))
 
 module _ (ids : CallIds) (head : List (List ℕ)) (rs : List (List (List ℕ))) (r : List (List ℕ)) (before now : CallRows) (has : HasCalls ids head rs before)
     (same_ids : now.ids ≡ before.ids) (same_trip : now.trip ≡ before.trip) (same_header : now.header ≡ before.header) (seen : now.table ≡ before.table ++ r ∷ []) where

@@ -1,18 +1,13 @@
 -- The rows of stop times, read record by record.
 use Rattle.std.specs.Prelude.{ℕ, ◌∷◌, [], List, true, Option}
 use Rattle.std.specs.Option.{option_or}
-use Rattle.transit_base.specs.Limits.{most_time}
 use Rattle.feed_rows.specs.Limits.{most_rows}
-use Rattle.feed_faults.specs.FieldGrammars.{most_int}
-use Rattle.feed_rows.specs.TimeGrammar.{time_value}
 use Rattle.feed_rows.specs.declared.names.FileName.TheVariants as file
-use Rattle.feed_rows.specs.declared.names.ColumnName.TheVariants as column
 use Rattle.feed_rows.specs.declared.faults.FeedFault.{FeedFault}
 use Rattle.feed_rows.specs.declared.rows.StopTimeRow.{StopTimeRow}
 use Rattle.feed_faults.specs.Records.{FileTable, Fields, row_count, field, is_long}
-use Rattle.feed_faults.specs.FieldValues.{int_or_zero}
 use Rattle.feed_faults.specs.FormFaults.{form_fault_of_table, form_fault_of_rows}
-use Rattle.feed_faults.specs.AcceptedFeed.{row_number, permits}
+use Rattle.feed_faults.specs.AcceptedFeed.{row_number, stop_time_by}
 use Rattle.plain_laws.specs.Plain.{list_below}
 use Rattle.feed_tables.specs.RowNumbers.{fault_of_row}
 use Rattle.feed_tables.specs.declared.ids.CallIds.{CallIds}
@@ -24,15 +19,7 @@ number_in ids id = row_number ids.table ids.name id
 
 -- what the fields of a stop time give
 unfoldable pub call_row : CallIds → Fields → StopTimeRow
-call_row ids at = record {
-  trip = record { 0 = number_in ids.trips (at column.TripId) };
-  stop = record { 0 = number_in ids.stops (at column.StopId) };
-  sequence = int_or_zero 0 most_int (at column.StopSequence);
-  arrival = time_value most_time (at column.ArrivalTime);
-  departure = time_value most_time (at column.DepartureTime);
-  pickup = permits (at column.PickupType);
-  drop_off = permits (at column.DropOffType);
-}
+call_row ids at = stop_time_by (number_in ids.trips) (number_in ids.stops) at
 
 -- the fields of a record behind a header
 abbrev pub fields_behind : List (List ℕ) → List (List ℕ) → Fields

@@ -11,7 +11,7 @@ ghost use Rattle.feed_build.specs.CallsSoFar.{HasCalls, IsOwnFault};
 use crate::last_trip::LastTrip;
 use crate::stop_times::{CallError, StopTimes};
 use crate::values::is_code;
-use feed_rows::{ColumnName, FeedFault, FileName, StopTimeRow, StopTimeRows};
+use feed_rows::{CallTime, ColumnName, FeedFault, FileName, StopTimeRow, StopTimeRows};
 use feed_tables::{CallIds, NamedTable, RecordRow, read_row};
 use feed_text::{Fields, Records, SeenTable, Table, TextError, header_fault, nat_of, natural};
 use std::alloc::{AllocError, Global};
@@ -76,8 +76,8 @@ fn read_call<R: Read>(
         trip: TripId(trip),
         stop: StopId(stop),
         sequence: nat_of(sequence),
-        arrival: natural(arrival),
-        departure: natural(departure),
+        arrival: CallTime::of(natural(arrival)),
+        departure: CallTime::of(natural(departure)),
         pickup: !is_code(pickup, NOT_AVAILABLE),
         drop_off: !is_code(drop_off, NOT_AVAILABLE),
     })

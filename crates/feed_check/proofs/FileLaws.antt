@@ -4,7 +4,7 @@ use Rattle.std.specs.Prelude.{◌≢◌, map}
 use Rattle.std.specs.Option.{option_or}
 use Rattle.std.specs.Str.{is_utf8}
 use Rattle.plain_laws.specs.Plain.{first_below, first_in}
-use Rattle.plain_laws.proofs.Laws.{at_item}
+use Rattle.plain_laws.proofs.Laws.{at_item, option_or-assoc}
 use Rattle.feed_rows.specs.Limits.{most_rows}
 use Rattle.feed_rows.specs.HeldFiles.{HeldFile}
 use Rattle.feed_rows.specs.Names.{place}
@@ -40,17 +40,13 @@ unfolding form_fault_of_bytes
 text_fault bytes e = rw e refl
 
 -- the first of several, and then the others
-or_assoc : {X : Type 0} (a b c : Option X) → option_or (option_or a b) c ≡ option_or a (option_or b c)
-or_assoc None b c = refl
-or_assoc (Some x) b c = refl
-
 or_turn : {X : Type 0} (o : Option X) → option_or None o ≡ option_or o None
 or_turn None = refl
 or_turn (Some x) = refl
 
 shifted : {X : Type 0} (f : ℕ → Option X) (n : ℕ) → first_below (suc n) f ≡ option_or (f 0) (first_below n (λ k. f (suc k)))
 shifted f zero = or_turn (f 0)
-shifted f (suc n) = rw (shifted f n) (or_assoc (f 0) (first_below n (λ k. f (suc k))) (f (suc n)))
+shifted f (suc n) = rw (shifted f n) (option_or-assoc (f 0) (first_below n (λ k. f (suc k))) (f (suc n)))
 
 first_of_more : {X Y : Type 0} (x : Y) (xs : List Y) (f : Y → Option X) → first_in (x ∷ xs) f ≡ option_or (f x) (first_in xs f)
 first_of_more x xs f = shifted (at_item (x ∷ xs) f) (length xs)
@@ -59,7 +55,7 @@ first_of_both : {X Y : Type 0} (xs ys : List Y) (f : Y → Option X) → first_i
 first_of_both [] ys f = refl
 first_of_both (x ∷ xs) ys f =
     first_of_more x (xs ++ ys) f ∙ ap (option_or (f x)) (first_of_both xs ys f)
-    ∙ sym (or_assoc (f x) (first_in xs f) (first_in ys f)) ∙ ap (λ o. option_or o (first_in ys f)) (sym (first_of_more x xs f))
+    ∙ sym (option_or-assoc (f x) (first_in xs f) (first_in ys f)) ∙ ap (λ o. option_or o (first_in ys f)) (sym (first_of_more x xs f))
 
 -- the first fault of all files: of those before stop_times.txt, of it, and of those behind it
 pub in_three : (files : FileName → HeldFile) → first_form_fault files

@@ -31,7 +31,7 @@ use Rattle.feed_rows.specs.Codes.{platform_type, not_available, service_availabl
 use Rattle.feed_rows.specs.FeedRows.{FeedRows}
 use Rattle.feed_rows.specs.HeldFiles.{HeldFile}
 use Rattle.plain_laws.specs.Plain.{when, find_below, list_below, picks_below}
-use Rattle.feed_faults.specs.Records.{FileTable, row_count, column_of, field, is_filled}
+use Rattle.feed_faults.specs.Records.{FileTable, Fields, row_count, column_of, field, is_filled}
 use Rattle.feed_rows.specs.TimeGrammar.{time_value}
 use Rattle.feed_faults.specs.FieldGrammars.{most_int, count_value, currency_decimals}
 use Rattle.feed_faults.specs.FormFaults.{is_passed_over}
@@ -134,19 +134,23 @@ trip_row t row =
 abbrev pub permits : List ℕ → Bool
 permits text = not (int_or_zero 0 3 text == not_available)
 
--- stop_times.txt
-unfoldable pub stop_time_row : FeedTables → ℕ → StopTimeRow
-stop_time_row t row =
-    let at = field (table_in t file.StopTimes) row in
+-- stop_times.txt, by the numbers of trips and of stops that ids name
+abbrev pub stop_time_by : (List ℕ → ℕ) → (List ℕ → ℕ) → Fields → StopTimeRow
+stop_time_by trip_number stop_number at =
     record {
-      trip = record { 0 = row_number (table_in t file.Trips) column.TripId (at column.TripId) };
-      stop = record { 0 = row_number (table_in t file.Stops) column.StopId (at column.StopId) };
+      trip = record { 0 = trip_number (at column.TripId) };
+      stop = record { 0 = stop_number (at column.StopId) };
       sequence = int_or_zero 0 most_int (at column.StopSequence);
       arrival = time_value most_time (at column.ArrivalTime);
       departure = time_value most_time (at column.DepartureTime);
       pickup = permits (at column.PickupType);
       drop_off = permits (at column.DropOffType);
     }
+
+unfoldable pub stop_time_row : FeedTables → ℕ → StopTimeRow
+stop_time_row t row =
+    stop_time_by (row_number (table_in t file.Trips) column.TripId) (row_number (table_in t file.Stops) column.StopId)
+    (field (table_in t file.StopTimes) row)
 
 -- a service runs on a weekday
 abbrev pub runs_on_weekday : FileTable → ℕ → ColumnName → Bool

@@ -1,5 +1,6 @@
 pub mod Names
 pub mod Faults
+pub mod CallTimes
 pub mod FeedRows
 pub mod ServiceDays
 pub mod Calls

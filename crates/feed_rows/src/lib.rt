@@ -9,6 +9,7 @@ mod journeys;
 mod names;
 mod rows;
 mod states;
+mod times;
 mod usage;
 
 pub use fares::{
@@ -33,4 +34,5 @@ pub use rows::{
     TimeframeRow, TransferRuleRow, TripRow,
 };
 pub use states::{FareState, Move, Moves};
+pub use times::CallTime;
 pub use usage::{StopWord, UsageFault, WordRole};

@@ -1,5 +1,6 @@
 //! One struct for the rows of each file. Ids are resolved to row numbers, and empty fields to `None` or their default.
 use crate::ids::Id;
+use crate::times::CallTime;
 use transit_base::{
     AreaId, Day, FrameId, LegGroupId, MediumId, Money, NetworkId, ProductId, RiderId, RouteId,
     ServiceId, StopId, TripId,
@@ -44,10 +45,8 @@ pub struct StopTimeRow {
     pub stop: StopId,
     /// The `stop_sequence`.
     pub sequence: u32,
-    /// Seconds of the service day.
-    pub arrival: Option<u32>,
-    /// Seconds of the service day.
-    pub departure: Option<u32>,
+    pub arrival: CallTime,
+    pub departure: CallTime,
     /// Whether riders may board here.
     pub pickup: bool,
     /// Whether riders may alight here.

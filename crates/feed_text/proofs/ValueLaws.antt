@@ -10,6 +10,7 @@ use Rattle.feed_faults.specs.FieldGrammars.{int_value, if_between, signed_value}
 use Rattle.feed_rows.specs.Numerals.{number_value}
 use Rattle.feed_rows.specs.TimeGrammar.{time_value}
 use Rattle.feed_faults.proofs.TimeLaws.{time_good}
+use Rattle.transit_base.specs.Limits.{most_time}
 use Rattle.feed_faults.specs.FieldValues.{nat_of, time_or}
 use Rattle.feed_faults.specs.AcceptedFeed.{finite_count}
 use Rattle.feed_text.specs.FieldNumbers.{IsShort}
@@ -67,5 +68,8 @@ pub time_fits : (most : ℕ) (text : List ℕ) → most < 2 ^ 32
 time_fits most text lt n e =
     let le = time_good most text n (rw (natural_is (time_value most text)) at e) in omega (arith, le, lt)
 
+pub time_is_few : (text : List ℕ) → ForSome (finite_count (option_map pos (time_value most_time text))) (λ n. n ≤ most_time)
+time_is_few text n e = time_good most_time text n (rw (natural_is (time_value most_time text)) at e)
+
 -- the seconds of a row's times
-pub ruleset times = (natural_is, time_is, time_fits)
+pub ruleset times = (natural_is, time_is, time_fits, time_is_few)

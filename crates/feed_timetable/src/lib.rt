@@ -4,5 +4,6 @@
 mod standing;
 mod timetable;
 
+pub use feed_trips::Calls;
 pub use standing::Standing;
 pub use timetable::Timetable;

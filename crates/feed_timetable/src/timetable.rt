@@ -19,9 +19,9 @@ ghost use Rattle.feed_walks.specs.OutOf.{out_of};
 
 use crate::standing::Standing;
 use feed_calendar::Calendar;
-use feed_rows::{Call, Feed, Query, Ride, RideFacts, Shifts};
+use feed_rows::{Feed, Query, Ride, RideFacts, Shifts};
 use feed_stops::Stops;
-use feed_trips::Trips;
+use feed_trips::{Calls, Trips};
 use feed_walks::{Step, Walks};
 use std::alloc::{AllocError, Global};
 use std::marker::Model;
@@ -187,11 +187,11 @@ impl<'f> Timetable<'f> {
 
     /// The calls of a trip, in order.
     #[tactic(auto, using(crate::proofs::TimetableLaws::few_calls))]
-    pub fn calls_of(&self, trip: TripId) -> &[Call]
+    pub fn calls_of(&self, trip: TripId) -> Calls<'_>
         requires { trip.0 < length self.now.trips }
-        ensures value { result.now ≡ calls_of self.now trip }
-        ensures times { All (λ (c : Call). (c.arrival ≤ most_time) × (c.departure ≤ most_time)) result.now }
-        ensures few { length result.now < 2 ^ 32 }
+        ensures value { result ≡ calls_of self.now trip }
+        ensures times { All (λ (c : Call). (c.arrival ≤ most_time) × (c.departure ≤ most_time)) result }
+        ensures few { length result < 2 ^ 32 }
     {
         let feed = self.feed;
         let _rows = &feed.trips;
@@ -235,7 +235,7 @@ impl<'f> Timetable<'f> {
         ensures value { result ≡ first_departure self.now trip }
         ensures most { result ≤ most_time }
     {
-        match self.calls_of(trip).first() {
+        match self.calls_of(trip).get(0) {
             Some(call) => call.departure,
             None => 0,
         }

@@ -6,4 +6,5 @@ pub mod StretchLaws
 pub mod TripLaws
 pub mod RideLaws
 pub mod GapLaws
-pub mod PlacedCalls
+pub mod PlacedTimes
+pub mod MadeCalls

@@ -24,7 +24,7 @@ rows_of_keys rows (suc n) le =
     map-append (row_of rows) (list_below n (key_of rows)) (key_of rows n ∷ []) ∙ ap (λ xs. xs ++ numbered_at rows n ∷ []) (rows_of_keys rows n (omega arith)) ∙ sym more
 
 -- a row of so few is at a place that fits
-pub row_fits : {n : ℕ} (row : ℕ) → row < n → n < 2 ^ 32 → Fits w64 (row * 32)
+pub row_fits : {n : ℕ} (row : ℕ) → row < n → n < 2 ^ 32 → Fits w64 (row * 24)
 row_fits row lt few = omega arith
 
 -- the rows of the first keys with one more

@@ -1,6 +1,7 @@
 -- The facts of a ride by the calls of its trip.
-use Rattle.std.proofs.Common.{◌≡◌, ◌<◌, ◌≤◌, refl, sym, ◌∙◌, ap, true, false, List, length, get_or, Some, None}
-use Rattle.std.proofs.lemmas.Option.{slice_get-get_or, slice_get_past}
+use Rattle.std.proofs.Common.{◌≡◌, refl, sym, ℕ, true, false, List, All, Some, None}
+use Rattle.std.specs.Prelude.{slice_get}
+use Rattle.plain_laws.proofs.Laws.{All-slice_get}
 use Rattle.feed_rows.specs.declared.journeys.Call.{Call}
 use Rattle.feed_rows.specs.declared.journeys.Ride.{Ride}
 use Rattle.feed_rows.specs.FeedRows.{FeedRows}
@@ -14,21 +15,22 @@ no_ride feed ride is = rw (← is) refl
 
 module _ (feed : FeedRows) (ride : Ride) (calls : List Call) (are : calls ≡ calls_of feed ride.trip) (is : true ≡ is_ride feed ride) where
   -- nor has one whose call to board at, or to alight at, isn't there
-  pub no_boarding : length calls ≤ ride.from → None ≡ ride_facts feed ride
+  pub no_boarding : None ≡ slice_get calls ride.from → None ≡ ride_facts feed ride
   unfolding ride_facts
-  no_boarding past = let none = slice_get_past calls ride.from past in rw (← is, ← are, none) refl
+  no_boarding none = rw (← is, ← are, ← none) refl
 
-  pub no_alighting : (boarding : Call) → ride.from < length calls → boarding ≡ get_or calls ride.from boarding → length calls ≤ ride.to → None ≡ ride_facts feed ride
+  pub no_alighting : (boarding : Call) → Some boarding ≡ slice_get calls ride.from → None ≡ slice_get calls ride.to →
+      None ≡ ride_facts feed ride
   unfolding ride_facts
-  no_alighting boarding lt at past =
-      let first = slice_get-get_or calls ride.from boarding lt ∙ ap Some (sym at) in
-      let none = slice_get_past calls ride.to past in
-      rw (← is, ← are, first, none) refl
+  no_alighting boarding first none = rw (← is, ← are, ← first, ← none) refl
 
   -- a ride has those between its two calls
-  pub ride_between : (boarding alighting : Call) → ride.from < length calls → boarding ≡ get_or calls ride.from boarding → ride.to < length calls → alighting ≡ get_or calls ride.to alighting → Some (facts_between feed ride boarding alighting) ≡ ride_facts feed ride
+  pub ride_between : (boarding alighting : Call) → Some boarding ≡ slice_get calls ride.from →
+      Some alighting ≡ slice_get calls ride.to → Some (facts_between feed ride boarding alighting) ≡ ride_facts feed ride
   unfolding ride_facts
-  ride_between boarding alighting lt at below too =
-      let first = slice_get-get_or calls ride.from boarding lt ∙ ap Some (sym at) in
-      let last = slice_get-get_or calls ride.to alighting below ∙ ap Some (sym too) in
-      rw (← is, ← are, first, last) refl
+  ride_between boarding alighting first last = rw (← is, ← are, ← first, ← last) refl
+
+-- a call of a list is as each of them is
+pub each_call : (P : Call → Type 0) (calls : List Call) (place : ℕ) (call : Call) → All P calls →
+    Some call ≡ slice_get calls place → P call
+each_call P calls place call all at = All-slice_get P calls place call (sym at) all

@@ -12,13 +12,12 @@ use Rattle.feed_rows.specs.Calls.{in_its_place, in_sequence, trip_stop_times, ca
 use Rattle.feed_rows.specs.CallPass.{pass}
 use Rattle.feed_rows.specs.SoundFeed.{IsSoundFeed}
 use Rattle.feed_rows.specs.TimedTrips.{HasTimedEnds, DoTimesRise}
-use Rattle.plain_laws.specs.Plain.{list_below}
 use Rattle.plain_laws.proofs.Laws.{list_below-same}
 use Rattle.feed_laws.proofs.CallLaws.{calls_of-pass}
 use Rattle.feed_laws.proofs.SoundTrips.{sound_ends, sound_rise, calls_apart}
 use Rattle.feed_trips.specs.declared.together.Stretch.{Stretch}
 use Rattle.feed_trips.specs.Tables.{trip_calls}
-use Rattle.feed_trips.specs.Stretches.{no_stretch, rows_of_stretch, rows_at, IsStretch, AreStretches, AreTimed, GoesOn, IsAnew, IsApart, IsPiece, IsScattered}
+use Rattle.feed_trips.specs.Stretches.{no_stretch, rows_of_stretch, rows_at, stretch_calls, IsStretch, AreStretches, AreTimed, GoesOn, IsAnew, IsApart, IsPiece, IsScattered}
 use Rattle.std.proofs.lemmas.List.Sorted.{All-permutation, length_permutation}
 use Rattle.feed_laws.proofs.TimedLaws.{next_timed_hit, next_timed_end, untimed_more, is_timed_at_row}
 use Rattle.feed_trips.specs.Tables.{IsInOrder}
@@ -275,7 +274,7 @@ in_order_already (x ∷ (y ∷ ys)) up =
     later k d lt = let next : k + 1 ≡ suc k = omega arith in let is = up (suc k) d (omega arith) in let far : suc k + 1 ≡ suc (suc k) = omega arith in rw next (rw far at is)
 
 -- the rows of a stretch, place by place
-range_at : (rows : List StopTimeRow) (from to k : ℕ) (d : StopTimeRow) → from + k < to → get_or (slice_range rows from to) k d ≡ get_or rows (from + k) d
+pub range_at : (rows : List StopTimeRow) (from to k : ℕ) (d : StopTimeRow) → from + k < to → get_or (slice_range rows from to) k d ≡ get_or rows (from + k) d
 range_at rows from to k d lt = get_or-take (to - from) (drop from rows) k d (omega arith) ∙ get_or-drop from rows k d
 
 -- the rows of a stretch are of its trip
@@ -347,15 +346,15 @@ module _ (feed : FeedRows) (rows : List StopTimeRow) (stretches : List Stretch) 
   }
 
   -- and their calls are those of the trips
-  pub stretch_calls : list_below (length stretches) (λ t. pass (rows_at rows stretches t)) ≡ trip_calls feed
-  stretch_calls =
+  pub calls_are : stretch_calls rows stretches ≡ trip_calls feed
+  calls_are =
       rw are.count (list_below-same (length feed.trips) (λ t. pass (rows_at rows stretches t)) (λ t. calls_of feed (record { 0 = t }))
       (λ t lt. ap pass (own t lt) ∙ sym (calls_of-pass feed (record { 0 = t }) (sound_ends feed (record { 0 = t }) sound.calls))))
 
 -- stretches of rows that are the trips' stop times: their rows are timed, and their calls are those of the trips
 pub record AreTripStretches (feed : FeedRows) (rows : List StopTimeRow) (stretches : List Stretch) : Type 0 where
   pub timed_rows : AreTimed rows stretches
-  pub calls : list_below (length stretches) (λ t. pass (rows_at rows stretches t)) ≡ trip_calls feed
+  pub calls : stretch_calls rows stretches ≡ trip_calls feed
 
 pub file_stretches : (feed : FeedRows) (stretches : List Stretch) → IsSoundFeed feed → AreStretches feed.stop_times (length feed.stop_times) (length feed.trips) stretches → AreTripStretches feed feed.stop_times stretches
 file_stretches feed stretches sound are =
@@ -363,7 +362,7 @@ file_stretches feed stretches sound are =
     let few = sound.stop_times.trips in
     record {
       timed_rows = timed feed feed.stop_times stretches sound are few own;
-      calls = stretch_calls feed feed.stop_times stretches sound are few own;
+      calls = calls_are feed feed.stop_times stretches sound are few own;
     }
 
 -- sorted rows are of the feed's trips
@@ -379,7 +378,7 @@ sorted_stretches feed rows stretches sound moved up are =
     let few = sorted_within feed rows sound moved in
     record {
       timed_rows = timed feed rows stretches sound are few own;
-      calls = stretch_calls feed rows stretches sound are few own;
+      calls = calls_are feed rows stretches sound are few own;
     }
 
 -- and few

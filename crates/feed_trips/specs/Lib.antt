@@ -3,3 +3,4 @@ pub mod Tables
 pub mod Trips
 pub mod Stretches
 pub mod Gaps
+pub mod Filled

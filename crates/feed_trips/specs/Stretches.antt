@@ -2,7 +2,9 @@
 use Rattle.std.specs.Prelude.{◌≡◌, ℕ, ◌+◌, ◌-◌, ◌<◌, ◌≤◌, ◌==◌, List, length, slice_index_or, slice_range, take, filter}
 use Rattle.feed_rows.specs.declared.journeys.Call.{Call}
 use Rattle.feed_rows.specs.declared.rows.StopTimeRow.{StopTimeRow}
+use Rattle.feed_rows.specs.CallPass.{pass}
 use Rattle.feed_rows.specs.TimedTrips.{HasTimedEnds, DoTimesRise}
+use Rattle.plain_laws.specs.Plain.{list_below}
 use Rattle.feed_trips.specs.declared.together.Stretch.{Stretch}
 
 -- no rows
@@ -16,16 +18,14 @@ rows_of_stretch rows s = slice_range rows s.from s.to
 abbrev pub rows_at : List StopTimeRow → List Stretch → ℕ → List StopTimeRow
 rows_at rows stretches trip = rows_of_stretch rows (slice_index_or stretches trip no_stretch)
 
--- the calls that stand at a trip's stretch
-abbrev pub calls_at : List Call → List Stretch → ℕ → List Call
-calls_at calls stretches trip =
-    let s = slice_index_or stretches trip no_stretch in slice_range calls s.from s.to
+-- the times that are kept beside them
+abbrev pub times_at : List ℕ → List Stretch → ℕ → List ℕ
+times_at times stretches trip =
+    let s = slice_index_or stretches trip no_stretch in slice_range times s.from s.to
 
--- the stretches lie within so many places
-pub record LieWithin (stretches : List Stretch) (size : ℕ) : Type 0 where
-  pub forward : (t : ℕ) → t < length stretches →
-      (slice_index_or stretches t no_stretch).from ≤ (slice_index_or stretches t no_stretch).to
-  pub ends : (t : ℕ) → t < length stretches → (slice_index_or stretches t no_stretch).to ≤ size
+-- the calls of the rows at each stretch
+abbrev pub stretch_calls : List StopTimeRow → List Stretch → List (List Call)
+stretch_calls rows stretches = list_below (length stretches) (λ t. pass (rows_at rows stretches t))
 
 -- the stretch of the trip of the row at a place
 abbrev pub stretch_around : List StopTimeRow → List Stretch → ℕ → StopTimeRow → Stretch

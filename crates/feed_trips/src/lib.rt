@@ -10,4 +10,5 @@ mod scan;
 mod together;
 mod trips;
 
+pub use calls::Calls;
 pub use trips::Trips;

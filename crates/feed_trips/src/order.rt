@@ -2,13 +2,16 @@
 ghost use Rattle.std.specs.Prelude.{◌≡◌, ◌<◌, ◌^◌, map, AllPairs, length, IfOk};
 ghost use Rattle.std.specs.List.Sorted.{IsPermutation};
 ghost use Rattle.feed_rows.specs.declared.rows.FrequencyRow.{FrequencyRow};
+ghost use Rattle.std.specs.Cow.{cow_slice_items};
+ghost use Rattle.feed_trips.specs.Stretches.{AreTimed, stretch_calls};
 ghost use Rattle.feed_trips.specs.Tables.{IsInOrder, trip_calls, trip_runs};
 
 use crate::calls::TripCalls;
-use crate::together::{calls_of_stretches, stretches_of};
+use crate::together::{Stretch, stretches_of, times_of_stretches};
 use feed_rows::{Feed, FrequencyRow, StopTimeRow};
 use plain_laws::{Grouped, Groups};
 use std::alloc::{AllocError, Global};
+use std::borrow::CowSlice;
 use trip_order::sorted_keys;
 
 /// The stop times by trip, and those of a trip by their sequence.
@@ -31,40 +34,52 @@ pub fn sorted_stop_times(
     Ok(sorted)
 }
 
-// The calls of each trip, from the feed's stop times in order.
-fn calls_of_sorted(
+// The calls of the rows at each of these stretches.
+fn calls_of_rows<'f>(
     alloc: Global,
-    feed: &Feed,
-    rows: &[StopTimeRow],
-) -> Result<TripCalls, AllocError>
-    requires moved { IsPermutation feed.now.stop_times rows.now }
-    requires sorted { AllPairs IsInOrder rows.now }
+    rows: CowSlice<'f, StopTimeRow>,
+    stretches: Vec<Stretch>,
+) -> Result<TripCalls<'f>, AllocError>
+    requires timed { AreTimed (cow_slice_items rows) stretches.items }
+    requires few { length (cow_slice_items rows) < 2 ^ 32 }
+    ensures { IfOk result (λ calls. calls ≡ stretch_calls (cow_slice_items rows.entry) stretches.items) }
+{
+    let times = times_of_stretches(alloc, rows.as_slice(), &stretches)?;
+    Ok(TripCalls::of(rows, stretches, times))
+}
+
+// The calls of each trip, from the feed's stop times in order.
+fn calls_of_sorted<'f>(
+    alloc: Global,
+    feed: &'f Feed,
+    rows: Vec<StopTimeRow>,
+) -> Result<TripCalls<'f>, AllocError>
+    requires moved { IsPermutation feed.now.stop_times rows.items }
+    requires sorted { AllPairs IsInOrder rows.items }
     ensures { IfOk result (λ calls. calls ≡ trip_calls feed.now) }
 {
     let trips = feed.trips.items();
-    let Some(stretches) = stretches_of(alloc, rows, trips.len())? else {
+    let Some(stretches) = stretches_of(alloc, &rows, trips.len())? else {
         unreachable!();
     };
-    let calls = calls_of_stretches(alloc, rows, stretches)?;
-    Ok(calls)
+    calls_of_rows(alloc, CowSlice::Owned(rows), stretches)
 }
 
-/// The calls of each trip. Where the rows of each trip stand together and in order they are made as they stand.
+/// The calls of each trip. Where the rows of each trip stand together and in order they are left as
+/// they stand, otherwise they are copied in order.
 ///
 /// # Errors
 /// Want of memory.
-pub fn calls_by_trip(alloc: Global, feed: &Feed) -> Result<TripCalls, AllocError>
+pub fn calls_by_trip<'f>(alloc: Global, feed: &'f Feed) -> Result<TripCalls<'f>, AllocError>
     ensures { IfOk result (λ calls. calls ≡ trip_calls feed.now) }
 {
     let rows = feed.stop_times.items();
     let trips = feed.trips.items();
     if let Some(stretches) = stretches_of(alloc, rows, trips.len())? {
-        let calls = calls_of_stretches(alloc, rows, stretches)?;
-        return Ok(calls);
+        return calls_of_rows(alloc, CowSlice::Borrowed(rows), stretches);
     }
     let sorted = sorted_stop_times(alloc, rows)?;
-    let calls = calls_of_sorted(alloc, feed, &sorted)?;
-    Ok(calls)
+    calls_of_sorted(alloc, feed, sorted)
 }
 
 // The frequency rows with the numbers of their trips.

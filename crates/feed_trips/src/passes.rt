@@ -1,14 +1,15 @@
-//! The calls of a trip's rows, in one pass that fills in the times.
+//! The times that are filled in at a trip's rows, in one pass.
 ghost use Rattle.std.specs.Prelude.{◌≡◌, ◌<◌, ◌≤◌, ◌^◌, ◌++◌, false, length, OnOk};
 ghost use Rattle.feed_rows.specs.Calls.{time_between};
-ghost use Rattle.feed_rows.specs.CallPass.{gap_at, pass};
+ghost use Rattle.feed_rows.specs.CallPass.{gap_at};
 ghost use Rattle.feed_rows.specs.TimedTrips.{HasTimedEnds, DoTimesRise, is_timed_at};
+ghost use Rattle.feed_trips.specs.Filled.{filled_times};
 ghost use Rattle.feed_trips.specs.Gaps.{gap_of, IsCarried};
 
 use crate::scan::{first_time_at, next_position};
-use feed_rows::{Call, StopTimeRow};
+use feed_rows::StopTimeRow;
 use std::alloc::AllocError;
-use trip_order::{first_time, is_timed, last_time};
+use trip_order::{is_timed, last_time};
 
 // The time at a position between two timed ones, which are left and reached at these seconds of the service day.
 fn filled_time(before: usize, position: usize, after: usize, left: u32, reached: u32) -> u32
@@ -52,12 +53,13 @@ fn with_end(rows: &[StopTimeRow], position: usize, gap: Gap) -> Gap
     }
 }
 
-// Appends the calls of a trip's rows, which are in order of their sequence.
-pub fn push_calls(calls: &mut Vec<Call>, rows: &[StopTimeRow]) -> Result<(), AllocError>
+/// Appends the times that are filled in at a trip's rows, which are in order of their sequence; 0
+/// where a row has one.
+pub fn push_times(times: &mut Vec<u32>, rows: &[StopTimeRow]) -> Result<(), AllocError>
     requires ends { HasTimedEnds rows.now }
     requires rise { DoTimesRise rows.now }
     requires few { length rows.now < 2 ^ 32 }
-    ensures { OnOk result (calls.new.items ≡ calls.old.items ++ pass rows.now) }
+    ensures { OnOk result (times.new.items ≡ times.old.items ++ filled_times rows.now) }
 {
     let mut gap = Gap {
         from: 0,
@@ -66,17 +68,10 @@ pub fn push_calls(calls: &mut Vec<Call>, rows: &[StopTimeRow]) -> Result<(), All
         reached: 0,
     };
     for m in 0..rows.len() {
-        let row = rows[m];
-        if is_timed(row) {
-            let left = last_time(row).unwrap_or(0);
-            calls.push(Call {
-                stop: row.stop,
-                sequence: row.sequence,
-                arrival: first_time(row).unwrap_or(0),
-                departure: left,
-                pickup: row.pickup,
-                drop_off: row.drop_off,
-            })?;
+        let row = &rows[m];
+        if is_timed(*row) {
+            times.push(0)?;
+            let left = last_time(*row).unwrap_or(0);
             gap = Gap {
                 from: m,
                 left,
@@ -86,14 +81,7 @@ pub fn push_calls(calls: &mut Vec<Call>, rows: &[StopTimeRow]) -> Result<(), All
         } else {
             gap = with_end(rows, m, gap);
             let time = filled_time(gap.from, m, gap.to, gap.left, gap.reached);
-            calls.push(Call {
-                stop: row.stop,
-                sequence: row.sequence,
-                arrival: time,
-                departure: time,
-                pickup: row.pickup,
-                drop_off: row.drop_off,
-            })?;
+            times.push(time)?;
         }
     }
     Ok(())

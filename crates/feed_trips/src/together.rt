@@ -1,16 +1,17 @@
-//! Trips whose stop times stand together in the file and in order, as they mostly do: their calls are made where the rows
-//! stand, in the order of the file.
-ghost use Rattle.std.specs.Prelude.{◌≡◌, ◌<◌, ◌^◌, ◌++◌, length, All, IfOk, OnOk, IfNone, IfSome};
+//! Trips whose stop times stand together in the file and in order, as they mostly do: where the rows
+//! of each stand, and the times that are filled in there.
+ghost use Rattle.std.specs.Prelude.{◌≡◌, ◌<◌, ◌^◌, ◌++◌, length, All, IfOk, OnOk, IfNone, IfSome, [], true};
 ghost use Rattle.std.specs.Bool.{OnFalse, OnTrue};
+ghost use Rattle.std.specs.List.{list_all};
 ghost use Rattle.feed_rows.specs.declared.rows.StopTimeRow.{StopTimeRow};
-ghost use Rattle.feed_rows.specs.CallPass.{pass};
-ghost use Rattle.plain_laws.specs.Plain.{list_below};
+ghost use Rattle.feed_rows.specs.Calls.{is_timed as is_row_timed};
+ghost use Rattle.feed_trips.specs.Filled.{AreKept, filled_times};
 ghost use Rattle.feed_trips.specs.Stretches.{AreStretches, AreTimed, GoesOn, IsAnew, IsApart, IsPiece, IsScattered, rows_at};
 
-use crate::calls::TripCalls;
-use crate::passes::push_calls;
-use feed_rows::{Call, StopTimeRow};
+use crate::passes::push_times;
+use feed_rows::StopTimeRow;
 use std::alloc::{AllocError, Global};
+use trip_order::is_timed;
 
 /// Where the rows of a trip stand: from a place, and up to the place after the last.
 #[derive(Clone, Copy)]
@@ -93,9 +94,16 @@ pub fn stretches_of(
     Ok(Some(stretches))
 }
 
-// Appends the calls of the rows at a stretch.
+// Whether each row has a time.
+fn are_timed(rows: &[StopTimeRow]) -> bool
+    ensures { result ≡ list_all is_row_timed rows.now }
+{
+    rows.iter().all(|row| is_timed(*row))
+}
+
+// Appends the times that are filled in at the rows of a stretch.
 fn push_stretch(
-    calls: &mut Vec<Call>,
+    times: &mut Vec<u32>,
     rows: &[StopTimeRow],
     stretches: &[Stretch],
     trip: usize,
@@ -103,29 +111,34 @@ fn push_stretch(
     requires timed { AreTimed rows.now stretches.now }
     requires inside { trip < length stretches.now }
     requires few { length rows.now < 2 ^ 32 }
-    ensures { OnOk result (calls.new.items ≡ calls.old.items ++ pass (rows_at rows.now stretches.now trip)) }
+    ensures { OnOk result (times.new.items ≡ times.old.items ++ filled_times (rows_at rows.now stretches.now trip)) }
 {
     let stretch = stretches[trip];
-    push_calls(calls, &rows[stretch.from as usize..stretch.to as usize])
+    push_times(times, &rows[stretch.from as usize..stretch.to as usize])
 }
 
-/// The calls of the rows at each of these stretches, in the order of the rows.
+/// The times that are filled in, row by row, where the rows of each trip stand at one of these
+/// stretches; none where each row has a time.
 ///
 /// # Errors
 /// Want of memory.
-pub fn calls_of_stretches(
+pub fn times_of_stretches(
     alloc: Global,
     rows: &[StopTimeRow],
-    stretches: Vec<Stretch>,
-) -> Result<TripCalls, AllocError>
-    requires timed { AreTimed rows.now stretches.items }
+    stretches: &[Stretch],
+) -> Result<Vec<u32>, AllocError>
+    requires timed { AreTimed rows.now stretches.now }
     requires few { length rows.now < 2 ^ 32 }
-    ensures { IfOk result (λ calls. calls ≡ list_below (length stretches.items) (λ t. pass (rows_at rows.now stretches.items t))) }
+    ensures kept { IfOk result (λ times. AreKept rows.now stretches.now times.items) }
+    ensures none { IfOk result (λ times. list_all is_row_timed rows.now ≡ true → times.items ≡ []) }
 {
-    let mut calls = Vec::with_capacity(alloc, rows.len())?;
-    while calls.len() < rows.len() {
-        let trip = rows[calls.len()].trip.0 as usize;
-        push_stretch(&mut calls, rows, &stretches, trip)?;
+    if are_timed(rows) {
+        return Ok(Vec::new(alloc));
     }
-    Ok(TripCalls::of(stretches, calls))
+    let mut times = Vec::with_capacity(alloc, rows.len())?;
+    while times.len() < rows.len() {
+        let trip = rows[times.len()].trip.0 as usize;
+        push_stretch(&mut times, rows, stretches, trip)?;
+    }
+    Ok(times)
 }

@@ -10,7 +10,7 @@ ghost use Rattle.feed_rows.specs.Queries.{find_trip};
 ghost use Rattle.plain_laws.specs.Plain.{at_and};
 ghost use Rattle.feed_trips.specs.Runs.{AreRunsOf, IsSoundRun};
 
-use crate::calls::TripCalls;
+use crate::calls::{Calls, TripCalls};
 use crate::ids::trip_with;
 use crate::order::{calls_by_trip, runs_by_trip};
 use crate::runs::{has_run_at, shifts_of_runs};
@@ -24,7 +24,7 @@ use transit_base::{Moment, NetworkId, TripId};
 pub struct Trips<'f> {
     feed: &'f Feed,
     /// The calls of each trip.
-    calls: TripCalls,
+    calls: TripCalls<'f>,
     /// The frequency rows of each trip.
     frequencies: Groups<FrequencyRow>,
 }
@@ -78,10 +78,10 @@ impl<'f> Trips<'f> {
     }
 
     /// The calls of a trip, in order of their `stop_sequence`.
-    pub fn calls_of(&self, trip: TripId) -> &[Call]
+    pub fn calls_of(&self, trip: TripId) -> Calls<'_>
         requires { trip.0 < length self.now.trips }
-        ensures value { result.now ≡ calls_of self.now trip }
-        ensures times { All (λ (c : Call). (c.arrival ≤ most_time) × (c.departure ≤ most_time)) result.now }
+        ensures value { result ≡ calls_of self.now trip }
+        ensures times { All (λ (c : Call). (c.arrival ≤ most_time) × (c.departure ≤ most_time)) result }
     {
         self.calls.of_trip(trip.0 as usize)
     }
@@ -113,7 +113,7 @@ impl<'f> Trips<'f> {
         requires { trip.0 < length self.now.trips }
         ensures { result ≡ first_departure self.now trip }
     {
-        match self.calls_of(trip).first() {
+        match self.calls_of(trip).get(0) {
             Some(call) => call.departure,
             None => 0,
         }
@@ -176,8 +176,8 @@ impl<'f> Trips<'f> {
         active
             && self.is_shift(ride.trip, ride.shift)
             && ride.from < ride.to
-            && may_board(calls, ride.from)
-            && may_alight(calls, ride.to)
+            && may_board(&calls, ride.from)
+            && may_alight(&calls, ride.to)
     }
 
     /// Where and when a ride goes, where its trip's service is active on its day or isn't, as told. None exactly where
@@ -197,7 +197,7 @@ impl<'f> Trips<'f> {
         let calls = self.calls_of(ride.trip);
         let boarding = calls.get(ride.from as usize)?;
         let alighting = calls.get(ride.to as usize)?;
-        Some(self.facts_between(ride, boarding, alighting))
+        Some(self.facts_between(ride, &boarding, &alighting))
     }
 
     // Where and when a ride between two calls goes.
@@ -243,7 +243,7 @@ fn shifted(shift: i64, second: u32) -> i64
 }
 
 // Whether there is a call at the position at which riders may board.
-fn may_board(calls: &[Call], position: u32) -> bool
+fn may_board(calls: &Calls, position: u32) -> bool
     ensures { result ≡ at_and calls.now position (λ (c : Call). c.pickup) }
 {
     match calls.get(position as usize) {
@@ -253,7 +253,7 @@ fn may_board(calls: &[Call], position: u32) -> bool
 }
 
 // Whether there is a call at the position at which riders may alight.
-fn may_alight(calls: &[Call], position: u32) -> bool
+fn may_alight(calls: &Calls, position: u32) -> bool
     ensures { result ≡ at_and calls.now position (λ (c : Call). c.drop_off) }
 {
     match calls.get(position as usize) {

@@ -8,7 +8,7 @@ pub use Rattle.plain_laws.proofs.InsertLaws.{AllPairs-insert, list_any-insert, A
 pub use Rattle.plain_laws.proofs.JoinedLaws.{Contains-joined_below, joined_below-tells, AllPairs-joined_below, joined_below-same, one_where, joined_below-picks, joined_below-none, joined_below-one, joined_more}
 pub use Rattle.plain_laws.proofs.LeastLaws.{HasLeast, least_of_some, any_of_any, list_all-at, list_all-from, list_any-place, HasPlace, place_of_any}
 pub use Rattle.plain_laws.proofs.NumberLaws.{less_order, int_lt-true, int_same-true, eq-int_same, int_above, int_le-true, le-int_le, bytes_eq-true, eq-bytes_eq, eqb_turn, int_eq-int_same, then_equal, number_equal}
-pub use Rattle.plain_laws.proofs.OptionalLaws.{Filled, filled_and-true, cond_gives, none_either, none_when, none_map, none_first, none_given, some_value, option_or-cases, none_if, option_and_then-assoc, ChainGives, chain_gives}
+pub use Rattle.plain_laws.proofs.OptionalLaws.{Filled, filled_and-true, cond_gives, none_either, none_when, none_map, none_first, none_given, some_value, option_or-cases, option_or-assoc, none_if, option_and_then-assoc, ChainGives, chain_gives}
 pub use Rattle.plain_laws.proofs.OrderLaws.{IsStrictOrder, AllPairs-cons, AllPairs-tail, AllPairs-head, Contains-cons_cases, Contains-cons_first, Contains-cons_later, HaveSameMembers, same_from_members}
 pub use Rattle.plain_laws.proofs.PartLaws.{rise_le, rise_push, length_parts, parts_push, start_zero, start_after, rise_at, part_at, slice_get-parts, parts-list_below, pushed_part}
 pub use Rattle.plain_laws.proofs.PickLaws.{picks_below_all, picks_below_first, picks_below-same, picks_below-none, Contains-picks_below, IsPicked, picks_below-tells, AllPairs-picks_below, picks_from_ascending}

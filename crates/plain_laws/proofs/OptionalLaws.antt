@@ -52,6 +52,10 @@ pub option_or-cases : {X : Type 0} (o p : Option X) (x : X) → option_or o p �
 option_or-cases None p x e = inr (refl, e)
 option_or-cases (Some y) p x e = inl e
 
+pub option_or-assoc : {X : Type 0} (a b c : Option X) → option_or (option_or a b) c ≡ option_or a (option_or b c)
+option_or-assoc None b c = refl
+option_or-assoc (Some x) b c = refl
+
 pub none_if : {X : Type 0} (o : Option X) → ((x : X) → o ≡ Some x → ⊥) → o ≡ None
 none_if None never = refl
 none_if (Some x) never = absurd (never x refl)

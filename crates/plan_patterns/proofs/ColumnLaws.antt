@@ -1,5 +1,5 @@
 -- Columns of departures, in order.
-use Rattle.std.proofs.Common.{◌≡◌, sym, ◌∙◌, ap, subst, ℕ, ◌+◌, ◌-◌, ◌<◌, ◌≤◌, ◌⊎◌, inl, inr, ⊎_elim, Bool, true, false, List, [], ◌∷◌, ◌++◌, length, get_or, arith, ℤ, ◌≤ℤ◌, ◌<ℤ◌, int_lt, drop, Contains, AllPairs}
+use Rattle.std.proofs.Common.{◌≡◌, sym, ◌∙◌, ap, subst, ℕ, ◌+◌, ◌-◌, ◌<◌, ◌≤◌, ◌⊎◌, inl, inr, ⊎_elim, Bool, true, false, List, [], ◌∷◌, ◌++◌, length, get_or, arith, ℤ, ◌≤ℤ◌, ◌<ℤ◌, int_lt, drop, map, take, Contains, AllPairs}
 use Rattle.std.specs.Prelude.{◌≢◌, ◌==◌, Some, slice_get}
 use Rattle.std.specs.List.Sorted.{IsPermutation, IsSortedByKey, IsPartitionedBy}
 use Rattle.std.specs.Cmp.{int_cmp_total}
@@ -7,11 +7,11 @@ use Rattle.std.specs.Ordering.{int_cmp, is_lt}
 use Rattle.std.proofs.lemmas.Bool.{cases_lt}
 use Rattle.std.proofs.lemmas.Bool.Decides.{nat_tests}
 use Rattle.std.proofs.lemmas.Int.{ints}
-use Rattle.std.proofs.lemmas.List.{get_or-drop, length-drop, length_push}
+use Rattle.std.proofs.lemmas.List.{get_or-drop, length-drop, length_push, map-append, take_more}
 use Rattle.std.proofs.lemmas.List.Elements.{All-drop}
 use Rattle.std.proofs.lemmas.List.Sorted.{All-permutation, Contains-permutation, ranks_by, sorted_far}
 use Rattle.std.proofs.lemmas.Map.Keys.{IsDistinct-IsPermutation, apart_from_distinct, IsDistinct-from_apart}
-use Rattle.std.proofs.lemmas.Option.{same_Some, slice_get_within}
+use Rattle.std.proofs.lemmas.Option.{get_or_from_slice_get, same_Some, slice_get_within}
 use Rattle.plain_laws.proofs.Laws.{All-drop_within, slice_get-old_item, slice_get-new_item}
 use Rattle.feed_rows.specs.Calls.{calls_of}
 use Rattle.feed_rows.specs.FeedRows.{FeedRows}
@@ -141,3 +141,12 @@ boardable_since feed runs position from column listed is since =
         let long = length-drop since.first column in
         let place_is : since.first + (at.0 - since.first) ≡ at.0 = omega arith in
         (at.0 - since.first, omega arith, get_or-drop since.first column (at.0 - since.first) b ∙ ap (λ k. get_or column k b) place_is ∙ at.2)
+
+-- what is made of the first items of a list, with what is made of the next one
+pub made_more : {X : Type 0} {Y : Type 0} (f : X → Y) (xs : List X) (n : ℕ) (x : X) (made more : List Y) →
+    slice_get xs n ≡ Some x → made ≡ map f (take n xs) → more ≡ made ++ f x ∷ [] → more ≡ map f (take (n + 1) xs)
+made_more f xs n x made more got before grown =
+    let next = take_more xs n x (slice_get_within xs n x got) in
+    let here = get_or_from_slice_get xs n x x got in
+    grown ∙ ap (λ ys. ys ++ f x ∷ []) before
+    ∙ sym (ap (map f) next ∙ map-append f (take n xs) (get_or xs n x ∷ []) ∙ ap (λ y. map f (take n xs) ++ f y ∷ []) here)

@@ -9,7 +9,7 @@ ghost use Rattle.plan_patterns.specs.Runs.{IsKnown};
 
 use crate::runs::Run;
 use feed_rows::Call;
-use feed_timetable::Timetable;
+use feed_timetable::{Calls, Timetable};
 use plain_laws::Groups;
 use std::alloc::{AllocError, Global};
 use std::cmp::Ordering;
@@ -66,12 +66,12 @@ fn halt_of(call: &Call) -> Halt
 }
 
 // The halts of calls.
-fn halts_of(alloc: Global, calls: &[Call]) -> Result<Vec<Halt>, AllocError>
+fn halts_of(alloc: Global, calls: &Calls) -> Result<Vec<Halt>, AllocError>
     ensures { IfOk result (λ halts. halts.items ≡ map halt_of calls.now) }
 {
     let mut halts = Vec::with_capacity(alloc, calls.len())?;
-    for call in calls {
-        halts.push(halt_of(call))?;
+    for position in 0..calls.len() {
+        halts.push(halt_of(&calls.at(position)))?;
     }
     Ok(halts)
 }
@@ -90,7 +90,7 @@ pub fn all_halts(
 {
     let mut halts = Groups::empty(alloc);
     for number in 0..runs.len() {
-        let own = halts_of(alloc, timetable.calls_of(runs[number].trip))?;
+        let own = halts_of(alloc, &timetable.calls_of(runs[number].trip))?;
         halts.push(&own)?;
     }
     Ok(halts)

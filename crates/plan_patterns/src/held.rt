@@ -8,8 +8,8 @@ ghost use Rattle.plan_patterns.specs.HeldRuns.{IsDayNear, active_days, days_of, 
 ghost use Rattle.plan_patterns.specs.Runs.{AreHeld, AreTimed, AreTripsOf, IsNear, IsUsualSpan};
 
 use crate::runs::{Run, has_ride};
-use feed_rows::{Call, Query};
-use feed_timetable::Timetable;
+use feed_rows::Query;
+use feed_timetable::{Calls, Timetable};
 use plain_laws::Groups;
 use std::alloc::{AllocError, Global};
 use transit_base::{DAY_SECONDS, Day, TripId};
@@ -34,19 +34,19 @@ fn run_with(trip: TripId, day: Day, shifts: &[i64], place: usize) -> Run
 }
 
 // Whether the run, of a trip with these calls, arrives at the last of them before the query departs.
-fn ends_before(query: &Query, run: &Run, calls: &[Call]) -> bool
+fn ends_before(query: &Query, run: &Run, calls: &Calls) -> bool
     requires near { IsNear run.now }
     requires times { AreTimed calls.now }
     requires some { 0 < length calls.now }
     ensures { result ≡ ends_before query.now run.now calls.now }
 {
-    let last = &calls[calls.len() - 1];
+    let last = calls.at(calls.len() - 1);
     run.moment(last.arrival).0 < query.departure.0
 }
 
 // Whether all runs of a trip with these calls on a day have ended before the query departs, as on most days they have.
 // They have where the last of them has.
-fn has_ended(query: &Query, trip: TripId, day: Day, shifts: &[i64], calls: &[Call]) -> bool
+fn has_ended(query: &Query, trip: TripId, day: Day, shifts: &[i64], calls: &Calls) -> bool
     requires day { IsDayNear day }
     requires bounds { AreShifts shifts.now }
     requires times { AreTimed calls.now }
@@ -78,12 +78,12 @@ fn add_day(
     ensures { OnOk result (runs.new.items ≡ runs.old.items ++ held_on_day timetable.now query.now trip day) }
 {
     let calls = timetable.calls_of(trip);
-    if has_ended(query, trip, day, shifts, calls) {
+    if has_ended(query, trip, day, shifts, &calls) {
         return Ok(());
     }
     for place in 0..shifts.len() {
         let run = run_with(trip, day, shifts, place);
-        if has_ride(query, &run, calls) {
+        if has_ride(query, &run, &calls) {
             runs.push(run)?;
         }
     }

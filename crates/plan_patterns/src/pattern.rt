@@ -8,8 +8,7 @@ ghost use Rattle.plan_patterns.specs.Runs.{AreTimed, IsKnown, IsNear};
 
 use crate::halts::Halt;
 use crate::runs::Run;
-use feed_rows::Call;
-use feed_timetable::Timetable;
+use feed_timetable::{Calls, Timetable};
 use plain_laws::Groups;
 use std::alloc::{AllocError, Global};
 use transit_base::{Moment, StopId};
@@ -57,14 +56,14 @@ fn stops_of(alloc: Global, halts: &[Halt]) -> Result<Vec<StopId>, AllocError>
 }
 
 // When a run of a trip with these calls arrives at them.
-fn arrivals_of(alloc: Global, run: &Run, calls: &[Call]) -> Result<Vec<Moment>, AllocError>
+fn arrivals_of(alloc: Global, run: &Run, calls: &Calls) -> Result<Vec<Moment>, AllocError>
     requires near { IsNear run.now }
     requires times { AreTimed calls.now }
     ensures { IfOk result (λ arrivals. arrivals.items ≡ map (arrival_of run.now) calls.now) }
 {
     let mut arrivals = Vec::with_capacity(alloc, calls.len())?;
     for position in 0..calls.len() {
-        let call = &calls[position];
+        let call = calls.at(position);
         arrivals.push(run.moment(call.arrival))?;
     }
     Ok(arrivals)
@@ -82,7 +81,7 @@ fn all_arrivals(
     let mut arrivals = Groups::empty(alloc);
     for number in 0..runs.len() {
         let run = &runs[number];
-        let own = arrivals_of(alloc, run, timetable.calls_of(run.trip))?;
+        let own = arrivals_of(alloc, run, &timetable.calls_of(run.trip))?;
         arrivals.push(&own)?;
     }
     Ok(arrivals)
@@ -96,7 +95,7 @@ fn boarding_of(timetable: &Timetable, runs: &[Run], number: u32, position: u32) 
     ensures number { result.run ≡ number }
 {
     let run = &runs[number as usize];
-    let call = &timetable.calls_of(run.trip)[position as usize];
+    let call = timetable.calls_of(run.trip).at(position as usize);
     Boarding {
         run: number,
         at: run.moment(call.departure),

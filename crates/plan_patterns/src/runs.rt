@@ -5,6 +5,7 @@ ghost use Rattle.plan_patterns.specs.Runs.{AreTimed, IsNear, IsUsualSpan, boards
 ghost use Rattle.transit_base.specs.Limits.{most_time};
 
 use feed_rows::{Call, Query};
+use feed_timetable::Calls;
 use transit_base::{Day, Moment, Secs, TripId};
 
 /// A trip on a day on which it runs, with the shift of one of its runs.
@@ -58,28 +59,28 @@ fn alights_in_time(query: &Query, run: &Run, call: &Call) -> bool
 }
 
 // Whether riders may have boarded the run in time up to this one of its calls, where it is known whether before it.
-fn is_boarded_by(boarded: bool, query: &Query, run: &Run, calls: &[Call], at: usize) -> bool
+fn is_boarded_by(boarded: bool, query: &Query, run: &Run, calls: &Calls, at: usize) -> bool
     requires near { IsNear run.now }
     requires times { AreTimed calls.now }
     requires inside { at < length calls.now }
     ensures { result ≡ (boarded || at_and calls.now at (boards_in_time query.now run.now)) }
 {
-    boarded || boards_in_time(query, run, &calls[at])
+    boarded || boards_in_time(query, run, &calls.at(at))
 }
 
 // Whether riders who boarded the run in time, if any, may alight in time at this one of its calls.
-fn ends_at(boarded: bool, query: &Query, run: &Run, calls: &[Call], at: usize) -> bool
+fn ends_at(boarded: bool, query: &Query, run: &Run, calls: &Calls, at: usize) -> bool
     requires usual { IsUsualSpan query.now }
     requires near { IsNear run.now }
     requires times { AreTimed calls.now }
     requires inside { at < length calls.now }
     ensures { result ≡ (boarded && at_and calls.now at (alights_in_time query.now run.now)) }
 {
-    boarded && alights_in_time(query, run, &calls[at])
+    boarded && alights_in_time(query, run, &calls.at(at))
 }
 
 /// Whether the run, of a trip with these calls, has a ride within the query's window.
-pub fn has_ride(query: &Query, run: &Run, calls: &[Call]) -> bool
+pub fn has_ride(query: &Query, run: &Run, calls: &Calls) -> bool
     requires usual { IsUsualSpan query.now }
     requires near { IsNear run.now }
     requires times { AreTimed calls.now }

@@ -15,7 +15,7 @@ use crate::latest::is_early;
 use crate::servings::TimedServing;
 use crate::sought::Sought;
 use feed_rows::{Call, Query, Ride, RideFacts};
-use feed_timetable::{Standing, Timetable};
+use feed_timetable::{Calls, Standing, Timetable};
 use plain_laws::Groups;
 use plan_patterns::Patterns;
 use std::alloc::{AllocError, Global};
@@ -93,11 +93,11 @@ impl<'s, 'f> Traveller<'s, 'f> {
     }
 
     // The calls of the departure's trip.
-    fn calls_of(&self, departure: &Departure) -> &'s [Call]
+    fn calls_of(&self, departure: &Departure) -> Calls<'s>
         requires { IsDeparture self.now.feed departure.now }
-        ensures value { result.now ≡ calls_of self.now.feed departure.now.trip }
-        ensures times { All (λ (c : Call). (c.arrival ≤ most_time) × (c.departure ≤ most_time)) result.now }
-        ensures few { length result.now < 2 ^ 32 }
+        ensures value { result ≡ calls_of self.now.feed departure.now.trip }
+        ensures times { All (λ (c : Call). (c.arrival ≤ most_time) × (c.departure ≤ most_time)) result }
+        ensures few { length result < 2 ^ 32 }
     {
         departure.run(self.timetable).calls()
     }
@@ -156,7 +156,7 @@ impl<'s, 'f> Traveller<'s, 'f> {
     {
         let calls = self.calls_of(departure);
         for to in departure.from + 1..calls.len() as u32 {
-            self.add_ride(departure, to, &calls[to as usize], rides)?;
+            self.add_ride(departure, to, &calls.at(to as usize), rides)?;
         }
         Ok(())
     }

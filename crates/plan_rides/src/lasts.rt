@@ -100,9 +100,9 @@ fn add_run(
     let calls = run.calls();
     let mut leads = false;
     for k in (0..calls.len()).rev() {
-        let call = &calls[k];
-        put_departure(leads, query, &run, call, lasts);
-        leads = leads_from(leads, query, latest, &run, call);
+        let call = calls.at(k);
+        put_departure(leads, query, &run, &call, lasts);
+        leads = leads_from(leads, query, latest, &run, &call);
     }
 }
 

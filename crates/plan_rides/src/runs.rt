@@ -6,8 +6,7 @@ ghost use Rattle.plan_rides.specs.Runs.{run_of, IsRun};
 ghost use Rattle.transit_base.specs.Limits.{most_time};
 ghost use Rattle.transit_base.specs.Moments.{moment_at};
 
-use feed_rows::Call;
-use feed_timetable::Timetable;
+use feed_timetable::{Calls, Timetable};
 use std::marker::Model;
 use transit_base::{Day, Moment, TripId};
 
@@ -45,10 +44,10 @@ impl<'t, 'f> Run<'t, 'f> {
     }
 
     /// The calls of its trip, in order.
-    pub fn calls(&self) -> &'t [Call]
-        ensures value { result.now ≡ calls_of self.now.feed self.now.trip }
-        ensures times { All (λ (c : Call). (c.arrival ≤ most_time) × (c.departure ≤ most_time)) result.now }
-        ensures few { length result.now < 2 ^ 32 }
+    pub fn calls(&self) -> Calls<'t>
+        ensures value { result ≡ calls_of self.now.feed self.now.trip }
+        ensures times { All (λ (c : Call). (c.arrival ≤ most_time) × (c.departure ≤ most_time)) result }
+        ensures few { length result < 2 ^ 32 }
     {
         self.timetable.calls_of(self.trip)
     }

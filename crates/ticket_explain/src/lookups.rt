@@ -75,7 +75,7 @@ pub fn call_at(timetable: &Timetable, trip: TripId, position: u32) -> Option<Cal
     requires { trip.0 < length timetable.now.trips }
     ensures { result ≡ slice_get (calls_of timetable.now trip) position }
 {
-    timetable.calls_of(trip).get(position as usize).copied()
+    timetable.calls_of(trip).get(position as usize)
 }
 
 // Whether the ride is of a trip of the feed, and its day and shift are small: no others are rides of a feed.

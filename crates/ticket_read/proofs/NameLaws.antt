@@ -1,11 +1,11 @@
 -- The trip and the calls that names tell.
-use Rattle.std.proofs.Common.{◌≡◌, refl, sym, ◌∙◌, ap, subst, ℕ, ◌<◌, ◌≤◌, ◌⊎◌, inl, inr, Bool, true, false, ◌==◌, List, length, Option, Some, None, get_or, arith}
+use Rattle.std.proofs.Common.{◌≡◌, refl, sym, ◌∙◌, ap, subst, ℕ, ◌<◌, ◌≤◌, ◌⊎◌, inl, inr, Bool, true, false, ◌==◌, List, length, Option, Some, None, arith}
 use Rattle.std.specs.Prelude.{slice_get, option_map, bytes_eq, codes, ℤ, pos, ◌+ℤ◌, ◌-ℤ◌}
 use Rattle.std.proofs.lemmas.Bool.{eq-eqb, cases_Bool}
 use Rattle.std.proofs.lemmas.Bool.Decides.{nat_tests}
 use Rattle.std.proofs.lemmas.Int.{ints}
 use Rattle.std.proofs.lemmas.List.Elements.{All-contains}
-use Rattle.std.proofs.lemmas.Option.{none-some, same_Some, slice_get-get_or, slice_get_within}
+use Rattle.std.proofs.lemmas.Option.{none-some, same_Some, slice_get_within}
 use Rattle.transit_base.specs.DateTexts.{time_text}
 use Rattle.transit_base.specs.Limits.{most_time}
 use Rattle.transit_base.specs.declared.numbers.StopId.{StopId}
@@ -49,14 +49,15 @@ trip_within feed id trip is = by (find_below (length feed.trips) (has_trip_id fe
         rw (← number) first.within
 
 -- a test of the call at a place
-pub at_call : (kept calls : List Call) (k : ℕ) (d : Call) (test : Call → Bool) (b : Bool) → kept ≡ calls → k < length kept
-    → test (get_or kept k d) ≡ b → at_and calls k test ≡ b
-at_call kept calls k d test b same lt e =
-    subst (λ (cs : List Call). at_and cs k test ≡ b) same (rw (slice_get-get_or kept k d lt) e)
+pub at_call : (kept calls : List Call) (k : ℕ) (call : Call) (test : Call → Bool) (b : Bool) → kept ≡ calls →
+    slice_get kept k ≡ Some call → test call ≡ b → at_and calls k test ≡ b
+at_call kept calls k call test b same got e = subst (λ (cs : List Call). at_and cs k test ≡ b) same (rw got e)
 
 -- a place among the calls
-pub call_within : (kept calls : List Call) (k : ℕ) → kept ≡ calls → k < length kept → k < length calls
-call_within kept calls k same lt = subst (λ (cs : List Call). k < length cs) same lt
+pub call_within : (kept calls : List Call) (k : ℕ) (call : Call) → kept ≡ calls → slice_get kept k ≡ Some call →
+    k < length calls
+call_within kept calls k call same got =
+    subst (λ (cs : List Call). k < length cs) same (slice_get_within kept k call got)
 
 -- numbers that differ
 pub apart : (a b : ℕ) → (a ≡ b → ⊥) → (a == b) ≡ false

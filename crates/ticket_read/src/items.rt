@@ -88,7 +88,8 @@ fn call_position(timetable: &Timetable, trip: TripId, sequence: u32) -> Option<u
 {
     let calls = timetable.calls_of(trip);
     for place in 0..calls.len() {
-        if calls[place].sequence == sequence {
+        let call = calls.at(place);
+        if call.sequence == sequence {
             return Some(place as u32);
         }
     }

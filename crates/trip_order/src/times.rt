@@ -8,14 +8,14 @@ use feed_rows::StopTimeRow;
 pub fn first_time(row: StopTimeRow) -> Option<u32>
     ensures { result ≡ first_time_of row }
 {
-    row.arrival.or(row.departure)
+    row.arrival.seconds().or(row.departure.seconds())
 }
 
 /// When a row's stop is left, in seconds of the service day: its departure, or else its arrival.
 pub fn last_time(row: StopTimeRow) -> Option<u32>
     ensures { result ≡ last_time_of row }
 {
-    row.departure.or(row.arrival)
+    row.departure.seconds().or(row.arrival.seconds())
 }
 
 /// Whether a row has a time.

@@ -1,11 +1,10 @@
-use Rattle.std.proofs.Common.{◌≡◌, ◌∙◌, sym, ap, subst, List, length, AllPairs, IsPermutation}
+use Rattle.std.proofs.Common.{◌≡◌, ◌∙◌, sym, ap, subst, List, length, IsPermutation}
+use Rattle.std.specs.Prelude.{IfOk}
+use Rattle.feed_rows.specs.declared.journeys.Call.{Call}
 use Rattle.feed_rows.specs.declared.rows.StopTimeRow.{StopTimeRow}
 use Rattle.feed_rows.specs.FeedRows.{FeedRows}
 use Rattle.feed_rows.specs.SoundFeed.{IsSoundFeed}
-use Rattle.feed_rows.specs.CallPass.{pass}
-use Rattle.plain_laws.specs.Plain.{list_below}
-use Rattle.feed_trips.specs.Stretches.{AreStretches, AreTimed, rows_at}
-use Rattle.feed_trips.specs.Tables.{IsInOrder}
+use Rattle.feed_trips.specs.Stretches.{AreStretches, AreTimed, stretch_calls}
 use Rattle.feed_trips.proofs.StretchLaws.{file_within, file_few, file_stretches}
 use Rattle.feed_trips.proofs.order.calls_by_trip.Goals as goal
 
@@ -20,8 +19,8 @@ stretches_of-requires-clause-few c =
     let rows : c.items-rows.result.now ≡ c.args.feed.now.stop_times = c.items-rows.ensures.value ∙ ap (λ (f : FeedRows). f.stop_times) c.feed.view_is in
     file_few c.args.feed.now c.items-rows.result.now (subst IsSoundFeed c.feed.view_is c.feed.invariant) rows
 
-pub calls_of_stretches-requires-clause-few : goal.calls_of_stretches-requires-clause-few
-calls_of_stretches-requires-clause-few c =
+pub calls_of_rows-requires-clause-few : goal.calls_of_rows-requires-clause-few
+calls_of_rows-requires-clause-few c =
     let rows : c.items-rows.result.now ≡ c.args.feed.now.stop_times = c.items-rows.ensures.value ∙ ap (λ (f : FeedRows). f.stop_times) c.feed.view_is in
     file_few c.args.feed.now c.items-rows.result.now (subst IsSoundFeed c.feed.view_is c.feed.invariant) rows
 
@@ -33,16 +32,13 @@ sorted_stop_times-requires c =
 pub calls_of_sorted-requires-clause-moved : goal.calls_of_sorted-requires-clause-moved
 calls_of_sorted-requires-clause-moved c =
     let rows : c.items-rows.result.now ≡ c.args.feed.now.stop_times = c.items-rows.ensures.value ∙ ap (λ (f : FeedRows). f.stop_times) c.feed.view_is in
-    rw c.deref.ensures.value (subst (λ (rs : List StopTimeRow). IsPermutation rs c.in_ok-sorted.sorted.items) rows c.in_ok-sorted.ensures.moved)
-
-pub calls_of_sorted-requires-clause-sorted : goal.calls_of_sorted-requires-clause-sorted
-calls_of_sorted-requires-clause-sorted c = subst (AllPairs IsInOrder) (sym c.deref.ensures.value) c.in_ok-sorted.ensures.sorted
+    subst (λ (rs : List StopTimeRow). IsPermutation rs c.in_ok-sorted.sorted.items) rows c.in_ok-sorted.ensures.moved
 
 pub returns : goal.returns
-returns c = c.in_ok-calls-2.ensures
+returns c = c.calls_of_sorted.ensures
 
-pub calls_of_stretches-requires-clause-timed : goal.calls_of_stretches-requires-clause-timed
-calls_of_stretches-requires-clause-timed c =
+pub calls_of_rows-requires-clause-timed : goal.calls_of_rows-requires-clause-timed
+calls_of_rows-requires-clause-timed c =
     let rows : c.items-rows.result.now ≡ c.args.feed.now.stop_times = c.items-rows.ensures.value ∙ ap (λ (f : FeedRows). f.stop_times) c.feed.view_is in
     let trips : length c.items-trips.result.now ≡ length c.args.feed.now.trips = ap length (c.items-trips.ensures.value ∙ ap (λ (f : FeedRows). f.trips) c.feed.view_is) in
     let found = rw c.in-Some.is at c.in_ok-stretches.ensures.together in
@@ -57,6 +53,6 @@ returns-in-Some c =
     let found = rw c.in-Some.is at c.in_ok-stretches.ensures.together in
     let of_trips = subst (λ n. AreStretches c.items-rows.result.now (length c.items-rows.result.now) n c.in-Some.stretches.items) trips found in
     let are = subst (λ (rs : List StopTimeRow). AreStretches rs (length rs) (length c.args.feed.now.trips) c.in-Some.stretches.items) rows of_trips in
-    c.in_ok-calls.ensures
-    ∙ ap (λ (rs : List StopTimeRow). list_below (length c.in-Some.stretches.items) (λ t. pass (rows_at rs c.in-Some.stretches.items t))) rows
-    ∙ (file_stretches c.args.feed.now c.in-Some.stretches.items (subst IsSoundFeed c.feed.view_is c.feed.invariant) are).calls
+    let is = ap (λ (rs : List StopTimeRow). stretch_calls rs c.in-Some.stretches.items) rows
+    ∙ (file_stretches c.args.feed.now c.in-Some.stretches.items (subst IsSoundFeed c.feed.view_is c.feed.invariant) are).calls in
+    subst (λ (made : List (List Call)). IfOk c.calls_of_rows.result (λ calls. calls ≡ made)) is c.calls_of_rows.ensures

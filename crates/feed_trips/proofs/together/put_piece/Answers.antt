@@ -1,7 +1,6 @@
 use Rattle.std.proofs.Common.{◌∙◌, refl, sym}
 use Rattle.std.proofs.lemmas.List.{get_or_default}
 use Rattle.feed_trips.specs.Stretches.{no_stretch}
-use Rattle.trip_order.specs.Order.{no_time}
 use Rattle.feed_trips.proofs.StretchLaws.{trip_stretched, piece_begins, piece_first, lies_apart}
 use Rattle.feed_trips.proofs.together.put_piece.Goals as goal
 
@@ -11,13 +10,13 @@ bounds-rows-from c = piece_begins c.requires.piece
 pub index-stretch-requires : goal.index-stretch-requires
 index-stretch-requires c =
     let stretched =
-    trip_stretched _ _ _ _ no_time (piece_begins c.requires.piece) c.requires.within c.requires.before in
+    trip_stretched _ _ _ _ _ (piece_begins c.requires.piece) c.requires.within c.requires.before in
     rw c.args.stretches.now.ok.0 stretched
 
 pub index_mut-requires : goal.index_mut-requires
 index_mut-requires c =
     let stretched =
-    trip_stretched _ _ _ _ no_time (piece_begins c.requires.piece) c.requires.within c.requires.before in
+    trip_stretched _ _ _ _ _ (piece_begins c.requires.piece) c.requires.within c.requires.before in
     rw c.args.stretches.now.ok.0 stretched
 
 pub returns-then-stretch-clause-apart : goal.returns-then-stretch-clause-apart
