@@ -54,24 +54,24 @@ fn read_call<R: Read>(
     ids: &CallIds,
     trip: &mut LastTrip,
     row: u32,
-    record: &RecordRow<R>,
+    fields: &RecordRow<R>,
     numbers: &mut Vec<Option<i64>>,
 ) -> Result<StopTimeRow, TextError>
     requires few { row < row_limit }
     requires trip { trip.old ≡ ids.now.trips }
-    ensures fault { IfErr result (IsErrorOf (call_fault (header record.now.header) row record.now.fields)) }
-    ensures sound { OnOk result (call_fault (header record.now.header) row record.now.fields ≡ None) }
-    ensures row { IfOk result (λ call. call ≡ call_row ids.now (fields_behind (header record.now.header) record.now.fields)) }
+    ensures fault { IfErr result (IsErrorOf (call_fault (header fields.now.header) row fields.now.fields)) }
+    ensures sound { OnOk result (call_fault (header fields.now.header) row fields.now.fields ≡ None) }
+    ensures row { IfOk result (λ call. call ≡ call_row ids.now (fields_behind (header fields.now.header) fields.now.fields)) }
     ensures same { trip.new ≡ trip.old }
 {
-    if let Some(fault) = read_row(FileName::StopTimes, row, record.is_long(), record, numbers)? {
+    if let Some(fault) = read_row(FileName::StopTimes, row, fields.is_long(), fields, numbers)? {
         return Err(TextError::Fault(fault));
     }
     let &[_, _, sequence, arrival, departure, pickup, drop_off] = numbers.as_slice() else {
         unreachable!();
     };
-    let trip = trip.number(record.field(ColumnName::TripId))?;
-    let stop = ids.stops.number(record.field(ColumnName::StopId));
+    let trip = trip.number(fields.field(ColumnName::TripId))?;
+    let stop = ids.stops.number(fields.field(ColumnName::StopId));
     Ok(StopTimeRow {
         trip: TripId(trip),
         stop: StopId(stop),

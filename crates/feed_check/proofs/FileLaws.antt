@@ -1,43 +1,25 @@
 -- The first fault of files that are read one after another.
-use Rattle.std.proofs.Common.{◌≡◌, refl, sym, ap, ◌∙◌, subst, ℕ, zero, suc, ◌≤◌, List, [], ◌∷◌, ◌++◌, length, true, false, Option, Some, None, arith}
+use Rattle.std.proofs.Common.{◌≡◌, refl, sym, ap, ◌∙◌, subst, ℕ, zero, suc, List, [], ◌∷◌, ◌++◌, length, true, Option, Some, None, arith}
 use Rattle.std.specs.Prelude.{◌≢◌, map}
 use Rattle.std.specs.Option.{option_or}
-use Rattle.std.specs.Str.{is_utf8}
 use Rattle.plain_laws.specs.Plain.{first_below, first_in}
 use Rattle.plain_laws.proofs.Laws.{at_item, option_or-assoc}
-use Rattle.feed_rows.specs.Limits.{most_rows}
 use Rattle.feed_rows.specs.HeldFiles.{HeldFile}
 use Rattle.feed_rows.specs.Names.{place}
 use Rattle.feed_rows.specs.declared.names.FileName.{FileName}
 use Rattle.feed_rows.specs.declared.names.FileName.TheVariants as file
-use Rattle.feed_rows.specs.declared.faults.FaultKind.TheVariants as kind
-use Rattle.feed_faults.specs.Records.{FileTable, row_count, table_of_bytes}
-use Rattle.feed_faults.specs.FaultPlaces.{file_fault}
-use Rattle.feed_faults.specs.FeedTables.{FeedTables, table_in, table_of, tables_of}
-use Rattle.feed_faults.specs.FormFaults.{form_fault, form_fault_of_held, form_fault_of_bytes, first_form_fault}
+use Rattle.feed_faults.specs.FeedTables.{table_of, tables_of}
+use Rattle.feed_faults.specs.FormFaults.{form_fault, form_fault_of_held, first_form_fault}
 use Rattle.folder_io.specs.declared.files.FileBytes.{FileBytes}
 use Rattle.folder_io.specs.KeptFiles.{file_in, held_of, held_in}
 use Rattle.feed_tables.specs.LeftFiles.{AreLeft}
-use Rattle.feed_tables.specs.RowNumbers.{TableOf, read_of, first_files, other_files, StandFrom}
-use Rattle.feed_tables.specs.KeptTables.{tables_with, AreKept}
+use Rattle.feed_tables.specs.RowNumbers.{read_of, first_files, other_files, StandFrom}
+use Rattle.feed_tables.specs.KeptTables.{tables_with}
 use Rattle.feed_tables.proofs.TakenFiles.{fault_left}
 use Rattle.feed_text.specs.declared.errors.TextError.{TextError}
 use Rattle.feed_text.specs.TextErrors.{IsErrorOf}
 use Rattle.feed_tables.proofs.PassLaws.{error_first, error_later}
-use Rattle.feed_tables.specs.IdColumns.{call_ids}
-use Rattle.feed_faults.specs.AcceptedFeed.{stop_time_row, typed_rows}
 use Rattle.feed_faults.specs.FirstFault.{first_fault, first_relation_fault}
-use Rattle.feed_soundness.specs.AcceptedTables.{AreFormed}
-use Rattle.feed_build.specs.CallRows.{calls_fault, call_row, call_rows}
-
--- stop times in memory
-pub not_text : (bytes : List ℕ) → is_utf8 bytes ≡ false → form_fault_of_held true file.StopTimes (HeldFile.Bytes bytes) ≡ Some (file_fault file.StopTimes kind.NotUtf8)
-unfolding form_fault_of_bytes
-not_text bytes e = rw e refl
-
-pub text_fault : (bytes : List ℕ) → is_utf8 bytes ≡ true → form_fault_of_held true file.StopTimes (HeldFile.Bytes bytes) ≡ calls_fault (table_of_bytes bytes)
-unfolding form_fault_of_bytes
-text_fault bytes e = rw e refl
 
 -- the first of several, and then the others
 or_turn : {X : Type 0} (o : Option X) → option_or None o ≡ option_or o None
@@ -126,14 +108,9 @@ module _ (files : FileName → HeldFile) where
   unfolding first_fault
   related_error none e is = error_later (first_form_fault files) _ e none (error_first (first_relation_fault (tables_of files)) None e is)
 
-  pub no_fault : first_form_fault files ≡ None → first_relation_fault (tables_of files) ≡ None → first_fault files ≡ None
+  pub related_sound : first_form_fault files ≡ None → first_relation_fault (tables_of files) ≡ None → first_fault files ≡ None
   unfolding first_fault
-  no_fault none related = rw (none, related) refl
-
--- the rows of the kept table of stop times
-pub rows_typed : (t : FeedTables) (calls : FileTable) → table_in t file.StopTimes ≡ calls → call_rows (call_ids t) calls ≡ typed_rows calls (stop_time_row t)
-unfolding stop_time_row call_row
-rows_typed t calls at = rw (← at) refl
+  related_sound none related = rw (none, related) refl
 
 -- what the files are after those before stop_times.txt were let go of, and stop_times.txt itself
 module _ (files mid now : List FileBytes) (left : AreLeft files mid 3) (others : (other : FileName) → place other ≢ 3 → file_in now other ≡ file_in mid other) where
@@ -142,25 +119,3 @@ module _ (files mid now : List FileBytes) (left : AreLeft files mid 3) (others :
 
   pub others_held : AreLeft files now 4
   others_held = λ name le. others name (λ e. absurd (omega (arith, le, e))) ∙ left name (omega (arith, le))
-
--- the tables that are kept are those of all files
-pub kept_tables : (files : FileName → HeldFile) (first others : List TableOf) (calls : FileTable) → first ≡ map (read_of files) first_files
-    → calls ≡ table_of (files file.StopTimes) → others ≡ map (read_of files) other_files → tables_with first calls others ≡ tables_of files
-kept_tables files first others calls f c o = rw (f, c, o) (tables_are files)
-
-pub are_kept : (files : FileName → HeldFile) (first others : List TableOf) (calls : FileTable) (count : ℕ) → first ≡ map (read_of files) first_files
-    → others ≡ map (read_of files) other_files → count ≡ row_count calls → count ≤ most_rows → AreKept first others calls count
-are_kept files first others calls count f o is few = record {
-  first_are = rw f refl;
-  others_are = rw o refl;
-  count_is = is;
-  few = omega (arith, few);
-}
-
--- a feed without a fault of its files has few stop times
-pub few_calls : (files : FileName → HeldFile) → AreFormed (tables_of files) → row_count (table_of (files file.StopTimes)) ≤ most_rows
-unfolding tables_of
-few_calls files formed = (formed file.StopTimes).few
-
-pub files_of_first : (files : FileName → HeldFile) (first : List TableOf) → first ≡ map (read_of files) first_files → map (λ (read : TableOf). read.file) first ≡ first_files
-files_of_first files first is = rw is refl

@@ -1,2 +1,6 @@
-pub mod NamedLaws
 pub mod FileLaws
+pub mod HeldCalls
+pub mod JoinedFiles
+pub mod LoadLaws
+pub mod NamedLaws
+pub mod ReadFiles

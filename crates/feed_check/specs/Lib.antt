@@ -1,1 +1,2 @@
+pub mod FolderCalls
 pub mod LoadErrors

@@ -20,9 +20,9 @@ use folder_io::{FileBytes, Files};
 use std::alloc::Global;
 use std::marker::Brand;
 
-// The feed of tables whose files have no fault by themselves, with the rows of stop_times.txt. `Fault` is exactly the first
-// fault of the files among each other.
-fn related_feed<C: CallTable>(
+/// The feed of tables whose files have no fault by themselves, with the rows of stop_times.txt. `Fault` is exactly the first
+/// fault of the files among each other.
+pub(crate) fn related_feed<C: CallTable>(
     alloc: Global,
     first: &[ReadTable],
     others: &[ReadTable],

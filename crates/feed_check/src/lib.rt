@@ -1,6 +1,7 @@
 //! A feed from the files of a folder, or its first fault.
 #![tactic(auto)]
 
+mod calls;
 mod files;
 mod folder;
 mod stop_times;

@@ -7,6 +7,7 @@ use Rattle.std.proofs.Math.ListN.{get_or-append}
 use Rattle.feed_rows.specs.declared.names.FileName.{FileName}
 use Rattle.feed_rows.specs.declared.names.FileName.TheVariants as file
 use Rattle.feed_rows.specs.Names.{all_files, place}
+use Rattle.folder_io.proofs.PlaceLaws.{named, inside}
 use Rattle.feed_faults.specs.FeedTables.{table_in}
 use Rattle.feed_faults.specs.Records.{FileTable, field, row_count}
 use Rattle.plain_laws.proofs.Laws.{length-list_below, slice_get-list_below}
@@ -22,47 +23,6 @@ module _ (file : FileName) (table : FileTable) (rows : List (List (Option ℤ)))
   -- which are what the row tells
   pub kept_row : (found : List (Option ℤ)) → slice_get rows row ≡ Some found → found ≡ numbers_of file (field table row)
   kept_row found at = same_Some _ _ (sym at ∙ ap (λ rs. slice_get rs row) are ∙ slice_get-list_below (row_count table) (λ k. numbers_of file (field table k)) row lt)
-
--- each file stands at its place
-stands : (name d : FileName) → get_or all_files (place name) d ≡ name
-stands file.Stops d = refl
-stands file.Routes d = refl
-stands file.Trips d = refl
-stands file.StopTimes d = refl
-stands file.Calendar d = refl
-stands file.CalendarDates d = refl
-stands file.Frequencies d = refl
-stands file.Transfers d = refl
-stands file.Areas d = refl
-stands file.StopAreas d = refl
-stands file.Networks d = refl
-stands file.RouteNetworks d = refl
-stands file.Timeframes d = refl
-stands file.RiderCategories d = refl
-stands file.FareMedia d = refl
-stands file.FareProducts d = refl
-stands file.FareLegRules d = refl
-stands file.FareTransferRules d = refl
-
-inside : (name : FileName) → place name < 18
-inside file.Stops = omega arith
-inside file.Routes = omega arith
-inside file.Trips = omega arith
-inside file.StopTimes = omega arith
-inside file.Calendar = omega arith
-inside file.CalendarDates = omega arith
-inside file.Frequencies = omega arith
-inside file.Transfers = omega arith
-inside file.Areas = omega arith
-inside file.StopAreas = omega arith
-inside file.Networks = omega arith
-inside file.RouteNetworks = omega arith
-inside file.Timeframes = omega arith
-inside file.RiderCategories = omega arith
-inside file.FareMedia = omega arith
-inside file.FareProducts = omega arith
-inside file.FareLegRules = omega arith
-inside file.FareTransferRules = omega arith
 
 module _ {X : Type 0} (first : List X) (calls : X) (others : List X) (three : length first ≡ 3) (d : X) where
   -- the tables of all files, by the place of a file
@@ -104,7 +64,7 @@ module _ (first others : List TableOf) (calls : FileTable) (first_are : map (λ 
         ∙ sym (get_or-map (λ (r : TableOf). r.file) first (place name) read name (first_within first first_are name lt))
         ∙ ap (λ files. get_or files (place name) name) first_are
         ∙ sym (in_first first_files file.StopTimes other_files refl name (place name) lt)
-        ∙ stands name name
+        ∙ named name name
 
     pub first_table : table_in (tables_with first calls others) name ≡ read.table
     first_table =
@@ -122,7 +82,7 @@ module _ (first others : List TableOf) (calls : FileTable) (first_are : map (λ 
         ∙ ap (λ files. get_or files (place name - 4) name) others_are
         ∙ sym (in_others first_files file.StopTimes other_files refl name (place name - 4))
         ∙ ap (λ k. get_or all_files k name) here
-        ∙ stands name name
+        ∙ named name name
 
     pub other_table : table_in (tables_with first calls others) name ≡ read.table
     other_table =

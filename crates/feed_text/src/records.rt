@@ -1,6 +1,7 @@
 //! The records of a text, one after another.
 ghost use Rattle.std.specs.Prelude.{◌≡◌, ◌<◌, [], List, ℕ, Option, length, get_or, IfOk, IfErr};
 ghost use Rattle.feed_faults.specs.Records.{FileTable};
+ghost use Rattle.csv.specs.Reading.{reader_source};
 ghost use Rattle.feed_text.specs.Reader.{StandsBehind, GoesOn, Explains, last_record};
 
 use crate::blanks::cut_of;
@@ -53,6 +54,14 @@ impl<R: Read> Records<R> {
                 _ => Err(RecordError::Stopped),
             },
         }
+    }
+
+    /// Gives the source back, from which as much was taken as the reading wanted.
+    pub fn into_source(self) -> R
+        ensures { result ≡ reader_source self.reader }
+    {
+        let Records { reader, row: _ } = self;
+        reader.into_inner()
     }
 
     // The last record as csv read it.

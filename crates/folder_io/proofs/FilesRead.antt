@@ -1,8 +1,8 @@
 -- Files that are read piece by piece, and one by one.
-use mathlib.Core.Path.{fun_ext}
-use Rattle.std.proofs.Common.{◌≡◌, ap, sym, subst, ℕ, zero, suc, List, [], ◌∷◌, ◌++◌, Option, Some, None, refl, ◌∙◌, map, unwrap_or, slice_get, slice_set, get_or, All, arith, true, false, length, take, drop, ◌+◌, ◌<◌, ◌≤◌, append_assoc, length-append, length-take, append-nil, nat_lt}
-use Rattle.std.specs.Prelude.{option_map, IfSome, OnErr, Result, Ok, Err}
-use Rattle.std.proofs.lemmas.List.{take-append-le, take-append-drop, take_more, take_more_set, take-map, map_more, map-append}
+use Rattle.std.proofs.Common.{◌≡◌, ◌≢◌, ◌⊎◌, inl, inr, ap, sym, subst, ℕ, List, [], ◌∷◌, ◌++◌, Option, Some, None, refl, ◌∙◌, map, slice_set, get_or, arith, true, false, length, take, drop, ◌+◌, ◌<◌, ◌≤◌, append_assoc, length-append, length-take, append-nil, nat_lt, Bool}
+use Rattle.std.specs.Prelude.{option_map, IfSome, IfErr, IsErrAnd, Result, Ok, Err}
+use Rattle.std.proofs.lemmas.List.{take-append-le, take-append-drop, take-map, map_more, length-set, get_or-set_same, get_or-set_other}
+use Rattle.std.proofs.lemmas.Option.{unwrap_or-slice_get}
 use Rattle.std.proofs.Math.Seq.{drop-append_seam}
 use Rattle.std.proofs.lemmas.Bool.Decides.{nat_tests}
 use Rattle.folder_io.specs.declared.folder.Opened.TheVariants as opened
@@ -13,13 +13,17 @@ use Rattle.feed_rows.specs.Names.{file_text}
 use Rattle.feed_rows.specs.HeldFiles.{HeldFile, held_within, held, most_bytes}
 use Rattle.folder_io.specs.declared.files.FileBytes.{FileBytes}
 use Rattle.folder_io.specs.declared.files.FileBytes.TheVariants as kept
-use Rattle.folder_io.specs.CallLogs.{CallLog, Makes}
+use Rattle.folder_io.specs.CallLogs.{Makes}
 use Rattle.feed_rows.specs.Names.{all_files}
 use Rattle.folder_io.specs.FilePlaces.{place}
-use Rattle.folder_io.specs.FolderCalls.{Contents, Finds, Takes}
-use Rattle.folder_io.specs.KeptFiles.{held_of, held_in, IsWithin, AreWithin}
-use Rattle.folder_io.specs.FileReading.{IsRead, StopsPast, file_names}
+use Rattle.folder_io.specs.FolderCalls.{Contents, FolderState, Finds, Takes}
+use Rattle.folder_io.specs.KeptFiles.{held_of, held_in, file_in, IsWithin}
+use Rattle.folder_io.specs.FileReading.{IsRead, StopsPast, ReadsTo, GivesUp, GivesUpOn, AreReadBetween, file_names}
+use Rattle.folder_io.specs.declared.reading.ReadError.{ReadError}
+use Rattle.folder_io.specs.declared.reading.ReadError.TheVariants as error
+use Rattle.feed_rows.specs.FaultCounts.{Rose, Stayed}
 use Rattle.folder_io.proofs.LogLaws.{makes_more}
+use Rattle.folder_io.proofs.PlaceLaws.{named}
 
 -- the bytes so far and what is left are the file
 abbrev pub IsWhole : Option (List ℕ) → Option (List ℕ) → List ℕ → Type 0
@@ -100,72 +104,90 @@ pub large_read : (holds : Option Contents) (name bytes : List ℕ) (left : Optio
 large_read None name bytes left limit so_far size = (tt, tt)
 large_read (Some folder) name bytes left limit so_far size = large_held (folder name) left bytes limit so_far size
 
--- the files so far are those that are held, where that is told
-abbrev pub AreReadSoFar : Option Contents → List FileName → List FileBytes → Type 0
-AreReadSoFar holds names files = IfSome holds (λ contents. map held_of files ≡ map (held_under contents) names)
+-- what was read of the file at a place
+pub record IsReadAt (holds : Option Contents) (k : ℕ) (bytes : FileBytes) : Type 0 where
+  pub within : IsWithin most_bytes bytes
+  pub given : IfSome holds (λ contents. IsRead contents (file_text (get_or all_files k file.Stops)) most_bytes bytes)
+
+-- the files from one place and up to another were read, and the others are as they were
+pub record AreReadSoFar (holds : Option Contents) (from to : ℕ) (before now : List FileBytes) : Type 0 where
+  pub size : length now ≡ length before
+  pub read : (k : ℕ) → from ≤ k → k < to → IsReadAt holds k (get_or now k kept.Absent)
+  pub others : (k : ℕ) → (k < from) ⊎ (to ≤ k) → get_or now k kept.Absent ≡ get_or before k kept.Absent
+
+pub none_read : (holds : Option Contents) (from : ℕ) (files : List FileBytes) → AreReadSoFar holds from from files files
+none_read holds from files = record { size = refl; read = λ k low high. absurd (omega (arith, low, high)); others = λ k apart. refl }
+
+below_or_at : (k i : ℕ) → k < i + 1 → (k < i) ⊎ (k ≡ i)
+below_or_at k i lt = by (nat_lt k i) refl
+  where
+    by : (b : Bool) → nat_lt k i ≡ b → (k < i) ⊎ (k ≡ i)
+    by true less = inl (grind (arith, nat_tests))
+    by false more = inr (grind (arith, nat_tests, lt))
 
 -- one file more
-pub more_read : (holds : Option Contents) (files : List FileBytes) (i : ℕ) (bytes : FileBytes) (d : FileName) → i < length all_files → i < length files
-    → AreReadSoFar holds (take i all_files) (take i files) → IfSome holds (λ contents. IsRead contents (file_text (get_or all_files i d)) most_bytes bytes)
-    → AreReadSoFar holds (take (i + 1) all_files) (take (i + 1) (slice_set files i bytes))
-more_read None files i bytes d named lt so_far read = tt
-more_read (Some folder) files i bytes d named lt so_far read =
-    rw (take_more_set files i bytes lt, take_more all_files i d named, map-append held_of (take i files) (bytes ∷ []), map-append (held_under folder) (take i all_files) (get_or all_files i d ∷ []), so_far, read) refl
+module _ (holds : Option Contents) (from i : ℕ) (before files : List FileBytes) (bytes : FileBytes) (so_far : AreReadSoFar holds from i before files) (order : from ≤ i) (inside : i < length files) (read : IsReadAt holds i bytes) where
+  put_there : get_or (slice_set files i bytes) i kept.Absent ≡ bytes
+  put_there = get_or-set_same files i bytes kept.Absent inside
 
--- what is held of one of the files that are kept, by the list of what is held of all
-held_of_place : (files : List FileBytes) (i : ℕ) → held_of (unwrap_or (slice_get files i) kept.Absent) ≡ unwrap_or (slice_get (map held_of files) i) HeldFile.Missing
-held_of_place [] i = refl
-held_of_place (file ∷ files) zero = refl
-held_of_place (file ∷ files) (suc i) = held_of_place files i
+  kept_there : (k : ℕ) → k ≢ i → get_or (slice_set files i bytes) k kept.Absent ≡ get_or files k kept.Absent
+  kept_there k apart = get_or-set_other files i k bytes kept.Absent apart
 
--- each file in its place
-held_of_each : (folder : Contents) (name : FileName) → unwrap_or (slice_get (map (held_under folder) all_files) (place name)) HeldFile.Missing ≡ held folder name
-unfolding held
-held_of_each folder file.Stops = refl
-held_of_each folder file.Routes = refl
-held_of_each folder file.Trips = refl
-held_of_each folder file.StopTimes = refl
-held_of_each folder file.Calendar = refl
-held_of_each folder file.CalendarDates = refl
-held_of_each folder file.Frequencies = refl
-held_of_each folder file.Transfers = refl
-held_of_each folder file.Areas = refl
-held_of_each folder file.StopAreas = refl
-held_of_each folder file.Networks = refl
-held_of_each folder file.RouteNetworks = refl
-held_of_each folder file.Timeframes = refl
-held_of_each folder file.RiderCategories = refl
-held_of_each folder file.FareMedia = refl
-held_of_each folder file.FareProducts = refl
-held_of_each folder file.FareLegRules = refl
-held_of_each folder file.FareTransferRules = refl
+  read_at : (k : ℕ) → from ≤ k → (k < i) ⊎ (k ≡ i) → IsReadAt holds k (get_or (slice_set files i bytes) k kept.Absent)
+  read_at k low (inl less) = rw (kept_there k (λ e. absurd (omega (arith, e, less)))) (so_far.read k low less)
+  read_at k low (inr same) = rw (same, put_there) read
 
--- all files are read
-pub all_read : (holds : Option Contents) (files : List FileBytes) → AreReadSoFar holds all_files files → IfSome holds (λ contents. held_in files ≡ held contents)
-all_read None files so_far = tt
-all_read (Some folder) files so_far =
-    fun_ext (λ name. held_of_place files (place name) ∙ ap (λ all. unwrap_or (slice_get all (place name)) HeldFile.Missing) so_far ∙ held_of_each folder name)
+  other_at : (k : ℕ) → (k < from) ⊎ (i + 1 ≤ k) → get_or (slice_set files i bytes) k kept.Absent ≡ get_or before k kept.Absent
+  other_at k (inl low) = kept_there k (λ e. absurd (omega (arith, e, low, order))) ∙ so_far.others k (inl low)
+  other_at k (inr high) = kept_there k (λ e. absurd (omega (arith, e, high))) ∙ so_far.others k (inr (omega (arith, high)))
 
--- a file in its place is within the limit where all are
-within_at : (limit : ℕ) (files : List FileBytes) (i : ℕ) → All (IsWithin limit) files → IsWithin limit (unwrap_or (slice_get files i) kept.Absent)
-within_at limit [] i all = tt
-within_at limit (file ∷ files) zero all = all 0 file (omega arith)
-within_at limit (file ∷ files) (suc i) all = within_at limit files i (λ k d below. all (suc k) d (omega (arith, below)))
+  pub more_read : AreReadSoFar holds from (i + 1) before (slice_set files i bytes)
+  more_read = record {
+    size = length-set files i bytes ∙ so_far.size;
+    read = λ k low high. read_at k low (below_or_at k i high);
+    others = other_at;
+  }
 
--- each file is
-pub each_within : (files : List FileBytes) → All (IsWithin most_bytes) files → AreWithin files
-each_within files all name = within_at most_bytes files (place name) all
+-- all files that were to be read
+module _ (folder : FolderState) (from to : ℕ) (before now : List FileBytes) (so_far : AreReadSoFar folder.holds from to before now) where
+  at_place : (files : List FileBytes) (name : FileName) → get_or files (place name) kept.Absent ≡ file_in files name
+  at_place files name = sym (unwrap_or-slice_get files (place name) kept.Absent)
+
+  given_at : (holds : Option Contents) (name : FileName) → IsReadAt holds (place name) (get_or now (place name) kept.Absent) → IfSome holds (λ contents. held_in now name ≡ held contents name)
+  unfolding held
+  given_at None name read = tt
+  given_at (Some contents) name read =
+      let is = read.given in
+      ap held_of (sym (at_place now name)) ∙ is ∙ ap (λ (n : FileName). held_within most_bytes (contents (file_text n))) (named name file.Stops)
+
+  pub all_read : AreReadBetween folder from to before now
+  all_read = record {
+    within = λ name low high. rw (at_place now name) at (so_far.read (place name) low high).within;
+    given = λ name low high. given_at folder.holds name (so_far.read (place name) low high);
+    others = λ name apart. sym (at_place now name) ∙ so_far.others (place name) apart ∙ at_place before name;
+  }
+
+risen : (start before now : ℕ) → Stayed start before → Rose before now → Rose start now
+risen start before now same (inl less) = inl (omega (arith, same, less))
+risen start before now same (inr last) = inr last
 
 -- one file more is opened
 names_more : {X Y : Type 0} (f : X → Y) (xs : List X) (i : ℕ) (d : X) → i < length xs → take i (map f xs) ++ f (get_or xs i d) ∷ [] ≡ take (i + 1) (map f xs)
 names_more f xs i d lt = ap (λ ys. ys ++ f (get_or xs i d) ∷ []) (take-map f i xs) ∙ sym (take-map f (i + 1) xs ∙ map_more f xs i d lt)
 
-pub more_opened : {before now later : CallLog} (i : ℕ) (d : FileName) → i < length all_files → Makes before (take i file_names) now
-    → Makes now (file_text (get_or all_files i d) ∷ []) later → Makes before (take (i + 1) file_names) later
-more_opened {before} {later = later} i d lt so_far one =
-    subst (λ names. Makes before names later) (names_more file_text all_files i d lt) (makes_more so_far one)
+module _ (start before now : FolderState) (i : ℕ) (d : FileName) (named : i < length all_files) (so_far : ReadsTo start i before) (one : Makes before.opens (file_text (get_or all_files i d) ∷ []) now.opens) where
+  more_opens : Makes start.opens (take (i + 1) file_names) now.opens
+  more_opens = subst (λ names. Makes start.opens names now.opens) (names_more file_text all_files i d named) (makes_more so_far.opens one)
 
--- what holds after any answer holds after an error
-pub on_err : {T E P : Type 0} (result : Result T E) → P → OnErr result P
-on_err (Ok value) holds = tt
-on_err (Err error) holds = holds
+  pub more_opened : Stayed before.faults now.faults → ReadsTo start (i + 1) now
+  more_opened stayed = record { counts = stayed ∙ so_far.counts; opens = more_opens }
+
+  -- a file whose read gave up was opened too
+  pub gives_up : (error : ReadError) → GivesUp error before now → GivesUpOn error start now
+  gives_up error.ReadFault why = record { why = (risen start.faults before.faults now.faults so_far.counts why.0, why.1); opens = (i + 1, more_opens) }
+  gives_up error.NoMemory why = record { why = why ∙ so_far.counts; opens = (i + 1, more_opens) }
+
+-- what holds of an error that is passed on
+pub passed_on : {T E : Type 0} (P : E → Type 0) (result : Result T E) (error : E) → IsErrAnd result (λ passed. passed ≡ error) → P error → IfErr result P
+passed_on P (Ok value) error is holds = tt
+passed_on P (Err passed) error is holds = subst P (sym is) holds

@@ -1,4 +1,5 @@
 pub mod LogLaws
+pub mod PlaceLaws
 pub mod FilesRead
 pub mod FilesHeld
 pub mod WholeLaws

@@ -1,5 +1,5 @@
 -- A file that is read piece by piece.
-use Rattle.std.proofs.Common.{◌≡◌, ℕ, zero, suc, ◌+◌, ◌-◌, ◌<◌, ◌≤◌, ◌⊎◌, inl, inr, List, [], ◌∷◌, ◌++◌, length, take, Option, Some, None, IfSome, refl, sym, ap, subst, ◌∙◌, arith, append_assoc, length-append, length-take, take-append-drop}
+use Rattle.std.proofs.Common.{◌≡◌, ℕ, zero, suc, ◌+◌, ◌-◌, ◌<◌, ◌≤◌, ◌⊎◌, inl, inr, List, [], ◌∷◌, ◌++◌, length, take, Option, Some, None, IfSome, refl, sym, ap, subst, ◌∙◌, arith, append_assoc, append-nil, length-append, length-take, take-append-drop}
 use Rattle.std.specs.Prelude.{option_map}
 use Rattle.std.proofs.lemmas.Bool.Decides.{nat_tests}
 use Rattle.std.proofs.lemmas.List.{take-append-le}
@@ -7,7 +7,7 @@ use Rattle.std.specs.Io.KnownBytes.{Consumes}
 use Rattle.feed_rows.specs.FaultCounts.{Stayed}
 use Rattle.folder_io.specs.declared.folder.Piece.TheVariants as piece
 use Rattle.folder_io.specs.declared.pieces.PiecesEnd.{PiecesEnd}
-use Rattle.folder_io.specs.declared.pieces.PiecesEnd.TheVariants.{Going, TooLarge}
+use Rattle.folder_io.specs.declared.pieces.PiecesEnd.TheVariants.{Going, Ended, Failed, TooLarge}
 use Rattle.folder_io.specs.declared.utf8.Utf8State.{Utf8State}
 use Rattle.folder_io.specs.declared.utf8.Utf8State.TheVariants.{Whole}
 use Rattle.folder_io.specs.FolderCalls.{FolderState, Takes}
@@ -121,3 +121,24 @@ takes_behind before kept now text part rest count is going within fits asked tak
         text = reads ∙ ap (λ text. utf8_after text (take count (part ++ rest))) has.text ∙ sym (utf8_after-append Whole taken (take count (part ++ rest)));
       };
 }
+
+-- no bytes, and some bytes behind others
+pub takes_none : (state : PiecesState) → TakesOn state [] state
+takes_none state = record { behind = λ start limit taken has. rw append-nil has }
+
+pub takes_more : (before between now : PiecesState) (bytes more : List ℕ) → TakesOn before bytes between → TakesOn between more now → TakesOn before (bytes ++ more) now
+takes_more before between now bytes more first then =
+    record { behind = λ start limit taken has. rw (← append_assoc taken bytes more) (then.behind start limit (taken ++ bytes) (first.behind start limit taken has)) }
+
+-- how often one may read on
+abbrev pub reads_left : PiecesEnd → ℕ → ℕ
+reads_left Going room = room + 1
+reads_left Ended room = 0
+reads_left Failed room = 0
+reads_left TooLarge room = 0
+
+pub reads_fewer : (end : PiecesEnd) (before now : ℕ) → (end ≡ Going → now < before) → reads_left end now < reads_left Going before
+reads_fewer Going before now less = omega (arith, less refl)
+reads_fewer Ended before now less = omega arith
+reads_fewer Failed before now less = omega arith
+reads_fewer TooLarge before now less = omega arith

@@ -94,6 +94,10 @@ HasTakenSome start limit now = (taken : List ℕ) × HasTaken start limit taken 
 pub record TakesOn (before : PiecesState) (bytes : List ℕ) (now : PiecesState) : Type 0 where
   pub behind : (start : FolderState) (limit : ℕ) (taken : List ℕ) → HasTaken start limit taken before → HasTaken start limit (taken ++ bytes) now
 
+-- some bytes were taken
+abbrev pub TakesSome : PiecesState → PiecesState → Type 0
+TakesSome before now = (bytes : List ℕ) × TakesOn before bytes now
+
 -- what a read into so much room answers, by how far the reading came with it: an error exactly where it failed, no bytes
 -- where it ended, and some bytes into room where it goes on
 abbrev pub AnswersAs : {E : Type 0} → PiecesEnd → ℕ → Result ℕ E → Type 0

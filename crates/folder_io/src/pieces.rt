@@ -1,10 +1,11 @@
 //! The open file of a folder, read piece by piece.
-ghost use Rattle.std.specs.Prelude.{◌≡◌, ◌≢◌, ◌+◌, List, ℕ, [], true, length, take, option_map};
+ghost use Rattle.std.specs.Prelude.{◌≡◌, ◌≢◌, ◌+◌, ◌<◌, List, ℕ, [], true, length, take, option_map};
 ghost use Rattle.std.specs.Io.{ReadsAtMost};
 ghost use Rattle.std.specs.Io.KnownBytes.{ReadConsumes};
 ghost use Rattle.std.specs.Str.{is_utf8};
 ghost use Rattle.folder_io.specs.FolderCalls.{FolderState};
 
+use crate::reading::ROOM;
 use crate::utf8::Utf8State;
 use crate::{Folder, Piece};
 use std::io;
@@ -54,7 +55,7 @@ impl<F: Folder> Drop for Pieces<'_, F> {
 }
 
 impl<'a, F: Folder> Pieces<'a, F> {
-    ghost use Rattle.folder_io.specs.Pieces.{pieces_state, pieces_end, read_folder, folder_name, bytes_to_come, HasTaken};
+    ghost use Rattle.folder_io.specs.Pieces.{pieces_state, pieces_end, read_folder, folder_name, bytes_to_come, HasTaken, TakesSome};
 
     /// The rest of the folder's open file, of which at most `limit` bytes and one more are taken.
     pub fn new(folder: &'a mut F, limit: u32) -> Pieces<'a, F>
@@ -81,6 +82,20 @@ impl<'a, F: Folder> Pieces<'a, F> {
             return PiecesEnd::TooLarge;
         }
         self.end
+    }
+
+    /// Reads on until nothing more is taken, and lets go of the bytes. Answers how far the reading came.
+    pub fn finish(&mut self) -> PiecesEnd
+        ensures value { result ≡ pieces_end self.new }
+        ensures ended { result ≢ PiecesEnd.Going }
+        ensures takes { TakesSome (pieces_state self.old) (pieces_state self.new) }
+        ensures same_folder { folder_name self.new ≡ folder_name self.old }
+    {
+        let mut room = [0u8; ROOM];
+        while let PiecesEnd::Going = self.end() {
+            let _ = self.read(&mut room);
+        }
+        self.end()
     }
 
     /// Gives the folder back, as it is.
@@ -118,6 +133,7 @@ impl<F: Folder> Read for Pieces<'_, F> {
         ensures bound { ReadsAtMost result room.new }
         ensures bytes { ReadConsumes (bytes_to_come (pieces_state self.old)) (bytes_to_come (pieces_state self.new)) result room.new }
         ensures takes { TakesOn (pieces_state self.old) (given result room.new) (pieces_state self.new) }
+        ensures shrinks { pieces_end self.new ≡ PiecesEnd.Going → 0 < length room.old → (pieces_state self.new).room < (pieces_state self.old).room }
         ensures answers { AnswersAs (pieces_end self.new) (length room.old) result }
         ensures rests { pieces_end self.old ≢ PiecesEnd.Going → (read_folder self.new ≡ read_folder self.old) × (pieces_end self.new ≡ pieces_end self.old) }
         ensures same_folder { folder_name self.new ≡ folder_name self.old }

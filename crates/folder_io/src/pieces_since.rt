@@ -81,6 +81,14 @@ impl<'a, F: Folder, S: Beginning> PiecesSince<'a, F, S> {
         self.pieces.is_text()
     }
 
+    /// Reads on until nothing more is taken, and lets go of the bytes. Answers how far the reading came.
+    pub fn finish(&mut self) -> PiecesEnd
+        ensures value { result ≡ since_end self.new }
+        ensures ended { result ≢ PiecesEnd.Going }
+    {
+        self.pieces.finish()
+    }
+
     /// Gives the folder back, as it is.
     pub fn release(self) -> &'a mut F
         ensures value { result.now ≡ since_folder self.entry }

@@ -1,11 +1,11 @@
 //! Reading the files of a feed.
-ghost use Rattle.std.specs.Prelude.{◌≡◌, ◌∷◌, [], IfOk, IfErr, OnOk, OnErr};
+ghost use Rattle.std.specs.Prelude.{◌≡◌, ◌≤◌, ◌∷◌, [], IfOk, IfErr, OnOk};
 ghost use Rattle.feed_rows.specs.FaultCounts.{Stayed};
 ghost use Rattle.feed_rows.specs.Names.{file_text};
 ghost use Rattle.folder_io.specs.CallLogs.{Makes};
-ghost use Rattle.folder_io.specs.KeptFiles.{IsWithin, AreWithin, held_in};
-ghost use Rattle.folder_io.specs.FolderCalls.{WhereTold};
-ghost use Rattle.folder_io.specs.FileReading.{GivesUp, IsRead, StopsPast, Gives, OpensAll, OpensSome};
+ghost use Rattle.folder_io.specs.KeptFiles.{IsWithin};
+ghost use Rattle.folder_io.specs.FolderCalls.{FolderState, WhereTold};
+ghost use Rattle.folder_io.specs.FileReading.{AreReadBetween, GivesUp, GivesUpOn, IsRead, ReadsTo, StopsPast};
 
 use crate::{ByteText, FileBytes, Files, Folder, Opened, Piece};
 use feed_rows::FileName;
@@ -38,7 +38,7 @@ impl From<AllocError> for ReadError {
 pub const MOST_BYTES: u32 = 268_435_456;
 
 // How many bytes are asked for at a time.
-const ROOM: usize = 65_536;
+pub(crate) const ROOM: usize = 65_536;
 
 /// The bytes of a file that has at most `limit` bytes. A larger one is read no further than one byte past the limit.
 ///
@@ -80,22 +80,29 @@ pub fn read_file<F: Folder>(
     Ok(FileBytes::TooLarge)
 }
 
-/// Every file of a feed, in order, each of at most [`MOST_BYTES`].
+/// Reads the files of a feed from one place and up to another, in order, each of at most [`MOST_BYTES`], and puts them
+/// beside those that are there.
 ///
 /// # Errors
 /// [`ReadError::ReadFault`] where a call of the folder failed, after which no further call was made; want of memory.
-pub fn read_files<F: Folder>(alloc: Global, folder: &mut F) -> Result<Files, ReadError>
-    ensures within { IfOk result AreWithin }
-    ensures files { IfOk result (λ files. Gives (F.state folder.old) (held_in files)) }
-    ensures ok { OnOk result (OpensAll (F.state folder.old) (F.state folder.new)) }
-    ensures err { IfErr result (λ error. GivesUp error (F.state folder.old) (F.state folder.new)) }
-    ensures opens { OnErr result (OpensSome (F.state folder.old) (F.state folder.new)) }
+pub fn read_files<F: Folder>(
+    alloc: Global,
+    folder: &mut F,
+    files: &mut Files,
+    from: usize,
+    to: usize,
+) -> Result<(), ReadError>
+    requires order { from ≤ to }
+    requires places { to ≤ 18 }
+    ensures files { OnOk result (AreReadBetween (F.state folder.old) from to files.old files.new) }
+    ensures ok { OnOk result ((start : FolderState) → ReadsTo start from (F.state folder.old) → ReadsTo start to (F.state folder.new)) }
+    ensures err { IfErr result (λ error. (start : FolderState) → ReadsTo start from (F.state folder.old) → GivesUpOn error start (F.state folder.new)) }
     ensures holds { (F.state folder.new).holds ≡ (F.state folder.old).holds }
 {
-    let mut files = Files::empty();
-    for (i, name) in FileName::all().iter().enumerate() {
-        let bytes = read_file(alloc, folder, *name, MOST_BYTES)?;
-        files.put_at(i, bytes);
+    let names = FileName::all();
+    for place in from..to {
+        let bytes = read_file(alloc, folder, names[place], MOST_BYTES)?;
+        files.put_at(place, bytes);
     }
-    Ok(files)
+    Ok(())
 }

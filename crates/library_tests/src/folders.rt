@@ -84,8 +84,9 @@ fn limits(rt: HostRuntime) -> Result<(), Fail> {
 fn read_all(alloc: Global, opens: &[u32], reads: &[u32]) -> Result<Read, AllocError> {
     let stops = b"stop_id\nA\n";
     let mut folder = MemFolder::new(alloc, stops_of(alloc, stops)?, opens, reads)?;
-    match read_files(alloc, &mut folder) {
-        Ok(files) => Ok(read_bytes(files.get(FileName::Stops), stops)),
+    let mut files = Files::empty();
+    match read_files(alloc, &mut folder, &mut files, 0, 18) {
+        Ok(()) => Ok(read_bytes(files.get(FileName::Stops), stops)),
         Err(ReadError::ReadFault) => Ok(Read::Failed),
         Err(ReadError::NoMemory) => Err(AllocError),
     }

@@ -14,6 +14,8 @@ mod generated;
 #[cfg(test)]
 mod labels;
 #[cfg(test)]
+mod loads;
+#[cfg(test)]
 mod patterns;
 #[cfg(test)]
 mod pieces;

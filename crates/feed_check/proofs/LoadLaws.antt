@@ -1,0 +1,134 @@
+-- Files of a folder that are read one after another: what is answered at each step.
+use Rattle.std.proofs.Common.{◌≡◌, refl, ◌∙◌, ℕ, ◌<◌, ◌≤◌, ◌⊎◌, inl, inr, Bool, true, false, nat_lt, List, replicate, None, sym, arith}
+use Rattle.std.specs.Prelude.{map, Result, Ok, Err}
+use Rattle.std.proofs.lemmas.List.{get_or-replicate}
+use Rattle.std.proofs.lemmas.Bool.Decides.{nat_tests}
+use Rattle.std.proofs.lemmas.Option.{unwrap_or-slice_get}
+use Rattle.plain_laws.specs.Plain.{first_in}
+use Rattle.feed_rows.specs.HeldFiles.{HeldFile, held, most_bytes}
+use Rattle.feed_rows.specs.Names.{place}
+use Rattle.feed_rows.specs.declared.names.FileName.{FileName}
+use Rattle.feed_rows.specs.declared.names.FileName.TheVariants as file
+use Rattle.feed_faults.specs.FormFaults.{form_fault}
+use Rattle.folder_io.specs.declared.files.FileBytes.{FileBytes}
+use Rattle.folder_io.specs.declared.files.FileBytes.TheVariants as kept
+use Rattle.folder_io.specs.declared.reading.ReadError.{ReadError}
+use Rattle.folder_io.specs.declared.reading.ReadError.TheVariants as read
+use Rattle.folder_io.specs.FolderCalls.{FolderState, WhereTold}
+use Rattle.folder_io.specs.KeptFiles.{IsWithin, AreWithin, file_in, held_in}
+use Rattle.folder_io.specs.FileReading.{AreReadBetween, Gives, GivesUpOn, OpensAll, ReadsTo}
+use Rattle.folder_io.proofs.LogLaws.{makes_none}
+use Rattle.folder_io.proofs.PlaceLaws.{inside}
+use Rattle.feed_text.specs.declared.errors.TextError.{TextError}
+use Rattle.feed_text.specs.declared.errors.TextError.TheVariants as text
+use Rattle.feed_text.specs.TextErrors.{IsErrorOf}
+use Rattle.feed_tables.specs.RowNumbers.{TableOf, read_of, first_files, other_files}
+use Rattle.feed_tables.specs.IdColumns.{call_ids}
+use Rattle.feed_tables.specs.KeptTables.{tables_with}
+use Rattle.feed_tables.specs.declared.ids.CallIds.{CallIds}
+use Rattle.feed_build.specs.declared.stop_times.StopTimes.{StopTimes}
+use Rattle.feed_faults.specs.AcceptedFeed.{feed_of}
+use Rattle.feed_faults.specs.FirstFault.{first_fault}
+use Rattle.feed_rows.specs.FeedRows.{FeedRows}
+use Rattle.feed_rows.specs.declared.faults.FeedFault.{FeedFault}
+use Rattle.feed_check.specs.FolderCalls.{AreCallsIn, AreCallsOfHeld}
+use Rattle.feed_check.specs.LoadErrors.{unread, refused, AreFirstOf, IsFeedOf, GivesUpLoading}
+use Rattle.feed_check.specs.declared.folder.LoadError.TheVariants as error
+use Rattle.feed_check.proofs.FileLaws.{first_error, calls_error, others_error}
+use Rattle.feed_check.proofs.JoinedFiles.{joined, first_joined, first_faults, others_joined, others_faults, gives}
+use Rattle.feed_check.proofs.ReadFiles.{AreReadSo}
+
+-- no file was opened yet
+pub began : (folder : FolderState) → ReadsTo folder 0 folder
+began folder = record { counts = refl; opens = makes_none folder.opens }
+
+pub opens_all : (folder now : FolderState) → ReadsTo folder 18 now → OpensAll folder now
+opens_all folder now reads = record { counts = reads.counts; opens = reads.opens }
+
+-- why nothing was loaded
+pub unread_gives : (why : ReadError) (folder now : FolderState) → GivesUpOn why folder now → GivesUpLoading (unread why) folder now
+unread_gives read.ReadFault folder now gave = record { counts = gave.why.0; ended = gave.why.1; opens = gave.opens }
+unread_gives read.NoMemory folder now gave = record { counts = gave.why; opens = gave.opens }
+
+-- no file is within any limit
+pub none_within : AreWithin (replicate 18 kept.Absent)
+none_within name =
+    let is : file_in (replicate 18 kept.Absent) name ≡ kept.Absent = unwrap_or-slice_get (replicate 18 kept.Absent) (place name) kept.Absent ∙ get_or-replicate 18 (place name) kept.Absent kept.Absent (inside name) in
+    rw is tt
+
+-- each file is within the limit where those that were read are, and the others were
+pub within_read : (folder : FolderState) (from to : ℕ) (before now : List FileBytes) → AreReadBetween folder from to before now → ((name : FileName) → (place name < from) ⊎ (to ≤ place name) → IsWithin most_bytes (file_in before name)) → AreWithin now
+within_read folder from to before now read others name = by (nat_lt (place name) from) refl (nat_lt (place name) to) refl
+  where
+    by : (low : Bool) → nat_lt (place name) from ≡ low → (high : Bool) → nat_lt (place name) to ≡ high → IsWithin most_bytes (file_in now name)
+    by true is high above = let lt : place name < from = grind (arith, nat_tests, is) in rw (read.others name (inl lt)) (others name (inl lt))
+    by false is true below = read.within name (grind (arith, nat_tests, is)) (grind (arith, nat_tests, below))
+    by false is false above = let le : to ≤ place name = grind (arith, nat_tests, above) in rw (read.others name (inr le)) (others name (inr le))
+
+-- the first fault of files that a folder holds
+fault_gives : (folder now : FolderState) (files : FileName → HeldFile) → Gives folder files → ReadsTo folder 18 now → (why : TextError) → IsErrorOf (first_fault files) why → GivesUpLoading (refused why) folder now
+fault_gives folder now files gives reads text.NoMemory is = record { counts = reads.counts; opens = (18, reads.opens) }
+fault_gives folder now files gives reads (text.Fault fault) is = (opens_all folder now reads, record { files = files; gives = gives; is_first = is })
+
+-- that of the files before stop_times.txt, behind which all others were read
+module _ (folder now : FolderState) (first others : FileName → HeldFile) (reads : ReadsTo folder 18 now)
+    (before : (name : FileName) → place name < 3 → WhereTold folder (λ contents. first name ≡ held contents name))
+    (behind : (name : FileName) → 3 ≤ place name → WhereTold folder (λ contents. others name ≡ held contents name)) where
+  pub first_refused : (why : TextError) → IsErrorOf (first_in first_files (form_fault first)) why → GivesUpLoading (refused why) folder now
+  first_refused why is =
+      let at = others file.StopTimes in
+      let given = gives first at others folder.holds before (behind file.StopTimes (omega arith)) (λ name le. behind name (omega (arith, le))) in
+      fault_gives folder now (joined first at others) given reads why (first_error (joined first at others) why (rw (first_faults first at others) is))
+
+-- what is known once all files were read
+pub record AreLoaded (folder now : FolderState) (first : List TableOf) (ids : CallIds) (calls : Result StopTimes FeedFault) (others : FileName → HeldFile) : Type 0 where
+  pub before : AreFirstOf folder first
+  pub at : AreCallsIn folder ids calls
+  pub behind : (name : FileName) → 4 ≤ place name → WhereTold folder (λ contents. others name ≡ held contents name)
+  pub reads : ReadsTo folder 18 now
+
+pub loaded_so : (folder mid behind now : FolderState) (first : List TableOf) (ids : CallIds) (calls : Result StopTimes FeedFault) (before after : List FileBytes) → AreFirstOf folder first → ReadsTo folder 3 mid → mid.holds ≡ folder.holds
+    → AreCallsIn mid ids calls → ((start : FolderState) → ReadsTo start 3 mid → ReadsTo start 4 behind) → behind.holds ≡ mid.holds
+    → AreReadBetween behind 4 18 before after → ((start : FolderState) → ReadsTo start 4 behind → ReadsTo start 18 now) → AreLoaded folder now first ids calls (held_in after)
+loaded_so folder mid behind now first ids calls before after are reads_first holds_first are_calls reads_calls holds_calls are_others reads_others = record {
+  before = are;
+  at = record { kept = are_calls.kept; given = rw holds_first at are_calls.given; are = are_calls.are };
+  behind = λ name le. rw (holds_calls ∙ holds_first) at (are_others.given name le (inside name));
+  reads = reads_others folder (reads_calls folder reads_first);
+}
+
+module _ (folder now : FolderState) (first : List TableOf) (ids : CallIds) (calls : Result StopTimes FeedFault) (others : FileName → HeldFile) (loaded : AreLoaded folder now first ids calls others) where
+  abbrev pub files : FileName → HeldFile
+  files = joined loaded.before.files loaded.at.kept others
+
+  given : Gives folder files
+  given = gives loaded.before.files loaded.at.kept others folder.holds loaded.before.gives loaded.at.given loaded.behind
+
+  none : first_in first_files (form_fault files) ≡ None
+  none = first_faults loaded.before.files loaded.at.kept others ∙ loaded.before.sound
+
+  pub refused_at : (why : TextError) → IsErrorOf (first_fault files) why → GivesUpLoading (refused why) folder now
+  refused_at why is = fault_gives folder now files given loaded.reads why is
+
+  pub calls_refused : (fault : FeedFault) → calls ≡ Err fault → GivesUpLoading (error.Fault fault) folder now
+  calls_refused fault is = refused_at (text.Fault fault) (calls_error files none (text.Fault fault) (rw is at loaded.at.are))
+
+  module _ (made : StopTimes) (is : calls ≡ Ok made) where
+    own : AreCallsOfHeld ids loaded.at.kept (Ok made)
+    own = rw is at loaded.at.are
+
+    pub others_refused : (why : TextError) → IsErrorOf (first_in other_files (form_fault others)) why → GivesUpLoading (refused why) folder now
+    others_refused why is = refused_at why (others_error files none own.0 why (rw (others_faults loaded.before.files loaded.at.kept others) is))
+
+    pub read_so : (read : List TableOf) → ids ≡ call_ids (tables_with first made.table read) → read ≡ map (read_of others) other_files → first_in other_files (form_fault others) ≡ None → AreReadSo files first read ids made
+    read_so read ids_are are sound = record {
+      first_are = loaded.before.are ∙ sym (first_joined loaded.before.files loaded.at.kept others);
+      first_sound = none;
+      ids_are = ids_are;
+      calls_are = own;
+      others_are = are ∙ sym (others_joined loaded.before.files loaded.at.kept others);
+      others_sound = others_faults loaded.before.files loaded.at.kept others ∙ sound;
+    }
+
+  pub loaded_feed : (feed : FeedRows) → first_fault files ≡ None → feed ≡ feed_of files → IsFeedOf folder feed
+  loaded_feed feed sound is = record { files = files; gives = given; accepted = sound; is_feed = is }
