@@ -7,11 +7,13 @@ use Rattle.std.proofs.lemmas.Cmp.{nat_list_cmp_total, tied_itself}
 use Rattle.std.proofs.lemmas.Slice.Eq.{bytes_eq-Decides}
 use Rattle.std.proofs.lemmas.Option.{slice_get_cases}
 use Rattle.std.specs.Prelude.{replicate}
-use Rattle.std.proofs.lemmas.List.{get_or_default, length-replicate}
-use Rattle.std.proofs.lemmas.List.Elements.{All-replicate}
+use Rattle.std.proofs.lemmas.List.{get_or_default, length-replicate, length-set}
+use Rattle.std.proofs.lemmas.List.Elements.{All-replicate, All-set}
+use Rattle.std.specs.Int.Bits.{and_zero_l}
+use Rattle.std.proofs.Math.ListN.{set}
 use Rattle.feed_tables.specs.declared.id_rows.IdRow.{IdRow}
 use Rattle.feed_tables.specs.OrderedRows.{IsNotAfter, IsPlaceOf, row_at}
-use Rattle.feed_tables.specs.Guesses.{IsGuess, AreGuesses, IsFound}
+use Rattle.feed_tables.specs.Guesses.{IsGuess, AreGuesses, IsFound, place_in}
 use Rattle.feed_tables.proofs.IdLaws.{ids_rise, less_before, one_id}
 
 module _ (rows : List IdRow) (up : AllPairs IsNotAfter rows) (place : ℕ) (d : IdRow) (lt : place < length rows) where
@@ -88,11 +90,24 @@ take_none (suc n) = refl
 pub first_guesses : (rows : List IdRow) → AllPairs IsNotAfter rows → (n size : ℕ) (guesses : List ℕ) → 1 ≤ n → guesses ≡ [] → size ≡ 0 → AreGuesses rows (take n guesses ++ replicate (n - size) 0)
 first_guesses rows up n size guesses some none empty =
     let all : n - size ≡ n = omega arith in
+    let slots : ℕ = length {A = ℕ} (replicate n 0) in
+    let zero_word : IsGuess rows (place_in slots 0) = rw (and_zero_l (slots - 1)) (zero_guess rows up) in
     rw (none, take_none n, all)
     (record {
       some = rw (length-replicate {A = ℕ} n 0) some;
-      are = All-replicate (IsGuess rows) n 0 (zero_guess rows up);
+      are = All-replicate (λ word. IsGuess rows (place_in slots word)) n 0 zero_word;
     })
+
+-- they stay right where one more is put
+pub put_guess : (rows : List IdRow) (guesses : List ℕ) (slot word place : ℕ) → AreGuesses rows guesses
+    → place_in (length guesses) word ≡ place → IsGuess rows place → AreGuesses rows (set guesses slot word)
+put_guess rows guesses slot word place before e guess =
+    let right : IsGuess rows (place_in (length guesses) word) = rw e guess in
+    let put = All-set (λ word. IsGuess rows (place_in (length guesses) word)) guesses slot word right before.are in
+    record {
+      some = rw (length-set guesses slot word) before.some;
+      are = λ k d lt. rw (length-set guesses slot word) (put k d lt);
+    }
 
 -- and so is a row behind one with another id
 pub other_guess : (rows : List IdRow) → AllPairs IsNotAfter rows → (place : ℕ) → place < length rows → (d : IdRow) → bytes_eq (get_or rows (place - 1) d).id.now (get_or rows place d).id.now ≡ false → IsGuess rows place

@@ -1,5 +1,5 @@
 -- Guesses where an id stands among rows in the order of their ids.
-use Rattle.std.specs.Prelude.{◌≡◌, ℕ, ◌<◌, ◌≤◌, List, length, slice_index_or, Option, All}
+use Rattle.std.specs.Prelude.{◌≡◌, ℕ, ◌-◌, ◌<◌, ◌≤◌, List, length, slice_index_or, Option, All, bit_and}
 use Rattle.feed_rows.specs.declared.names.ColumnName.{ColumnName}
 use Rattle.feed_faults.specs.Records.{FileTable}
 use Rattle.feed_tables.specs.declared.id_rows.IdRow.{IdRow}
@@ -9,10 +9,14 @@ use Rattle.feed_tables.specs.OrderedRows.{IsPlaceOf, AreOrderedRows, row_at}
 abbrev pub IsGuess : List IdRow → ℕ → Type 0
 IsGuess rows place = (d : IdRow) → place < length rows → IsPlaceOf rows (slice_index_or rows place d).id.now place
 
+-- the place that the word of one of so many slots tells: the bits above it are a tag
+abbrev pub place_in : ℕ → ℕ → ℕ
+place_in slots word = bit_and word (slots - 1)
+
 -- the slots hold such places
 pub record AreGuesses (rows : List IdRow) (guesses : List ℕ) : Type 0 where
   pub some : 1 ≤ length guesses
-  pub are : All (IsGuess rows) guesses
+  pub are : All (λ word. IsGuess rows (place_in (length guesses) word)) guesses
 
 -- what is found of an id is the row at its place, where that has the id
 pub record IsFound (rows : List IdRow) (id : List ℕ) (found : Option ℕ) : Type 0 where
