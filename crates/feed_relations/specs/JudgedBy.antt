@@ -1,5 +1,5 @@
 -- What the rows of a feed are judged by.
-use Rattle.std.specs.Prelude.{◌≡◌, ℕ, ◌<◌, ◌==◌, Bool, true, false, List, length, get_or}
+use Rattle.std.specs.Prelude.{◌≡◌, ℕ, ◌<◌, ◌==◌, Bool, true, false, List, get_or}
 use Rattle.feed_rows.specs.declared.names.ColumnName.TheVariants.{TripId, StopId}
 use Rattle.feed_rows.specs.declared.names.FileName.TheVariants as file
 use Rattle.feed_rows.specs.declared.rows.StopTimeRow.{StopTimeRow}
@@ -33,5 +33,4 @@ pub record AreJudged (t ids : FeedTables) (calls : List StopTimeRow) (platforms 
   pub named : AreCallsNamed t
   pub calls_are : calls ≡ typed_rows (table_in t file.StopTimes) (stop_time_row t)
   pub platforms_are : platforms ≡ are_platforms (table_in t file.Stops)
-  pub count : length order ≡ row_count (table_in t file.StopTimes)
   pub order_is : (row : ℕ) → row < row_count (table_in t file.StopTimes) → IsTripKnown t row → get_or order row no_faults ≡ faults_at (stop_times_of (table_in t file.StopTimes)) row

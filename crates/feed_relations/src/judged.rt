@@ -12,7 +12,7 @@ ghost use Rattle.feed_faults.specs.AcceptedFeed.{typed_rows, stop_time_row};
 ghost use Rattle.feed_text.specs.RowLimits.{row_limit};
 ghost use Rattle.feed_tables.specs.IdColumns.{indexed};
 ghost use Rattle.feed_tables.specs.RowNumbers.{has_table};
-ghost use Rattle.stop_order.specs.Numbered.{faults_at};
+ghost use Rattle.stop_order.specs.Numbered.{no_faults, faults_at};
 ghost use Rattle.feed_relations.specs.JudgedBy.{AreCallsNamed, AreJudged, IsTripKnown, are_platforms};
 
 use feed_rows::{FileName, PLATFORM, StopTimeRow};
@@ -74,6 +74,18 @@ fn is_marked(marks: &[bool], number: u32) -> bool
 {
     let number = number as usize;
     number < marks.len() && marks[number]
+}
+
+// What is wrong with a row; nothing where the list has no such row.
+fn faults_of_row(order: &[OrderFaults], row: u32) -> OrderFaults
+    ensures { result ≡ get_or order.now row no_faults }
+{
+    let row = row as usize;
+    if row < order.len() {
+        order[row]
+    } else {
+        OrderFaults::none()
+    }
 }
 
 impl<'t, C: CallTable> JudgedFeed<'t, C> {
@@ -174,6 +186,6 @@ impl<'t, C: CallTable> JudgedFeed<'t, C> {
         requires known { IsTripKnown self.now row }
         ensures { result ≡ faults_at (stop_times_of (table_in self.now file.StopTimes)) row }
     {
-        self.order[row as usize]
+        faults_of_row(&self.order, row)
     }
 }

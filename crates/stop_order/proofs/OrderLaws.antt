@@ -9,7 +9,7 @@ use Rattle.feed_faults.specs.StopTimeRelations.{StopTime, has_time, is_earlier, 
 use Rattle.feed_rows.specs.declared.rows.StopTimeRow.{StopTimeRow}
 use Rattle.trip_order.specs.declared.keys.PlaceKey.{PlaceKey}
 use Rattle.stop_order.specs.declared.times.OrderFaults.{OrderFaults}
-use Rattle.stop_order.specs.Numbered.{numbered_at, named_time, named_times, no_faults, IsOneTrip, AreFaults, faults_at, first_of_times, last_of_times}
+use Rattle.stop_order.specs.Numbered.{numbered_at, named_time, named_times, no_faults, IsOneTrip, AreAllOrNone, AreFaults, faults_at, first_of_times, last_of_times}
 use Rattle.trip_order.specs.Order.{AreSorted, Precedes, key_at}
 use Rattle.stop_order.specs.Order.{AreOrdered, continues_trip, repeats, goes_further, is_timed_place, latest_timed, falls_behind, place_faults}
 use Rattle.stop_order.proofs.PlaceLaws.{Before, trip, sequence, timed, comes_hit, comes_told_first, comes_told_last, same_hit, same_told, timed_alike}
@@ -336,7 +336,7 @@ module _ (times : List StopTimeRow) (key : ℕ → PlaceKey) (are : AreOrdered t
   faults_is = rw (repeated_is, missing_is, decreases_is) refl
 
 -- what each place tells is what is wrong with each row
-pub faults_from : (times : List StopTimeRow) (key : ℕ → PlaceKey) (faults : List OrderFaults) → AreOrdered times key → length faults ≡ length times → ((k : ℕ) → k < length times → get_or faults (key k).row no_faults ≡ place_faults times key k) → AreFaults times faults
+pub faults_from : (times : List StopTimeRow) (key : ℕ → PlaceKey) (faults : List OrderFaults) → AreOrdered times key → AreAllOrNone (length times) faults → ((k : ℕ) → k < length times → get_or faults (key k).row no_faults ≡ place_faults times key k) → AreFaults times faults
 faults_from times key faults are count each =
     record {
       count = count;

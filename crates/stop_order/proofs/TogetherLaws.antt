@@ -1,12 +1,14 @@
 -- Rows of the file whose trips stand together, one row more, and all of them.
-use Rattle.std.proofs.Common.{◌≡◌, refl, sym, ◌∙◌, ap, subst, ℕ, ◌+◌, ◌-◌, ◌<◌, ◌≤◌, inl, inr, ⊎_elim, Bool, true, false, List, length, get_or, slice_index_or, slice_set, get_or-set_other, get_or-set_same, arith, nat_lt, replicate}
+use Rattle.std.proofs.Common.{◌≡◌, refl, sym, ◌∙◌, ap, subst, ℕ, ◌+◌, ◌-◌, ◌<◌, ◌≤◌, inl, inr, ⊎_elim, Bool, true, false, List, [], length, get_or, slice_index_or, slice_set, get_or-set_other, get_or-set_same, arith, nat_lt, replicate}
 use Rattle.std.proofs.lemmas.List.{get_or_default, length-set, length-replicate, get_or-replicate, get_or_past}
 use Rattle.std.specs.Bool.{OnFalse, OnTrue}
 use Rattle.std.proofs.lemmas.Bool.{cases_Bool, cases_eq, cases_lt, and_parts, and_from, eqb-true, eq-eqb, lt-ltb, ltb-true, ltb-false}
 use Rattle.feed_rows.specs.declared.rows.StopTimeRow.{StopTimeRow}
 use Rattle.trip_order.specs.Order.{no_time, numbered_at, key_of}
+use Rattle.stop_order.specs.declared.times.OrderFaults.{OrderFaults}
+use Rattle.stop_order.specs.Numbered.{no_faults}
 use Rattle.stop_order.specs.Order.{AreOrdered, continues_trip, repeats}
-use Rattle.stop_order.specs.Together.{trip_at, StandTogether, AreMarked, AreScattered}
+use Rattle.stop_order.specs.Together.{trip_at, StandTogether, AreMarked, AreScattered, AreTold}
 
 -- the trip of a row that is read
 pub trip_read : (times : List StopTimeRow) (row : ℕ) (other : StopTimeRow) → row < length times → (slice_index_or times row other).trip.0 ≡ trip_at times row
@@ -186,3 +188,12 @@ marked_if_more times row begun false are on is = tt
 pub scattered_if_not : (times : List StopTimeRow) (row : ℕ) (more : Bool) → row < length times → continues_trip (key_of times) row ≡ true → more ≡ nat_lt (numbered_at times (row - 1)).sequence (numbered_at times row).sequence → OnFalse more (AreScattered times)
 scattered_if_not times row true within on is = tt
 scattered_if_not times row false within on is = scattered_on times row within on (ltb-false _ _ (sym is))
+
+-- nothing is told before the first row
+pub none_told : (times : List StopTimeRow) (faults : List OrderFaults) → faults ≡ [] → AreTold times 0 faults
+none_told times faults none =
+    record {
+      count = inr (ap length none);
+      told = λ r lt. absurd (omega (arith, lt));
+      untold = λ r le. ap (λ list. get_or list r no_faults) none;
+    }

@@ -1,5 +1,5 @@
 -- Stop times whose trips are numbers, and what is wrong with them under the texts of their trips.
-use Rattle.std.specs.Prelude.{◌≡◌, ℕ, ◌<◌, ◌==◌, false, List, length, get_or, bytes_eq}
+use Rattle.std.specs.Prelude.{◌≡◌, ℕ, ◌<◌, ◌==◌, ◌⊎◌, false, List, length, get_or, bytes_eq}
 use Rattle.plain_laws.specs.Plain.{list_below}
 use Rattle.feed_faults.specs.RowKeys.{is_repeated}
 use Rattle.feed_faults.specs.StopTimeRelations.{StopTime, same_place, is_end_time_missing, do_times_decrease}
@@ -41,7 +41,11 @@ faults_at times row =
 abbrev pub no_faults : OrderFaults
 no_faults = record { is_repeated = false; is_end_time_missing = false; do_times_decrease = false }
 
--- what is wrong with each row, under every text of trips by which a row's trip has the rows that it has by number
+-- a list is as long as the rows, or empty
+abbrev pub AreAllOrNone : ℕ → List OrderFaults → Type 0
+AreAllOrNone rows faults = (length faults ≡ rows) ⊎ (length faults ≡ 0)
+
+-- what is wrong with each row, or none where nothing is, under every text of trips by which a row's trip has the rows that it has by number
 pub record AreFaults (times : List StopTimeRow) (faults : List OrderFaults) : Type 0 where
-  pub count : length faults ≡ length times
+  pub count : AreAllOrNone (length times) faults
   pub value : (text : ℕ → List ℕ) (row : ℕ) → row < length times → IsOneTrip times text row → get_or faults row no_faults ≡ faults_at (named_times times text) row

@@ -1,7 +1,7 @@
 //! The pass over stop times in the order of their keys, for files in which some trip's rows don't stand together in order.
 ghost use Rattle.std.specs.Prelude.{◌≡◌, ◌<◌, ◌+◌, ◌^◌, ℕ, List, get_or, length, IfOk, IfSome, Option};
 ghost use Rattle.trip_order.specs.Order.{AreSorted, key_at};
-ghost use Rattle.stop_order.specs.Numbered.{named_times, AreFaults, IsOneTrip, faults_at, no_faults};
+ghost use Rattle.stop_order.specs.Numbered.{named_times, AreAllOrNone, AreFaults, IsOneTrip, faults_at, no_faults};
 ghost use Rattle.stop_order.specs.Order.{stop_time_at, continues_trip, repeats, goes_further, falls_behind, latest_timed, place_faults};
 
 use crate::times::{OrderFaults, is_earlier};
@@ -119,12 +119,7 @@ fn faults_by_keys(alloc: Global, times: &[StopTimeRow]) -> Result<Vec<OrderFault
     ensures { IfOk result (λ faults. AreFaults times.now faults.items) }
 {
     let keys = sorted_keys(alloc, times)?;
-    let none = OrderFaults {
-        is_repeated: false,
-        is_end_time_missing: false,
-        do_times_decrease: false,
-    };
-    let mut faults = vec![in alloc; none; times.len()]?;
+    let mut faults = vec![in alloc; OrderFaults::none(); times.len()]?;
     let mut latest = None;
     for place in 0..keys.len() {
         faults[keys[place].row as usize] = faults_of(times, &keys, place, latest);
@@ -133,14 +128,14 @@ fn faults_by_keys(alloc: Global, times: &[StopTimeRow]) -> Result<Vec<OrderFault
     Ok(faults)
 }
 
-/// What is wrong with each row among those of its trip, under every text of trips by which a row's trip has the rows that it
+/// What is wrong with each row among those of its trip, an empty list where nothing is, under every text of trips by which a row's trip has the rows that it
 /// has by number.
 ///
 /// # Errors
 /// Want of memory.
 pub fn order_faults(alloc: Global, times: &[StopTimeRow]) -> Result<Vec<OrderFaults>, AllocError>
     requires { length times.now < 2 ^ 32 }
-    ensures count { IfOk result (λ faults. length faults.items ≡ length times.now) }
+    ensures count { IfOk result (λ faults. AreAllOrNone (length times.now) faults.items) }
     ensures value { IfOk result (λ faults. (text : ℕ → List ℕ) (row : ℕ) → row < length times.now → IsOneTrip times.now text row → get_or faults.items row no_faults ≡ faults_at (named_times times.now text) row) }
 {
     if let Some(faults) = faults_together(alloc, times)? {

@@ -1,11 +1,11 @@
 //! Stop times whose trips stand together in the file, by rising sequences, as they mostly do: what is wrong with them is
 //! found in one pass in the order of the file, without keys.
-ghost use Rattle.std.specs.Prelude.{◌≡◌, ◌<◌, ◌+◌, length, false, IfOk, IfNone, IfSome, Option};
+ghost use Rattle.std.specs.Prelude.{◌≡◌, ◌<◌, ◌+◌, ℕ, length, get_or, false, IfOk, OnOk, IfNone, IfSome, Option};
 ghost use Rattle.std.specs.Bool.{OnFalse, OnTrue};
 ghost use Rattle.trip_order.specs.Order.{key_of};
-ghost use Rattle.stop_order.specs.Numbered.{AreFaults};
+ghost use Rattle.stop_order.specs.Numbered.{no_faults, AreAllOrNone, AreFaults};
 ghost use Rattle.stop_order.specs.Order.{continues_trip, repeats, goes_further, falls_behind, latest_timed, place_faults};
-ghost use Rattle.stop_order.specs.Together.{AreMarked, AreScattered};
+ghost use Rattle.stop_order.specs.Together.{AreMarked, AreScattered, AreTold};
 
 use crate::times::{OrderFaults, is_earlier};
 use feed_rows::StopTimeRow;
@@ -94,8 +94,40 @@ fn latest_with(times: &[StopTimeRow], row: usize, latest: Option<usize>) -> Opti
     }
 }
 
-/// What is wrong with each row; none where the rows of some trip don't stand together by rising sequences, or the number of
-/// a trip is past that of the rows.
+// Makes a list as long as the rows, where it is empty.
+fn fill_up(alloc: Global, faults: &mut Vec<OrderFaults>, rows: usize) -> Result<(), AllocError>
+    requires { AreAllOrNone rows faults.old.items }
+    ensures count { OnOk result (length faults.new.items ≡ rows) }
+    ensures same { OnOk result ((row : ℕ) → get_or faults.new.items row no_faults ≡ get_or faults.old.items row no_faults) }
+{
+    if faults.is_empty() {
+        *faults = vec![in alloc; OrderFaults::none(); rows]?;
+    }
+    Ok(())
+}
+
+// Puts what is wrong with a row into the list, if anything is.
+fn put_faults(
+    alloc: Global,
+    faults: &mut Vec<OrderFaults>,
+    times: &[StopTimeRow],
+    row: usize,
+    found: OrderFaults,
+) -> Result<(), AllocError>
+    requires within { row < length times.now }
+    requires found { found ≡ place_faults times.now (key_of times.now) row }
+    requires before { AreTold times.now row faults.old.items }
+    ensures { OnOk result (AreTold times.now (row + 1) faults.new.items) }
+{
+    if found != OrderFaults::none() {
+        fill_up(alloc, faults, times.len())?;
+        faults[row] = found;
+    }
+    Ok(())
+}
+
+/// What is wrong with each row, an empty list where nothing is; none where the rows of some trip don't stand together by rising
+/// sequences, or the number of a trip is past that of the rows.
 ///
 /// # Errors
 /// Want of memory.
@@ -107,13 +139,19 @@ pub fn faults_together(
     ensures scattered { IfOk result (λ found. IfNone found (AreScattered times.now)) }
 {
     let mut begun = vec![in alloc; false; times.len()]?;
-    let mut faults = Vec::with_capacity(alloc, times.len())?;
+    let mut faults = Vec::new(alloc);
     let mut latest = None;
     for row in 0..times.len() {
         if !follows(&mut begun, times, row) {
             return Ok(None);
         }
-        faults.push(faults_of(times, row, latest))?;
+        put_faults(
+            alloc,
+            &mut faults,
+            times,
+            row,
+            faults_of(times, row, latest),
+        )?;
         latest = latest_with(times, row, latest);
     }
     Ok(Some(faults))

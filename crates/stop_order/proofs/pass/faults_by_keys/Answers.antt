@@ -48,5 +48,5 @@ pub returns : goal.returns
 returns c =
     let keys = c.in_ok-keys.keys.items in
     let times = c.args.times.now in
-    faults_from times (key_at keys) c.loop-place.faults.items (sorted_order times keys c.in_ok-keys.ensures) c.loop-place.invariant.0
+    faults_from times (key_at keys) c.loop-place.faults.items (sorted_order times keys c.in_ok-keys.ensures) (inl c.loop-place.invariant.0)
     (λ k lt. let below : k < c.loop-place.place = omega (arith, c.in_ok-keys.ensures.many, c.len-place-end.ensures) in c.loop-place.invariant.2 k below)

@@ -1,20 +1,17 @@
-use Rattle.std.proofs.Common.{◌≡◌, ◌+◌, refl, ◌∙◌, ap, length, arith}
+use Rattle.std.proofs.Common.{◌≡◌, ◌+◌, refl, length, arith}
 use Rattle.std.proofs.lemmas.Grind.{common_steps}
 use Rattle.trip_order.specs.Order.{key_of}
-use Rattle.plain_laws.proofs.Laws.{get_or-list_below, length-list_below}
-use Rattle.stop_order.specs.Numbered.{no_faults}
-use Rattle.stop_order.specs.Order.{latest_timed, place_faults}
-use Rattle.plain_laws.specs.Plain.{list_below}
-use Rattle.stop_order.specs.Together.{StandTogether, AreMarked}
+use Rattle.stop_order.specs.Order.{latest_timed}
+use Rattle.stop_order.specs.Together.{StandTogether, AreMarked, AreTold}
 use Rattle.stop_order.proofs.OrderLaws.{faults_from}
-use Rattle.stop_order.proofs.TogetherLaws.{none_marked, not_repeated, file_order}
+use Rattle.stop_order.proofs.TogetherLaws.{none_marked, none_told, not_repeated, file_order}
 use Rattle.stop_order.proofs.together.faults_together.Goals as goal
 
 pub loop-row-init : goal.loop-row-init
 unfolding latest_timed
 loop-row-init c =
     let blank = c.in_ok-begun.ensures.items_if_clones_equal (λ y clone. clone) in
-    (none_marked c.args.times.now c.in_ok-begun.begun.items blank, refl, grind (arith, common_steps))
+    (none_marked c.args.times.now c.in_ok-begun.begun.items blank, refl, none_told c.args.times.now c.new-faults.result.items (grind (arith, common_steps)))
 
 pub faults_of-requires-clause-new : goal.faults_of-requires-clause-new
 faults_of-requires-clause-new c =
@@ -27,7 +24,5 @@ returns-clause-together c =
     let faults = c.loop-row.faults.items in
     let all : c.loop-row.row ≡ length times = omega arith in
     let stand : StandTogether times (length times) = rw (← all) c.loop-row.invariant.0.stand in
-    let made : faults ≡ list_below (length times) (place_faults times (key_of times)) = rw (← all) c.loop-row.invariant.2 in
-    faults_from times (key_of times) faults (file_order times stand)
-    (ap length made ∙ length-list_below (length times) (place_faults times (key_of times)))
-    (λ k lt. rw made (get_or-list_below (length times) (place_faults times (key_of times)) k no_faults lt))
+    let told : AreTold times (length times) faults = rw (← all) c.loop-row.invariant.2 in
+    faults_from times (key_of times) faults (file_order times stand) told.count (λ k lt. told.told k lt)

@@ -1,4 +1,4 @@
-use Rattle.std.proofs.Common.{◌≡◌, ◌∙◌, subst, ℕ, List, ◌<◌, length, get_or, arith}
+use Rattle.std.proofs.Common.{◌≡◌, subst, ℕ, List, ◌<◌, length, get_or, arith}
 use Rattle.feed_rows.specs.declared.names.FileName.TheVariants as file
 use Rattle.feed_rows.specs.declared.rows.StopTimeRow.{StopTimeRow}
 use Rattle.feed_faults.specs.FeedTables.{table_in}
@@ -23,6 +23,5 @@ invariant_of-result g c =
       named = c.requires.named;
       calls_are = c.requires.calls;
       platforms_are = c.in_ok-platforms.ensures;
-      count = c.in_ok-order.ensures.count ∙ length_rows t c.args.calls.now c.requires.calls;
       order_is = judged t c.requires.named c.in_ok-order.order.items said;
     }
