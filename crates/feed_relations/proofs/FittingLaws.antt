@@ -1,5 +1,5 @@
--- Each check of a file's list fits the file, and rows that have passed the checks before it are as it needs them.
-use Rattle.std.proofs.Common.{◌≡◌, refl, ℕ, zero, suc, ◌+◌, ◌<◌, false, List, [], ◌∷◌, length, get_or, Option, Some, None, arith, subst}
+-- Each check of the list of a file that is kept as a table fits the file, and rows that have passed the checks before it are as it needs them.
+use Rattle.std.proofs.Common.{◌≡◌, refl, ℕ, zero, suc, ◌+◌, ◌<◌, true, false, List, [], ◌∷◌, length, get_or, Option, Some, None, arith, subst}
 use Rattle.std.specs.Prelude.{slice_get}
 use Rattle.feed_rows.specs.declared.names.FileName.{FileName}
 use Rattle.feed_rows.specs.declared.names.FileName.TheVariants as file
@@ -13,6 +13,7 @@ use Rattle.feed_rows.specs.declared.faults.FeedFault.{FeedFault}
 use Rattle.feed_faults.specs.FeedTables.{FeedTables}
 use Rattle.feed_faults.specs.FaultPlaces.{field_fault}
 use Rattle.feed_faults.specs.RowChecks.{checks_of, fails, fault_of_check, column_of_check, kind_of_check}
+use Rattle.feed_tables.specs.RowNumbers.{has_table}
 use Rattle.feed_relations.specs.FittingChecks.{Fits, Knows, HasPassed}
 use Rattle.feed_relations.proofs.LeastLaws.{IsLeast, least_kept, least_found}
 use Rattle.feed_relations.proofs.KeyLaws.{exceptions_tell, frequencies_tell, products_tell}
@@ -43,67 +44,48 @@ module _ (t : FeedTables) (name : FileName) where
 
 -- the checks of each file
 module _ (t : FeedTables) where
-  trip_passed : (n row : ℕ) → 0 < n → HasPassed t file.StopTimes n row → fails t file.StopTimes (Known TripId Trip) row ≡ false
-  trip_passed n row lt has = passed t file.StopTimes n row 0 (Known TripId Trip) has lt refl
-
-  do_fit : (name : FileName) → DoFit t name 0 (checks_of name)
-  do_fit file.Stops = (refl, (λ row has. tt), (refl, (λ row has. tt), (refl, (λ row has. tt), tt)))
-  do_fit file.Routes = (refl, (λ row has. tt), tt)
-  do_fit file.Trips = (refl, (λ row has. tt), (tt, (λ row has. tt), (tt, (λ row has. tt), tt)))
-  do_fit file.StopTimes = (
-    refl,
-    (λ row has. tt),
-    (
-      refl,
-      (λ row has. tt),
-      (
-        refl,
-        (λ row has. tt),
-        (
-          (λ other. absurd (other refl)),
-          (λ row has. trip_passed 3 row (omega arith) has),
-          (refl, λ row has. trip_passed 4 row (omega arith) has, (refl, (λ row has. trip_passed 5 row (omega arith) has), tt)),
-        ),
-      ),
-    ),
-  )
-  do_fit file.Calendar = (refl, (λ row has. tt), (refl, (λ row has. tt), tt))
-  do_fit file.CalendarDates = ((λ other. exceptions_tell t), (λ row has. tt), tt)
-  do_fit file.Frequencies =
-      (tt, (λ row has. tt), ((λ other. frequencies_tell t), (λ row has. passed t file.Frequencies 1 row 0 (Known TripId Trip) has (omega arith) refl), tt))
-  do_fit file.Transfers = (tt, (λ row has. tt), (tt, (λ row has. tt), tt))
-  do_fit file.Areas = (refl, (λ row has. tt), tt)
-  do_fit file.StopAreas = (tt, (λ row has. tt), (tt, (λ row has. tt), tt))
-  do_fit file.Networks = (refl, (λ row has. tt), tt)
-  do_fit file.RouteNetworks = (refl, (λ row has. tt), (tt, (λ row has. tt), (tt, (λ row has. tt), tt)))
-  do_fit file.Timeframes = (tt, (λ row has. tt), (refl, (λ row has. tt), tt))
-  do_fit file.RiderCategories = (refl, (λ row has. tt), tt)
-  do_fit file.FareMedia = (refl, (λ row has. tt), tt)
-  do_fit file.FareProducts = (
+  do_fit : (name : FileName) → has_table name ≡ true → DoFit t name 0 (checks_of name)
+  do_fit file.Stops kept = (refl, (λ row has. tt), (refl, (λ row has. tt), (refl, (λ row has. tt), tt)))
+  do_fit file.Routes kept = (refl, (λ row has. tt), tt)
+  do_fit file.Trips kept = (refl, (λ row has. tt), (tt, (λ row has. tt), (tt, (λ row has. tt), tt)))
+  do_fit file.StopTimes kept = absurd (cc)
+  do_fit file.Calendar kept = (refl, (λ row has. tt), (refl, (λ row has. tt), tt))
+  do_fit file.CalendarDates kept = (exceptions_tell t, (λ row has. tt), tt)
+  do_fit file.Frequencies kept =
+      (tt, (λ row has. tt), (frequencies_tell t, (λ row has. passed t file.Frequencies 1 row 0 (Known TripId Trip) has (omega arith) refl), tt))
+  do_fit file.Transfers kept = (tt, (λ row has. tt), (tt, (λ row has. tt), tt))
+  do_fit file.Areas kept = (refl, (λ row has. tt), tt)
+  do_fit file.StopAreas kept = (tt, (λ row has. tt), (tt, (λ row has. tt), tt))
+  do_fit file.Networks kept = (refl, (λ row has. tt), tt)
+  do_fit file.RouteNetworks kept = (refl, (λ row has. tt), (tt, (λ row has. tt), (tt, (λ row has. tt), tt)))
+  do_fit file.Timeframes kept = (tt, (λ row has. tt), (refl, (λ row has. tt), tt))
+  do_fit file.RiderCategories kept = (refl, (λ row has. tt), tt)
+  do_fit file.FareMedia kept = (refl, (λ row has. tt), tt)
+  do_fit file.FareProducts kept = (
     tt,
     (λ row has. tt),
     (
       tt,
       (λ row has. tt),
       (
-        (λ other. products_tell t),
+        products_tell t,
         (λ row has. (passed t file.FareProducts 2 row 0 (Known RiderCategoryId RiderCategory) has (omega arith) refl, passed t file.FareProducts 2 row 1 (Known FareMediaId FareMedia) has (omega arith) refl)),
-        (refl, (λ row has. tt), tt),
+        (tt, (λ row has. tt), tt),
       ),
     ),
   )
-  do_fit file.FareLegRules =
+  do_fit file.FareLegRules kept =
       (tt, (λ row has. tt), (tt, (λ row has. tt), (tt, (λ row has. tt), (tt, (λ row has. tt), (tt, (λ row has. tt), (tt, (λ row has. tt), tt))))))
-  do_fit file.FareTransferRules =
-      (refl, (λ row has. tt), (refl, (λ row has. tt), (tt, (λ row has. tt), (tt, (λ row has. tt), (tt, (λ row has. tt), tt)))))
+  do_fit file.FareTransferRules kept =
+      (tt, (λ row has. tt), (tt, (λ row has. tt), (tt, (λ row has. tt), (tt, (λ row has. tt), (tt, (λ row has. tt), tt)))))
 
-  pub fits : (name : FileName) (k : ℕ) (d : RowCheck) → k < length (checks_of name) → Fits t name (get_or (checks_of name) k d)
-  fits name k d lt = fit_at t name 0 (checks_of name) k d (do_fit name) lt
+  pub fits : (name : FileName) (k : ℕ) (d : RowCheck) → has_table name ≡ true → k < length (checks_of name) → Fits t name (get_or (checks_of name) k d)
+  fits name k d kept lt = fit_at t name 0 (checks_of name) k d (do_fit name kept) lt
 
-  pub knows : (name : FileName) (k : ℕ) (d : RowCheck) (row : ℕ) → k < length (checks_of name) → HasPassed t name k row → Knows t name (get_or (checks_of name) k d) row
-  knows name k d row lt has =
+  pub knows : (name : FileName) (k : ℕ) (d : RowCheck) (row : ℕ) → has_table name ≡ true → k < length (checks_of name) → HasPassed t name k row → Knows t name (get_or (checks_of name) k d) row
+  knows name k d row kept lt has =
       let e : k ≡ 0 + k = omega arith in
-      know_at t name 0 (checks_of name) k d row (do_fit name) lt (subst (λ n. HasPassed t name n row) e has)
+      know_at t name 0 (checks_of name) k d row (do_fit name kept) lt (subst (λ n. HasPassed t name n row) e has)
 
 -- the least row at which a check of a list fails, after one check more, which is one of the file's list
 module _ (t : FeedTables) (name : FileName) (checks : List RowCheck) (are : checks ≡ checks_of name) (n i below : ℕ) (found : Option FeedFault) (d : RowCheck) (lt : i < length checks) (least : IsLeast (checks_of name) (fault_of_check t name) i n below found) where

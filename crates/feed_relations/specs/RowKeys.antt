@@ -14,7 +14,6 @@ use Rattle.feed_faults.specs.FeedTables.{FeedTables, table_in}
 use Rattle.feed_faults.specs.FieldValues.{time_or, day_or_zero}
 use Rattle.feed_faults.specs.AcceptedFeed.{row_number}
 use Rattle.feed_faults.specs.RowChecks.{is_unknown_id, same_key}
-use Rattle.feed_relations.specs.JudgedBy.{IsTripKnown}
 use Rattle.feed_relations.specs.declared.keys.RowKey.{RowKey}
 
 -- the key of a row, by the numbers of the rows that it names; of a file without such keys, its own number
@@ -53,7 +52,6 @@ AreSeen seen t name row = (k : RowKey) → list_any (same_row_key k) seen.keys �
 
 -- what a row's key names in other files is there
 abbrev pub IsKeyKnown : FeedTables → FileName → ℕ → Type 0
-IsKeyKnown t file.StopTimes row = IsTripKnown t row
 IsKeyKnown t file.Frequencies row = is_unknown_id t Trip (field (table_in t file.Frequencies) row TripId) ≡ false
 IsKeyKnown t file.FareProducts row =
     (is_unknown_id t RiderCategory (field (table_in t file.FareProducts) row RiderCategoryId) ≡ false)

@@ -1,9 +1,10 @@
 //! The first row at which a check fails.
-ghost use Rattle.std.specs.Prelude.{◌≡◌, ◌<◌, ◌≤◌, ℕ, IfOk, IfSome};
+ghost use Rattle.std.specs.Prelude.{◌≡◌, ◌<◌, ◌≤◌, ℕ, true, IfOk};
 ghost use Rattle.plain_laws.specs.Plain.{find_below};
 ghost use Rattle.feed_faults.specs.Records.{row_count};
 ghost use Rattle.feed_faults.specs.FeedTables.{table_in};
 ghost use Rattle.feed_faults.specs.RowChecks.{fails};
+ghost use Rattle.feed_tables.specs.RowNumbers.{has_table};
 ghost use Rattle.feed_relations.specs.FittingChecks.{Fits, Knows, IsByRow};
 
 use crate::frames::first_bad_frame;
@@ -24,9 +25,9 @@ fn first_failing_row<C: CallTable>(
     below: u32,
 ) -> Option<u32>
     requires within { below ≤ row_count (table_in feed.now file) }
+    requires kept { has_table file ≡ true }
     requires fits { Fits feed.now file check }
-    requires knows { (row : ℕ) → row < below → Knows feed.now file check row }
-    requires by_row { IsByRow file check }
+    requires by_row { IsByRow check }
     ensures { result ≡ find_below below (fails feed.now file check) }
 {
     for row in 0..below {
@@ -46,17 +47,13 @@ pub fn first_failing<C: CallTable>(
     below: u32,
 ) -> Result<Option<u32>, AllocError>
     requires within { below ≤ row_count (table_in feed.now file) }
+    requires kept { has_table file ≡ true }
     requires fits { Fits feed.now file check }
     requires knows { (row : ℕ) → row < below → Knows feed.now file check row }
     ensures { IfOk result (λ found. found ≡ find_below below (fails feed.now file check)) }
 {
     match check {
-        RowCheck::NewKey(_) => {
-            if file == FileName::StopTimes {
-                return Ok(first_failing_row(feed, file, check, below));
-            }
-            Ok(first_repeated(alloc, feed, file, below)?)
-        }
+        RowCheck::NewKey(_) => Ok(first_repeated(alloc, feed, file, below)?),
         RowCheck::GoodTimeframe => first_bad_frame(alloc, feed, below),
         _ => Ok(first_failing_row(feed, file, check, below)),
     }

@@ -1,6 +1,7 @@
 //! The second pass over a feed: what is wrong with the files among each other.
 #![tactic(auto)]
 
+mod calls;
 mod checks;
 mod forbidden;
 mod frames;

@@ -1,5 +1,5 @@
 //! The files in their order, and the checks of each.
-ghost use Rattle.std.specs.Prelude.{◌≡◌, IfOk};
+ghost use Rattle.std.specs.Prelude.{◌≡◌, true, IfOk};
 ghost use Rattle.plain_laws.specs.Plain.{first_below};
 ghost use Rattle.feed_rows.specs.declared.names.FileName.TheVariants as file;
 ghost use Rattle.feed_faults.specs.Records.{row_count};
@@ -7,8 +7,10 @@ ghost use Rattle.feed_faults.specs.FeedTables.{table_in};
 ghost use Rattle.feed_faults.specs.RowChecks.{relation_fault_of_row};
 ghost use Rattle.feed_faults.specs.FirstFault.{relation_fault, first_relation_fault};
 ghost use Rattle.feed_faults.specs.AcceptedFeed.{typed_rows, stop_time_row};
+ghost use Rattle.feed_tables.specs.RowNumbers.{has_table};
 ghost use Rattle.feed_relations.specs.JudgedBy.{AreCallsNamed};
 
+use crate::calls::fault_of_calls;
 use crate::checks::first_failing;
 use crate::forbidden::forbidden_fault;
 use crate::judged::JudgedFeed;
@@ -18,13 +20,14 @@ use feed_rows::{FeedFault, FileName, StopTimeRow};
 use feed_tables::{CallTable, Ids, Tables};
 use std::alloc::{AllocError, Global};
 
-// The first fault of a file's rows: the least row at which a check fails, and at that row the earliest of its checks. Each check
-// looks only at the rows before those at which an earlier one failed.
-fn fault_of_rows<C: CallTable>(
+// The first fault of the rows of a table: the least row at which a check fails, and at that row the earliest of its checks. Each
+// check looks only at the rows before those at which an earlier one failed.
+fn fault_of_table<C: CallTable>(
     alloc: Global,
     feed: &JudgedFeed<C>,
     file: FileName,
 ) -> Result<Option<FeedFault>, AllocError>
+    requires { has_table file ≡ true }
     ensures { IfOk result (λ fault. fault ≡ first_below (row_count (table_in feed.now file)) (relation_fault_of_row feed.now file)) }
 {
     let mut below = feed.rows(file);
@@ -36,6 +39,21 @@ fn fault_of_rows<C: CallTable>(
         }
     }
     Ok(fault)
+}
+
+// The first fault of a file's rows.
+#[tactic(auto, using(feed_tables::proofs::NumberLaws::kept_unless))]
+fn fault_of_rows<C: CallTable>(
+    alloc: Global,
+    feed: &JudgedFeed<C>,
+    file: FileName,
+) -> Result<Option<FeedFault>, AllocError>
+    ensures { IfOk result (λ fault. fault ≡ first_below (row_count (table_in feed.now file)) (relation_fault_of_row feed.now file)) }
+{
+    if file == FileName::StopTimes {
+        return Ok(fault_of_calls(feed));
+    }
+    fault_of_table(alloc, feed, file)
 }
 
 // The first fault of a file among the others: that it is forbidden comes before its rows.

@@ -12,7 +12,7 @@ ghost use Rattle.feed_faults.specs.RowChecks.{is_judged, is_unknown_id, fails};
 ghost use Rattle.feed_faults.specs.declared.checks.RowCheck.TheVariants.{Known};
 ghost use Rattle.feed_tables.specs.IdColumns.{indexed};
 ghost use Rattle.feed_tables.specs.RowNumbers.{has_table};
-ghost use Rattle.feed_relations.specs.FittingChecks.{own_ids, AreCallColumns, Fits, Knows, IsByRow};
+ghost use Rattle.feed_relations.specs.FittingChecks.{own_ids, Fits, IsByRow};
 
 use crate::judged::JudgedFeed;
 use feed_faults::{Named, RowCheck};
@@ -96,24 +96,6 @@ fn is_reference_unknown<C: CallTable>(
 {
     let table = feed.table(file);
     is_judged(file, table, row) && is_unknown_id(feed, named, table.field(row, name))
-}
-
-// Whether the trip or the stop of a stop time isn't there.
-fn is_call_unknown<C: CallTable>(
-    feed: &JudgedFeed<C>,
-    name: ColumnName,
-    named: Named,
-    row: u32,
-) -> bool
-    requires within { row < row_count (table_in feed.now file.StopTimes) }
-    requires calls { AreCallColumns file.StopTimes name named }
-    ensures { result ≡ fails feed.now file.StopTimes (Known name named) row }
-{
-    match named {
-        Named::Trip => feed.is_trip_unknown(row),
-        Named::Stop => feed.is_stop_unknown(row),
-        _ => unreachable!(),
-    }
 }
 
 // Whether a platform or a station names a parent.
@@ -219,7 +201,6 @@ fn is_limit_half(rules: &NamedTable, row: u32) -> bool
 }
 
 // Whether a check of a row fails, where it is judged row by row.
-#[tactic(auto, using(feed_tables::proofs::NumberLaws::kept_unless), unfolding(stop_order::specs::Numbered::faults_at))]
 pub fn row_fails<C: CallTable>(
     feed: &JudgedFeed<C>,
     file: FileName,
@@ -227,29 +208,24 @@ pub fn row_fails<C: CallTable>(
     row: u32,
 ) -> bool
     requires within { row < row_count (table_in feed.now file) }
+    requires kept { has_table file ≡ true }
     requires fits { Fits feed.now file check }
-    requires knows { Knows feed.now file check row }
-    requires by_row { IsByRow file check }
+    requires by_row { IsByRow check }
     ensures { result ≡ fails feed.now file check row }
 {
     match check {
         RowCheck::NewId(_) => feed.index(own_ids(file)).is_doubled(row),
-        RowCheck::NewKey(_) => feed.order(row).is_repeated,
-        RowCheck::Known(name, named) => {
-            if file == FileName::StopTimes {
-                return is_call_unknown(feed, name, named, row);
-            }
-            is_reference_unknown(feed, file, name, named, row)
-        }
+        RowCheck::Known(name, named) => is_reference_unknown(feed, file, name, named, row),
         RowCheck::KnownParent => is_parent_unknown(feed, row),
         RowCheck::GoodParent => is_parent_bad(feed, row),
-        RowCheck::AtPlatform => !feed.is_at_platform(row),
-        RowCheck::TimedEnds => feed.order(row).is_end_time_missing,
-        RowCheck::RisingTimes => feed.order(row).do_times_decrease,
         RowCheck::OrderedDays => are_dates_reversed(feed, row),
-        RowCheck::GoodTimeframe => unreachable!(),
         RowCheck::OneCurrency => is_currency_mixed(feed.table(file), row),
         RowCheck::GoodCount => is_count_misplaced(feed.table(file), row),
         RowCheck::WholeLimit => is_limit_half(feed.table(file), row),
+        RowCheck::NewKey(_)
+        | RowCheck::GoodTimeframe
+        | RowCheck::AtPlatform
+        | RowCheck::TimedEnds
+        | RowCheck::RisingTimes => unreachable!(),
     }
 }

@@ -1,4 +1,4 @@
-use Rattle.std.proofs.Common.{sym, ap, subst, ◌∙◌, ◌≡◌}
+use Rattle.std.proofs.Common.{sym, ap, subst, ◌∙◌}
 use Rattle.feed_rows.specs.declared.names.FileName.TheVariants as file
 use Rattle.feed_faults.specs.declared.checks.RowCheck.{RowCheck}
 use Rattle.feed_faults.specs.RowChecks.{fails}
@@ -10,10 +10,9 @@ use Rattle.feed_relations.proofs.checks.first_failing.Goals as goal
 pub returns-in_ok-first_repeated-in-NewKey : goal.returns-in_ok-first_repeated-in-NewKey
 returns-in_ok-first_repeated-in-NewKey g c =
     let t = c.args.feed.now in
-    let other : c.args.file ≡ file.StopTimes → ⊥ = λ same. let e = rw same at c.eq.ensures in let no = c.if-eq.false in cc in
     c.in_ok-first_repeated-in-NewKey.ensures
     ∙ repeated_by_numbers t c.args.file c.in-NewKey.field-0 c.args.below c.requires.within
-    (subst (λ (check : RowCheck). Fits t c.args.file check) c.in-NewKey.is c.requires.fits other)
+    (subst (λ (check : RowCheck). Fits t c.args.file check) c.in-NewKey.is c.requires.fits)
     (λ row lt. subst (λ (check : RowCheck). Knows t c.args.file check row) c.in-NewKey.is (c.requires.knows row lt))
     ∙ ap (λ (check : RowCheck). find_below c.args.below (fails t c.args.file check)) (sym c.in-NewKey.is)
 

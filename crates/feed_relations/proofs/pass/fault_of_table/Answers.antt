@@ -6,16 +6,16 @@ use Rattle.feed_faults.specs.FeedTables.{table_in}
 use Rattle.feed_faults.specs.RowChecks.{checks_of, fault_of_check, relation_fault_of_row}
 use Rattle.feed_relations.proofs.FittingLaws.{fits, knows, check_passed, check_failed}
 use Rattle.feed_relations.proofs.LeastLaws.{IsLeast, least_end}
-use Rattle.feed_relations.proofs.pass.fault_of_rows.Goals as goal
-use Rattle.feed_relations.proofs.pass.fault_of_rows.Goals.{in-Some, in_default}
+use Rattle.feed_relations.proofs.pass.fault_of_table.Goals as goal
+use Rattle.feed_relations.proofs.pass.fault_of_table.Goals.{in-Some, in_default}
 
 pub first_failing-requires-clause-fits : goal.first_failing-requires-clause-fits
 first_failing-requires-clause-fits g c =
-    rw c.checks_of-check-items.ensures (fits c.args.feed.now c.args.file c.loop-i.i _ (subst (λ (checks : List RowCheck). c.loop-i.i < length checks) c.checks_of-check-items.ensures c.loop-i-test.true))
+    rw c.checks_of-check-items.ensures (fits c.args.feed.now c.args.file c.loop-i.i _ c.requires (subst (λ (checks : List RowCheck). c.loop-i.i < length checks) c.checks_of-check-items.ensures c.loop-i-test.true))
 
 pub first_failing-requires-clause-knows : goal.first_failing-requires-clause-knows
 first_failing-requires-clause-knows g c =
-    rw c.checks_of-check-items.ensures (λ row lt. knows c.args.feed.now c.args.file c.loop-i.i _ row (subst (λ (checks : List RowCheck). c.loop-i.i < length checks) c.checks_of-check-items.ensures c.loop-i-test.true) (c.loop-i.invariant.none row lt))
+    rw c.checks_of-check-items.ensures (λ row lt. knows c.args.feed.now c.args.file c.loop-i.i _ row c.requires (subst (λ (checks : List RowCheck). c.loop-i.i < length checks) c.checks_of-check-items.ensures c.loop-i-test.true) (c.loop-i.invariant.none row lt))
 
 pub check_fault-requires : goal.check_fault-requires
 check_fault-requires g c =
