@@ -8,11 +8,12 @@ ghost use Rattle.feed_text.specs.TextErrors.{IsErrorOf};
 ghost use Rattle.feed_build.specs.CallRows.{call_row, call_fault, fields_behind};
 ghost use Rattle.feed_build.specs.CallsSoFar.{HasCalls, IsOwnFault};
 
+use crate::call_fields::read_call_fields;
 use crate::last_trip::LastTrip;
 use crate::stop_times::{CallError, StopTimes};
 use crate::values::is_code;
 use feed_rows::{CallTime, ColumnName, FeedFault, FileName, StopTimeRow, StopTimeRows};
-use feed_tables::{CallIds, NamedTable, RecordRow, read_row};
+use feed_tables::{CallIds, NamedTable, RecordRow};
 use feed_text::{Fields, Records, SeenTable, Table, TextError, header_fault, nat_of, natural};
 use std::alloc::{AllocError, Global};
 use std::io::Read;
@@ -26,7 +27,6 @@ pub struct CallRows<'i, 't> {
     ids: &'i CallIds<'t>,
     header: NamedTable,
     trip: LastTrip<'i, 't>,
-    numbers: Vec<Option<i64>>,
     rows: StopTimeRows,
     table: SeenTable,
     // The first fault of the header and of the rows.
@@ -40,7 +40,6 @@ impl<'i, 't> Drop for CallRows<'i, 't> {
             ids: _,
             header: _,
             trip: _,
-            numbers: _,
             rows: _,
             table: _,
             fault: _,
@@ -55,7 +54,6 @@ fn read_call<R: Read>(
     trip: &mut LastTrip,
     row: u32,
     fields: &RecordRow<R>,
-    numbers: &mut Vec<Option<i64>>,
 ) -> Result<StopTimeRow, TextError>
     requires few { row < row_limit }
     requires trip { trip.old ≡ ids.now.trips }
@@ -64,12 +62,11 @@ fn read_call<R: Read>(
     ensures row { IfOk result (λ call. call ≡ call_row ids.now (fields_behind (header fields.now.header) fields.now.fields)) }
     ensures same { trip.new ≡ trip.old }
 {
-    if let Some(fault) = read_row(FileName::StopTimes, row, fields.is_long(), fields, numbers)? {
-        return Err(TextError::Fault(fault));
-    }
-    let &[_, _, sequence, arrival, departure, pickup, drop_off] = numbers.as_slice() else {
-        unreachable!();
+    let numbers = match read_call_fields(row, fields) {
+        Ok(numbers) => numbers,
+        Err(fault) => return Err(TextError::Fault(fault)),
     };
+    let [_, _, sequence, arrival, departure, pickup, drop_off] = numbers;
     let trip = trip.number(fields.field(ColumnName::TripId))?;
     let stop = ids.stops.number(fields.field(ColumnName::StopId));
     Ok(StopTimeRow {
@@ -103,7 +100,6 @@ impl<'i, 't> CallRows<'i, 't> {
             ids,
             header: NamedTable::of(alloc, header)?,
             trip: LastTrip::none(alloc, &ids.trips),
-            numbers: Vec::new(alloc),
             rows: StopTimeRows::empty(alloc),
             table,
             fault,
@@ -125,7 +121,7 @@ impl<'i, 't> CallRows<'i, 't> {
             return Ok(());
         }
         let record = RecordRow::of(&self.header, records);
-        match read_call(self.ids, &mut self.trip, row, &record, &mut self.numbers) {
+        match read_call(self.ids, &mut self.trip, row, &record) {
             Ok(call) => self.rows.push(call)?,
             Err(TextError::Fault(fault)) => self.fault = Some(fault),
             Err(TextError::NoMemory) => return Err(AllocError),
@@ -142,7 +138,6 @@ impl<'i, 't> CallRows<'i, 't> {
             ids: _,
             header: _,
             trip: _,
-            numbers: _,
             rows,
             table,
             fault,

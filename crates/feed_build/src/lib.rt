@@ -2,6 +2,7 @@
 //! names numbered by their first appearance.
 #![tactic(auto)]
 
+mod call_fields;
 mod call_rows;
 mod fares;
 mod feed;

@@ -4,7 +4,7 @@ ghost use Rattle.std.specs.Option.{ForSome};
 ghost use Rattle.feed_rows.specs.declared.names.ColumnName.TheVariants as column;
 ghost use Rattle.feed_faults.specs.FieldGrammars.{amount_in};
 ghost use Rattle.feed_faults.specs.FileColumns.{fits, misfit};
-ghost use Rattle.feed_faults.specs.FormFaults.{names_flex_place, empty_misfit, field_misfit, is_passed_over, judged_columns, fault_of_fields};
+ghost use Rattle.feed_faults.specs.FormFaults.{names_flex_place, empty_misfit, field_misfit, is_passed_over, judged_columns, fault_of_field, fault_of_fields};
 ghost use Rattle.feed_faults.specs.AcceptedFeed.{finite_count};
 ghost use Rattle.feed_faults.specs.FieldValues.{nat_of};
 ghost use Rattle.feed_faults.specs.Records.{is_filled};
@@ -53,6 +53,7 @@ fn amount_in(currency: &[u8], text: &[u8]) -> Option<i64>
 }
 
 // What a text of the grammar tells.
+#[inline(always)]
 fn number_by<F: Fields>(grammar: Grammar, fields: &F, text: &[u8]) -> Option<i64>
     ensures { result ≡ number_by grammar (F.at fields.now column.Currency) text.now }
 {
@@ -68,6 +69,7 @@ fn number_by<F: Fields>(grammar: Grammar, fields: &F, text: &[u8]) -> Option<i64
 }
 
 // Whether a text that tells this number is of the grammar.
+#[inline(always)]
 fn fits(grammar: Grammar, number: Option<i64>, text: &[u8]) -> bool
     ensures { (row_currency : List ℕ) → number ≡ number_by grammar row_currency text.now → result ≡ fits grammar row_currency text.now }
 {
@@ -123,6 +125,7 @@ fn empty_misfit<F: Fields>(fields: &F, empty: EmptyField) -> Option<FaultKind>
 }
 
 // What a filled text tells, or what is wrong with it.
+#[inline(always)]
 fn read_text<F: Fields>(fields: &F, grammar: Grammar, text: &[u8]) -> Result<Option<i64>, FaultKind>
     ensures fault { IfErr result (λ kind. (fits grammar (F.at fields.now column.Currency) text.now ≡ false) × (kind ≡ misfit grammar)) }
     ensures sound { OnOk result (fits grammar (F.at fields.now column.Currency) text.now ≡ true) }
@@ -136,6 +139,7 @@ fn read_text<F: Fields>(fields: &F, grammar: Grammar, text: &[u8]) -> Result<Opt
 }
 
 // What the field of a row in a column tells, or what is wrong with it.
+#[inline(always)]
 #[tactic(auto, unfolding(feed_faults::specs::FormFaults::field_misfit), using(crate::proofs::NumberLaws::nothing_told))]
 fn read_field<F: Fields>(fields: &F, rule: ColumnRule) -> Result<Option<i64>, FaultKind>
     ensures fault { IfErr result (λ kind. field_misfit (F.at fields.now) rule ≡ Some kind) }
@@ -149,6 +153,27 @@ fn read_field<F: Fields>(fields: &F, rule: ColumnRule) -> Result<Option<i64>, Fa
     match empty_misfit(fields, rule.empty) {
         Some(kind) => Err(kind),
         None => Ok(None),
+    }
+}
+
+/// What the field of a row in a column tells: none where it is empty, or an id. Answers its fault, where it has one. Inlined, so
+/// that a column that is known is judged without a look at its rule.
+#[inline(always)]
+#[tactic(auto, using(crate::proofs::NumberLaws::own_fault, crate::proofs::NumberLaws::no_fault))]
+pub fn read_column<F: Fields>(
+    file: FileName,
+    row: u32,
+    fields: &F,
+    rule: ColumnRule,
+) -> Result<Option<i64>, FeedFault>
+    requires { row < row_limit }
+    ensures fault { IfErr result (λ fault. fault_of_field file row (F.at fields.now) rule ≡ Some fault) }
+    ensures sound { OnOk result (fault_of_field file row (F.at fields.now) rule ≡ None) }
+    ensures number { IfOk result (λ number. number ≡ field_number (F.at fields.now) rule) }
+{
+    match read_field(fields, rule) {
+        Ok(number) => Ok(number),
+        Err(kind) => Err(field_fault(file, row, rule.name, kind)),
     }
 }
 
@@ -193,9 +218,9 @@ pub fn read_fields<F: Fields>(
     numbers.clear();
     let rules = judged_columns(file, fields);
     for (i, rule) in rules.iter().enumerate() {
-        match read_field(fields, *rule) {
+        match read_column(file, row, fields, *rule) {
             Ok(number) => numbers.push(number)?,
-            Err(kind) => return Ok(Some(field_fault(file, row, rule.name, kind))),
+            Err(fault) => return Ok(Some(fault)),
         }
     }
     Ok(None)
