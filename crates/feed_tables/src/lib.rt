@@ -22,5 +22,4 @@ pub use named::{NamedTable, TableRow};
 pub use read_table::ReadTable;
 pub use reading::read_tables;
 pub use record_row::RecordRow;
-pub use rows::read_row;
 pub use tables::{CallTable, Tables};

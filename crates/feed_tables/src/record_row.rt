@@ -59,6 +59,7 @@ impl<'r, R: Read> Fields for RecordRow<'r, R> {
 
     ghost at = { λ (r : RecordOf). field (one_row r.header r.fields) 0 };
 
+    #[inline(always)]
     #[tactic(auto, unfolding(feed_faults::specs::Records::field, feed_faults::specs::Records::column_of))]
     fn field(&self, name: ColumnName) -> &[u8] {
         match self.header.column(name) {

@@ -4,38 +4,16 @@ ghost use Rattle.feed_faults.specs.Records.{field, row_count};
 ghost use Rattle.feed_faults.specs.FormFaults.{form_fault_of_row, form_fault_of_rows};
 ghost use Rattle.feed_text.specs.FieldNumbers.{numbers_of};
 ghost use Rattle.feed_text.specs.TextErrors.{IsErrorOf};
-ghost use Rattle.feed_text.specs.RowLimits.{row_limit};
-ghost use Rattle.feed_tables.specs.RowNumbers.{numbers_by_row, fault_of_row};
+ghost use Rattle.feed_tables.specs.RowNumbers.{numbers_by_row};
 
 use crate::named::NamedTable;
-use feed_rows::{FaultKind, FeedFault, FileName};
-use feed_text::{Fields, TextError, read_fields, row_fault};
+use feed_rows::{FaultKind, FileName};
+use feed_text::{TextError, read_fields, row_fault};
 use plain_laws::Groups;
 use std::alloc::{AllocError, Global};
 
-/// Replaces what `numbers` holds by what the fields of a row tell, in the order of the columns that are judged. Answers the
-/// first fault of the row, where it has one: first that it is long, which is a field past the header.
-///
-/// # Errors
-/// Want of memory.
-pub fn read_row<F: Fields>(
-    file: FileName,
-    row: u32,
-    is_long: bool,
-    fields: &F,
-    numbers: &mut Vec<Option<i64>>,
-) -> Result<Option<FeedFault>, AllocError>
-    requires { row < row_limit }
-    ensures fault { IfOk result (λ fault. fault ≡ fault_of_row file row is_long (F.at fields.now)) }
-    ensures numbers { IfOk result (λ fault. fault ≡ None → numbers.new.items ≡ numbers_of file (F.at fields.now)) }
-{
-    if is_long {
-        return Ok(Some(row_fault(file, row, FaultKind::LongRow)));
-    }
-    read_fields(file, row, fields, numbers)
-}
-
-// Reads a row, and keeps what it tells behind what the rows before it told. `Fault` is the fault of the row.
+// Reads a row, and keeps what it tells behind what the rows before it told. `Fault` is the fault of the row: first that it is
+// long, which is a field past the header.
 #[tactic(auto, unfolding(feed_faults::specs::FormFaults::form_fault_of_row))]
 fn keep_row(
     file: FileName,
@@ -50,7 +28,10 @@ fn keep_row(
     ensures kept { OnOk result (rows.new ≡ rows.old ++ numbers_of file (field table.now row) ∷ []) }
 {
     let fields = table.row(row);
-    if let Some(fault) = read_row(file, row, table.is_long(row), &fields, numbers)? {
+    if table.is_long(row) {
+        return Err(TextError::Fault(row_fault(file, row, FaultKind::LongRow)));
+    }
+    if let Some(fault) = read_fields(file, row, &fields, numbers)? {
         return Err(TextError::Fault(fault));
     }
     rows.push(numbers)?;
