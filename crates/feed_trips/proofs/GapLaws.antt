@@ -1,73 +1,91 @@
 -- The gap that a pass over a trip's rows carries.
-use Rattle.std.proofs.Common.{◌≡◌, refl, sym, ◌∙◌, ap, ℕ, suc, ◌+◌, ◌<◌, true, false, List, [], ◌∷◌, ◌++◌, length, get_or, append_assoc, arith}
-use Rattle.std.specs.Prelude.{Some, slice_get, unwrap_or}
-use Rattle.std.proofs.lemmas.Option.{slice_get-get_or}
+use Rattle.std.proofs.Common.{◌≡◌, refl, sym, ◌∙◌, ap, ℕ, zero, suc, ◌+◌, ◌-◌, ◌<◌, ◌≤◌, ◌⊎◌, inl, inr, Bool, true, false, List, [], ◌∷◌, ◌++◌, length, get_or, append_assoc, Some, None, arith}
+use Rattle.std.specs.Prelude.{Option, slice_get}
+use Rattle.std.proofs.lemmas.Bool.{cases_eq, cases_lt}
+use mathlib.Core.Bool.{true≢false}
 use Rattle.feed_rows.specs.declared.rows.StopTimeRow.{StopTimeRow}
-use Rattle.feed_rows.specs.CallPass.{TimedGap, gap_at, gap_after, next_timed, time_in, time_or_zero}
-use Rattle.feed_rows.specs.Calls.{first_time, is_timed, last_time}
-use Rattle.feed_rows.specs.TimedTrips.{HasTimedEnds, is_timed_at}
-use Rattle.feed_laws.proofs.TimedLaws.{in_gap, is_timed_at_row, timed_before_hit}
-use Rattle.feed_laws.proofs.CallLaws.{gap_at_before, gap_at_timed, gap_at_untimed}
+use Rattle.feed_rows.specs.CallPass.{TimedGap, gap_at, next_timed, time_in}
+use Rattle.feed_rows.specs.Calls.{is_timed, timed_after, timed_before}
+use Rattle.feed_rows.specs.TimedTrips.{is_timed_at}
+use Rattle.feed_laws.proofs.TimedLaws.{IsTimedAfter, IsTimedBefore, is_timed_at_row, timed_after_tells, timed_before_tells, timed_within}
+use Rattle.feed_laws.proofs.CallLaws.{gap_at_before, gap_at_untimed}
 use Rattle.plain_laws.specs.Plain.{list_below}
 use Rattle.feed_trips.specs.declared.passes.Gap.{Gap}
 use Rattle.feed_trips.specs.Filled.{filled_at}
 use Rattle.feed_trips.specs.Gaps.{gap_of, IsCarried}
 
--- the gap of a row without a time is the one after the row that it began with, which stands before
-pub record IsBegun (rows : List StopTimeRow) (m from : ℕ) : Type 0 where
-  pub is : gap_at rows m ≡ gap_after rows from
-  pub before : from < m
+-- before the first timed row no gap has begun
+none_begun : (rows : List StopTimeRow) (m : ℕ) → timed_before rows m ≡ None →
+    gap_at rows m ≡ record { from = 0; left = 0; to = 0; reached = 0 }
+none_begun rows zero none = refl
+none_begun rows (suc m) none = step (is_timed_at rows m) refl (none_begun rows m)
+  where
+    step : (b : Bool) → is_timed_at rows m ≡ b →
+        (timed_before rows m ≡ None → gap_at rows m ≡ record { from = 0; left = 0; to = 0; reached = 0 }) →
+        gap_at rows (suc m) ≡ record { from = 0; left = 0; to = 0; reached = 0 }
+    step true timed before = let found = rw timed at none in absurd (cc)
+    step false untimed before = rw untimed (before (rw untimed at none))
 
-pub begun : (rows : List StopTimeRow) (m : ℕ) (gap : Gap) → HasTimedEnds rows → m < length rows
-    → is_timed_at rows m ≡ false → IsCarried rows m gap → IsBegun rows m gap.from
-begun rows m gap ends lt untimed carried =
-    let found = in_gap rows m ends lt untimed in
-    let carries = gap_at_before rows m found.0 (timed_before_hit rows m found.0 found.2.before) in
-    let same : gap.from ≡ found.0 = carried.from ∙ ap (λ (g : TimedGap). g.from) carries in
-    let low = found.2.before.before in
-    record { is = carries ∙ ap (gap_after rows) (sym same); before = omega (arith, same, low) }
+-- the gap of a row without a time ends behind the row, if it takes some time, and with the rows at the latest
+pub record IsOver (rows : List StopTimeRow) (m : ℕ) (gap : TimedGap) : Type 0 where
+  pub low : gap.left < gap.reached → gap.from < m
+  pub high : gap.left < gap.reached → m < gap.to
+  pub ends : gap.to ≤ length rows
 
--- the gap that is carried, with the end that is found
-pub ended : (rows : List StopTimeRow) (m : ℕ) (gap : Gap) (to reached : ℕ) → IsBegun rows m gap.from
-    → IsCarried rows m gap → to ≡ next_timed rows gap.from → reached ≡ time_or_zero first_time rows to
-    → (record { from = gap.from; left = gap.left; to = to; reached = reached }) ≡ gap_at rows m
-ended rows m gap to reached begins carried found at =
-    let left = carried.left ∙ ap (λ (g : TimedGap). g.left) begins.is in
-    rw (begins.is, left, at, found) refl
+pub gap_over : (rows : List StopTimeRow) (m : ℕ) → m < length rows → is_timed_at rows m ≡ false →
+    IsOver rows m (gap_at rows m)
+gap_over rows m lt untimed = step (timed_before rows m) refl
+  where
+    past : (p q : ℕ) → IsTimedBefore rows m p → IsTimedAfter rows p q → (q < m) ⊎ (m ≤ q) → m < q
+    past p q before after (inl less) =
+        absurd (true≢false (sym after.timed ∙ before.between q after.after less))
+    past p q before after (inr ge) = last (cases_eq m q)
+      where
+        last : (m ≡ q) ⊎ (m ≡ q → ⊥) → m < q
+        last (inl same) = absurd (true≢false (sym after.timed ∙ ap (is_timed_at rows) (sym same) ∙ untimed))
+        last (inr apart) = omega arith
+
+    ends : (p : ℕ) → IsTimedBefore rows m p → (o : Option ℕ) → timed_after rows p ≡ o →
+        (m < next_timed rows p) × (next_timed rows p ≤ length rows)
+    ends p before None none = rw none (lt, omega arith)
+    ends p before (Some q) found =
+        let after = timed_after_tells rows p q found in
+        let within = timed_within rows q after.timed in
+        rw found (past p q before after (cases_lt q m), omega (arith, within))
+
+    step : (o : Option ℕ) → timed_before rows m ≡ o → IsOver rows m (gap_at rows m)
+    step None none =
+        rw (none_begun rows m none)
+        (record { low = λ less. absurd (omega arith); high = λ less. absurd (omega arith); ends = omega arith })
+    step (Some p) found =
+        let before = timed_before_tells rows m p found in
+        let to = ends p before (timed_after rows p) refl in
+        let low = before.before in
+        rw (gap_at_before rows m p found) (record { low = λ less. low; high = λ less. to.0; ends = to.1 })
 
 -- no gap has begun at first
-pub none_begun : (rows : List StopTimeRow) → IsCarried rows 0 (record { from = 0; left = 0; to = 0; reached = 0 })
-none_begun rows = record { from = refl; left = refl; whole = λ lt. absurd (omega arith) }
+pub carried_first : (rows : List StopTimeRow) → IsCarried rows 0 (record { from = 0; left = 0; to = 0; reached = 0 })
+carried_first rows = record { first = λ none. refl; later = λ lt. absurd (omega arith) }
 
 -- a row at its place has a time where the row there has one
 pub row_timed : (rows : List StopTimeRow) (m : ℕ) (row : StopTimeRow) → m < length rows → row ≡ get_or rows m row →
     is_timed_at rows m ≡ is_timed row
 row_timed rows m row lt is = is_timed_at_row rows m row lt ∙ ap is_timed (sym is)
 
--- after a timed row a gap begins
-pub carried_timed : (rows : List StopTimeRow) (m : ℕ) (row : StopTimeRow) (gap : Gap) → m < length rows →
-    row ≡ get_or rows m row → is_timed_at rows m ≡ true → gap.from ≡ m → gap.left ≡ unwrap_or (last_time row) 0 →
-    IsCarried rows (m + 1) gap
-carried_timed rows m row gap lt is timed from left =
-    let got : slice_get rows m ≡ Some row = slice_get-get_or rows m row lt ∙ ap Some (sym is) in
-    let next = gap_at_timed rows m timed in
-    let leaves : time_or_zero last_time rows m ≡ unwrap_or (last_time row) 0 = rw got refl in
+-- behind a timed row a gap begins, and behind one without a time it goes on
+pub carried_timed : (rows : List StopTimeRow) (m : ℕ) (gap : Gap) → is_timed_at rows m ≡ true → IsCarried rows (m + 1) gap
+carried_timed rows m gap timed =
+    let same : (m + 1) - 1 ≡ m = omega arith in
     record {
-      from = from ∙ sym (ap (λ (g : TimedGap). g.from) next);
-      left = left ∙ sym leaves ∙ sym (ap (λ (g : TimedGap). g.left) next);
-      whole = λ more. absurd (omega (arith, more, from));
+      first = λ none. absurd (omega arith);
+      later = λ lt untimed. absurd (true≢false (sym timed ∙ rw same at untimed));
     }
 
--- a row without a time lies within it
 pub carried_untimed : (rows : List StopTimeRow) (m : ℕ) (gap : Gap) → is_timed_at rows m ≡ false →
     gap_of gap ≡ gap_at rows m → IsCarried rows (m + 1) gap
 carried_untimed rows m gap untimed is =
     let whole = is ∙ sym (gap_at_untimed rows m untimed) in
-    record {
-      from = ap (λ (g : TimedGap). g.from) whole;
-      left = ap (λ (g : TimedGap). g.left) whole;
-      whole = λ more. whole;
-    }
+    record { first = λ none. absurd (omega arith); later = λ lt before. whole }
 
 -- the time that is filled in at a row; 0 where it has one
 pub filled_timed : (rows : List StopTimeRow) (m : ℕ) → is_timed_at rows m ≡ true → 0 ≡ filled_at rows m

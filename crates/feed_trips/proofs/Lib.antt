@@ -6,5 +6,5 @@ pub mod StretchLaws
 pub mod TripLaws
 pub mod RideLaws
 pub mod GapLaws
-pub mod PlacedTimes
+pub mod LaidTimes
 pub mod MadeCalls

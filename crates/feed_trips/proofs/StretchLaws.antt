@@ -11,13 +11,12 @@ use Rattle.feed_rows.specs.FeedRows.{FeedRows}
 use Rattle.feed_rows.specs.Calls.{in_its_place, in_sequence, trip_stop_times, calls_of}
 use Rattle.feed_rows.specs.CallPass.{pass}
 use Rattle.feed_rows.specs.SoundFeed.{IsSoundFeed}
-use Rattle.feed_rows.specs.TimedTrips.{HasTimedEnds, DoTimesRise}
 use Rattle.plain_laws.proofs.Laws.{list_below-same}
 use Rattle.feed_laws.proofs.CallLaws.{calls_of-pass}
-use Rattle.feed_laws.proofs.SoundTrips.{sound_ends, sound_rise, calls_apart}
+use Rattle.feed_laws.proofs.SoundTrips.{sound_ends, calls_apart}
 use Rattle.feed_trips.specs.declared.together.Stretch.{Stretch}
 use Rattle.feed_trips.specs.Tables.{trip_calls}
-use Rattle.feed_trips.specs.Stretches.{no_stretch, rows_of_stretch, rows_at, stretch_calls, IsStretch, AreStretches, AreTimed, GoesOn, IsAnew, IsApart, IsPiece, IsScattered}
+use Rattle.feed_trips.specs.Stretches.{no_stretch, rows_of_stretch, rows_at, stretch_calls, IsStretch, AreStretches, GoesOn, IsAnew, IsApart, IsPiece, IsScattered}
 use Rattle.std.proofs.lemmas.List.Sorted.{All-permutation, length_permutation}
 use Rattle.feed_laws.proofs.TimedLaws.{next_timed_hit, next_timed_end, untimed_more, is_timed_at_row}
 use Rattle.feed_trips.specs.Tables.{IsInOrder}
@@ -261,6 +260,15 @@ piece_on rows from place before start lt on = step (cases_eq place 0)
         subst (λ f. IsPiece rows f (place + 1)) (first ∙ sym (start first)) alone
     step (inr later) = piece_more rows from place (before (omega arith)) lt on
 
+-- where the last piece begins behind all rows, there are none
+pub none_left : (rows : List StopTimeRow) (from place : ℕ) → (0 < place → IsPiece rows from place) → (place ≡ 0 → from ≡ 0)
+    → place ≤ length rows → length rows ≤ from → from ≡ length rows
+none_left rows from place before start le none = step (cases_eq place 0)
+  where
+    step : (place ≡ 0) ⊎ (place ≡ 0 → ⊥) → from ≡ length rows
+    step (inl first) = let zero = start first in omega (arith, zero, none)
+    step (inr later) = let some = (before (omega arith)).some in absurd (omega (arith, some, le, none))
+
 -- rows whose sequences don't fall are in order of them
 in_order_already : (rows : List StopTimeRow) → ((k : ℕ) (d : StopTimeRow) → k + 1 < length rows → (get_or rows k d).sequence ≤ (get_or rows (k + 1) d).sequence) → in_sequence rows ≡ rows
 in_order_already [] up = refl
@@ -332,38 +340,16 @@ module _ (feed : FeedRows) (rows : List StopTimeRow) (stretches : List Stretch) 
   within : (t : ℕ) → t < length stretches → t < length feed.trips
   within t lt = let count = are.count in omega arith
 
-  -- so they begin and end with times, which don't fall
-  pub timed : AreTimed rows stretches
-  timed = record {
-    forward = λ t lt. (are.each t (within t lt)).forward;
-    ends = λ t lt. (are.each t (within t lt)).ends;
-    inside = λ k d lt. rw are.count (few k d lt);
-    around = λ k d lt. (are.each (get_or rows k d).trip.0 (few k d lt)).has k d lt refl;
-    own = λ t k d lt. row_own rows (length rows) t (get_or stretches t no_stretch) (are.each t (within t lt))
-        (omega arith) k d;
-    timed = λ t lt. subst HasTimedEnds (sym (own t (within t lt))) (sound_ends feed (record { 0 = t }) sound.calls);
-    rise = λ t lt. subst DoTimesRise (sym (own t (within t lt))) (sound_rise feed (record { 0 = t }) sound.calls);
-  }
-
-  -- and their calls are those of the trips
+  -- so their calls are those of the trips
   pub calls_are : stretch_calls rows stretches ≡ trip_calls feed
   calls_are =
       rw are.count (list_below-same (length feed.trips) (λ t. pass (rows_at rows stretches t)) (λ t. calls_of feed (record { 0 = t }))
       (λ t lt. ap pass (own t lt) ∙ sym (calls_of-pass feed (record { 0 = t }) (sound_ends feed (record { 0 = t }) sound.calls))))
 
--- stretches of rows that are the trips' stop times: their rows are timed, and their calls are those of the trips
-pub record AreTripStretches (feed : FeedRows) (rows : List StopTimeRow) (stretches : List Stretch) : Type 0 where
-  pub timed_rows : AreTimed rows stretches
-  pub calls : stretch_calls rows stretches ≡ trip_calls feed
-
-pub file_stretches : (feed : FeedRows) (stretches : List Stretch) → IsSoundFeed feed → AreStretches feed.stop_times (length feed.stop_times) (length feed.trips) stretches → AreTripStretches feed feed.stop_times stretches
+pub file_stretches : (feed : FeedRows) (stretches : List Stretch) → IsSoundFeed feed → AreStretches feed.stop_times (length feed.stop_times) (length feed.trips) stretches → stretch_calls feed.stop_times stretches ≡ trip_calls feed
 file_stretches feed stretches sound are =
-    let own = λ (t : ℕ) (lt : t < length feed.trips). rows_are feed (length feed.trips) t stretches are lt in
-    let few = sound.stop_times.trips in
-    record {
-      timed_rows = timed feed feed.stop_times stretches sound are few own;
-      calls = calls_are feed feed.stop_times stretches sound are few own;
-    }
+    calls_are feed feed.stop_times stretches sound are sound.stop_times.trips
+    (λ t lt. rows_are feed (length feed.trips) t stretches are lt)
 
 -- sorted rows are of the feed's trips
 pub sorted_within : (feed : FeedRows) (rows : List StopTimeRow) → IsSoundFeed feed → IsPermutation feed.stop_times rows →
@@ -372,14 +358,10 @@ sorted_within feed rows sound moved =
     All-permutation (λ (r : StopTimeRow). r.trip.0 < length feed.trips) feed.stop_times rows moved sound.stop_times.trips
 
 pub sorted_stretches : (feed : FeedRows) (rows : List StopTimeRow) (stretches : List Stretch) → IsSoundFeed feed → IsPermutation feed.stop_times rows → AllPairs IsInOrder rows → AreStretches rows (length rows) (length feed.trips) stretches
-    → AreTripStretches feed rows stretches
+    → stretch_calls rows stretches ≡ trip_calls feed
 sorted_stretches feed rows stretches sound moved up are =
-    let own = λ (t : ℕ) (lt : t < length feed.trips). sorted_are feed rows (length feed.trips) t stretches sound moved up are lt in
-    let few = sorted_within feed rows sound moved in
-    record {
-      timed_rows = timed feed rows stretches sound are few own;
-      calls = calls_are feed rows stretches sound are few own;
-    }
+    calls_are feed rows stretches sound are (sorted_within feed rows sound moved)
+    (λ t lt. sorted_are feed rows (length feed.trips) t stretches sound moved up are lt)
 
 -- and few
 pub sorted_few : (feed : FeedRows) (rows : List StopTimeRow) → IsSoundFeed feed → IsPermutation feed.stop_times rows → length rows < 2 ^ 32

@@ -1,9 +1,8 @@
 -- Trips whose rows stand together in the file: where those of each stand.
-use Rattle.std.specs.Prelude.{◌≡◌, ℕ, ◌+◌, ◌-◌, ◌<◌, ◌≤◌, ◌==◌, List, length, slice_index_or, slice_range, take, filter}
+use Rattle.std.specs.Prelude.{◌≡◌, ℕ, ◌+◌, ◌-◌, ◌<◌, ◌≤◌, ◌==◌, List, length, slice_index_or, slice_range, slice_set, take, filter}
 use Rattle.feed_rows.specs.declared.journeys.Call.{Call}
 use Rattle.feed_rows.specs.declared.rows.StopTimeRow.{StopTimeRow}
 use Rattle.feed_rows.specs.CallPass.{pass}
-use Rattle.feed_rows.specs.TimedTrips.{HasTimedEnds, DoTimesRise}
 use Rattle.plain_laws.specs.Plain.{list_below}
 use Rattle.feed_trips.specs.declared.together.Stretch.{Stretch}
 
@@ -26,10 +25,6 @@ times_at times stretches trip =
 -- the calls of the rows at each stretch
 abbrev pub stretch_calls : List StopTimeRow → List Stretch → List (List Call)
 stretch_calls rows stretches = list_below (length stretches) (λ t. pass (rows_at rows stretches t))
-
--- the stretch of the trip of the row at a place
-abbrev pub stretch_around : List StopTimeRow → List Stretch → ℕ → StopTimeRow → Stretch
-stretch_around rows stretches k d = slice_index_or stretches (slice_index_or rows k d).trip.0 no_stretch
 
 -- of the first n rows those of the trip are those of the stretch, and their sequences don't fall
 pub record IsStretch (rows : List StopTimeRow) (n trip : ℕ) (s : Stretch) : Type 0 where
@@ -63,6 +58,11 @@ pub record IsPiece (rows : List StopTimeRow) (from to : ℕ) : Type 0 where
   pub anew : 0 < from → IsAnew rows from
   pub goes_on : (k : ℕ) → from < k → k < to → GoesOn rows k
 
+-- the rows from a place and up to another were put as the stretch of the trip of the first of them
+abbrev pub IsPutAt : List StopTimeRow → ℕ → ℕ → List Stretch → List Stretch → Type 0
+IsPutAt rows from to old new =
+    (d : StopTimeRow) → new ≡ slice_set old (slice_index_or rows from d).trip.0 (record { from = from; to = to })
+
 -- the trip of the row at a place has a stretch before it that the row doesn't lengthen: where the stretch ends just before
 -- the place, the row's sequence is below that of the row before
 pub record IsApart (rows : List StopTimeRow) (place : ℕ) (stretches : List Stretch) : Type 0 where
@@ -76,16 +76,3 @@ pub record IsScattered (rows : List StopTimeRow) (trips : ℕ) : Type 0 where
   pub stretches : List Stretch
   pub before : AreStretches rows place trips stretches
   pub apart : IsApart rows place stretches
-
--- each stretch lies within the rows, each row stands in the stretch of its trip and no other, and the rows of a stretch
--- begin and end with times, which don't fall
-pub record AreTimed (rows : List StopTimeRow) (stretches : List Stretch) : Type 0 where
-  pub forward : (t : ℕ) → t < length stretches → (slice_index_or stretches t no_stretch).from ≤ (slice_index_or stretches t no_stretch).to
-  pub ends : (t : ℕ) → t < length stretches → (slice_index_or stretches t no_stretch).to ≤ length rows
-  pub inside : (k : ℕ) (d : StopTimeRow) → k < length rows → (slice_index_or rows k d).trip.0 < length stretches
-  pub around : (k : ℕ) (d : StopTimeRow) → k < length rows →
-      ((stretch_around rows stretches k d).from ≤ k) × (k < (stretch_around rows stretches k d).to)
-  pub own : (t k : ℕ) (d : StopTimeRow) → t < length stretches → (slice_index_or stretches t no_stretch).from ≤ k →
-      k < (slice_index_or stretches t no_stretch).to → (slice_index_or rows k d).trip.0 ≡ t
-  pub timed : (t : ℕ) → t < length stretches → HasTimedEnds (rows_at rows stretches t)
-  pub rise : (t : ℕ) → t < length stretches → DoTimesRise (rows_at rows stretches t)

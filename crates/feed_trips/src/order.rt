@@ -2,12 +2,10 @@
 ghost use Rattle.std.specs.Prelude.{◌≡◌, ◌<◌, ◌^◌, map, AllPairs, length, IfOk};
 ghost use Rattle.std.specs.List.Sorted.{IsPermutation};
 ghost use Rattle.feed_rows.specs.declared.rows.FrequencyRow.{FrequencyRow};
-ghost use Rattle.std.specs.Cow.{cow_slice_items};
-ghost use Rattle.feed_trips.specs.Stretches.{AreTimed, stretch_calls};
 ghost use Rattle.feed_trips.specs.Tables.{IsInOrder, trip_calls, trip_runs};
 
 use crate::calls::TripCalls;
-use crate::together::{Stretch, stretches_of, times_of_stretches};
+use crate::together::together_of;
 use feed_rows::{Feed, FrequencyRow, StopTimeRow};
 use plain_laws::{Grouped, Groups};
 use std::alloc::{AllocError, Global};
@@ -34,20 +32,6 @@ pub fn sorted_stop_times(
     Ok(sorted)
 }
 
-// The calls of the rows at each of these stretches.
-fn calls_of_rows<'f>(
-    alloc: Global,
-    rows: CowSlice<'f, StopTimeRow>,
-    stretches: Vec<Stretch>,
-) -> Result<TripCalls<'f>, AllocError>
-    requires timed { AreTimed (cow_slice_items rows) stretches.items }
-    requires few { length (cow_slice_items rows) < 2 ^ 32 }
-    ensures { IfOk result (λ calls. calls ≡ stretch_calls (cow_slice_items rows.entry) stretches.items) }
-{
-    let times = times_of_stretches(alloc, rows.as_slice(), &stretches)?;
-    Ok(TripCalls::of(rows, stretches, times))
-}
-
 // The calls of each trip, from the feed's stop times in order.
 fn calls_of_sorted<'f>(
     alloc: Global,
@@ -59,10 +43,10 @@ fn calls_of_sorted<'f>(
     ensures { IfOk result (λ calls. calls ≡ trip_calls feed.now) }
 {
     let trips = feed.trips.items();
-    let Some(stretches) = stretches_of(alloc, &rows, trips.len())? else {
+    let Some(found) = together_of(alloc, &rows, trips.len())? else {
         unreachable!();
     };
-    calls_of_rows(alloc, CowSlice::Owned(rows), stretches)
+    Ok(TripCalls::of(CowSlice::Owned(rows), found.stretches, found.times))
 }
 
 /// The calls of each trip. Where the rows of each trip stand together and in order they are left as
@@ -75,8 +59,8 @@ pub fn calls_by_trip<'f>(alloc: Global, feed: &'f Feed) -> Result<TripCalls<'f>,
 {
     let rows = feed.stop_times.items();
     let trips = feed.trips.items();
-    if let Some(stretches) = stretches_of(alloc, rows, trips.len())? {
-        return calls_of_rows(alloc, CowSlice::Borrowed(rows), stretches);
+    if let Some(found) = together_of(alloc, rows, trips.len())? {
+        return Ok(TripCalls::of(CowSlice::Borrowed(rows), found.stretches, found.times));
     }
     let sorted = sorted_stop_times(alloc, rows)?;
     calls_of_sorted(alloc, feed, sorted)

@@ -1,30 +1,18 @@
 //! The times that are filled in at a trip's rows, in one pass.
 ghost use Rattle.std.specs.Prelude.{◌≡◌, ◌<◌, ◌≤◌, ◌^◌, ◌++◌, false, length, OnOk};
-ghost use Rattle.feed_rows.specs.Calls.{time_between};
-ghost use Rattle.feed_rows.specs.CallPass.{gap_at};
-ghost use Rattle.feed_rows.specs.TimedTrips.{HasTimedEnds, DoTimesRise, is_timed_at};
+ghost use Rattle.feed_rows.specs.Calls.{last_time as last_time_of};
+ghost use Rattle.feed_rows.specs.CallPass.{gap_after, gap_at, time_in, time_or_zero};
+ghost use Rattle.feed_rows.specs.TimedTrips.{is_timed_at};
 ghost use Rattle.feed_trips.specs.Filled.{filled_times};
-ghost use Rattle.feed_trips.specs.Gaps.{gap_of, IsCarried};
+ghost use Rattle.feed_trips.specs.Gaps.{gap_of, IsCarried, IsWithin};
 
 use crate::scan::{first_time_at, next_position};
 use feed_rows::StopTimeRow;
 use std::alloc::AllocError;
 use trip_order::{is_timed, last_time};
 
-// The time at a position between two timed ones, which are left and reached at these seconds of the service day.
-fn filled_time(before: usize, position: usize, after: usize, left: u32, reached: u32) -> u32
-    requires low { before < position }
-    requires high { position < after }
-    requires few { after < 2 ^ 32 }
-    requires rise { left ≤ reached }
-    ensures { result ≡ time_between before position after left reached }
-{
-    let span = (reached - left) as u64;
-    left + ((position - before) as u64 * span / (after - before) as u64) as u32
-}
-
-// Two timed positions with none between: the one is left and the other reached at these seconds of the service day. The
-// other is looked for once a row without a time follows the one.
+// Two timed positions with none between: the one is left and the other reached at these seconds of the service day. Before
+// the first timed row all four are 0, and behind the last one the gap ends with the rows and is reached at 0.
 #[derive(Clone, Copy)]
 struct Gap {
     from: usize,
@@ -33,32 +21,50 @@ struct Gap {
     reached: u32,
 }
 
-// The gap with its end, at a position in it that has no time. Where it isn't the first such position, the end is known.
-fn with_end(rows: &[StopTimeRow], position: usize, gap: Gap) -> Gap
-    requires ends { HasTimedEnds rows.now }
-    requires inside { position < length rows.now }
-    requires untimed { is_timed_at rows.now position ≡ false }
-    requires carried { IsCarried rows.now position gap }
-    ensures { gap_of result ≡ gap_at rows.now position }
+// The gap that begins at a position.
+fn gap_after(rows: &[StopTimeRow], from: usize) -> Gap
+    requires { from < length rows.now }
+    ensures { gap_of result ≡ gap_after rows.now from }
 {
-    if gap.from + 1 < position {
-        return gap;
-    }
-    let to = next_position(rows, gap.from);
+    let to = next_position(rows, from);
     Gap {
-        from: gap.from,
-        left: gap.left,
+        from,
+        left: last_time(rows[from]).unwrap_or(0),
         to,
         reached: first_time_at(rows, to),
     }
 }
 
+// The gap of a row without a time, given that of the row before where this has none either.
+fn gap_at(rows: &[StopTimeRow], position: usize, before: Gap) -> Gap
+    requires inside { position < length rows.now }
+    requires carried { IsCarried rows.now position before }
+    ensures { gap_of result ≡ gap_at rows.now position }
+{
+    if position > 0 && is_timed(rows[position - 1]) {
+        gap_after(rows, position - 1)
+    } else {
+        before
+    }
+}
+
+// The time at a position in a gap, laid evenly between the ends; the time of leaving where the gap is reached no later.
+fn time_in(gap: Gap, position: usize) -> u32
+    requires within { IsWithin gap position }
+    requires few { gap.to < 2 ^ 32 }
+    ensures { result ≡ time_in (gap_of gap) position }
+{
+    if gap.reached <= gap.left {
+        return gap.left;
+    }
+    let span = (gap.reached - gap.left) as u64;
+    gap.left + ((position - gap.from) as u64 * span / (gap.to - gap.from) as u64) as u32
+}
+
 /// Appends the times that are filled in at a trip's rows, which are in order of their sequence; 0
 /// where a row has one.
 pub fn push_times(times: &mut Vec<u32>, rows: &[StopTimeRow]) -> Result<(), AllocError>
-    requires ends { HasTimedEnds rows.now }
-    requires rise { DoTimesRise rows.now }
-    requires few { length rows.now < 2 ^ 32 }
+    requires { length rows.now < 2 ^ 32 }
     ensures { OnOk result (times.new.items ≡ times.old.items ++ filled_times rows.now) }
 {
     let mut gap = Gap {
@@ -68,20 +74,11 @@ pub fn push_times(times: &mut Vec<u32>, rows: &[StopTimeRow]) -> Result<(), Allo
         reached: 0,
     };
     for m in 0..rows.len() {
-        let row = &rows[m];
-        if is_timed(*row) {
+        if is_timed(rows[m]) {
             times.push(0)?;
-            let left = last_time(*row).unwrap_or(0);
-            gap = Gap {
-                from: m,
-                left,
-                to: m,
-                reached: 0,
-            };
         } else {
-            gap = with_end(rows, m, gap);
-            let time = filled_time(gap.from, m, gap.to, gap.left, gap.reached);
-            times.push(time)?;
+            gap = gap_at(rows, m, gap);
+            times.push(time_in(gap, m))?;
         }
     }
     Ok(())

@@ -1,12 +1,12 @@
 //! Trips whose stop times stand together in the file and in order, as they mostly do: where the rows
 //! of each stand, and the times that are filled in there.
-ghost use Rattle.std.specs.Prelude.{◌≡◌, ◌<◌, ◌^◌, ◌++◌, length, All, IfOk, OnOk, IfNone, IfSome, [], true};
+ghost use Rattle.std.specs.Prelude.{◌≡◌, ◌<◌, ◌≤◌, ◌^◌, length, All, IfOk, OnOk, IfNone, IfSome, [], true, slice_range};
 ghost use Rattle.std.specs.Bool.{OnFalse, OnTrue};
 ghost use Rattle.std.specs.List.{list_all};
 ghost use Rattle.feed_rows.specs.declared.rows.StopTimeRow.{StopTimeRow};
 ghost use Rattle.feed_rows.specs.Calls.{is_timed as is_row_timed};
-ghost use Rattle.feed_trips.specs.Filled.{AreKept, filled_times};
-ghost use Rattle.feed_trips.specs.Stretches.{AreStretches, AreTimed, GoesOn, IsAnew, IsApart, IsPiece, IsScattered, rows_at};
+ghost use Rattle.feed_trips.specs.Filled.{AreFilledUp, AreKept, AreLaid, IsLaid};
+ghost use Rattle.feed_trips.specs.Stretches.{AreStretches, GoesOn, IsAnew, IsApart, IsPiece, IsPutAt, IsScattered};
 
 use crate::passes::push_times;
 use feed_rows::StopTimeRow;
@@ -18,6 +18,15 @@ use trip_order::is_timed;
 pub struct Stretch {
     pub from: u32,
     pub to: u32,
+}
+
+/// Where the rows of each trip stand, and the times that are filled in beside them.
+#[derive(Drop)]
+pub struct Together {
+    pub stretches: Vec<Stretch>,
+    /// Beside each row without a time the one that is filled in, and 0 beside others; empty where each
+    /// row has a time.
+    pub times: Vec<u32>,
 }
 
 // Whether the row at a place goes on with the row before it: it is of the same trip, and its sequence isn't less. The
@@ -49,6 +58,7 @@ fn put_piece(
     requires piece { IsPiece rows.now from to }
     requires before { AreStretches rows.now from trips stretches.old.items }
     ensures put { OnTrue result (AreStretches rows.now to trips stretches.new.items) }
+    ensures set { OnTrue result (IsPutAt rows.now from to stretches.old.items stretches.new.items) }
     ensures apart { OnFalse result (IsApart rows.now from stretches.old.items) }
 {
     let trip = rows[from].trip.0 as usize;
@@ -63,37 +73,6 @@ fn put_piece(
     true
 }
 
-/// Where the rows of each trip stand, if those of each stand together and in order of their sequence; none only where
-/// some row doesn't follow those of its trip before it.
-///
-/// # Errors
-/// Want of memory.
-pub fn stretches_of(
-    alloc: Global,
-    rows: &[StopTimeRow],
-    trips: usize,
-) -> Result<Option<Vec<Stretch>>, AllocError>
-    requires within { All (λ (r : StopTimeRow). r.trip.0 < trips) rows.now }
-    requires few { length rows.now < 2 ^ 32 }
-    ensures together { IfOk result (λ found. IfSome found (λ stretches. AreStretches rows.now (length rows.now) trips stretches.items)) }
-    ensures scattered { IfOk result (λ found. IfNone found (IsScattered rows.now trips)) }
-{
-    let mut stretches = vec![in alloc; Stretch { from: 0, to: 0 }; trips]?;
-    let mut from = 0;
-    for place in 0..rows.len() {
-        if !goes_on(rows, place) {
-            if !put_piece(&mut stretches, rows, from, place, trips) {
-                return Ok(None);
-            }
-            from = place;
-        }
-    }
-    if from < rows.len() && !put_piece(&mut stretches, rows, from, rows.len(), trips) {
-        return Ok(None);
-    }
-    Ok(Some(stretches))
-}
-
 // Whether each row has a time.
 fn are_timed(rows: &[StopTimeRow]) -> bool
     ensures { result ≡ list_all is_row_timed rows.now }
@@ -101,44 +80,99 @@ fn are_timed(rows: &[StopTimeRow]) -> bool
     rows.iter().all(|row| is_timed(*row))
 }
 
-// Appends the times that are filled in at the rows of a stretch.
-fn push_stretch(
+// Lays the times of a piece beside it, and none where each of its rows has one.
+fn lay_piece(
     times: &mut Vec<u32>,
     rows: &[StopTimeRow],
-    stretches: &[Stretch],
-    trip: usize,
+    from: usize,
+    to: usize,
 ) -> Result<(), AllocError>
-    requires timed { AreTimed rows.now stretches.now }
-    requires inside { trip < length stretches.now }
+    requires forward { from ≤ to }
+    requires within { to ≤ length rows.now }
     requires few { length rows.now < 2 ^ 32 }
-    ensures { OnOk result (times.new.items ≡ times.old.items ++ filled_times (rows_at rows.now stretches.now trip)) }
+    requires before { length times.old.items ≤ from }
+    ensures { OnOk result (IsLaid rows.now from to times.old.items times.new.items) }
 {
-    let stretch = stretches[trip];
-    push_times(times, &rows[stretch.from as usize..stretch.to as usize])
+    let piece = &rows[from..to];
+    if are_timed(piece) {
+        return Ok(());
+    }
+    times.reserve(rows.len() - times.len())?;
+    times.resize(from, 0)?;
+    push_times(times, piece)
 }
 
-/// The times that are filled in, row by row, where the rows of each trip stand at one of these
-/// stretches; none where each row has a time.
+impl Together {
+    // Puts a piece of rows, from a place and up to another, with its times. False where its trip has rows before.
+    fn put(
+        &mut self,
+        rows: &[StopTimeRow],
+        from: usize,
+        to: usize,
+        trips: usize,
+    ) -> Result<bool, AllocError>
+        requires within { All (λ (r : StopTimeRow). r.trip.0 < trips) rows.now }
+        requires few { length rows.now < 2 ^ 32 }
+        requires piece { IsPiece rows.now from to }
+        requires before { AreStretches rows.now from trips self.old.stretches.items }
+        requires laid { AreLaid rows.now from self.old.stretches.items self.old.times.items }
+        ensures put { IfOk result (λ is_put. OnTrue is_put (AreStretches rows.now to trips self.new.stretches.items)) }
+        ensures beside { IfOk result (λ is_put. OnTrue is_put (AreLaid rows.now to self.new.stretches.items self.new.times.items)) }
+        ensures apart { IfOk result (λ is_put. OnFalse is_put (IsApart rows.now from self.old.stretches.items)) }
+    {
+        if !put_piece(&mut self.stretches, rows, from, to, trips) {
+            return Ok(false);
+        }
+        lay_piece(&mut self.times, rows, from, to)?;
+        Ok(true)
+    }
+}
+
+// Fills the times up, so that there is one beside each row, where there are any.
+fn fill_up(times: &mut Vec<u32>, rows: usize) -> Result<(), AllocError>
+    requires { length times.old.items ≤ rows }
+    ensures { OnOk result (AreFilledUp rows times.old.items times.new.items) }
+{
+    if !times.is_empty() {
+        times.resize(rows, 0)?;
+    }
+    Ok(())
+}
+
+/// Where the rows of each trip stand, if those of each stand together and in order of their sequence, and the times that are
+/// filled in there; none only where some row doesn't follow those of its trip before it.
 ///
 /// # Errors
 /// Want of memory.
-pub fn times_of_stretches(
+pub fn together_of(
     alloc: Global,
     rows: &[StopTimeRow],
-    stretches: &[Stretch],
-) -> Result<Vec<u32>, AllocError>
-    requires timed { AreTimed rows.now stretches.now }
+    trips: usize,
+) -> Result<Option<Together>, AllocError>
+    requires within { All (λ (r : StopTimeRow). r.trip.0 < trips) rows.now }
     requires few { length rows.now < 2 ^ 32 }
-    ensures kept { IfOk result (λ times. AreKept rows.now stretches.now times.items) }
-    ensures none { IfOk result (λ times. list_all is_row_timed rows.now ≡ true → times.items ≡ []) }
+    ensures together { IfOk result (λ found. IfSome found (λ found. AreStretches rows.now (length rows.now) trips found.stretches.items)) }
+    ensures kept { IfOk result (λ found. IfSome found (λ found. AreKept rows.now found.stretches.items found.times.items)) }
+    ensures none { IfOk result (λ found. IfSome found (λ found. list_all is_row_timed rows.now ≡ true → found.times.items ≡ [])) }
+    ensures scattered { IfOk result (λ found. IfNone found (IsScattered rows.now trips)) }
 {
-    if are_timed(rows) {
-        return Ok(Vec::new(alloc));
+    let stretches = vec![in alloc; Stretch { from: 0, to: 0 }; trips]?;
+    let mut found = Together {
+        stretches,
+        times: Vec::new(alloc),
+    };
+    let mut from = 0;
+    for place in 0..rows.len() {
+        if !goes_on(rows, place) {
+            if !found.put(rows, from, place, trips)? {
+                return Ok(None);
+            }
+            from = place;
+        }
     }
-    let mut times = Vec::with_capacity(alloc, rows.len())?;
-    while times.len() < rows.len() {
-        let trip = rows[times.len()].trip.0 as usize;
-        push_stretch(&mut times, rows, stretches, trip)?;
+    if from < rows.len() && !found.put(rows, from, rows.len(), trips)? {
+        return Ok(None);
     }
-    Ok(times)
+    fill_up(&mut found.times, rows.len())?;
+    Ok(Some(found))
 }

@@ -1,26 +1,19 @@
 use Rattle.std.proofs.Common.{◌≡◌, ◌∙◌, sym, ap, subst, List, length, IsPermutation}
-use Rattle.std.specs.Prelude.{IfOk}
-use Rattle.feed_rows.specs.declared.journeys.Call.{Call}
 use Rattle.feed_rows.specs.declared.rows.StopTimeRow.{StopTimeRow}
 use Rattle.feed_rows.specs.FeedRows.{FeedRows}
 use Rattle.feed_rows.specs.SoundFeed.{IsSoundFeed}
-use Rattle.feed_trips.specs.Stretches.{AreStretches, AreTimed, stretch_calls}
+use Rattle.feed_trips.specs.Stretches.{AreStretches, stretch_calls}
 use Rattle.feed_trips.proofs.StretchLaws.{file_within, file_few, file_stretches}
 use Rattle.feed_trips.proofs.order.calls_by_trip.Goals as goal
 
-pub stretches_of-requires-clause-within : goal.stretches_of-requires-clause-within
-stretches_of-requires-clause-within c =
+pub together_of-requires-clause-within : goal.together_of-requires-clause-within
+together_of-requires-clause-within c =
     let rows : c.items-rows.result.now ≡ c.args.feed.now.stop_times = c.items-rows.ensures.value ∙ ap (λ (f : FeedRows). f.stop_times) c.feed.view_is in
     let trips : length c.items-trips.result.now ≡ length c.args.feed.now.trips = ap length (c.items-trips.ensures.value ∙ ap (λ (f : FeedRows). f.trips) c.feed.view_is) in
     file_within c.args.feed.now c.items-rows.result.now (length c.items-trips.result.now) (subst IsSoundFeed c.feed.view_is c.feed.invariant) rows trips
 
-pub stretches_of-requires-clause-few : goal.stretches_of-requires-clause-few
-stretches_of-requires-clause-few c =
-    let rows : c.items-rows.result.now ≡ c.args.feed.now.stop_times = c.items-rows.ensures.value ∙ ap (λ (f : FeedRows). f.stop_times) c.feed.view_is in
-    file_few c.args.feed.now c.items-rows.result.now (subst IsSoundFeed c.feed.view_is c.feed.invariant) rows
-
-pub calls_of_rows-requires-clause-few : goal.calls_of_rows-requires-clause-few
-calls_of_rows-requires-clause-few c =
+pub together_of-requires-clause-few : goal.together_of-requires-clause-few
+together_of-requires-clause-few c =
     let rows : c.items-rows.result.now ≡ c.args.feed.now.stop_times = c.items-rows.ensures.value ∙ ap (λ (f : FeedRows). f.stop_times) c.feed.view_is in
     file_few c.args.feed.now c.items-rows.result.now (subst IsSoundFeed c.feed.view_is c.feed.invariant) rows
 
@@ -37,22 +30,12 @@ calls_of_sorted-requires-clause-moved c =
 pub returns : goal.returns
 returns c = c.calls_of_sorted.ensures
 
-pub calls_of_rows-requires-clause-timed : goal.calls_of_rows-requires-clause-timed
-calls_of_rows-requires-clause-timed c =
-    let rows : c.items-rows.result.now ≡ c.args.feed.now.stop_times = c.items-rows.ensures.value ∙ ap (λ (f : FeedRows). f.stop_times) c.feed.view_is in
-    let trips : length c.items-trips.result.now ≡ length c.args.feed.now.trips = ap length (c.items-trips.ensures.value ∙ ap (λ (f : FeedRows). f.trips) c.feed.view_is) in
-    let found = rw c.in-Some.is at c.in_ok-stretches.ensures.together in
-    let of_trips = subst (λ n. AreStretches c.items-rows.result.now (length c.items-rows.result.now) n c.in-Some.stretches.items) trips found in
-    let are = subst (λ (rs : List StopTimeRow). AreStretches rs (length rs) (length c.args.feed.now.trips) c.in-Some.stretches.items) rows of_trips in
-    subst (λ (rs : List StopTimeRow). AreTimed rs c.in-Some.stretches.items) (sym rows) (file_stretches c.args.feed.now c.in-Some.stretches.items (subst IsSoundFeed c.feed.view_is c.feed.invariant) are).timed_rows
-
 pub returns-in-Some : goal.returns-in-Some
 returns-in-Some c =
     let rows : c.items-rows.result.now ≡ c.args.feed.now.stop_times = c.items-rows.ensures.value ∙ ap (λ (f : FeedRows). f.stop_times) c.feed.view_is in
     let trips : length c.items-trips.result.now ≡ length c.args.feed.now.trips = ap length (c.items-trips.ensures.value ∙ ap (λ (f : FeedRows). f.trips) c.feed.view_is) in
-    let found = rw c.in-Some.is at c.in_ok-stretches.ensures.together in
-    let of_trips = subst (λ n. AreStretches c.items-rows.result.now (length c.items-rows.result.now) n c.in-Some.stretches.items) trips found in
-    let are = subst (λ (rs : List StopTimeRow). AreStretches rs (length rs) (length c.args.feed.now.trips) c.in-Some.stretches.items) rows of_trips in
-    let is = ap (λ (rs : List StopTimeRow). stretch_calls rs c.in-Some.stretches.items) rows
-    ∙ (file_stretches c.args.feed.now c.in-Some.stretches.items (subst IsSoundFeed c.feed.view_is c.feed.invariant) are).calls in
-    subst (λ (made : List (List Call)). IfOk c.calls_of_rows.result (λ calls. calls ≡ made)) is c.calls_of_rows.ensures
+    let found = rw c.in-Some.is at c.in_ok-found.ensures.together in
+    let of_trips = subst (λ n. AreStretches c.items-rows.result.now (length c.items-rows.result.now) n c.in-Some.found.stretches.items) trips found in
+    let are = subst (λ (rs : List StopTimeRow). AreStretches rs (length rs) (length c.args.feed.now.trips) c.in-Some.found.stretches.items) rows of_trips in
+    c.of.ensures ∙ ap (λ (rs : List StopTimeRow). stretch_calls rs c.in-Some.found.stretches.items) rows
+    ∙ file_stretches c.args.feed.now c.in-Some.found.stretches.items (subst IsSoundFeed c.feed.view_is c.feed.invariant) are

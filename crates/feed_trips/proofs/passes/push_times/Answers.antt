@@ -1,64 +1,48 @@
-use Rattle.std.proofs.Common.{sym, refl, ◌∙◌, ap, rules, arith}
+use Rattle.std.proofs.Common.{◌≡◌, ◌≤◌, sym, ◌∙◌, ap, subst, false, length, arith}
 use Rattle.feed_rows.specs.CallPass.{TimedGap, time_in}
-use Rattle.feed_laws.proofs.TimedLaws.{timed_within}
-use Rattle.feed_laws.proofs.CallLaws.{gap_around}
-use Rattle.feed_laws.proofs.CallTimes.{around_rises}
+use Rattle.feed_rows.specs.TimedTrips.{is_timed_at}
 use Rattle.feed_trips.specs.Filled.{filled_at}
-use Rattle.feed_trips.proofs.GapLaws.{none_begun, row_timed, carried_timed, carried_untimed, filled_timed, filled_untimed, one_more}
+use Rattle.feed_trips.specs.Gaps.{gap_of}
+use Rattle.feed_trips.proofs.GapLaws.{IsOver, row_timed, gap_over, carried_timed, carried_untimed, filled_timed, filled_untimed, one_more}
 use Rattle.feed_trips.proofs.passes.push_times.Goals as goal
 use Rattle.feed_trips.proofs.passes.push_times.Goals.{then-is_timed+in_ok-push, else-is_timed+in_ok-push-2}
 
-pub loop-m-init : goal.loop-m-init
-loop-m-init c = (search rules, none_begun c.args.rows.now)
+-- the gap of the row ends behind it, and with the rows at the latest
+over : (c : goal.After-push-arg-else-is_timed-1) → IsOver c.args.rows.now c.loop-m.m (gap_of c.gap_at-gap.result)
+over c =
+    let untimed : is_timed_at c.args.rows.now c.loop-m.m ≡ false =
+    row_timed _ _ _ c.loop-m-test.true c.index-rows-m.is ∙ sym c.is_timed.ensures ∙ c.if-is_timed.false in
+    rw c.gap_at-gap.ensures (gap_over c.args.rows.now c.loop-m.m c.loop-m-test.true untimed)
 
-pub with_end-gap-requires-clause-untimed : goal.with_end-gap-requires-clause-untimed
-with_end-gap-requires-clause-untimed c =
-    row_timed _ _ _ c.loop-m-test.true c.index-rows-m.is ∙ sym c.is_timed.ensures ∙ c.if-is_timed.false
+pub time_in-requires-clause-within : goal.time_in-requires-clause-within
+time_in-requires-clause-within c = record { low = (over c).low; high = (over c).high }
 
-pub filled_time-time-requires-clause-low : goal.filled_time-time-requires-clause-low
-filled_time-time-requires-clause-low c =
-    let here = row_timed _ _ _ c.loop-m-test.true c.index-rows-m.is ∙ sym c.is_timed.ensures ∙ c.if-is_timed.false in
-    (gap_around _ _ _ c.requires.ends c.loop-m-test.true here c.with_end-gap.ensures).around.before.before
-
-pub filled_time-time-requires-clause-high : goal.filled_time-time-requires-clause-high
-filled_time-time-requires-clause-high c =
-    let here = row_timed _ _ _ c.loop-m-test.true c.index-rows-m.is ∙ sym c.is_timed.ensures ∙ c.if-is_timed.false in
-    (gap_around _ _ _ c.requires.ends c.loop-m-test.true here c.with_end-gap.ensures).around.after.after
-
-pub filled_time-time-requires-clause-few : goal.filled_time-time-requires-clause-few
-filled_time-time-requires-clause-few c =
-    let here = row_timed _ _ _ c.loop-m-test.true c.index-rows-m.is ∙ sym c.is_timed.ensures ∙ c.if-is_timed.false in
-    let near = gap_around _ _ _ c.requires.ends c.loop-m-test.true here c.with_end-gap.ensures in
-    let within = timed_within c.args.rows.now c.with_end-gap.result.to near.around.after.timed in
-    omega (arith, within)
-
-pub filled_time-time-requires-clause-rise : goal.filled_time-time-requires-clause-rise
-filled_time-time-requires-clause-rise c =
-    let here = row_timed _ _ _ c.loop-m-test.true c.index-rows-m.is ∙ sym c.is_timed.ensures ∙ c.if-is_timed.false in
-    around_rises _ _ _ c.requires.rise
-    (gap_around _ _ _ c.requires.ends c.loop-m-test.true here c.with_end-gap.ensures)
+pub time_in-requires-clause-few : goal.time_in-requires-clause-few
+time_in-requires-clause-few c =
+    let ends : c.gap_at-gap.result.to ≤ length c.args.rows.now = (over c).ends in
+    let few = c.requires in
+    omega (arith, ends, few)
 
 pub loop-m-preserved : goal.loop-m-preserved
 loop-m-preserved c =
     let timed = row_timed _ _ _ c.loop-m-test.true c.index-rows-m.is ∙ sym c.is_timed.ensures in
+    let laid = c.loop-m.invariant.laid in
+    let rows = c.args.rows.now in
+    let m = c.loop-m.m in
     elim c.if-is_timed.branch [
       | then-is_timed+in_ok-push w ↦
           (let here = timed ∙ w.if-is_timed.true in
-          let left = w.unwrap_or-left.ensures in
-          let last = w.last_time.ensures in (
-            rw w.times-is
-                (one_more c.args.times.now.items _ _ (filled_at c.args.rows.now) c.loop-m.m _ c.loop-m.invariant.0
-                w.in_ok-push.ensures.items (filled_timed c.args.rows.now c.loop-m.m here)),
-            rw w.gap-is
-                (carried_timed c.args.rows.now c.loop-m.m c.index-rows-m.result _ c.loop-m-test.true c.index-rows-m.is here refl (cc (left, last))),
-          ))
+          rw (w.times-is, w.gap-is) (record {
+            laid = one_more c.args.times.now.items _ _ (filled_at rows) m _ laid w.in_ok-push.ensures.items
+                (filled_timed rows m here);
+            carried = carried_timed rows m _ here;
+          }))
       | else-is_timed+in_ok-push-2 w ↦
           (let here = timed ∙ w.if-is_timed.false in
-          let time = w.filled_time-time.ensures
-          ∙ ap (λ (g : TimedGap). time_in g c.loop-m.m) w.with_end-gap.ensures in (
-            rw w.times-is
-                (one_more c.args.times.now.items _ _ (filled_at c.args.rows.now) c.loop-m.m _ c.loop-m.invariant.0
-                w.in_ok-push-2.ensures.items (filled_untimed c.args.rows.now c.loop-m.m _ here time)),
-            rw w.gap-is (carried_untimed c.args.rows.now c.loop-m.m _ here w.with_end-gap.ensures),
-          ))
+          let time = w.time_in.ensures ∙ ap (λ (g : TimedGap). time_in g m) w.gap_at-gap.ensures in
+          rw (w.times-is, w.gap-is) (record {
+            laid = one_more c.args.times.now.items _ _ (filled_at rows) m _ laid w.in_ok-push-2.ensures.items
+                (filled_untimed rows m _ here time);
+            carried = carried_untimed rows m _ here w.gap_at-gap.ensures;
+          }))
     ]

@@ -1,7 +1,7 @@
 use Rattle.std.proofs.Common.{◌∙◌, ap, length, sym, arith, Some}
 use Rattle.std.specs.Prelude.{slice_range}
 use Rattle.feed_rows.specs.CallPass.{pass}
-use Rattle.feed_trips.proofs.PlacedTimes.{lies, has_stretch, calls_there, filled_there, reach}
+use Rattle.feed_trips.proofs.LaidTimes.{lies, has_stretch, calls_there, filled_there, reach}
 use Rattle.feed_trips.proofs.calls.TripCalls.of_trip.Goals as goal
 
 pub index-stretch-requires : goal.index-stretch-requires
