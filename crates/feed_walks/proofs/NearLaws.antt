@@ -1,12 +1,13 @@
 -- A walk leads to a platform of a stop that its own platform, or the station of that, leads to.
-use Rattle.std.proofs.Common.{◌≡◌, refl, sym, ◌∙◌, subst, ℕ, ◌<◌, ◌⊎◌, inl, inr, ⊎_elim, Bool, true, false, List, [], ◌∷◌, ◌++◌, length, get_or, Contains, Option, Some, None, ◌≤◌, arith}
-use Rattle.std.specs.Prelude.{◌==◌, ◌&&◌, if◌then◌else◌, not, slice_get, filter, map}
+use Rattle.std.proofs.Common.{◌≡◌, refl, sym, ◌∙◌, ap, subst, ℕ, ◌<◌, ◌⊎◌, inl, inr, ⊎_elim, Bool, true, false, List, [], ◌∷◌, ◌++◌, length, get_or, Contains, Option, Some, None, ◌+◌, ◌-◌, ◌≤◌, arith}
+use Rattle.std.specs.Prelude.{◌==◌, ◌&&◌, if◌then◌else◌, find, not, slice_get}
 use Rattle.std.specs.Option.{ForSome, option_map_or, option_or}
-use Rattle.std.proofs.lemmas.Bool.{cases_Bool}
+use Rattle.std.proofs.lemmas.Bool.{cases_Bool, cases_lt}
 use Rattle.std.proofs.lemmas.Bool.Decides.{nat_tests}
 use Rattle.std.proofs.lemmas.List.{get_or_default}
 use Rattle.std.proofs.lemmas.List.Elements.{Contains-append_left, Contains-append_right}
-use Rattle.std.proofs.lemmas.Option.{same_Some, none-some, slice_get_within}
+use Rattle.std.proofs.lemmas.Option.{get_or_from_slice_get, same_Some, none-some, slice_get-get_or, slice_get_within}
+use mathlib.Core.Bool.{true≢false}
 use Rattle.transit_base.specs.declared.numbers.StopId.{StopId}
 use Rattle.feed_rows.specs.declared.rows.LinkRow.{LinkRow}
 use Rattle.feed_rows.specs.Codes.{platform_type}
@@ -15,11 +16,11 @@ use Rattle.feed_rows.specs.SoundTimetable.{AreSoundStops}
 use Rattle.feed_rows.specs.StopLinks.{is_platform, parent_of, stop_set, row_between, governing_row, same_station, unruled_link, link_by, link}
 use Rattle.feed_rows.specs.StopSets.{stop_sets, own_set, row_sets_at}
 use Rattle.plain_laws.specs.Plain.{filled_and, joined_below}
-use Rattle.plain_laws.proofs.Laws.{filled_and-true, All-slice_get, Contains-cons_first, Contains-joined_below, none_either, find-tells, Contains-slice_get, Contains-filter, Contains-map}
+use Rattle.plain_laws.proofs.Laws.{filled_and-true, All-slice_get, Contains-cons_first, Contains-joined_below, none_either, find-tells}
 use Rattle.feed_laws.proofs.StopSetLaws.{joined_below-set, stop_sets-at}
 use Rattle.feed_walks.specs.Rules.{group_at, AreRules}
 use Rattle.feed_walks.proofs.OrderLaws.{same_stop}
-use Rattle.feed_walks.specs.Near.{IsInOrder, leads_to, Leads, Reaches, AreReached, AreNear}
+use Rattle.feed_walks.specs.Near.{IsInOrder, DoesNotLead, leads_to, Reaches, AreReached, AreNear}
 
 pub platform_within : (feed : FeedRows) (a : StopId) → is_platform feed a ≡ true → a.0 < length feed.stops
 platform_within feed a platform = let row = filled_and-true (slice_get feed.stops a.0) (λ s. s.kind == platform_type) platform in slice_get_within feed.stops a.0 row.value row.is
@@ -168,27 +169,99 @@ near_none feed a fails =
       there = λ b seconds linked. let walk = link-tells feed a b seconds linked in let gone = sym fails ∙ walk.from in absurd (cc);
     }
 
--- what a stop leads to: the stops of its rows that allow the change, and itself where no row says otherwise
-pub stops_led_to : (feed : FeedRows) (rules : List (List LinkRow)) (from : StopId) (leads : List StopId) → AreRules feed.links rules
-    → ((to : StopId) → Contains (map (λ row. row.to) (filter (λ row. not row.forbidden) (group_at rules from.0))) to → Contains leads to)
-    → (row_between feed (Some from) (Some from) ≡ None → Contains leads from) → (to : StopId) → leads_to feed from to ≡ true → Contains leads to
-stops_led_to feed rules from leads are rows own to led = step (row_between feed (Some from) (Some to)) refl led
+-- a row where there is none
+abbrev no_link : LinkRow
+no_link = record { from = record { 0 = 0 }; to = record { 0 = 0 }; forbidden = false; seconds = 0 }
+
+cases_not : (b : Bool) → not b ≡ true → b ≡ false
+cases_not true passes = absurd (cc)
+cases_not false passes = refl
+
+-- the platforms of the stop that the row at a place leads to
+abbrev pub set_of : List (List StopId) → List LinkRow → ℕ → List StopId
+set_of sets rows k = group_at sets (get_or rows k no_link).to.0
+
+-- of the first rows, each that leads to a stop has the platforms of that among those that are reached
+abbrev pub AreTaken : List (List StopId) → List LinkRow → ℕ → List StopId → Type 0
+AreTaken sets rows n reached =
+    (k : ℕ) (to : StopId) → k < n → (DoesNotLead rows k → ⊥) → Contains (set_of sets rows k) to → Contains reached to
+
+pub taken_more : (sets : List (List StopId)) (rows : List LinkRow) (n : ℕ) (d : LinkRow) (old new : List StopId) →
+    n < length rows → AreTaken sets rows n old → new ≡ old ++ group_at sets (get_or rows n d).to.0 →
+    AreTaken sets rows (n + 1) new
+taken_more sets rows n d old new inside before grown k to lt leads at = ⊎_elim
+    (λ (earlier : k < n). rw is (Contains-append_left old (set_of sets rows n) to (before k to earlier leads at)))
+    (λ (past : n ≤ k). let here : k ≡ n = omega arith in
+    rw is (Contains-append_right old (set_of sets rows n) to (subst (λ i. Contains (set_of sets rows i) to) here at)))
+    (cases_lt k n)
   where
-    step : (o : Option LinkRow) → row_between feed (Some from) (Some to) ≡ o → option_map_or (λ row. not row.forbidden) o (from.0 == to.0) ≡ true → Contains leads to
-    step None none one = let is = same_stop from to one in subst (λ s. Contains leads s) is (own (subst (λ s. row_between feed (Some from) (Some s) ≡ None) (sym is) none))
+    is : new ≡ old ++ set_of sets rows n
+    is = grown ∙ ap (λ (r : LinkRow). old ++ group_at sets r.to.0) (get_or_default rows n d no_link inside)
+
+pub taken_past : (sets : List (List StopId)) (rows : List LinkRow) (n : ℕ) (old : List StopId) → AreTaken sets rows n old →
+    DoesNotLead rows n → AreTaken sets rows (n + 1) old
+taken_past sets rows n old before not_led k to lt leads at = ⊎_elim
+    (λ (earlier : k < n). before k to earlier leads at)
+    (λ (past : n ≤ k). let here : k ≡ n = omega arith in
+    absurd (leads (subst (DoesNotLead rows) (sym here) not_led)))
+    (cases_lt k n)
+
+pub taken_kept : (sets : List (List StopId)) (rows : List LinkRow) (n : ℕ) (old more new : List StopId) →
+    AreTaken sets rows n old → new ≡ old ++ more → AreTaken sets rows n new
+taken_kept sets rows n old more new before is k to lt leads at =
+    rw is (Contains-append_left old more to (before k to lt leads at))
+
+-- so the platforms of all that a stop leads to are reached, by its rows that lead, and those of itself where no row says
+-- otherwise
+group_reach : (feed : FeedRows) (rules : List (List LinkRow)) (sets : List (List StopId)) (from : StopId)
+    (reached : List StopId) (n : ℕ) → AreRules feed.links rules → sets ≡ stop_sets feed → length (group_at rules from.0) ≤ n →
+    AreTaken sets (group_at rules from.0) n reached →
+    (find (λ row. row.to.0 == from.0) (group_at rules from.0) ≡ None → (to : StopId) → Contains (group_at sets from.0) to → Contains reached to) →
+    Reaches feed from reached
+group_reach feed rules sets from reached n are made all taken own via to led member =
+    step (row_between feed (Some from) (Some via)) refl led
+  where
+    rows : List LinkRow
+    rows = group_at rules from.0
+
+    there : Contains (group_at sets via.0) to
+    there = rw (made, stop_sets-at feed via) member
+
+    step : (o : Option LinkRow) → row_between feed (Some from) (Some via) ≡ o →
+        option_map_or (λ row. not row.forbidden) o (from.0 == via.0) ≡ true → Contains reached to
+    step None none one =
+        let is = same_stop from via one in
+        own (are.first from.0 from.0 ∙ subst (λ s. row_between feed (Some from) (Some s) ≡ None) (sym is) none) to
+        (subst (λ (s : StopId). Contains (group_at sets s.0) to) (sym is) there)
     step (Some row) found allowed =
-        let is = find-tells (λ (r : LinkRow). r.to.0 == to.0) (group_at rules from.0) row (are.first from.0 to.0 ∙ found) in
-        let there = Contains-filter (λ (r : LinkRow). not r.forbidden) (group_at rules from.0) row (Contains-slice_get (group_at rules from.0) is.at row is.got) allowed in
-        subst (λ s. Contains leads s) (same_stop row.to to is.passes) (rows row.to (Contains-map (λ (r : LinkRow). r.to) (filter (λ r. not r.forbidden) (group_at rules from.0)) row there))
+        let is = find-tells (λ (r : LinkRow). r.to.0 == via.0) rows row (are.first from.0 via.0 ∙ found) in
+        let inside = slice_get_within rows is.at row is.got in
+        let here = get_or_from_slice_get rows is.at row no_link is.got in
+        let target = same_stop row.to via is.passes in
+        taken is.at to (omega (arith, inside, all))
+        (λ not_led. governs is.at inside row is.got allowed is.passes is.earlier not_led)
+        (rw (here, target) there)
+      where
+        governs : (at : ℕ) → at < length rows → (r : LinkRow) → slice_get rows at ≡ Some r → not r.forbidden ≡ true →
+            (r.to.0 == via.0) ≡ true →
+            ((k : ℕ) (y : LinkRow) → k < at → slice_get rows k ≡ Some y → (y.to.0 == via.0) ≡ false) → DoesNotLead rows at → ⊥
+        governs at inside r got free passes earlier not_led =
+            let here = get_or_from_slice_get rows at r no_link got in
+            let allowed : (get_or rows at no_link).forbidden ≡ false = rw here (cases_not r.forbidden free) in
+            let later = not_led.first no_link allowed in
+            let again = not_led.again no_link allowed in
+            let before = slice_get-get_or rows (at - 1) no_link (omega (arith, inside)) in
+            let other = earlier (at - 1) (get_or rows (at - 1) no_link) (omega (arith, later)) before in
+            let same = rw here at again in
+            let miss = rw same at other in
+            absurd (true≢false (sym passes ∙ miss))
 
--- the set of the stop at a place
-abbrev pub set_of : List (List StopId) → List StopId → ℕ → List StopId
-set_of sets stops k = group_at sets (get_or stops k (record { 0 = 0 })).0
-
--- the sets of all that a stop leads to
-pub sets_reach : (feed : FeedRows) (sets : List (List StopId)) (from : StopId) (leads : List StopId) (n : ℕ) → sets ≡ stop_sets feed → length leads ≤ n → Leads feed from leads → Reaches feed from (joined_below n (set_of sets leads))
-sets_reach feed sets from leads n are all led via to leads_on member =
-    let place = led via leads_on in
-    let lt = place.1 in
-    let here : get_or leads place.0 (record { 0 = 0 }) ≡ via = get_or_default leads place.0 _ via lt ∙ place.2 in
-    Contains-joined_below n (set_of sets leads) place.0 to (omega arith) (rw (here, are, stop_sets-at feed via) member)
+pub taken_reach : (feed : FeedRows) (rules : List (List LinkRow)) (sets : List (List StopId)) (from : StopId)
+    (rows : List LinkRow) (reached : List StopId) (n : ℕ) → AreRules feed.links rules → sets ≡ stop_sets feed →
+    rows ≡ group_at rules from.0 → length rows ≤ n → AreTaken sets rows n reached →
+    (find (λ row. row.to.0 == from.0) rows ≡ None → (to : StopId) → Contains (group_at sets from.0) to → Contains reached to) →
+    Reaches feed from reached
+taken_reach feed rules sets from rows reached n are made is all taken own =
+    group_reach feed rules sets from reached n are made (subst (λ rs. length rs ≤ n) is all)
+    (subst (λ rs. AreTaken sets rs n reached) is taken)
+    (λ none. own (ap (find (λ row. row.to.0 == from.0)) is ∙ none))

@@ -1,12 +1,13 @@
 //! The platforms near each platform, between which there may be walks.
-ghost use Rattle.std.specs.Prelude.{◌≡◌, ◌<◌, length, map, filter, not, IfOk, OnOk};
+ghost use Rattle.std.specs.Prelude.{◌≡◌, ◌<◌, length, IfOk, OnOk};
+ghost use Rattle.std.specs.Bool.{OnFalse};
 ghost use Rattle.feed_rows.specs.FeedRows.{FeedRows};
 ghost use Rattle.feed_rows.specs.SoundTimetable.{AreSoundStops};
 ghost use Rattle.feed_rows.specs.StopSets.{stop_sets};
 ghost use Rattle.feed_walks.specs.Rules.{AreRules};
-ghost use Rattle.feed_walks.specs.Near.{IsInOrder, Leads, Reaches, AreReached, AreNear};
+ghost use Rattle.feed_walks.specs.Near.{IsInOrder, DoesNotLead, Reaches, AreReached, AreNear};
 
-use crate::rules::{is_platform, row_between, station_of};
+use crate::rules::{is_platform, row_to, station_of};
 use feed_rows::{Feed, LinkRow};
 use plain_laws::Groups;
 use std::alloc::{AllocError, Global};
@@ -27,15 +28,18 @@ pub fn reached_of(
     let mut reached = Groups::empty(alloc);
     let mut platforms = Vec::new(alloc);
     for stop in 0..count {
-        reached_from(alloc, rules, sets, StopId(stop), &mut platforms)?;
+        reached_from(rules, sets, StopId(stop), &mut platforms)?;
         reached.push(platforms.as_slice())?;
     }
     Ok(reached)
 }
 
-/// Replaces what `reached` holds by the platforms of all that the stop leads to.
+/// Replaces what `reached` holds by the platforms of all that the stop leads to: by a row that allows the change, and those
+/// of itself where no row says otherwise.
+///
+/// Rows that forbid a change, and rows that are there twice, are left behind here, before a station's rows are taken for
+/// each of its platforms.
 fn reached_from(
-    alloc: Global,
     rules: &Groups<LinkRow>,
     sets: &Groups<StopId>,
     stop: StopId,
@@ -43,41 +47,28 @@ fn reached_from(
 ) -> Result<(), AllocError>
     ensures { (feed : FeedRows) → AreRules feed.links rules.now → sets.now ≡ stop_sets feed → OnOk result (Reaches feed stop reached.new.items) }
 {
-    let leads = leads_from(alloc, rules, stop)?;
+    let rows = rules.get(stop.0 as usize);
     reached.clear();
-    for lead in leads.as_slice() {
-        reached.extend_from_slice(sets.get(lead.0 as usize))?;
+    for place in 0..rows.len() {
+        if does_lead(rows, place) {
+            reached.extend_from_slice(sets.get(rows[place].to.0 as usize))?;
+        }
+    }
+    if row_to(rows, stop).is_none() {
+        reached.extend_from_slice(sets.get(stop.0 as usize))?;
     }
     Ok(())
 }
 
-/// The stops that the stop leads to, each once: by a row that allows the change, and itself where no row says otherwise.
-///
-/// Rows that forbid a change, and rows that are there twice, are left behind here, before a station's rows are taken for
-/// each of its platforms.
-fn leads_from(
-    alloc: Global,
-    rules: &Groups<LinkRow>,
-    stop: StopId,
-) -> Result<Vec<StopId>, AllocError>
-    ensures { (feed : FeedRows) → AreRules feed.links rules.now → IfOk result (λ leads. Leads feed stop leads.items) }
+/// Whether the row at a place allows the change and is the earliest to its stop, as the one that governs is.
+fn does_lead(rows: &[LinkRow], place: usize) -> bool
+    requires { place < length rows.now }
+    ensures { OnFalse result (DoesNotLead rows.now place) }
 {
-    let mut leads = allowed_by(alloc, rules.get(stop.0 as usize))?;
-    if row_between(rules, Some(stop), Some(stop)).is_none() {
-        leads.push(stop)?;
+    if rows[place].forbidden {
+        return false;
     }
-    put_in_order(&mut leads);
-    Ok(leads)
-}
-
-/// The stops to which the rows allow the change.
-fn allowed_by(alloc: Global, rows: &[LinkRow]) -> Result<Vec<StopId>, AllocError>
-    ensures { IfOk result (λ stops. stops.items ≡ map (λ row. row.to) (filter (λ row. not row.forbidden) rows.now)) }
-{
-    rows.iter()
-        .filter(|row| !row.forbidden)
-        .map(|row| row.to)
-        .collect(alloc)
+    place == 0 || rows[place - 1].to.0 != rows[place].to.0
 }
 
 /// Replaces what `near` holds by the platforms to which there may be a walk from this one, in order: those that it or its

@@ -52,7 +52,7 @@ fn place_of(rows: &[LinkRow], to: StopId) -> usize
 }
 
 /// The first of the rows that leads to the stop.
-fn row_to(rows: &[LinkRow], to: StopId) -> Option<LinkRow>
+pub fn row_to(rows: &[LinkRow], to: StopId) -> Option<LinkRow>
     ensures { IsNonDecreasingBy (λ (row : LinkRow). row.to.0) rows.now → result ≡ find (λ row. row.to.0 == to.0) rows.now }
 {
     let place = place_of(rows, to);
