@@ -1,5 +1,5 @@
 -- The gap that a pass over a trip's rows carries.
-use Rattle.std.proofs.Common.{◌≡◌, refl, sym, ◌∙◌, ap, ℕ, zero, suc, ◌+◌, ◌-◌, ◌<◌, ◌≤◌, ◌⊎◌, inl, inr, Bool, true, false, List, [], ◌∷◌, ◌++◌, length, get_or, append_assoc, Some, None, arith}
+use Rattle.std.proofs.Common.{◌≡◌, refl, sym, ◌∙◌, ap, ℕ, zero, suc, ◌+◌, ◌-◌, ◌<◌, ◌≤◌, ◌⊎◌, inl, inr, Bool, true, false, List, [], ◌∷◌, length, get_or, slice_set, Some, None, arith}
 use Rattle.std.specs.Prelude.{Option, slice_get}
 use Rattle.std.proofs.lemmas.Bool.{cases_eq, cases_lt}
 use mathlib.Core.Bool.{true≢false}
@@ -9,9 +9,7 @@ use Rattle.feed_rows.specs.Calls.{is_timed, timed_after, timed_before}
 use Rattle.feed_rows.specs.TimedTrips.{is_timed_at}
 use Rattle.feed_laws.proofs.TimedLaws.{IsTimedAfter, IsTimedBefore, is_timed_at_row, timed_after_tells, timed_before_tells, timed_within}
 use Rattle.feed_laws.proofs.CallLaws.{gap_at_before, gap_at_untimed}
-use Rattle.plain_laws.specs.Plain.{list_below}
 use Rattle.feed_trips.specs.declared.passes.Gap.{Gap}
-use Rattle.feed_trips.specs.Filled.{filled_at}
 use Rattle.feed_trips.specs.Gaps.{gap_of, IsCarried}
 
 -- before the first timed row no gap has begun
@@ -87,19 +85,41 @@ carried_untimed rows m gap untimed is =
     let whole = is ∙ sym (gap_at_untimed rows m untimed) in
     record { first = λ none. absurd (omega arith); later = λ lt before. whole }
 
--- the time that is filled in at a row; 0 where it has one
-pub filled_timed : (rows : List StopTimeRow) (m : ℕ) → is_timed_at rows m ≡ true → 0 ≡ filled_at rows m
-filled_timed rows m timed = rw timed refl
+-- an item that is put, and the others
+slice_get-set_same : (xs : List ℕ) (i a : ℕ) → i < length xs → slice_get (slice_set xs i a) i ≡ Some a
+slice_get-set_same [] i a lt = absurd (omega arith)
+slice_get-set_same (x ∷ xs) zero a lt = refl
+slice_get-set_same (x ∷ xs) (suc i) a lt = slice_get-set_same xs i a (omega arith)
 
-pub filled_untimed : (rows : List StopTimeRow) (m time : ℕ) → is_timed_at rows m ≡ false → time ≡ time_in (gap_at rows m) m →
-    time ≡ filled_at rows m
-filled_untimed rows m time untimed is = rw untimed is
+pub slice_get-set_other : (xs : List ℕ) (i j a : ℕ) → (j ≡ i → ⊥) → slice_get (slice_set xs i a) j ≡ slice_get xs j
+slice_get-set_other [] i j a other = refl
+slice_get-set_other (x ∷ xs) zero zero a other = absurd (other refl)
+slice_get-set_other (x ∷ xs) zero (suc j) a other = refl
+slice_get-set_other (x ∷ xs) (suc i) zero a other = refl
+slice_get-set_other (x ∷ xs) (suc i) (suc j) a other = slice_get-set_other xs i j a (λ same. other (ap suc same))
 
--- numbers that are made one by one behind others, with one more
-pub one_more : (first before new : List ℕ) (f : ℕ → ℕ) (m x : ℕ) → before ≡ first ++ list_below m f →
-    new ≡ before ++ x ∷ [] → x ≡ f m → new ≡ first ++ list_below (m + 1) f
-one_more first before new f m x are grown is =
-    let next : m + 1 ≡ suc m = omega arith in
-    rw next
-    (grown ∙ ap (λ xs. xs ++ x ∷ []) are ∙ append_assoc first (list_below m f) (x ∷ [])
-    ∙ ap (λ y. first ++ (list_below m f ++ y ∷ [])) is)
+-- of the rows before position m, each without a time has the time that is filled in beside it
+abbrev pub AreFilledBelow : ℕ → List StopTimeRow → ℕ → List ℕ → Type 0
+AreFilledBelow from rows m times =
+    (k : ℕ) → k < m → is_timed_at rows k ≡ false → slice_get times (from + k) ≡ Some (time_in (gap_at rows k) k)
+
+pub filled_more : (from : ℕ) (rows : List StopTimeRow) (m : ℕ) (times : List ℕ) (time : ℕ) → from + m < length times →
+    time ≡ time_in (gap_at rows m) m → AreFilledBelow from rows m times →
+    AreFilledBelow from rows (m + 1) (slice_set times (from + m) time)
+filled_more from rows m times time inside is before k lt untimed = step (cases_eq k m)
+  where
+    step : (k ≡ m) ⊎ (k ≡ m → ⊥) →
+        slice_get (slice_set times (from + m) time) (from + k) ≡ Some (time_in (gap_at rows k) k)
+    step (inl here) = rw here (slice_get-set_same times (from + m) time inside ∙ ap Some is)
+    step (inr other) =
+        slice_get-set_other times (from + m) (from + k) time (λ same. other (omega (arith, same)))
+        ∙ before k (omega (arith, lt, other)) untimed
+
+-- a row with a time needs none
+pub filled_past : (from : ℕ) (rows : List StopTimeRow) (m : ℕ) (times : List ℕ) → is_timed_at rows m ≡ true →
+    AreFilledBelow from rows m times → AreFilledBelow from rows (m + 1) times
+filled_past from rows m times timed before k lt untimed = step (cases_eq k m)
+  where
+    step : (k ≡ m) ⊎ (k ≡ m → ⊥) → slice_get times (from + k) ≡ Some (time_in (gap_at rows k) k)
+    step (inl here) = absurd (true≢false (sym timed ∙ rw here at untimed))
+    step (inr other) = before k (omega (arith, lt, other)) untimed

@@ -16,7 +16,7 @@ use Rattle.feed_laws.proofs.TimedLaws.{is_timed_at_row}
 use Rattle.plain_laws.proofs.Laws.{length-list_below, list_all-at, slice_get-append_left, slice_get-list_below}
 use Rattle.trip_order.specs.Order.{no_time}
 use Rattle.feed_trips.specs.declared.together.Stretch.{Stretch}
-use Rattle.feed_trips.specs.Filled.{AreFilled, AreFilledFrom, AreFilledUp, AreKept, AreLaid, IsLaid, Keeps, filled_at, filled_times}
+use Rattle.feed_trips.specs.Filled.{AreFilled, AreFilledFrom, AreFilledUp, AreKept, AreLaid, IsLaid}
 use Rattle.feed_trips.specs.Stretches.{no_stretch, rows_at, times_at, stretch_calls, AreStretches}
 
 -- an item of a range of a list
@@ -36,12 +36,6 @@ slice_get-range : {X : Type 0} (xs : List X) (from to k : ℕ) → from + k < to
 slice_get-range xs from to k lt =
     slice_get-take (to - from) (drop from xs) k (omega arith) ∙ slice_get-drop from xs k
 
--- an item of the latter of two lists
-slice_get-behind : {X : Type 0} (xs ys : List X) (k : ℕ) → slice_get (xs ++ ys) (length xs + k) ≡ slice_get ys k
-slice_get-behind [] ys k = let same : 0 + k ≡ k = omega arith in rw same refl
-slice_get-behind (x ∷ xs) ys k =
-    let next : suc (length xs) + k ≡ suc (length xs + k) = omega arith in rw next (slice_get-behind xs ys k)
-
 -- a test that all pass is passed by each of a range
 list_all-take : {X : Type 0} (p : X → Bool) (n : ℕ) (xs : List X) → list_all p xs ≡ true → list_all p (take n xs) ≡ true
 list_all-take p zero xs all = refl
@@ -53,13 +47,6 @@ list_all-drop : {X : Type 0} (p : X → Bool) (n : ℕ) (xs : List X) → list_a
 list_all-drop p zero xs all = all
 list_all-drop p (suc n) [] all = refl
 list_all-drop p (suc n) (x ∷ xs) all = list_all-drop p n xs (and_parts (p x) (list_all p xs) all).1
-
--- what is put behind times loses none
-pub keeps_more : (old more : List ℕ) → Keeps old (old ++ more)
-keeps_more old more k time at = slice_get-append_left old more k (slice_get_within old k time at) ∙ at
-
-keeps_both : (a b c : List ℕ) → Keeps a b → Keeps b c → Keeps a c
-keeps_both a b c first second k time at = second k time (first k time at)
 
 -- rows that have times need none laid
 all_timed : (rows : List StopTimeRow) (times : List ℕ) (from : ℕ) → list_all is_timed rows ≡ true →
@@ -78,27 +65,21 @@ none_laid rows from to times forward short all =
       none = λ none. refl;
     }
 
--- the times of a piece, laid behind zeros up to it
-pub piece_laid : (rows : List StopTimeRow) (from to : ℕ) (old kept zeros before new : List ℕ) → from ≤ to → to ≤ length rows →
-    (list_all is_timed (slice_range rows from to) ≡ true → ⊥) → length old ≤ from → kept ≡ old →
-    before ≡ take from kept ++ zeros → length before ≡ from →
-    new ≡ before ++ filled_times (slice_range rows from to) → IsLaid rows from to old new
-piece_laid rows from to old kept zeros before new forward within some short same filled size is =
-    let piece = slice_range rows from to in
-    let long = length-take (to - from) (drop from rows) in
-    let left = length-drop from rows in
-    let made = length-list_below (length piece) (filled_at piece) in
-    let whole = ap length is ∙ length-append before (filled_times piece) in
-    let behind : before ≡ old ++ zeros = filled ∙ ap (λ ts. take from ts ++ zeros) same ∙ ap (λ ts. ts ++ zeros) (take_all from old short) in
+-- the times of a piece, filled in among zeros behind the others
+pub piece_laid : (rows : List StopTimeRow) (from to : ℕ) (old kept zeros room new : List ℕ) → to ≤ length rows →
+    (list_all is_timed (slice_range rows from to) ≡ true → ⊥) → length old ≤ from → from ≤ to → kept ≡ old →
+    room ≡ take to kept ++ zeros → length room ≡ to → length new ≡ length room →
+    ((k : ℕ) → k < from → slice_get new k ≡ slice_get room k) → AreFilledFrom from (slice_range rows from to) new →
+    IsLaid rows from to old new
+piece_laid rows from to old kept zeros room new within some short forward same is size long before filled =
     record {
-      short = omega (arith, long, left, made, whole, size);
-      keeps = subst (Keeps old) (sym is)
-          (keeps_both old before _ (subst (Keeps old) (sym behind) (keeps_more old zeros)) (keeps_more before (filled_times piece)));
-      filled = λ m lt untimed.
-          ap (λ ts. slice_get ts (from + m)) is
-          ∙ ap (λ n. slice_get (before ++ filled_times piece) (n + m)) (sym size)
-          ∙ slice_get-behind before (filled_times piece) m
-          ∙ slice_get-list_below (length piece) (filled_at piece) m lt ∙ rw untimed refl;
+      short = omega (arith, size, long);
+      keeps = λ k time at.
+          let inside = slice_get_within old k time at in
+          before k (omega (arith, inside, short))
+          ∙ ap (λ ts. slice_get ts k) (is ∙ ap (λ ts. take to ts ++ zeros) same ∙ ap (λ ts. ts ++ zeros) (take_all to old (omega (arith, short, forward))))
+          ∙ slice_get-append_left old zeros k inside ∙ at;
+      filled = filled;
       none = λ all. absurd (some all);
     }
 

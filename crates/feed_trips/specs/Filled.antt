@@ -1,12 +1,11 @@
 -- The times that are filled in at rows that have none, kept beside the rows.
-use Rattle.std.specs.Prelude.{◌≡◌, ℕ, ◌+◌, ◌<◌, ◌≤◌, ◌⊎◌, if◌then◌else◌, true, false, List, [], length, Some, slice_get, slice_index_or, slice_range}
+use Rattle.std.specs.Prelude.{◌≡◌, ℕ, ◌+◌, ◌<◌, ◌≤◌, ◌⊎◌, true, false, List, [], length, Some, slice_get, slice_index_or, slice_range}
 use Rattle.std.specs.List.{list_all}
 use Rattle.feed_rows.specs.declared.journeys.Call.{Call}
 use Rattle.feed_rows.specs.declared.rows.StopTimeRow.{StopTimeRow}
 use Rattle.feed_rows.specs.CallPass.{gap_at, time_in}
 use Rattle.feed_rows.specs.Calls.{is_timed}
 use Rattle.feed_rows.specs.TimedTrips.{is_timed_at}
-use Rattle.plain_laws.specs.Plain.{list_below}
 use Rattle.feed_trips.specs.declared.together.Stretch.{Stretch}
 use Rattle.feed_trips.specs.Stretches.{no_stretch, rows_at, times_at}
 
@@ -21,14 +20,6 @@ call_of row arrival departure =
       pickup = row.pickup;
       drop_off = row.drop_off;
     }
-
--- the time that is filled in at a position; 0 where the row has one
-abbrev pub filled_at : List StopTimeRow → ℕ → ℕ
-filled_at rows m = if is_timed_at rows m then 0 else time_in (gap_at rows m) m
-
--- these of all rows
-abbrev pub filled_times : List StopTimeRow → List ℕ
-filled_times rows = list_below (length rows) (filled_at rows)
 
 -- beside each row without a time stands the time that is filled in
 abbrev pub AreFilled : List StopTimeRow → List ℕ → Type 0

@@ -1,14 +1,11 @@
 //! The times that are filled in at a trip's rows, in one pass.
-ghost use Rattle.std.specs.Prelude.{◌≡◌, ◌<◌, ◌≤◌, ◌^◌, ◌++◌, false, length, OnOk};
-ghost use Rattle.feed_rows.specs.Calls.{last_time as last_time_of};
-ghost use Rattle.feed_rows.specs.CallPass.{gap_after, gap_at, time_in, time_or_zero};
-ghost use Rattle.feed_rows.specs.TimedTrips.{is_timed_at};
-ghost use Rattle.feed_trips.specs.Filled.{filled_times};
+ghost use Rattle.std.specs.Prelude.{◌≡◌, ℕ, ◌+◌, ◌<◌, ◌≤◌, ◌^◌, length, slice_get};
+ghost use Rattle.feed_rows.specs.CallPass.{gap_after, gap_at, time_in};
+ghost use Rattle.feed_trips.specs.Filled.{AreFilledFrom};
 ghost use Rattle.feed_trips.specs.Gaps.{gap_of, IsCarried, IsWithin};
 
 use crate::scan::{first_time_at, next_position};
 use feed_rows::StopTimeRow;
-use std::alloc::AllocError;
 use trip_order::{is_timed, last_time};
 
 // Two timed positions with none between: the one is left and the other reached at these seconds of the service day. Before
@@ -61,11 +58,14 @@ fn time_in(gap: Gap, position: usize) -> u32
     gap.left + ((position - gap.from) as u64 * span / (gap.to - gap.from) as u64) as u32
 }
 
-/// Appends the times that are filled in at a trip's rows, which are in order of their sequence; 0
-/// where a row has one.
-pub fn push_times(times: &mut Vec<u32>, rows: &[StopTimeRow]) -> Result<(), AllocError>
-    requires { length rows.now < 2 ^ 32 }
-    ensures { OnOk result (times.new.items ≡ times.old.items ++ filled_times rows.now) }
+/// Puts the times that are filled in beside the rows of a trip that have none; those rows are in order of their sequence,
+/// and their times begin at a place.
+pub fn fill_times(times: &mut Vec<u32>, from: usize, rows: &[StopTimeRow])
+    requires room { from + length rows.now ≤ length times.old.items }
+    requires few { length rows.now < 2 ^ 32 }
+    ensures long { length times.new.items ≡ length times.old.items }
+    ensures before { (k : ℕ) → k < from → slice_get times.new.items k ≡ slice_get times.old.items k }
+    ensures filled { AreFilledFrom from rows.now times.new.items }
 {
     let mut gap = Gap {
         from: 0,
@@ -74,12 +74,9 @@ pub fn push_times(times: &mut Vec<u32>, rows: &[StopTimeRow]) -> Result<(), Allo
         reached: 0,
     };
     for m in 0..rows.len() {
-        if is_timed(rows[m]) {
-            times.push(0)?;
-        } else {
+        if !is_timed(rows[m]) {
             gap = gap_at(rows, m, gap);
-            times.push(time_in(gap, m))?;
+            times[from + m] = time_in(gap, m);
         }
     }
-    Ok(())
 }

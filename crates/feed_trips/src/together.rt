@@ -8,7 +8,7 @@ ghost use Rattle.feed_rows.specs.Calls.{is_timed as is_row_timed};
 ghost use Rattle.feed_trips.specs.Filled.{AreFilledUp, AreKept, AreLaid, IsLaid};
 ghost use Rattle.feed_trips.specs.Stretches.{AreStretches, GoesOn, IsAnew, IsApart, IsPiece, IsPutAt, IsScattered};
 
-use crate::passes::push_times;
+use crate::passes::fill_times;
 use feed_rows::StopTimeRow;
 use std::alloc::{AllocError, Global};
 use trip_order::is_timed;
@@ -98,8 +98,9 @@ fn lay_piece(
         return Ok(());
     }
     times.reserve(rows.len() - times.len())?;
-    times.resize(from, 0)?;
-    push_times(times, piece)
+    times.resize(to, 0)?;
+    fill_times(times, from, piece);
+    Ok(())
 }
 
 impl Together {

@@ -1,7 +1,6 @@
 use Rattle.std.proofs.Common.{◌≡◌, ◌∙◌, sym, length, true, arith}
 use Rattle.std.specs.Prelude.{slice_range}
 use Rattle.std.specs.List.{list_all}
-use Rattle.std.proofs.lemmas.Result.{on_ok_weaker}
 use mathlib.Core.Bool.{true≢false}
 use Rattle.feed_rows.specs.Calls.{is_timed}
 use Rattle.feed_trips.proofs.LaidTimes.{none_laid, piece_laid}
@@ -16,9 +15,9 @@ pub returns : goal.returns
 returns c =
     let untimed : list_all is_timed (slice_range c.args.rows.now c.args.from c.args.to) ≡ true → ⊥ =
     λ all. true≢false (sym all ∙ sym c.are_timed.ensures ∙ c.if-are_timed.false) in
-    let size : length c.resize.new.self.items ≡ c.args.from =
+    let size : length c.resize.new.self.items ≡ c.args.to =
     let ok = c.resize.new.self.ok.0 in let long = c.in_ok-resize.ensures.len in omega (arith, ok, long) in
-    on_ok_weaker c.push_times.result
-    (piece_laid c.args.rows.now c.args.from c.args.to c.args.times.now.items _ _ _ _ c.requires.forward
-    c.requires.within untimed c.requires.before c.in_ok-reserve.ensures.items c.in_ok-resize.ensures.items size)
-    c.push_times.ensures
+    let made = c.fill_times.ensures in
+    piece_laid c.args.rows.now c.args.from c.args.to c.args.times.now.items _ _ _ _ c.requires.within untimed
+    c.requires.before c.requires.forward c.in_ok-reserve.ensures.items c.in_ok-resize.ensures.items size made.long
+    made.before made.filled
