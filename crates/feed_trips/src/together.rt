@@ -97,6 +97,7 @@ fn lay_piece(
     if are_timed(piece) {
         return Ok(());
     }
+    // Room for all rows at once, as most later pieces need some too.
     times.reserve(rows.len() - times.len())?;
     times.resize(to, 0)?;
     fill_times(times, from, piece);
