@@ -79,6 +79,7 @@ impl<R: Read> Records<R> {
     }
 
     /// A field of the last record, without the blanks at its ends.
+    #[inline(always)]
     pub fn field(&self, place: usize) -> &[u8]
         requires { place < length (last_record self.now) }
         ensures { result.now ≡ get_or (last_record self.now) place [] }
