@@ -1,5 +1,5 @@
 //! Lists in one vector: items in numbered groups, one group after another.
-ghost use Rattle.std.specs.Prelude.{◌≡◌, ℕ, ◌++◌, ◌∷◌, ◌<◌, length, IfOk, OnOk, OnErr, Some, slice_get, unwrap_or, [], map};
+ghost use Rattle.std.specs.Prelude.{◌≡◌, ℕ, ◌+◌, ◌++◌, ◌∷◌, ◌<◌, length, IfOk, OnOk, OnErr, Some, slice_get, unwrap_or, [], map};
 ghost use Rattle.std.specs.List.Sorted.{IsNonDecreasingBy};
 ghost use Rattle.plain_laws.specs.Groups.{groups_below, IsStart, IsRegrouped};
 ghost use Rattle.plain_laws.specs.Parts.{parts, Rise};
@@ -133,12 +133,18 @@ fn regroup<T: Copy + Drop>(members: &mut Vec<Grouped<T>>) -> Result<(), AllocErr
     Ok(())
 }
 
-/// How many items stand before those of the group.
-fn start_of<T: Copy + Drop>(members: &[Grouped<T>], group: u32) -> usize
-    requires { IsNonDecreasingBy (λ (m : Grouped T). m.group) members.now }
-    ensures { IsStart members.now group result }
+/// Where the items of the group end, which start at a place.
+fn end_of<T: Copy + Drop>(members: &[Grouped<T>], group: u32, start: usize) -> usize
+    requires rises { IsNonDecreasingBy (λ (m : Grouped T). m.group) members.now }
+    requires starts { IsStart members.now group start }
+    ensures { IsStart members.now (group + 1) result }
 {
-    members.partition_point(|member| member.group < group)
+    for end in start..members.len() {
+        if members[end].group > group {
+            return end;
+        }
+    }
+    members.len()
 }
 
 /// Appends the items of the members.
@@ -164,7 +170,7 @@ fn groups_of_sorted<T: Copy + Drop>(
     let mut items = Vec::with_capacity(alloc, members.len())?;
     let mut from = 0;
     for group in 0..count {
-        let to = start_of(members, group + 1);
+        let to = end_of(members, group, from);
         push_items(&mut items, &members[from..to])?;
         push_end(&mut ends, items.len())?;
         from = to;
