@@ -1,5 +1,5 @@
-//! Tests of fares and plans that no case of the whole program reaches: objects that only libraries take, and answers beside those of
-//! plainer programs.
+//! Tests of fares and trips that no case of the whole program reaches: objects that only libraries take, and answers beside those
+//! of plainer programs.
 #![tactic(auto)]
 
 #[cfg(test)]
@@ -9,8 +9,6 @@ mod bags;
 #[cfg(test)]
 mod fronts;
 #[cfg(test)]
-mod generated;
-#[cfg(test)]
 mod labels;
 #[cfg(test)]
 mod patterns;
@@ -18,7 +16,5 @@ mod patterns;
 mod prices;
 #[cfg(test)]
 mod readings;
-#[cfg(test)]
-mod rounds;
 #[cfg(test)]
 mod triples;

@@ -1,9 +1,11 @@
 //! Tests of how feeds are read that no case of the whole program reaches: calls of the system that fail, pieces of any length,
-//! and limits.
+//! limits, and a feed of many stops.
 #![tactic(auto)]
 
 #[cfg(test)]
 mod folders;
+#[cfg(test)]
+mod generated;
 #[cfg(test)]
 mod loads;
 #[cfg(test)]
