@@ -1,10 +1,10 @@
 -- How late one may be where one more ride is taken first.
 use Rattle.std.proofs.Common.{◌≡◌, refl, sym, ◌∙◌, ap, subst, ℕ, ◌+◌, ◌<◌, ◌≤◌, ⊎_elim, true, false, List, [], ◌∷◌, ◌++◌, length, get_or, arith, ℤ, pos, ◌+ℤ◌, ◌≤ℤ◌, ◌<ℤ◌}
-use Rattle.std.specs.Prelude.{if◌then◌else◌, Option, Some, None, slice_get, unwrap_or, All, Contains, map}
+use Rattle.std.specs.Prelude.{if◌then◌else◌, Option, Some, None, slice_get, unwrap_or, Contains, map}
 use Rattle.std.specs.List.{AllWithin}
 use Rattle.std.specs.List.Sorted.{IsPartitionedBy}
 use Rattle.std.proofs.lemmas.Int.{ints}
-use Rattle.std.proofs.lemmas.Bool.{both_ways, cases_lt}
+use Rattle.std.proofs.lemmas.Bool.{cases_lt}
 use Rattle.std.proofs.lemmas.List.{get_or-map, length-map}
 use Rattle.std.proofs.lemmas.Option.{same_Some, slice_get_past, slice_get-get_or}
 use Rattle.transit_base.specs.declared.moments.Moment.{Moment}
@@ -22,11 +22,10 @@ use Rattle.plain_laws.proofs.Laws.{int_le-true, le-int_le, slice_get-push_before
 use Rattle.plan_patterns.specs.declared.pattern.Boarding.{Boarding}
 use Rattle.plan_patterns.specs.declared.runs.Run.{Run}
 use Rattle.plan_patterns.specs.Columns.{AreInOrder}
-use Rattle.plan_rides.specs.declared.caught.CaughtRide.{CaughtRide}
 use Rattle.plan_rides.specs.declared.departures.Departure.{Departure}
 use Rattle.plan_rides.specs.Boarding.{Seeking, AreMarks}
-use Rattle.plan_rides.specs.Departures.{departure_at, departure_with, IsByAmong, IsFirstLate, IsFromStop}
-use Rattle.plan_rides.specs.InTime.{AddsCaught, AreLastDepartures, deadline, next_in_time, IsWithinWindow, is_by, is_by_any, is_early}
+use Rattle.plan_rides.specs.Departures.{departure_at, IsFirstLate}
+use Rattle.plan_rides.specs.InTime.{AreLastDepartures, deadline, next_in_time, IsWithinWindow, is_by, is_by_any, is_early}
 use Rattle.plan_rides.specs.Lasts.{AreAllLast}
 use Rattle.plan_rides.specs.Latest.{latest_at, HasEarlyWalks, AreAllBefore, AreLasts, IsOneMore}
 use Rattle.plan_rides.proofs.CaughtLaws.{IsCaughtRide, caught_ride, in_walks}
@@ -249,31 +248,3 @@ late_boardings feed at position runs listed lasts stop n within late =
           subst (λ (x : Departure). is_early lasts stop x.at.0 ≡ false) (sym (get_or-map make listed k no_boarding d below))
           (late k no_boarding low below);
     }
-
--- where the departures from one on are too late, those before it are all that get somewhere
-pub adds_until : (feed : FeedRows) (query : Query) (latest lasts : List (Option Moment)) (stand : Stand) (stop : StopId)
-    (departures : List Departure) (n k : ℕ) (old new : List CaughtRide) → IsWithinWindow query stand.at →
-    AreLastDepartures feed query latest lasts → All (IsFromStop feed stop.0) departures → IsFirstLate departures lasts stop.0 n → n ≤ k →
-    AddsCaught feed query latest stand (IsByAmong feed departures k) old new →
-    AddsCaught feed query latest stand (IsByAmong feed departures (length departures)) old new
-adds_until feed query latest lasts stand stop departures n k old new within last right first past adds = record {
-  still = adds.still;
-  all = λ ride next e wanted among. ⊎_elim
-      (λ lt. adds.all ride next e wanted (among.0, lt, among.2, among.3, among.4))
-      (λ le.
-      let c = caught_ride feed query stand ride next e in
-      let d = among.2 in
-      let is : get_or departures among.0 d ≡ d = same_Some _ _ (sym (slice_get-get_or departures among.0 d among.1) ∙ among.3) in
-      let same : departure_with ride c.facts ≡ d = ap (departure_with ride) (same_Some _ _ (sym c.is ∙ among.4.is)) ∙ among.4.made in
-      let from : d.stop.0 ≡ stop.0 = subst (λ (x : Departure). x.stop.0 ≡ stop.0) is (right among.0 d among.1).1 in
-      let boards : c.facts.from.0 ≡ stop.0 = ap (λ (x : Departure). x.stop.0) same ∙ from in
-      let leaves : c.facts.departure.0 ≡ d.at.0 = ap (λ (x : Departure). x.at.0) same in
-      let late : is_early lasts stop.0 d.at.0 ≡ false =
-      subst (λ (x : Departure). is_early lasts stop.0 x.at.0 ≡ false) is (first.late among.0 d (omega (arith, past, le)) among.1) in
-      let parts = caught_parts feed query latest stand ride next within wanted c in
-      let early = last ride c.facts c.is parts.0 parts.1 parts.2 in
-      absurd (both_ways (is_early lasts stop.0 d.at.0) late
-      (subst (λ s. is_early lasts s d.at.0 ≡ true) boards (subst (λ z. is_early lasts c.facts.from.0 z ≡ true) leaves early))))
-      (cases_lt among.0 k);
-  right = adds.right;
-}

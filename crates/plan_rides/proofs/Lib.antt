@@ -1,7 +1,9 @@
 pub mod ArrivalLaws
 pub mod CaughtLaws
 pub mod DepartureLaws
+pub mod FoundLaws
 pub mod LastLaws
 pub mod LatestLaws
 pub mod MarkLaws
+pub mod ReachLaws
 pub mod ServedLaws

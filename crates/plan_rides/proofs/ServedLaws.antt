@@ -21,14 +21,12 @@ use Rattle.plan_patterns.specs.declared.serving.Serving.{Serving}
 use Rattle.plan_patterns.specs.Columns.{AreBoardable}
 use Rattle.plan_patterns.specs.Grouping.{PatternOf, PatternsOf, runs_at}
 use Rattle.plan_patterns.specs.Servings.{list_at}
-use Rattle.plan_rides.specs.declared.caught.CaughtRide.{CaughtRide}
-use Rattle.plan_rides.specs.declared.departures.Departure.{Departure}
 use Rattle.plan_rides.specs.declared.servings.TimedServing.{TimedServing}
-use Rattle.plan_rides.specs.Boarding.{MayBoard, Seeking}
-use Rattle.plan_rides.specs.Departures.{AreServed, AreSince, BoardsAt, IsByAmong, Serves, TakesOneOf, TakesServing}
-use Rattle.plan_rides.specs.InTime.{AddsCaught, AreLastDepartures, IsWithinWindow, deadline, is_early, next_in_time}
+use Rattle.plan_rides.specs.Boarding.{Seeking}
+use Rattle.plan_rides.specs.Departures.{AreServed, Serves, TakesOneOf, TakesServing}
+use Rattle.plan_rides.specs.InTime.{AreLastDepartures, IsWithinWindow, deadline, is_early, next_in_time}
 use Rattle.plan_rides.specs.Served.{AddsTimed, AreTimed, AreTimedStops, IsTimed, TakesTimed, is_open}
-use Rattle.plan_rides.proofs.CaughtLaws.{IsCaughtRide, adds_more, adds_none, adds_same, by_since, caught_ride, caught_spanned}
+use Rattle.plan_rides.proofs.CaughtLaws.{IsCaughtRide, caught_ride}
 use Rattle.plan_rides.proofs.DepartureLaws.{boarding_for, ride_stop, taken_stop, takes_more}
 use Rattle.plan_rides.proofs.LatestLaws.{caught_parts, earlier_early}
 
@@ -194,7 +192,7 @@ stops_all feed sought patterns n by_stop sound of whole many each = record {
 -- ---- rides that are caught at a stop
 
 -- one position more
-timed_step : (patterns : List PatternOf) (served : List TimedServing) (k : ℕ) (x : TimedServing) (ride : Ride) →
+pub timed_step : (patterns : List PatternOf) (served : List TimedServing) (k : ℕ) (x : TimedServing) (ride : Ride) →
     k < length served → TakesTimed patterns served (k + 1) ride →
     TakesTimed patterns served k ride ⊎ TakesServing patterns (get_or served k x).serving ride
 timed_step patterns served k x ride lt takes =
@@ -206,37 +204,8 @@ timed_step patterns served k x ride lt takes =
     (same_Some _ _ (sym takes.3 ∙ ap (slice_get served) same ∙ slice_get-get_or served k x lt)) takes.4))
     (cases_lt takes.0 k)
 
--- before the first position
-pub adds_untimed : (feed : FeedRows) (query : Query) (latest : List (Option Moment)) (stand : Stand)
-    (patterns : List PatternOf) (served : List TimedServing) (rides : List CaughtRide) →
-    AddsCaught feed query latest stand (TakesTimed patterns served 0) rides rides
-adds_untimed feed query latest stand patterns served rides =
-    adds_none feed query latest stand (TakesTimed patterns served 0) rides
-    (λ ride next e takes. let below = takes.1 in omega (arith, below))
-
--- the rides that board at one position more
-pub adds_timed : (feed : FeedRows) (query : Query) (latest : List (Option Moment)) (stand : Stand) (stop : StopId)
-    (way : ℕ) (earliest : ℤ) (patterns : List PatternOf) (served : List TimedServing) (k : ℕ) (x : TimedServing)
-    (departures : List Departure) (old mid new : List CaughtRide) → k < length served →
-    way_to feed query stand stop ≡ Some way → earliest ≡ stand.at +ℤ pos way →
-    IsTimed feed query patterns stop.0 (get_or served k x) →
-    AreSince feed patterns (get_or served k x).serving stop.0 earliest departures →
-    AddsCaught feed query latest stand (TakesTimed patterns served k) old mid →
-    AddsCaught feed query latest stand (IsByAmong feed departures (length departures)) mid new →
-    AddsCaught feed query latest stand (TakesTimed patterns served (k + 1)) old new
-adds_timed feed query latest stand stop way earliest patterns served k x departures old mid new lt way_is at timed since
-    before adds =
-    adds_more feed query latest stand (TakesTimed patterns served k) (IsByAmong feed departures (length departures))
-    (TakesTimed patterns served (k + 1)) old mid new before adds
-    (λ ride next e takes.
-    ⊎_elim inl
-    (λ here. inr (by_since feed query stand stop way earliest patterns (get_or served k x).serving departures ride next
-    way_is
-    at timed.serves since here e))
-    (timed_step patterns served k x ride lt takes))
-
 -- no ride is caught at a position from which the last run has left, or the first departs too late
-never_closed : (feed : FeedRows) (query : Query) (latest lasts : List (Option Moment)) (stand : Stand) (stop : StopId)
+pub never_closed : (feed : FeedRows) (query : Query) (latest lasts : List (Option Moment)) (stand : Stand) (stop : StopId)
     (way : ℕ) (earliest : ℤ) (patterns : List PatternOf) (timed : TimedServing) (ride : Ride) (next : Stand) →
     IsWithinWindow query stand.at → AreLastDepartures feed query latest lasts →
     way_to feed query stand stop ≡ Some way → earliest ≡ stand.at +ℤ pos way →
@@ -272,46 +241,3 @@ never_closed feed query latest lasts stand stop way earliest patterns timed ride
     met : (from departs until : ℤ) (walk : ℕ) → (from +ℤ pos walk) ≤ℤ departs → walk ≡ way → departs ≤ℤ until →
         earliest ≡ from +ℤ pos way → earliest ≤ℤ until
     met from departs until walk a b d same = omega (arith, ints)
-
--- so it may be passed over
-pub adds_closed : (feed : FeedRows) (query : Query) (latest lasts : List (Option Moment)) (stand : Stand) (stop :
-    StopId)
-    (way : ℕ) (earliest : ℤ) (patterns : List PatternOf) (served : List TimedServing) (k : ℕ) (x : TimedServing)
-    (old new : List CaughtRide) → k < length served → IsWithinWindow query stand.at →
-    AreLastDepartures feed query latest lasts → way_to feed query stand stop ≡ Some way →
-    earliest ≡ stand.at +ℤ pos way → IsTimed feed query patterns stop.0 (get_or served k x) →
-    is_open (get_or served k x) earliest lasts stop.0 ≡ false →
-    AddsCaught feed query latest stand (TakesTimed patterns served k) old new →
-    AddsCaught feed query latest stand (TakesTimed patterns served (k + 1)) old new
-adds_closed feed query latest lasts stand stop way earliest patterns served k x old new lt within last way_is at timed
-    closed
-    before = record {
-      still = before.still;
-      all = λ ride next e wanted takes. ⊎_elim
-          (λ lower. before.all ride next e wanted lower)
-          (λ here. absurd (never_closed feed query latest lasts stand stop way earliest patterns (get_or served k x) ride
-          next
-          within last way_is at timed closed e wanted here))
-          (timed_step patterns served k x ride lt takes);
-      right = before.right;
-    }
-
--- all positions that serve a stop
-pub adds_stop : (feed : FeedRows) (query : Query) (latest : List (Option Moment)) (sought : Seeking) (stand : Stand)
-    (stop n : ℕ) (patterns : List PatternOf) (served : List TimedServing) (old new : List CaughtRide) →
-    sought.query ≡ query → IsWithinWindow query stand.at → MayBoard feed sought stand →
-    AreTimed feed sought patterns stop served → length served ≤ n →
-    AddsCaught feed query latest stand (TakesTimed patterns served n) old new →
-    AddsCaught feed query latest stand (BoardsAt feed stop) old new
-adds_stop feed query latest sought stand stop n patterns served old new same within board timed all adds =
-    adds_same feed query latest stand (TakesTimed patterns served n) (BoardsAt feed stop) old new adds
-    (λ ride next e boards.
-    let c = caught_ride feed sought.query stand ride next (subst (λ q. next_in_time feed q stand ride ≡ Some next)
-    (sym same) e) in
-    let from : c.facts.from.0 ≡ stop = ap (λ (f : RideFacts). f.from.0) (same_Some _ _ (sym c.is ∙ boards.is)) ∙
-    boards.at in
-    let spanned = caught_spanned feed sought stand ride next (subst (λ q. IsWithinWindow q stand.at)
-    (sym same) within) board c in
-    let takes = timed.all ride c.facts spanned from in
-    let lt = takes.1 in
-    (takes.0, omega (arith, lt, all), takes.2, takes.3, takes.4))

@@ -10,7 +10,6 @@ use Rattle.feed_rows.specs.declared.journeys.Query.{Query}
 use Rattle.feed_rows.specs.declared.journeys.Ride.{Ride}
 use Rattle.feed_rows.specs.declared.journeys.RideFacts.{RideFacts}
 use Rattle.feed_rows.specs.FeedRows.{FeedRows}
-use Rattle.feed_rows.specs.JourneyStands.{Stand, way_to}
 use Rattle.feed_rows.specs.Calls.{calls_of}
 use Rattle.feed_rows.specs.Rides.{ride_facts, trip_network}
 use Rattle.plain_laws.specs.Plain.{when}
@@ -201,10 +200,3 @@ pub record BoardsAt (feed : FeedRows) (stop : ℕ) (ride : Ride) : Type 0 where
 pub record IsFirstLate (departures : List Departure) (lasts : List (Option Moment)) (stop n : ℕ) : Type 0 where
   pub within : n ≤ length departures
   pub late : AllWithin (λ (d : Departure). is_early lasts stop d.at.0 ≡ false) departures n (length departures)
-
--- the departure is one of the feed, and one gets to its stop in time
-pub record IsReached (feed : FeedRows) (query : Query) (stand : Stand) (d : Departure) : Type 0 where
-  pub right : IsDeparture feed d
-  pub way : ℕ
-  pub way_is : way_to feed query stand d.stop ≡ Some way
-  pub catches : (stand.at +ℤ pos way) ≤ℤ d.at.0

@@ -1,5 +1,5 @@
 -- Rides that are caught and end within a query's window.
-use Rattle.std.specs.Prelude.{◌≡◌, ℕ, ◌≤◌, Bool, true, false, Option, Some, None, All, Contains, List, slice_get, ℤ, pos, negsuc, ◌+ℤ◌, ◌≤ℤ◌, int_le, option_and_then}
+use Rattle.std.specs.Prelude.{◌≡◌, ℕ, ◌≤◌, Bool, true, false, Option, Some, None, Contains, List, slice_get, ℤ, pos, negsuc, ◌+ℤ◌, ◌≤ℤ◌, int_le, option_and_then}
 use Rattle.transit_base.specs.Moments.{moment_at}
 use Rattle.transit_base.specs.declared.moments.Moment.{Moment}
 use Rattle.feed_rows.specs.declared.journeys.Call.{Call}
@@ -73,15 +73,6 @@ AreLastDepartures feed query latest lasts =
     facts.arrival.0 ≤ℤ deadline query → is_early latest facts.to.0 facts.arrival.0 ≡ true →
     is_early lasts facts.from.0 facts.departure.0 ≡ true
 
--- the list has what it had, and each ride of this part that is caught from here in time and arrives early enough, and stays
--- right
-pub record AddsCaught (feed : FeedRows) (query : Query) (latest : List (Option Moment)) (stand : Stand) (Part : Ride → Type 0)
-    (old new : List CaughtRide) : Type 0 where
-  pub still : (ride : Ride) → HasRide old ride → HasRide new ride
-  pub all : (ride : Ride) (next : Stand) → next_in_time feed query stand ride ≡ Some next → is_early latest next.stop.0 next.at ≡ true
-      → Part ride → HasRide new ride
-  pub right : All (IsRight feed query stand) old → All (IsRight feed query stand) new
-
 -- when a run departs from a call
 abbrev pub departure_of : RunOf → Call → ℤ
 departure_of run call = moment_at run.day.0 (run.shift +ℤ pos call.departure)
@@ -89,9 +80,3 @@ departure_of run call = moment_at run.day.0 (run.shift +ℤ pos call.departure)
 -- the list has each ride that is caught from here in time
 abbrev pub HasCaught : FeedRows → Query → Stand → List CaughtRide → Type 0
 HasCaught feed query stand rides = (ride : Ride) (next : Stand) → next_in_time feed query stand ride ≡ Some next → HasRide rides ride
-
--- the list has each of them that arrives early enough
-abbrev pub HasCaughtBy : FeedRows → Query → List (Option Moment) → Stand → List CaughtRide → Type 0
-HasCaughtBy feed query latest stand rides =
-    (ride : Ride) (next : Stand) → next_in_time feed query stand ride ≡ Some next → is_early latest next.stop.0 next.at ≡ true →
-    HasRide rides ride

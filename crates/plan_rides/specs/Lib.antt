@@ -4,6 +4,7 @@ pub mod Departures
 pub mod InTime
 pub mod Lasts
 pub mod Latest
+pub mod Reached
 pub mod Runs
 pub mod Served
 pub mod Travelling

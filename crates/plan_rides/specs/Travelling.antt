@@ -1,23 +1,11 @@
--- A traveller of a query, and the stops at which they may board.
-use Rattle.std.specs.Prelude.{◌≡◌, ◌⊎◌, ℕ, ◌<◌, List, Option, None, Some, slice_get}
-use Rattle.transit_base.specs.declared.moments.Moment.{Moment}
-use Rattle.feed_rows.specs.declared.journeys.Query.{Query}
+-- The stops at which a traveller may board.
+use Rattle.std.specs.Prelude.{◌≡◌, ◌⊎◌, ℕ, ◌<◌, List, None, Some, slice_get}
 use Rattle.feed_rows.specs.declared.journeys.Ride.{Ride}
 use Rattle.feed_rows.specs.FeedRows.{FeedRows}
 use Rattle.feed_rows.specs.JourneyStands.{Stand}
 use Rattle.feed_rows.specs.StopLinks.{link}
 use Rattle.feed_walks.specs.declared.steps.Step.{Step}
 use Rattle.plan_rides.specs.Departures.{BoardsAt}
-
--- who travels: by a feed, for a query, to stops by the latest moments there, from where they stand
-pub record Travelling : Type 0 where
-  pub feed : FeedRows
-  pub query : Query
-  pub latest : List (Option Moment)
-  pub stand : Stand
-
-abbrev pub travelling : FeedRows → Query → List (Option Moment) → Stand → Travelling
-travelling feed query latest stand = record { feed = feed; query = query; latest = latest; stand = stand }
 
 -- the ride boards where one stands, and no walk leads from there to itself
 abbrev pub IsBarred : FeedRows → Stand → Ride → Type 0

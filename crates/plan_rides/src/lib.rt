@@ -5,10 +5,12 @@ mod caught;
 mod departures;
 mod lasts;
 mod latest;
+mod positions;
 mod rides;
 mod runs;
 mod servings;
 mod sought;
 
 pub use caught::CaughtRide;
+pub use positions::{Positions, Reached, Traveller};
 pub use rides::Rides;

@@ -1,17 +1,18 @@
 //! The rides of a query over a timetable.
-ghost use Rattle.std.specs.Prelude.{◌≡◌, ◌<◌, All, IfOk, OnOk, length, option_map};
+ghost use Rattle.std.specs.Prelude.{◌≡◌, ◌<◌, All, IfOk, length, option_map};
 ghost use Rattle.feed_rows.specs.JourneyStands.{first_stand};
 ghost use Rattle.feed_rows.specs.SoundFeed.{IsSoundFeed};
 ghost use Rattle.feed_timetable.specs.Standings.{stand_of};
 ghost use Rattle.plan_rides.specs.Asked.{asked, arrival_in_time};
 ghost use Rattle.plan_rides.specs.Boarding.{MayRide};
-ghost use Rattle.plan_rides.specs.InTime.{AreLastDepartures, IsUsualQuery, IsDeadline, IsWithinWindow, HasCaught, HasCaughtBy, IsRight};
+ghost use Rattle.plan_rides.specs.InTime.{IsUsualQuery, IsDeadline, IsWithinWindow, HasCaught, IsRight};
 ghost use Rattle.plan_rides.specs.Latest.{AreLasts, IsOneMore};
 
-use crate::caught::{CaughtRide, Traveller};
+use crate::caught::CaughtRide;
 use crate::departures::{deadline, patterns_of};
 use crate::lasts::last_departures;
 use crate::latest::latest_before;
+use crate::positions::{Positions, Traveller};
 use crate::servings::{TimedServing, served_stops};
 use crate::sought::Sought;
 use feed_rows::Query;
@@ -138,37 +139,14 @@ impl<'s, 'f> Rides<'s, 'f> {
         Some(arrival)
     }
 
-    /// Replaces what `rides` holds by the rides that are caught from where one stands, end within the window and arrive at
-    /// a stop no later than the latest moment there: at none where that is none, and at any at a stop past their end.
-    /// `lasts` says when the last of them departs from each stop, so that no later ones are looked at.
-    ///
-    /// # Errors
-    /// Want of memory.
-    pub fn next_by(
-        &self,
-        latest: &[Option<Moment>],
-        lasts: &[Option<Moment>],
-        standing: Standing,
-        rides: &mut Vec<CaughtRide>,
-    ) -> Result<(), AllocError>
-        requires within { IsWithinWindow self.now.query standing.at.0 }
-        requires may { MayRide self.now.feed self.now.query (stand_of standing) }
-        requires lasts { AreLastDepartures self.now.feed self.now.query latest.now lasts.now }
-        ensures all { OnOk result (HasCaughtBy self.now.feed self.now.query latest.now (stand_of standing) rides.new.items) }
-        ensures right { OnOk result (All (IsRight self.now.feed self.now.query (stand_of standing)) rides.new.items) }
+    /// Where riders may board.
+    pub fn positions<'r>(&'r self) -> Positions<'r, 'f>
+        ensures feed { result.feed ≡ self.now.feed }
+        ensures query { result.query ≡ self.now.query }
         ensures sound { IsSoundFeed self.now.feed }
     {
         let _feed = self.timetable.feed();
-        Traveller::new(
-            self.timetable,
-            &self.sought,
-            &self.patterns,
-            &self.served,
-            latest,
-            lasts,
-            standing,
-        )
-        .rides_into(rides)
+        Positions::new(self.timetable, &self.sought, &self.patterns, &self.served)
     }
 
     /// When the last ride departs from each stop that gets somewhere no later than the latest moment there; none exactly
@@ -206,25 +184,7 @@ impl<'s, 'f> Rides<'s, 'f> {
         latest_before(alloc, self.timetable, self.query, latest, lasts)
     }
 
-    /// Replaces what `rides` holds by the rides that are caught from where one stands and end within the window.
-    ///
-    /// # Errors
-    /// Want of memory.
-    pub fn next_into(
-        &self,
-        standing: Standing,
-        rides: &mut Vec<CaughtRide>,
-    ) -> Result<(), AllocError>
-        requires within { IsWithinWindow self.now.query standing.at.0 }
-        requires may { MayRide self.now.feed self.now.query (stand_of standing) }
-        ensures all { OnOk result (HasCaught self.now.feed self.now.query (stand_of standing) rides.new.items) }
-        ensures right { OnOk result (All (IsRight self.now.feed self.now.query (stand_of standing)) rides.new.items) }
-        ensures sound { IsSoundFeed self.now.feed }
-    {
-        self.next_by(&[], &[], standing, rides)
-    }
-
-    /// The same rides in a list of their own.
+    /// The rides that are caught from where one stands and end within the window.
     ///
     /// # Errors
     /// Want of memory.
@@ -235,8 +195,17 @@ impl<'s, 'f> Rides<'s, 'f> {
         ensures right { IfOk result (λ rides. All (IsRight self.now.feed self.now.query (stand_of standing)) rides.items) }
         ensures sound { IsSoundFeed self.now.feed }
     {
+        let positions = self.positions();
+        let who = Traveller {
+            standing,
+            number: 0,
+        };
+        let mut reached = Vec::new(alloc);
+        positions.reach(&[], &who, &mut reached)?;
         let mut rides = Vec::new(alloc);
-        self.next_into(standing, &mut rides)?;
+        for k in 0..reached.len() {
+            positions.add_rides(&[], &[], &reached[k], &mut rides)?;
+        }
         Ok(rides)
     }
 }

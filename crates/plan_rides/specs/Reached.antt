@@ -1,0 +1,74 @@
+-- Positions of patterns that a traveller gets to, and the rides from there.
+use Rattle.std.specs.Prelude.{◌≡◌, ◌⊎◌, ⊤, ℕ, true, List, Contains, Option, Some, ℤ, pos, ◌+ℤ◌, ◌≤ℤ◌}
+use Rattle.transit_base.specs.declared.moments.Moment.{Moment}
+use Rattle.feed_rows.specs.declared.journeys.Query.{Query}
+use Rattle.feed_rows.specs.declared.journeys.Ride.{Ride}
+use Rattle.feed_rows.specs.declared.journeys.RideFacts.{RideFacts}
+use Rattle.feed_rows.specs.FeedRows.{FeedRows}
+use Rattle.feed_rows.specs.JourneyStands.{Stand, way_to}
+use Rattle.feed_rows.specs.Rides.{ride_facts}
+use Rattle.plan_patterns.specs.Grouping.{PatternOf}
+use Rattle.plan_rides.specs.declared.caught.CaughtRide.{CaughtRide}
+use Rattle.plan_rides.specs.declared.positions.Reached.{Reached}
+use Rattle.plan_rides.specs.Departures.{Serves, TakesServing}
+use Rattle.plan_rides.specs.InTime.{AreLastDepartures, HasRide, deadline, is_early, next_in_time}
+use Rattle.plan_rides.specs.Lasts.{IsEarlyRide}
+
+-- a feed, a query over it, and the patterns of its runs
+pub record Positioned : Type 0 where
+  pub feed : FeedRows
+  pub query : Query
+  pub patterns : List PatternOf
+
+abbrev pub positioned : FeedRows → Query → List PatternOf → Positioned
+positioned feed query patterns = record { feed = feed; query = query; patterns = patterns }
+
+-- riders may board at the position, whose stop one gets to from here at this very moment
+pub record IsReachedFrom (me : Positioned) (stand : Stand) (reached : Reached) : Type 0 where
+  pub serves : Serves me.feed me.patterns reached.stop.0 reached.serving
+  pub way : ℕ
+  pub way_is : way_to me.feed me.query stand reached.stop ≡ Some way
+  pub at : reached.earliest.0 ≡ stand.at +ℤ pos way
+
+-- the ride boards at a position that is listed with this number
+abbrev pub IsReachedIn : Positioned → List Reached → ℕ → Ride → Type 0
+IsReachedIn me list number ride =
+    (reached : Reached) × Contains list reached × (reached.number ≡ number) × TakesServing me.patterns reached.serving ride
+
+-- any ride
+abbrev pub IsAny : Ride → Type 0
+IsAny ride = ⊤
+
+-- the new list has what it had, and with this number the positions at which the rides of this part board that are caught from
+-- here in time and arrive early enough, whatever is early enough, as long as these last moments serve for it; what else it has
+-- is reached from here
+pub record AddsReached (me : Positioned) (lasts : List (Option Moment)) (stand : Stand) (number : ℕ) (Part : Ride → Type 0)
+    (old new : List Reached) : Type 0 where
+  pub still : (reached : Reached) → Contains old reached → Contains new reached
+  pub all : (latest : List (Option Moment)) → AreLastDepartures me.feed me.query latest lasts → (ride : Ride) (next : Stand) →
+      next_in_time me.feed me.query stand ride ≡ Some next → is_early latest next.stop.0 next.at ≡ true → Part ride →
+      IsReachedIn me new number ride
+  pub right : (reached : Reached) → Contains new reached →
+      Contains old reached ⊎ ((reached.number ≡ number) × IsReachedFrom me stand reached)
+
+-- the ride goes so, boards at this stop, departs no earlier than this, and arrives in time
+pub record IsFound (feed : FeedRows) (query : Query) (stop : ℕ) (from : ℤ) (caught : CaughtRide) : Type 0 where
+  pub goes : ride_facts feed caught.ride ≡ Some caught.facts
+  pub boards : caught.facts.from.0 ≡ stop
+  pub since : from ≤ℤ caught.facts.departure.0
+  pub until : caught.facts.arrival.0 ≤ℤ deadline query
+
+-- the new list has what it had, and each ride of this part that gets somewhere early enough; what else it has boards at this
+-- stop, departs no earlier than this, and arrives in time
+pub record AddsFound (feed : FeedRows) (query : Query) (latest : List (Option Moment)) (stop : ℕ) (from : ℤ)
+    (Part : Ride → Type 0) (old new : List CaughtRide) : Type 0 where
+  pub still : (ride : Ride) → HasRide old ride → HasRide new ride
+  pub all : (ride : Ride) (facts : RideFacts) → IsEarlyRide feed query latest ride facts → Part ride → HasRide new ride
+  pub right : (caught : CaughtRide) → Contains new caught → Contains old caught ⊎ IsFound feed query stop from caught
+
+-- the ride boards at the position, no earlier than one is there
+pub record IsFromReached (me : Positioned) (reached : Reached) (ride : Ride) : Type 0 where
+  pub takes : TakesServing me.patterns reached.serving ride
+  pub facts : RideFacts
+  pub goes : ride_facts me.feed ride ≡ Some facts
+  pub since : reached.earliest.0 ≤ℤ facts.departure.0

@@ -1,0 +1,259 @@
+//! Where riders may board the runs of a query's patterns, and which rides they can catch there.
+ghost use Rattle.std.specs.Prelude.{◌≡◌, ◌<◌, ◌≤◌, ◌^◌, All, OnOk, Some, length, slice_get};
+ghost use Rattle.feed_rows.specs.Calls.{calls_of};
+ghost use Rattle.feed_rows.specs.declared.journeys.Call.{Call};
+ghost use Rattle.feed_timetable.specs.Standings.{stand_of};
+ghost use Rattle.plan_rides.specs.Boarding.{AreMarks, MayRide};
+ghost use Rattle.plan_rides.specs.Departures.{BoardsAt, IsBy, IsByTo, IsDeparture, Serves, facts_in_time};
+ghost use Rattle.plan_rides.specs.InTime.{AreLastDepartures, IsUsualQuery, IsWithinWindow};
+ghost use Rattle.plan_rides.specs.Reached.{AddsFound, AddsReached, IsAny, IsFromReached, positioned};
+ghost use Rattle.plan_rides.specs.Served.{AreTimedStops};
+ghost use Rattle.plan_rides.specs.Travelling.{IsBarred};
+ghost use Rattle.transit_base.specs.Limits.{most_time};
+
+use crate::caught::CaughtRide;
+use crate::departures::{Departure, Departures};
+use crate::latest::is_early;
+use crate::servings::TimedServing;
+use crate::sought::Sought;
+use feed_rows::{Call, Query, RideFacts};
+use feed_timetable::{Calls, Standing, Timetable};
+use plain_laws::Groups;
+use plan_patterns::{Patterns, Serving};
+use std::alloc::AllocError;
+use std::marker::Model;
+use transit_base::{Moment, Secs, StopId};
+
+/// Someone with a number, and where they stand.
+#[derive(Clone, Copy)]
+pub struct Traveller {
+    pub standing: Standing,
+    pub number: u32,
+}
+
+/// A position of a pattern that someone gets to, and their number.
+#[derive(Clone, Copy)]
+pub struct Reached {
+    pub serving: Serving,
+    /// The stop there.
+    pub stop: StopId,
+    /// The earliest moment at which they are there.
+    pub earliest: Moment,
+    pub number: u32,
+}
+
+/// Where riders may board the runs of a query's patterns. Contracts see the feed, the query and the patterns.
+#[derive(Drop)]
+pub struct Positions<'s, 'f> {
+    timetable: &'s Timetable<'f>,
+    sought: &'s Sought<'s>,
+    query: &'s Query,
+    patterns: &'s Patterns<'s, 'f>,
+    /// Where and when the patterns serve each stop.
+    served: &'s Groups<TimedServing>,
+}
+
+impl<'s, 'f> Model for Positions<'s, 'f> {
+    ghost use Rattle.std.specs.Prelude.{◌≡◌};
+    ghost use Rattle.plan_rides.specs.Boarding.{AreMarks};
+    ghost use Rattle.plan_rides.specs.InTime.{IsUsualQuery};
+    ghost use Rattle.plan_rides.specs.Reached.{Positioned, positioned};
+    ghost use Rattle.plan_rides.specs.Served.{AreTimedStops};
+
+    ghost Value = { Positioned };
+
+    ghost view = { λ s. positioned s.timetable.now s.query.now s.patterns.now.patterns };
+
+    ghost invariant = { λ s. IsUsualQuery s.query.now × AreTimedStops s.timetable.now s.sought.now s.patterns.now s.served.now × (s.sought.now.query ≡ s.query.now) × AreMarks s.timetable.now s.sought.now };
+}
+
+impl<'s, 'f> Positions<'s, 'f> {
+    /// The positions of the patterns that are sought for the query, which serve the stops so.
+    pub(crate) fn new(
+        timetable: &'s Timetable<'f>,
+        sought: &'s Sought<'s>,
+        patterns: &'s Patterns<'s, 'f>,
+        served: &'s Groups<TimedServing>,
+    ) -> Positions<'s, 'f>
+        requires usual { IsUsualQuery sought.now.query }
+        requires served { AreTimedStops timetable.now sought.now patterns.now served.now }
+        requires marks { AreMarks timetable.now sought.now }
+        ensures { result ≡ positioned timetable.now sought.now.query patterns.now.patterns }
+    {
+        Positions {
+            timetable,
+            sought,
+            query: sought.query(),
+            patterns,
+            served,
+        }
+    }
+
+    // Appends the positions at a stop that the traveller gets to. One from which the last run has left by then, or the first
+    // departs too late, is passed over.
+    fn reach_stop(
+        &self,
+        lasts: &[Option<Moment>],
+        who: &Traveller,
+        stop: StopId,
+        reached: &mut Vec<Reached>,
+    ) -> Result<(), AllocError>
+        requires within { IsWithinWindow self.now.query who.now.standing.at.0 }
+        requires may { MayRide self.now.feed self.now.query (stand_of who.now.standing) }
+        ensures { OnOk result (AddsReached self.now lasts.now (stand_of who.now.standing) who.now.number (BoardsAt self.now.feed stop.0) reached.old.items reached.new.items) }
+    {
+        let Some(seconds) = self.timetable.way_to(self.query, who.standing, stop) else {
+            return Ok(());
+        };
+        let earliest = who.standing.at.plus(Secs(seconds));
+        let served = self.served.get(stop.0 as usize);
+        for k in 0..served.len() {
+            let timed = &served[k];
+            if timed.is_open(earliest, lasts, stop) {
+                reached.push(Reached {
+                    serving: timed.serving,
+                    stop,
+                    earliest,
+                    number: who.number,
+                })?;
+            }
+        }
+        Ok(())
+    }
+
+    // Appends those where the traveller stands, where no walk leads from there to itself: a journey may still begin there.
+    fn reach_barred(
+        &self,
+        lasts: &[Option<Moment>],
+        who: &Traveller,
+        reached: &mut Vec<Reached>,
+    ) -> Result<(), AllocError>
+        requires within { IsWithinWindow self.now.query who.now.standing.at.0 }
+        requires may { MayRide self.now.feed self.now.query (stand_of who.now.standing) }
+        ensures { OnOk result (AddsReached self.now lasts.now (stand_of who.now.standing) who.now.number (IsBarred self.now.feed (stand_of who.now.standing)) reached.old.items reached.new.items) }
+    {
+        let stop = who.standing.stop;
+        if let Some(_seconds) = self.timetable.link(stop, stop) {
+            return Ok(());
+        }
+        self.reach_stop(lasts, who, stop, reached)?;
+        Ok(())
+    }
+
+    /// Appends the positions that the traveller gets to. `lasts` says when the last rides depart from each stop that serve.
+    ///
+    /// # Errors
+    /// Want of memory.
+    pub fn reach(
+        &self,
+        lasts: &[Option<Moment>],
+        who: &Traveller,
+        reached: &mut Vec<Reached>,
+    ) -> Result<(), AllocError>
+        requires within { IsWithinWindow self.now.query who.now.standing.at.0 }
+        requires may { MayRide self.now.feed self.now.query (stand_of who.now.standing) }
+        ensures { OnOk result (AddsReached self.now lasts.now (stand_of who.now.standing) who.now.number IsAny reached.old.items reached.new.items) }
+    {
+        let _feed = self.timetable.feed();
+        self.reach_barred(lasts, who, reached)?;
+        let walks = self.timetable.walks_from(who.standing.stop);
+        for k in 0..walks.len() {
+            self.reach_stop(lasts, who, walks[k].to, reached)?;
+        }
+        Ok(())
+    }
+
+    // The calls of the departure's trip.
+    fn calls_of(&self, departure: &Departure) -> Calls<'s>
+        requires { IsDeparture self.now.feed departure.now }
+        ensures value { result ≡ calls_of self.now.feed departure.now.trip }
+        ensures times { All (λ (c : Call). (c.arrival ≤ most_time) × (c.departure ≤ most_time)) result }
+        ensures few { length result < 2 ^ 32 }
+    {
+        departure.run(self.timetable).calls()
+    }
+
+    // Where and when the ride by the departure goes that alights at the call, if it ends in time.
+    fn facts_in_time(&self, departure: &Departure, call: &Call) -> Option<RideFacts>
+        requires right { IsDeparture self.now.feed departure.now }
+        requires time { call.now.arrival ≤ most_time }
+        ensures { result ≡ facts_in_time self.now.query departure.now call.now }
+    {
+        departure.facts_in_time(self.timetable, self.query, call)
+    }
+
+    // Adds the ride by the departure that alights at the call.
+    fn add_ride(
+        &self,
+        latest: &[Option<Moment>],
+        departure: &Departure,
+        to: u32,
+        call: &Call,
+        rides: &mut Vec<CaughtRide>,
+    ) -> Result<(), AllocError>
+        requires right { IsDeparture self.now.feed departure.now }
+        requires later { departure.now.from < to }
+        requires is { slice_get (calls_of self.now.feed departure.now.trip) to ≡ Some call.now }
+        requires time { call.now.arrival ≤ most_time }
+        ensures { OnOk result (AddsFound self.now.feed self.now.query latest.now departure.now.stop.0 departure.now.at.0 (IsByTo self.now.feed departure.now to) rides.old.items rides.new.items) }
+    {
+        let Some(facts) = self.facts_in_time(departure, call) else {
+            return Ok(());
+        };
+        if !is_early(latest, facts.to, facts.arrival) {
+            return Ok(());
+        }
+        rides.push(CaughtRide {
+            ride: departure.ride_to(to),
+            facts,
+        })?;
+        Ok(())
+    }
+
+    // Adds the rides by a departure.
+    fn add_departure(
+        &self,
+        latest: &[Option<Moment>],
+        departure: &Departure,
+        rides: &mut Vec<CaughtRide>,
+    ) -> Result<(), AllocError>
+        requires right { IsDeparture self.now.feed departure.now }
+        ensures { OnOk result (AddsFound self.now.feed self.now.query latest.now departure.now.stop.0 departure.now.at.0 (IsBy self.now.feed departure.now) rides.old.items rides.new.items) }
+    {
+        let calls = self.calls_of(departure);
+        for to in departure.from + 1..calls.len() as u32 {
+            self.add_ride(latest, departure, to, &calls.at(to as usize), rides)?;
+        }
+        Ok(())
+    }
+
+    /// Appends the rides from the position that depart no earlier than one is there, end within the window and arrive at a stop
+    /// no later than the latest moment there: at none where that is none, and at any at a stop past their end. `lasts` says when
+    /// the last of them departs from each stop, so that no later ones are looked at.
+    ///
+    /// # Errors
+    /// Want of memory.
+    pub fn add_rides(
+        &self,
+        latest: &[Option<Moment>],
+        lasts: &[Option<Moment>],
+        reached: &Reached,
+        rides: &mut Vec<CaughtRide>,
+    ) -> Result<(), AllocError>
+        requires serves { Serves self.now.feed self.now.patterns reached.now.stop.0 reached.now.serving }
+        requires lasts { AreLastDepartures self.now.feed self.now.query latest.now lasts.now }
+        ensures { OnOk result (AddsFound self.now.feed self.now.query latest.now reached.now.stop.0 reached.now.earliest.0 (IsFromReached self.now reached.now) rides.old.items rides.new.items) }
+    {
+        let departures = Departures::since(
+            self.timetable,
+            self.patterns,
+            reached.stop,
+            &reached.serving,
+            reached.earliest,
+        );
+        for k in 0..departures.first_late(lasts, reached.stop) {
+            self.add_departure(latest, &departures.at(k), rides)?;
+        }
+        Ok(())
+    }
+}
