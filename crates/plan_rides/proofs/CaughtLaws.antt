@@ -1,9 +1,10 @@
--- What a ride is that is caught in time, and how lists of such rides grow.
-use Rattle.std.proofs.Common.{◌≡◌, refl, sym, ◌∙◌, ap, subst, ℕ, ◌<◌, ◌⊎◌, inl, inr, Bool, true, false, nat_lt, [], length, arith, ℤ, pos, ◌+ℤ◌, ◌≤ℤ◌}
+-- What a ride is that is caught in time.
+use Rattle.std.proofs.Common.{◌≡◌, refl, sym, ◌∙◌, ap, subst, ℕ, ◌<◌, ◌⊎◌, inl, inr, Bool, true, false, ◌&&◌, nat_lt, [], length, arith, ℤ, pos, ◌+ℤ◌, ◌≤ℤ◌}
 use Rattle.std.specs.Prelude.{◌==◌, if◌then◌else◌, Option, Some, None, slice_get, option_and_then, Contains, int_le}
 use Rattle.std.specs.List.{list_any}
 use Rattle.std.proofs.lemmas.Int.{ints}
 use Rattle.std.proofs.lemmas.Option.{cond_some}
+use Rattle.std.proofs.lemmas.Bool.{and_parts}
 use Rattle.std.proofs.lemmas.Bool.Decides.{nat_tests}
 use Rattle.transit_base.specs.Limits.{most_time}
 use Rattle.transit_base.specs.Moments.{moment_at}
@@ -29,7 +30,7 @@ use Rattle.feed_laws.proofs.ShiftLaws.{found_from_Contains}
 use Rattle.feed_laws.proofs.SoundTrips.{sound_trip}
 use Rattle.plan_rides.specs.declared.departures.Departure.{Departure}
 use Rattle.plan_rides.specs.Boarding.{Seeking, MayBoard}
-use Rattle.plan_rides.specs.Departures.{IsSpanned, IsDeparture, ride_to, facts_to}
+use Rattle.plan_rides.specs.Departures.{IsSpanned, IsDeparture, ride_to, facts_to, facts_in_time}
 use Rattle.plan_rides.specs.InTime.{next_in_time, if_in_time, deadline, IsWithinWindow}
 
 -- the stop of a number
@@ -88,6 +89,16 @@ facts_by feed d to call right later is = rw (is_ride_by feed d to call right lat
     step : (b : Bool) → (if b then Some (facts_between feed (ride_to d to) right.call call) else None) ≡ when b (facts_to d call)
     step true = ap Some same
     step false = refl
+
+-- so it has its facts
+pub caught_facts : (feed : FeedRows) (query : Query) (d : Departure) (to : ℕ) (call : Call) (facts : RideFacts) → IsDeparture feed d → d.from < to → slice_get (calls_of feed d.trip) to ≡ Some call →
+    facts_in_time query d call ≡ Some facts → ride_facts feed (ride_to d to) ≡ Some facts
+unfolding facts_in_time
+caught_facts feed query d to call facts right later is goes =
+    let got = cond_some (call.drop_off && int_le (facts_to d call).arrival.0 (deadline query)) (facts_to d call) facts goes in
+    let parts = and_parts _ _ got.0 in
+    let off : call.drop_off ≡ true = parts.0 in
+    facts_by feed d to call right later is ∙ rw off (ap Some got.1)
 
 -- where one stands after it is within the window too
 pub caught_within : (feed : FeedRows) (query : Query) (stand : Stand) (ride : Ride) (next : Stand) → IsSoundFeed feed → IsWithinWindow query stand.at → next_in_time feed query stand ride ≡ Some next → IsWithinWindow query next.at

@@ -6,6 +6,7 @@ use Rattle.std.proofs.lemmas.Option.{same_Some, none-some, slice_get_within, sli
 use Rattle.std.proofs.lemmas.Bool.{cases_lt, and_parts, both_ways}
 use Rattle.std.proofs.lemmas.List.Elements.{Contains-append_left, Contains-get_or, Contains-push, Contains-push_cases}
 use Rattle.transit_base.specs.declared.moments.Moment.{Moment}
+use Rattle.transit_base.specs.declared.numbers.StopId.{StopId}
 use Rattle.feed_rows.specs.declared.journeys.Call.{Call}
 use Rattle.feed_rows.specs.declared.journeys.Query.{Query}
 use Rattle.feed_rows.specs.declared.journeys.Ride.{Ride}
@@ -24,8 +25,8 @@ use Rattle.plan_rides.specs.declared.positions.Reached.{Reached}
 use Rattle.plan_rides.specs.Departures.{TakesServing, departure_with, AreSince, IsDeparture, IsFirstLate, IsFromStop, IsBy, IsByBefore, IsByTo, IsByAmong, ride_to, facts_to, facts_in_time}
 use Rattle.plan_rides.specs.InTime.{AreLastDepartures, HasCaught, HasRide, IsRight, IsWithinWindow, deadline, is_early, next_in_time}
 use Rattle.plan_rides.specs.Lasts.{IsEarlyRide}
-use Rattle.plan_rides.specs.Reached.{AddsFound, AddsReached, IsAny, IsFound, IsFromReached, IsReachedFrom, Positioned}
-use Rattle.plan_rides.proofs.CaughtLaws.{IsCaughtRide, caught_ride, facts_by, stop_id}
+use Rattle.plan_rides.specs.Reached.{AddsFound, AddsReached, HoldsFrom, IsAny, IsFound, IsFromReached, IsNoLater, IsReachedFrom, Positioned}
+use Rattle.plan_rides.proofs.CaughtLaws.{IsCaughtRide, caught_facts, caught_ride, facts_by, stop_id}
 use Rattle.plan_rides.proofs.LatestLaws.{caught_parts, early_past, no_lasts}
 use Rattle.plan_rides.proofs.DepartureLaws.{taken_stop}
 
@@ -136,9 +137,8 @@ module _ (feed : FeedRows) (query : Query) (latest : List (Option Moment)) (d : 
     found_at facts goes =
         let got = cond_some (call.drop_off && int_le (facts_to d call).arrival.0 (deadline query)) (facts_to d call) facts goes in
         let parts = and_parts _ _ got.0 in
-        let off : call.drop_off ≡ true = parts.0 in
         record {
-          goes = facts_by feed d to call right later is ∙ rw off (ap Some got.1);
+          goes = caught_facts feed query d to call facts right later is goes;
           boards = ap (λ (f : RideFacts). f.from.0) (sym got.1);
           since = subst (λ (f : RideFacts). d.at.0 ≤ℤ f.departure.0) got.1 (itself d.at.0);
           until = subst (λ (f : RideFacts). f.arrival.0 ≤ℤ deadline query) got.1 (int_le-true _ _ parts.1);
@@ -333,3 +333,37 @@ all_caught me stand number n list rides reach whole found ride next e =
 pub all_right : (me : Positioned) (stand : Stand) (n : ℕ) (list : List Reached) (rides : List CaughtRide) →
     HasFoundBelow me stand list n rides → All (IsRight me.feed me.query stand) rides
 all_right me stand n list rides found k x lt = found.right (get_or rides k x) (Contains-get_or rides k x lt)
+
+-- ---- rides that are kept
+
+-- those that were found
+pub holds_found : (me : Positioned) (latest : List (Option Moment)) (reached : Reached) (rides : List CaughtRide) →
+    AddsFound me.feed me.query latest reached.stop.0 reached.earliest.0 (IsFromReached me reached) [] rides →
+    HoldsFrom me latest reached rides
+holds_found me latest reached rides adds = record {
+  all = adds.all;
+  right = λ caught at since. ⊎_elim (λ none. let lt = none.1 in absurd (omega (arith, lt))) (λ own. own) (adds.right caught at);
+}
+
+-- they serve for those who get there later
+pub holds_later : (me : Positioned) (latest : List (Option Moment)) (one other : Reached) (rides : List CaughtRide) →
+    IsNoLater one other → HoldsFrom me latest one rides → HoldsFrom me latest other rides
+holds_later me latest one other rides no_later holds = record {
+  all = λ ride facts e from. holds.all ride facts e (record {
+    takes = subst (λ s. TakesServing me.patterns s ride) (sym no_later.serving) from.takes;
+    facts = from.facts;
+    goes = from.goes;
+    since = onward one.earliest.0 other.earliest.0 from.facts.departure.0 no_later.early from.since;
+  });
+  right = λ caught at since.
+      let found = holds.right caught at (onward one.earliest.0 other.earliest.0 caught.facts.departure.0 no_later.early since) in
+      record {
+        goes = found.goes;
+        boards = found.boards ∙ ap (λ (s : StopId). s.0) no_later.stop;
+        since = since;
+        until = found.until;
+      };
+}
+  where
+    onward : (x y z : ℤ) → x ≤ℤ y → y ≤ℤ z → x ≤ℤ z
+    onward x y z p q = omega (arith, ints)

@@ -72,3 +72,25 @@ pub record IsFromReached (me : Positioned) (reached : Reached) (ride : Ride) : T
   pub facts : RideFacts
   pub goes : ride_facts me.feed ride ≡ Some facts
   pub since : reached.earliest.0 ≤ℤ facts.departure.0
+
+-- it is the same position, and one gets there no later
+pub record IsNoLater (one other : Reached) : Type 0 where
+  pub serving : one.serving ≡ other.serving
+  pub stop : one.stop ≡ other.stop
+  pub early : one.earliest.0 ≤ℤ other.earliest.0
+
+-- among the rides are those from the position for whoever gets there, and of them all that depart no earlier are from there
+pub record HoldsFrom (me : Positioned) (latest : List (Option Moment)) (reached : Reached) (rides : List CaughtRide) : Type 0 where
+  pub all : (ride : Ride) (facts : RideFacts) → IsEarlyRide me.feed me.query latest ride facts → IsFromReached me reached ride →
+      HasRide rides ride
+  pub right : (caught : CaughtRide) → Contains rides caught → reached.earliest.0 ≤ℤ caught.facts.departure.0 →
+      IsFound me.feed me.query reached.stop.0 reached.earliest.0 caught
+
+-- positions, how late rides from them may arrive, and rides
+pub record Keeping : Type 0 where
+  pub positions : Positioned
+  pub latest : List (Option Moment)
+  pub rides : List CaughtRide
+
+abbrev pub keeping : Positioned → List (Option Moment) → List CaughtRide → Keeping
+keeping positions latest rides = record { positions = positions; latest = latest; rides = rides }

@@ -3,6 +3,7 @@
 
 mod caught;
 mod departures;
+mod kept;
 mod lasts;
 mod latest;
 mod positions;
@@ -12,5 +13,6 @@ mod servings;
 mod sought;
 
 pub use caught::CaughtRide;
+pub use kept::KeptRides;
 pub use positions::{Positions, Reached, Traveller};
 pub use rides::Rides;
