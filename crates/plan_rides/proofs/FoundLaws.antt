@@ -1,5 +1,5 @@
 -- The rides from a position since a moment, and how lists of them grow.
-use Rattle.std.proofs.Common.{◌≡◌, refl, sym, ◌∙◌, ap, subst, ℕ, ◌+◌, ◌<◌, ◌≤◌, ◌⊎◌, inl, inr, ⊎_elim, true, false, ◌&&◌, List, [], ◌∷◌, ◌++◌, length, get_or, arith, ℤ, pos, ◌+ℤ◌, ◌≤ℤ◌}
+use Rattle.std.proofs.Common.{◌≡◌, refl, sym, ◌∙◌, ap, subst, ℕ, ◌+◌, ◌<◌, ◌≤◌, ◌⊎◌, inl, inr, ⊎_elim, true, false, ◌&&◌, List, [], ◌∷◌, ◌++◌, length, get_or, arith, ℤ, pos, ◌+ℤ◌, ◌≤ℤ◌, ◌<ℤ◌}
 use Rattle.std.specs.Prelude.{Option, Some, None, slice_get, All, Contains, int_le}
 use Rattle.std.proofs.lemmas.Int.{ints}
 use Rattle.std.proofs.lemmas.Option.{same_Some, none-some, slice_get_within, slice_get-get_or, cond_some}
@@ -262,19 +262,16 @@ caught_wanted feed query latest stand ride next within early c =
     let parts = caught_parts feed query latest stand ride next within early c in
     record { is = c.is; since = parts.0; until = parts.1; early = parts.2 }
 
--- where it boards at a position that is reached, it is found there
-pub has_found : (me : Positioned) (latest : List (Option Moment)) (stand : Stand) (reached : Reached) (ride : Ride) (next : Stand)
-    (old new : List CaughtRide) → IsWithinWindow me.query stand.at → IsReachedFrom me stand reached →
-    next_in_time me.feed me.query stand ride ≡ Some next → is_early latest next.stop.0 next.at ≡ true →
-    TakesServing me.patterns reached.serving ride →
-    AddsFound me.feed me.query latest reached.stop.0 reached.earliest.0 (IsFromReached me reached) old new → HasRide new ride
-has_found me latest stand reached ride next old new within is e early takes adds =
-    adds.all ride c.facts (caught_wanted me.feed me.query latest stand ride next within early c)
-    (record { takes = takes; facts = c.facts; goes = c.is; since = met stand.at c.facts.departure.0 reached.earliest.0 c.way is.way c.catches is.at walked })
+-- where it boards at a position that is reached, it departs no earlier than one is there
+from_reached : (me : Positioned) (stand : Stand) (reached : Reached) (ride : Ride) (next : Stand) → IsReachedFrom me stand reached →
+    TakesServing me.patterns reached.serving ride → IsCaughtRide me.feed me.query stand ride next → IsFromReached me reached ride
+from_reached me stand reached ride next is takes c = record {
+  takes = takes;
+  facts = c.facts;
+  goes = c.is;
+  since = met stand.at c.facts.departure.0 reached.earliest.0 c.way is.way c.catches is.at walked;
+}
   where
-    c : IsCaughtRide me.feed me.query stand ride next
-    c = caught_ride me.feed me.query stand ride next e
-
     boards : c.facts.from ≡ reached.stop
     boards = ap stop_id (taken_stop me.feed me.patterns reached.stop.0 reached.serving ride c.facts is.serves takes c.is)
 
@@ -284,6 +281,17 @@ has_found me latest stand reached ride next old new within is e early takes adds
     met : (at departs earliest : ℤ) (walk way : ℕ) → (at +ℤ pos walk) ≤ℤ departs → earliest ≡ at +ℤ pos way → walk ≡ way →
         earliest ≤ℤ departs
     met at departs earliest walk way a b same = omega (arith, ints)
+
+-- so it is found there
+pub has_found : (me : Positioned) (latest : List (Option Moment)) (stand : Stand) (reached : Reached) (ride : Ride) (next : Stand)
+    (old new : List CaughtRide) → IsWithinWindow me.query stand.at → IsReachedFrom me stand reached →
+    next_in_time me.feed me.query stand ride ≡ Some next → is_early latest next.stop.0 next.at ≡ true →
+    TakesServing me.patterns reached.serving ride →
+    AddsFound me.feed me.query latest reached.stop.0 reached.earliest.0 (IsFromReached me reached) old new → HasRide new ride
+has_found me latest stand reached ride next old new within is e early takes adds =
+    let c = caught_ride me.feed me.query stand ride next e in
+    adds.all ride c.facts (caught_wanted me.feed me.query latest stand ride next within early c)
+    (from_reached me stand reached ride next is takes c)
 
 -- ---- all rides that are caught
 
@@ -336,13 +344,18 @@ all_right me stand n list rides found k x lt = found.right (get_or rides k x) (C
 
 -- ---- rides that are kept
 
+itself : (x : ℤ) → x ≤ℤ x
+itself x = omega (arith, ints)
+
 -- those that were found
 pub holds_found : (me : Positioned) (latest : List (Option Moment)) (reached : Reached) (rides : List CaughtRide) →
     AddsFound me.feed me.query latest reached.stop.0 reached.earliest.0 (IsFromReached me reached) [] rides →
     HoldsFrom me latest reached rides
 holds_found me latest reached rides adds = record {
   all = adds.all;
-  right = λ caught at since. ⊎_elim (λ none. let lt = none.1 in absurd (omega (arith, lt))) (λ own. own) (adds.right caught at);
+  right = λ caught at. ⊎_elim (λ none. let lt = none.1 in absurd (omega (arith, lt)))
+      (λ own. record { goes = own.goes; boards = own.boards; since = itself caught.facts.departure.0; until = own.until })
+      (adds.right caught at);
 }
 
 -- they serve for those who get there later
@@ -355,15 +368,62 @@ holds_later me latest one other rides no_later holds = record {
     goes = from.goes;
     since = onward one.earliest.0 other.earliest.0 from.facts.departure.0 no_later.early from.since;
   });
-  right = λ caught at since.
-      let found = holds.right caught at (onward one.earliest.0 other.earliest.0 caught.facts.departure.0 no_later.early since) in
+  right = λ caught at.
+      let found = holds.right caught at in
       record {
         goes = found.goes;
         boards = found.boards ∙ ap (λ (s : StopId). s.0) no_later.stop;
-        since = since;
+        since = found.since;
         until = found.until;
       };
 }
   where
     onward : (x y z : ℤ) → x ≤ℤ y → y ≤ℤ z → x ≤ℤ z
     onward x y z p q = omega (arith, ints)
+
+module _ (me : Positioned) (latest : List (Option Moment)) (stand : Stand) (reached : Reached) (rides : List CaughtRide)
+    (is : IsReachedFrom me stand reached) (holds : HoldsFrom me latest reached rides) where
+  -- of them each is caught from here that departs no earlier than one gets there
+  pub kept_right : (caught : CaughtRide) → Contains rides caught → reached.earliest.0 ≤ℤ caught.facts.departure.0 →
+      IsRight me.feed me.query stand caught
+  kept_right caught at since =
+      let found = holds.right caught at in
+      found_right me stand reached caught is
+      (record { goes = found.goes; boards = found.boards; since = since; until = found.until })
+
+  -- and none that departs earlier
+  pub kept_never : (caught : CaughtRide) (next : Stand) → Contains rides caught → caught.facts.departure.0 <ℤ reached.earliest.0 →
+      next_in_time me.feed me.query stand caught.ride ≡ Some next → ⊥
+  kept_never caught next at before e =
+      never stand.at c.facts.departure.0 caught.facts.departure.0 reached.earliest.0 c.way is.way c.catches is.at walked
+      (ap (λ (f : RideFacts). f.departure.0) same) before
+    where
+      found : IsFound me.feed me.query reached.stop.0 caught.facts.departure.0 caught
+      found = holds.right caught at
+
+      c : IsCaughtRide me.feed me.query stand caught.ride next
+      c = caught_ride me.feed me.query stand caught.ride next e
+
+      same : c.facts ≡ caught.facts
+      same = same_Some _ _ (sym c.is ∙ found.goes)
+
+      boards : c.facts.from ≡ reached.stop
+      boards = ap (λ (f : RideFacts). f.from) same ∙ ap stop_id found.boards
+
+      walked : c.way ≡ is.way
+      walked = same_Some _ _ (sym c.way_is ∙ ap (way_to me.feed me.query stand) boards ∙ is.way_is)
+
+      never : (from departs other earliest : ℤ) (walk way : ℕ) → (from +ℤ pos walk) ≤ℤ departs → earliest ≡ from +ℤ pos way →
+          walk ≡ way → departs ≡ other → other <ℤ earliest → ⊥
+      never from departs other earliest walk way a b same_way same_time lt = omega (arith, ints)
+
+  -- each that is caught from here and boards there is among them
+  pub has_kept : (ride : Ride) (next : Stand) → IsWithinWindow me.query stand.at →
+      next_in_time me.feed me.query stand ride ≡ Some next → is_early latest next.stop.0 next.at ≡ true →
+      TakesServing me.patterns reached.serving ride → HasRide rides ride
+  has_kept ride next within e early takes =
+      holds.all ride c.facts (caught_wanted me.feed me.query latest stand ride next within early c)
+      (from_reached me stand reached ride next is takes c)
+    where
+      c : IsCaughtRide me.feed me.query stand ride next
+      c = caught_ride me.feed me.query stand ride next e

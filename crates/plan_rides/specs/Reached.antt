@@ -79,12 +79,12 @@ pub record IsNoLater (one other : Reached) : Type 0 where
   pub stop : one.stop ≡ other.stop
   pub early : one.earliest.0 ≤ℤ other.earliest.0
 
--- among the rides are those from the position for whoever gets there, and of them all that depart no earlier are from there
+-- among the rides are those from the position for whoever gets there then; each boards at its stop, and arrives in time
 pub record HoldsFrom (me : Positioned) (latest : List (Option Moment)) (reached : Reached) (rides : List CaughtRide) : Type 0 where
   pub all : (ride : Ride) (facts : RideFacts) → IsEarlyRide me.feed me.query latest ride facts → IsFromReached me reached ride →
       HasRide rides ride
-  pub right : (caught : CaughtRide) → Contains rides caught → reached.earliest.0 ≤ℤ caught.facts.departure.0 →
-      IsFound me.feed me.query reached.stop.0 reached.earliest.0 caught
+  pub right : (caught : CaughtRide) → Contains rides caught →
+      IsFound me.feed me.query reached.stop.0 caught.facts.departure.0 caught
 
 -- positions, how late rides from them may arrive, and rides
 pub record Keeping : Type 0 where

@@ -9,6 +9,7 @@ pub mod MoveBounds
 pub mod MoveLaws
 pub mod ProspectLaws
 pub mod RideSteps
+pub mod ScanLaws
 pub mod SourceLaws
 pub mod SpreadLaws
 pub mod StopLaws

@@ -19,7 +19,7 @@ use Rattle.feed_rows.specs.Legs.{leg_facts}
 use Rattle.feed_rows.specs.PartialJourneys.{LabelFacts}
 use Rattle.feed_rows.specs.SoundFeed.{IsSoundFeed}
 use Rattle.plain_laws.proofs.Laws.{le-int_le, slice_get-Contains}
-use Rattle.plan_rides.specs.InTime.{IsRight, HasCaughtBy, HasRide, is_early}
+use Rattle.plan_rides.specs.InTime.{IsRight}
 use Rattle.plan_rounds.specs.Horizons.{IsFair}
 use Rattle.plan_rounds.specs.Prospects.{ProspectLists, latest_of}
 use Rattle.plan_rounds.specs.Searched.{Searched, Lacks}
@@ -135,29 +135,6 @@ module _ (feed : FeedRows) (query : Query) (source : Source) (rides : List Caugh
       (λ upper. let same : steps.0 ≡ k = omega (arith, below, upper) in
       inr (subst (λ (c : CaughtRide). StepsBy feed query (facts_of source.label.now) c.ride b)
       (same_Some _ _ (sym steps.3 ∙ ap (slice_get rides) same ∙ at)) steps.4)) (cases_lt steps.0 k)
-
-  -- a step whose ride is among them is by one of them
-  by_some : (n : ℕ) (b : LabelFacts) (to : StepsTo feed query (facts_of source.label.now) b) → HasRide rides to.0 → length rides ≤ n →
-      StepsByFirst feed query source rides n b
-  by_some n b to some all =
-      let at = slice_get-Contains rides some.0 some.1 in
-      let lt = slice_get_within rides at.0 some.0 at.1 in
-      (at.0, omega (arith, lt, all), some.0, at.1, (to.1, subst (λ (r : Ride). IsLabelStep feed query (facts_of source.label.now) r to.1 b) (sym some.2) to.2))
-
--- each step is by one of the rides that arrive early enough, or leads to what the search may lack
-pub steps_by : (task : Searched) (finals : List Final) (source : Source) (rides : List CaughtRide) (lists : ProspectLists) (more : ℕ) →
-    IsFair task finals source.label.now lists → source.label.now.rides + 1 + more ≡ task.query.rides →
-    HasCaughtBy task.feed task.query (latest_of lists more) (stand_of_label source.label.now) rides →
-    (b : LabelFacts) → StepsTo task.feed task.query (facts_of source.label.now) b →
-    StepsByFirst task.feed task.query source rides (length rides) b ⊎ Lacks task finals b
-steps_by task finals source rides lists more fair left has b to =
-    by (is_early (latest_of lists more) to.2.facts.to.0 to.2.facts.arrival.0) refl
-  where
-    by : (early : Bool) → is_early (latest_of lists more) to.2.facts.to.0 to.2.facts.arrival.0 ≡ early →
-        StepsByFirst task.feed task.query source rides (length rides) b ⊎ Lacks task finals b
-    by true early = inl (by_some task.feed task.query source rides (length rides) b to
-        (has to.0 (stand_at_end to.2.facts) (in_time_of task.feed task.query (facts_of source.label.now) to.0 to.2.facts to.2.rides) early) (omega arith))
-    by false late = inr (fair.rules more b to left late)
 
 -- what is by one of the first rides is by one of more
 pub by_first : (feed : FeedRows) (query : Query) (source : Source) (rides : List CaughtRide) (m n : ℕ) (b : LabelFacts) → m ≤ n →

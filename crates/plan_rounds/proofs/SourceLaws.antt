@@ -19,6 +19,7 @@ use Rattle.plan_rounds.specs.declared.label.Label.{Label}
 use Rattle.plan_rounds.specs.declared.search.Source.{Source}
 use Rattle.plan_rounds.specs.Kept.{IsKeptAt, whole_by}
 use Rattle.plan_rounds.specs.Labels.{IsBounded, facts_of, label_of, labels_of, stand_of_label}
+use Rattle.plan_rounds.specs.Scans.{AreOrigins, IsOrigin}
 use Rattle.plan_rounds.specs.Sources.{IsSource}
 use Rattle.plan_rounds.specs.Stores.{AreStored, StepsTo, StepsFrom, StepsFromFirst}
 
@@ -30,26 +31,29 @@ first_of feed query before x (inr next) none =
     let more = ap (λ (f : LabelFacts). f.rides) next.step.next in
     absurd (omega (arith, more, none))
 
--- a stored label that has fewer rides than the query's limit is a source
-pub source_is : (feed : FeedRows) (query : Query) (count : ℕ) (bags : List Label) (source : Source) → IsUsualQuery query →
-    count < query.rides → AreStored feed query (count + 1) source.labels.now bags →
-    slice_get source.labels.now source.number ≡ Some source.label.now → source.label.now.rides ≡ count → IsSource feed query source
-source_is feed query count bags source usual few stored at same = record {
-  is = at;
+-- a round goes on from a stored label that has fewer rides than the query's limit
+pub origin_is : (feed : FeedRows) (query : Query) (count : ℕ) (labels bags : List Label) → IsUsualQuery query →
+    count < query.rides → AreStored feed query (count + 1) labels bags → AreOrigins feed query count labels
+origin_is feed query count labels bags usual few stored number x at same = record {
   usual = usual;
   few = omega (arith, few, same);
-  bounded = All-slice_get IsBounded source.labels.now source.number source.label.now at stored.bounded;
-  within = All-slice_get (λ x. IsWithinWindow query x.arrival.0) source.labels.now source.number source.label.now at stored.within;
+  bounded = All-slice_get IsBounded labels number x at stored.bounded;
+  within = All-slice_get (λ y. IsWithinWindow query y.arrival.0) labels number x at stored.within;
   may = record {
     some = omega (arith, few);
-    one = λ one. first_of feed query (take source.number (labels_of source.labels.now)) source.label.now linked (omega (arith, one, few, same));
+    one = λ one. first_of feed query (take number (labels_of labels)) x linked (omega (arith, one, few, same));
   };
 }
   where
-    linked : IsLinked feed query (take source.number (labels_of source.labels.now)) (label_of source.label.now)
-    linked =
-        stored.linked source.number (label_of source.label.now)
-        (slice_get-map label_of source.labels.now source.number ∙ ap (option_map label_of) at)
+    linked : IsLinked feed query (take number (labels_of labels)) (label_of x)
+    linked = stored.linked number (label_of x) (slice_get-map label_of labels number ∙ ap (option_map label_of) at)
+
+-- it is a source with its number
+pub source_of : (feed : FeedRows) (query : Query) (source : Source) →
+    slice_get source.labels.now source.number ≡ Some source.label.now → IsOrigin feed query source.label.now →
+    IsSource feed query source
+source_of feed query source at is =
+    record { is = at; usual = is.usual; few = is.few; bounded = is.bounded; within = is.within; may = is.may }
 
 -- a label has the rides of what is kept of it
 pub rides_kept : (labels : List Label) (number : ℕ) (x : Label) (kept : KeptLabel) → slice_get labels number ≡ Some x →

@@ -9,6 +9,7 @@ pub mod LastMoves
 pub mod Labels
 pub mod Moves
 pub mod Prospects
+pub mod Scans
 pub mod Searched
 pub mod Sources
 pub mod Stores

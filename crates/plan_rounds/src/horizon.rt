@@ -1,6 +1,6 @@
 //! Beyond which moment a search needn't look for journeys, since one is found that costs no more.
 ghost use Rattle.std.specs.Prelude.{◌≡◌, Contains, IfOk, IfSome};
-ghost use Rattle.plan_rounds.specs.Horizons.{IsFair, IsHorizon, is_beyond};
+ghost use Rattle.plan_rounds.specs.Horizons.{IsHorizon, is_beyond};
 ghost use Rattle.plan_rounds.specs.Labels.{facts_of};
 ghost use Rattle.plan_rounds.specs.Sources.{IsSource};
 ghost use Rattle.plan_rounds.specs.declared.finals.Final.{Final};
@@ -14,7 +14,7 @@ use std::marker::Model;
 /// One of the finals, and the prospects of journeys that end no later. Contracts see both.
 pub struct Horizon {
     end: Final,
-    prospects: Prospects,
+    pub(crate) prospects: Prospects,
 }
 
 // Written out, so that what holds one needn't look into it to let go of it.
@@ -74,7 +74,7 @@ impl<'s, 'f> Search<'s, 'f> {
     }
 
     /// Whether the final of the horizon has no more rides than one more from the label makes, and costs no more than can follow.
-    fn is_beyond(&self, source: &Source, horizon: &Horizon) -> bool
+    pub(crate) fn is_beyond(&self, source: &Source, horizon: &Horizon) -> bool
         requires { IsSource self.now.feed self.now.query source.now }
         ensures { result ≡ is_beyond self.now source.now.label.now horizon.now }
     {
@@ -84,29 +84,5 @@ impl<'s, 'f> Search<'s, 'f> {
             source.label.rides + 1,
             self.least_end(source.label),
         )
-    }
-
-    /// The prospects that rides from the label are tried by.
-    pub(crate) fn prospects_for<'p>(
-        &'p self,
-        source: &Source,
-        finals: &[Final],
-        horizon: &'p Option<Horizon>,
-    ) -> &'p Prospects
-        requires source { IsSource self.now.feed self.now.query source.now }
-        requires horizon { IfSome horizon.now (IsHorizon self.now finals.now) }
-        ensures { IsFair self.now finals.now source.now.label.now result.now }
-    {
-        let _feed = self.feed();
-        match horizon {
-            Some(near) => {
-                if self.is_beyond(source, near) {
-                    &near.prospects
-                } else {
-                    self.prospects()
-                }
-            }
-            None => self.prospects(),
-        }
     }
 }

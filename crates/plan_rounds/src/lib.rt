@@ -15,6 +15,7 @@ mod move_table;
 mod moves;
 mod plan;
 mod prospects;
+mod scan;
 mod search;
 mod stop_bags;
 mod table;

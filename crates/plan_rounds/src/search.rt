@@ -28,6 +28,7 @@ use crate::label::Label;
 use crate::label_list::LabelList;
 use crate::moves::is_bettered;
 use crate::prospects::Prospects;
+use crate::scan::Round;
 use crate::stop_bags::StopBags;
 use fare_automaton::{Automaton, KnownOptions};
 use fare_timeframes::{Timeframes, blank_leg};
@@ -42,7 +43,7 @@ use transit_base::{Moment, StopId};
 /// A query over a timetable, with what is computed once for it. Contracts see the feed, the query, and whether the labels are to
 /// cover all partial journeys but those that a final outdoes, or those alone that matter for the answer.
 pub struct Search<'s, 'f> {
-    alloc: Global,
+    pub(crate) alloc: Global,
     rides: Rides<'s, 'f>,
     timeframes: Timeframes,
     /// The fares for the query's rider.
@@ -266,7 +267,7 @@ impl<'s, 'f> Search<'s, 'f> {
     }
 
     /// Offers what the ride leads to from the label.
-    fn offer_ride(
+    pub(crate) fn offer_ride(
         &self,
         source: &Source,
         finals: &[Final],
@@ -337,62 +338,12 @@ impl<'s, 'f> Search<'s, 'f> {
         &self.prospects
     }
 
-    /// Replaces what `rides` holds by the rides that are caught from the label, where the search may lack what leads to nothing
-    /// new by those of them behind which a journey can end early enough by the rides that are left.
-    fn find_rides(
-        &self,
-        source: &Source,
-        finals: &[Final],
-        horizon: &Option<Horizon>,
-        rides: &mut Vec<CaughtRide>,
-    ) -> Result<(), AllocError>
-        requires source { IsSource self.now.feed self.now.query source.now }
-        requires horizon { IfSome horizon.now (IsHorizon self.now finals.now) }
-        ensures all { OnOk result ((b : LabelFacts) → StepsTo self.now.feed self.now.query (facts_of source.now.label.now) b → StepsByFirst self.now.feed self.now.query source.now rides.new.items (length rides.new.items) b ⊎ Lacks self.now finals.now b) }
-        ensures right { OnOk result (All (IsRight self.now.feed self.now.query (stand_of_label source.now.label.now)) rides.new.items) }
-    {
-        let _feed = self.feed();
-        let more = usize::from(self.limit() - source.label.rides - 1);
-        let prospects = self.prospects_for(source, finals, horizon);
-        self.rides.next_by(
-            prospects.latest(more),
-            prospects.lasts(more),
-            source.label.standing(),
-            rides,
-        )
-    }
-
-    /// Offers what one more ride leads to from the label. What `rides` holds is lost.
-    fn offer_rides(
-        &self,
-        source: &Source,
-        finals: &[Final],
-        horizon: &Option<Horizon>,
-        rides: &mut Vec<CaughtRide>,
-        found: &mut Found<'_, 'f>,
-        bags: &mut StopBags,
-    ) -> Result<(), AllocError>
-        requires source { IsSource self.now.feed self.now.query source.now }
-        requires horizon { IfSome horizon.now (IsHorizon self.now finals.now) }
-        requires ended { HasEnds self.now.feed self.now.query source.now.labels.now finals.now }
-        requires fares { HasFares self.now found.old }
-        ensures fares { HasFares self.now found.new }
-        ensures spreads { OnOk result (SpreadsFrom self.now finals.now source.now (StepsTo self.now.feed self.now.query (facts_of source.now.label.now)) bags.old bags.new) }
-    {
-        self.find_rides(source, finals, horizon, rides)?;
-        for k in 0..rides.len() {
-            self.offer_ride(source, finals, &rides[k], found, bags)?;
-        }
-        Ok(())
-    }
-
-    /// Offers what one more ride leads to from the labels with so many rides. What `rides` holds is lost.
+    /// Offers what one more ride leads to from the labels with so many rides.
     fn spread(
         &self,
         labels: &LabelList,
         count: u8,
         finals: &[Final],
-        rides: &mut Vec<CaughtRide>,
         found: &mut Found<'_, 'f>,
         bags: &mut StopBags,
     ) -> Result<(), AllocError>
@@ -406,18 +357,15 @@ impl<'s, 'f> Search<'s, 'f> {
     {
         let _limit = self.limit();
         let horizon = self.horizon(finals)?;
-        for number in 0..labels.len() {
-            if labels.kept(number).rides == count {
-                let label = labels.get(number);
-                let source = Source {
-                    labels,
-                    number: number as u32,
-                    label: &label,
-                };
-                self.offer_rides(&source, finals, &horizon, rides, found, bags)?;
-            }
-        }
-        Ok(())
+        let positions = self.rides.positions();
+        let round = Round {
+            positions: &positions,
+            labels,
+            count,
+            finals,
+            horizon: &horizon,
+        };
+        self.scan(&round, found, bags)
     }
 
     /// Adds the labels that have so many rides, and what they end in.
@@ -462,7 +410,6 @@ impl<'s, 'f> Search<'s, 'f> {
         let mut labels = LabelList::empty(self.alloc);
         let mut front = Front::empty(self.alloc);
         self.gather(0, &bags, &mut labels, &mut front)?;
-        let mut rides = Vec::new(self.alloc);
         let mut found = Found {
             known: KnownOptions::of(self.alloc, &self.automaton),
             leg: blank_leg(self.alloc),
@@ -470,14 +417,7 @@ impl<'s, 'f> Search<'s, 'f> {
             moves: Vec::new(self.alloc),
         };
         for count in 0..limit {
-            self.spread(
-                &labels,
-                count,
-                front.items(),
-                &mut rides,
-                &mut found,
-                &mut bags,
-            )?;
+            self.spread(&labels, count, front.items(), &mut found, &mut bags)?;
             self.gather(count + 1, &bags, &mut labels, &mut front)?;
         }
         Ok((labels, front))

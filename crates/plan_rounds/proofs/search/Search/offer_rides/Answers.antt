@@ -1,40 +1,66 @@
-use Rattle.std.proofs.Common.{refl, sym, subst, arith, length, ◌<◌, ◌≤◌, ⊎_elim, inl, inr}
-use Rattle.std.proofs.lemmas.Option.{slice_get_read}
+use Rattle.std.proofs.Common.{◌≡◌, ◌<◌, ◌≤◌, length, refl, sym, ◌∙◌, subst, arith, pos, ⊎_elim, inl, inr, slice_index_or}
+use Rattle.std.specs.Prelude.{None, Some, slice_get}
+use Rattle.std.proofs.lemmas.List.Elements.{Contains-get_or}
+use Rattle.std.proofs.lemmas.Option.{slice_get-get_or}
+use Rattle.plan_rides.specs.Reached.{HoldsFrom}
+use Rattle.plan_rides.specs.declared.caught.CaughtRide.{CaughtRide}
 use Rattle.plan_rounds.specs.Searched.{Lacks}
-use Rattle.plan_rides.specs.InTime.{IsRight}
-use Rattle.plan_rounds.specs.Labels.{stand_of_label}
-use Rattle.plan_rounds.proofs.RideSteps.{rides_more, by_first}
-use Rattle.plan_rounds.proofs.SpreadLaws.{spreads_more, spreads_but}
+use Rattle.plan_rounds.proofs.RideSteps.{by_first, rides_more}
+use Rattle.plan_rounds.proofs.ScanLaws.{by_passed, right_from, steps_from}
+use Rattle.plan_rounds.proofs.SpreadLaws.{spreads_but, spreads_more, spreads_same}
 use Rattle.plan_rounds.proofs.search.Search.offer_rides.Goals as goal
+use Rattle.plan_rounds.proofs.search.Search.offer_rides.Goals.{then-departs_since+in_ok-offer_ride, else-departs_since}
+
+abbrev none : CaughtRide
+none =
+    record {
+      ride = record { trip = record { 0 = 0 }; day = record { 0 = pos 0 }; shift = pos 0; from = 0; to = 0 };
+      facts = record { from = record { 0 = 0 }; to = record { 0 = 0 }; network = None; departure = record { 0 = pos 0 }; arrival = record { 0 = pos 0 } };
+    }
 
 pub offer_ride-requires-clause-right : goal.offer_ride-requires-clause-right
 offer_ride-requires-clause-right c =
-    let rides = c.find_rides.new.rides in
-    let lt : c.loop-k.k < length rides.items = omega (arith, c.loop-k-test.true, c.len-k-end.ensures, rides.ok.0) in
-    subst (IsRight c.args.self.now.feed c.args.self.now.query (stand_of_label c.args.source.now.label.now)) (sym c.index.ensures)
-    (c.in_ok-find_rides.ensures.right c.loop-k.k c.index.result.now lt)
+    let rides = c.rides-rides.result.now in
+    let kept = c.args.kept.now in
+    let holds = subst (HoldsFrom c.args.round.now.positions.now kept.latest c.args.reached.now) (sym c.rides-rides.ensures) c.requires.holds in
+    right_from c.args.self.now c.args.round.now c.args.source.now c.args.reached.now kept.latest rides c.requires.round c.requires.source
+    c.requires.from holds (slice_index_or rides c.loop-k.k none) (Contains-get_or rides c.loop-k.k none c.loop-k-test.true) (sym c.departs_since.ensures ∙ c.if-departs_since.true)
 
 pub loop-k-preserved : goal.loop-k-preserved
 loop-k-preserved c =
-    let feed = c.args.self.now.feed in
-    let query = c.args.self.now.query in
+    let me = c.args.self.now in
     let source = c.args.source.now in
-    let rides = c.find_rides.new.rides in
-    let lt : c.loop-k.k < length rides.items = omega (arith, c.loop-k-test.true, c.len-k-end.ensures, rides.ok.0) in
-    let at = slice_get_read rides.items (length rides.items) c.loop-k.k c.index.result.now refl lt c.index.ensures in
-    record {
-      spreads = spreads_more feed query (Lacks c.args.self.now c.args.finals.now) source.labels.now _ _ _ _ _ _ _ c.loop-k.invariant.spreads c.in_ok-offer_ride.ensures.spreads
-          (λ b. rides_more feed query source rides.items c.loop-k.k c.index.result.now b at);
-      fares = c.in_ok-offer_ride.ensures.fares;
-    }
+    let rides = c.rides-rides.result.now in
+    let kept = c.args.kept.now in
+    let k = c.loop-k.k in
+    let was = c.loop-k.invariant in
+    let lack = Lacks me c.args.round.now.finals.now in
+    let holds = subst (HoldsFrom c.args.round.now.positions.now kept.latest c.args.reached.now) (sym c.rides-rides.ensures) c.requires.holds in
+    let at = slice_get-get_or rides k none c.loop-k-test.true in
+    elim c.if-departs_since.branch [
+      | then-departs_since+in_ok-offer_ride w ↦
+          record {
+            spreads = rw w.bags-is (spreads_more me.feed me.query lack source.labels.now _ _ _ _ _ _ _ was.spreads w.in_ok-offer_ride.ensures.spreads
+                (λ b. rides_more me.feed me.query source rides k (slice_index_or rides k none) b at));
+            fares = rw w.found-is w.in_ok-offer_ride.ensures.fares;
+          }
+      | else-departs_since w ↦
+          record {
+            spreads = rw w.bags-is (spreads_same me.feed me.query lack source.labels.now _ _ _ _ _ was.spreads
+                (λ b. by_passed me c.args.round.now source c.args.reached.now kept.latest rides c.requires.round c.requires.source
+                c.requires.from holds k (slice_index_or rides k none) b at (sym c.departs_since.ensures ∙ w.if-departs_since.false)));
+            fares = rw w.found-is was.fares;
+          }
+    ]
 
 pub returns-clause-spreads : goal.returns-clause-spreads
 returns-clause-spreads c =
-    let feed = c.args.self.now.feed in
-    let query = c.args.self.now.query in
+    let me = c.args.self.now in
     let source = c.args.source.now in
-    let rides = c.find_rides.new.rides in
-    let all : length rides.items ≤ c.loop-k.k = omega (arith, c.loop-k-test.false, c.len-k-end.ensures, rides.ok.0) in
-    spreads_but feed query (Lacks c.args.self.now c.args.finals.now) source.labels.now _ _ _ _ _ c.loop-k.invariant.spreads
-    (λ b to. ⊎_elim (λ by. inl (by_first feed query source rides.items (length rides.items) c.loop-k.k b all by))
-    inr (c.in_ok-find_rides.ensures.all b to))
+    let rides = c.rides-rides.result.now in
+    let kept = c.args.kept.now in
+    let holds = subst (HoldsFrom c.args.round.now.positions.now kept.latest c.args.reached.now) (sym c.rides-rides.ensures) c.requires.holds in
+    spreads_but me.feed me.query (Lacks me c.args.round.now.finals.now) source.labels.now _ _ _ _ _ c.loop-k.invariant.spreads
+    (λ b step. ⊎_elim (λ by. inl (by_first me.feed me.query source rides (length rides) c.loop-k.k b c.loop-k-test.false by)) inr
+    (steps_from me c.args.round.now source c.args.reached.now kept.latest rides c.requires.round c.requires.source c.requires.from holds b
+    c.requires.counts c.requires.fair step))

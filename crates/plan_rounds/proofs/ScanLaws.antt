@@ -1,0 +1,254 @@
+-- What the positions are that labels reach, and what is offered of the rides from them.
+use Rattle.std.proofs.Common.{◌≡◌, refl, sym, ◌∙◌, ap, subst, ℕ, ◌+◌, ◌<◌, ◌≤◌, ◌⊎◌, inl, inr, ⊎_elim, Bool, true, false, List, [], ◌∷◌, ◌++◌, length, arith, ℤ, ◌≤ℤ◌, ◌<ℤ◌}
+use Rattle.std.specs.Prelude.{Option, Some, slice_get, Contains, IfSome, IsPermutation, int_le}
+use Rattle.std.proofs.lemmas.Bool.{cases_lt}
+use Rattle.std.proofs.lemmas.Int.{ints}
+use Rattle.std.proofs.lemmas.List.{length_push}
+use Rattle.std.proofs.lemmas.List.Elements.{Contains-get_or}
+use Rattle.std.proofs.lemmas.List.Sorted.{Contains-permutation, IsPermutation-sym}
+use Rattle.std.proofs.lemmas.Option.{same_Some, slice_get_within, slice_get-get_or}
+use Rattle.transit_base.specs.declared.moments.Moment.{Moment}
+use Rattle.feed_rows.specs.declared.journeys.Query.{Query}
+use Rattle.feed_rows.specs.declared.journeys.Ride.{Ride}
+use Rattle.feed_rows.specs.FeedRows.{FeedRows}
+use Rattle.feed_rows.specs.JourneyStands.{Stand, stand_at_end}
+use Rattle.feed_rows.specs.PartialJourneys.{LabelFacts}
+use Rattle.plain_laws.proofs.Laws.{int_le-true, slice_get-Contains, slice_get-push_before, slice_get-push_last}
+use Rattle.plan_rides.specs.declared.caught.CaughtRide.{CaughtRide}
+use Rattle.plan_rides.specs.declared.positions.Reached.{Reached}
+use Rattle.plan_rides.specs.Departures.{TakesServing}
+use Rattle.plan_rides.specs.InTime.{AreLastDepartures, HasRide, IsRight, IsWithinWindow, is_early, next_in_time}
+use Rattle.plan_rides.specs.Reached.{AddsReached, HoldsFrom, IsAny, IsReachedFrom, Positioned}
+use Rattle.plan_rides.proofs.FoundLaws.{has_kept, kept_never, kept_right}
+use Rattle.round_laws.specs.LabelSteps.{IsLabelStep}
+use Rattle.plan_rounds.specs.declared.label.Label.{Label}
+use Rattle.plan_rounds.specs.declared.scan.Round.{Round}
+use Rattle.plan_rounds.specs.declared.search.Source.{Source}
+use Rattle.plan_rounds.specs.Horizons.{IsFair}
+use Rattle.plan_rounds.specs.Labels.{facts_of, stand_of_label}
+use Rattle.plan_rounds.specs.Prospects.{ProspectLists, latest_of, lasts_of}
+use Rattle.plan_rounds.specs.Scans.{AddsMarks, AreFairFor, AreReached, HasLasts, IsFairIn, IsMarked, IsNear, IsRound, StepsAmong, StepsAt, StepsAtFirst, StepsFromPosition}
+use Rattle.plan_rounds.specs.Searched.{Searched, Lacks}
+use Rattle.plan_rounds.specs.Sources.{IsSource, StepsByFirst}
+use Rattle.plan_rounds.specs.Stores.{StepsBy, StepsFromFirst, StepsTo}
+use Rattle.plan_rounds.proofs.ProspectLaws.{in_time_of}
+use Rattle.plan_rounds.proofs.SourceLaws.{from_more, from_only}
+
+-- a ride of a step is caught in time, also where the positions are of the same feed and query
+step_caught : (task : Searched) (me : Positioned) (x : Label) (b : LabelFacts) → me.feed ≡ task.feed → me.query ≡ task.query →
+    (to : StepsTo task.feed task.query (facts_of x) b) →
+    next_in_time me.feed me.query (stand_of_label x) to.0 ≡ Some (stand_at_end to.2.facts)
+step_caught task me x b feed query to =
+    subst (λ f. next_in_time f me.query (stand_of_label x) to.0 ≡ Some (stand_at_end to.2.facts)) (sym feed)
+    (subst (λ q. next_in_time task.feed q (stand_of_label x) to.0 ≡ Some (stand_at_end to.2.facts)) (sym query)
+    (in_time_of task.feed task.query (facts_of x) to.0 to.2.facts to.2.rides))
+
+-- ---- prospects
+
+-- the prospects are fair to the labels with so many rides, of which they are near where only such are meant
+abbrev pub AreFairIn : Searched → Round → Bool → List (Option Moment) → Type 0
+AreFairIn task round near latest =
+    (number : ℕ) (x : Label) → slice_get round.labels.now number ≡ Some x → x.rides ≡ round.count →
+    (near ≡ true → IsNear task round.horizon.now x) → IsFairIn task round x latest
+
+pub fair_in : (task : Searched) (round : Round) (near : Bool) (lists : ProspectLists) (more : ℕ) (latest : List (Option Moment)) →
+    IsRound task round → AreFairFor task round.horizon.now near lists → round.count + 1 + more ≡ task.query.rides →
+    latest ≡ latest_of lists more → AreFairIn task round near latest
+fair_in task round near lists more latest is fair left same number x at counts own b to again late =
+    (fair round.finals.now is.horizon x (is.origins number x at counts).within own).rules more b to (omega (arith, left, counts))
+    (subst (λ l. is_early l to.2.facts.to.0 to.2.facts.arrival.0 ≡ false) same late)
+
+pub lasts_in : (task : Searched) (round : Round) (lists : ProspectLists) (more : ℕ) (latest lasts : List (Option Moment)) →
+    IsRound task round → HasLasts task round.horizon.now lists → latest ≡ latest_of lists more → lasts ≡ lasts_of lists more →
+    AreLastDepartures round.positions.now.feed round.positions.now.query latest lasts
+lasts_in task round lists more latest lasts is has one other =
+    subst (λ l. AreLastDepartures round.positions.now.feed round.positions.now.query l lasts) (sym one)
+    (subst (λ l. AreLastDepartures round.positions.now.feed round.positions.now.query (latest_of lists more) l) (sym other)
+    (subst (λ f. AreLastDepartures f round.positions.now.query (latest_of lists more) (lasts_of lists more)) (sym is.feed)
+    (subst (λ q. AreLastDepartures task.feed q (latest_of lists more) (lasts_of lists more)) (sym is.query)
+    (has round.finals.now is.horizon more))))
+
+-- ---- the positions that a label reaches
+
+-- what was reached leads to each step, but for those behind which nothing may be lacking
+pub marks_of : (task : Searched) (round : Round) (source : Source) (lists : ProspectLists) (more : ℕ) (old new : List Reached) →
+    IsRound task round → IsFair task round.finals.now source.label.now lists →
+    source.label.now.rides + 1 + more ≡ task.query.rides →
+    AddsReached round.positions.now (lasts_of lists more) (stand_of_label source.label.now) source.number IsAny old new →
+    AddsMarks task round source old new
+marks_of task round source lists more old new is fair left adds = record {
+  still = adds.still;
+  all = λ b to. by b to (is_early (latest_of lists more) to.2.facts.to.0 to.2.facts.arrival.0) refl;
+  right = adds.right;
+}
+  where
+    me : Positioned
+    me = round.positions.now
+
+    last : AreLastDepartures me.feed me.query (latest_of lists more) (lasts_of lists more)
+    last = subst (λ f. AreLastDepartures f me.query (latest_of lists more) (lasts_of lists more)) (sym is.feed)
+        (subst (λ q. AreLastDepartures task.feed q (latest_of lists more) (lasts_of lists more)) (sym is.query) (fair.lasts more))
+
+    by : (b : LabelFacts) (to : StepsTo task.feed task.query (facts_of source.label.now) b) (early : Bool) →
+        is_early (latest_of lists more) to.2.facts.to.0 to.2.facts.arrival.0 ≡ early →
+        ((reached : Reached) × Contains new reached × (reached.number ≡ source.number) × StepsAt task me source.label.now reached b)
+        ⊎ Lacks task round.finals.now b
+    by b to true early =
+        let has = adds.all (latest_of lists more) last to.0 (stand_at_end to.2.facts)
+        (step_caught task me source.label.now b is.feed is.query to) early tt in
+        inl (has.0, has.1, has.2, (to, has.3))
+    by b to false late = inr (fair.rules more b to left late)
+
+-- ---- the positions that all labels reach
+
+module _ (task : Searched) (round : Round) where
+  -- none yet
+  pub none_reached : AreReached task round 0 []
+  none_reached = record {
+    all = λ b steps. let below = steps.1 in absurd (omega (arith, below));
+    right = λ reached at. let lt = at.1 in absurd (omega (arith, lt));
+  }
+
+  -- those of one label more
+  pub label_reached : (source : Source) (k : ℕ) (old new : List Reached) → source.number ≡ k →
+      slice_get round.labels.now k ≡ Some source.label.now → source.label.now.rides ≡ round.count →
+      AreReached task round k old → AddsMarks task round source old new → AreReached task round (k + 1) new
+  label_reached source k old new numbered at counts before adds = record {
+    all = λ b steps. ⊎_elim
+        (λ lower. ⊎_elim (λ among. inl (among.0, adds.still among.0 among.1, among.2)) inr (before.all b lower))
+        (λ to. ⊎_elim
+        (λ has. inl (has.0, has.1, (source.label.now, ap (slice_get round.labels.now) (has.2 ∙ numbered) ∙ at, has.3)))
+        inr (adds.all b to))
+        (from_more task.feed task.query round.labels.now round.count k source.label.now b at steps);
+    right = λ reached has. ⊎_elim (before.right reached)
+        (λ own. record {
+          label = source.label.now;
+          is = ap (slice_get round.labels.now) (own.0 ∙ numbered) ∙ at;
+          counts = counts;
+          from = own.1;
+        })
+        (adds.right reached has);
+  }
+
+  -- or of one that is of another round
+  pub label_passed : (k : ℕ) (x : Label) (list : List Reached) → slice_get round.labels.now k ≡ Some x →
+      (x.rides ≡ round.count → ⊥) → AreReached task round k list → AreReached task round (k + 1) list
+  label_passed k x list at differs before = record {
+    all = λ b steps. before.all b (from_only task.feed task.query round.labels.now round.count k x b at differs steps);
+    right = before.right;
+  }
+
+  -- in another order
+  pub reached_moved : (n : ℕ) (old new : List Reached) → IsPermutation old new → AreReached task round n old →
+      AreReached task round n new
+  reached_moved n old new moved before = record {
+    all = λ b steps. ⊎_elim (λ among. inl (among.0, Contains-permutation old new among.0 moved among.1, among.2)) inr (before.all b steps);
+    right = λ reached at. before.right reached (Contains-permutation new old reached (IsPermutation-sym old new moved) at);
+  }
+
+  -- the labels that are near, of the first n
+  abbrev pub AreNear : List Bool → Type 0
+  AreNear near =
+      (number : ℕ) (x : Label) → slice_get round.labels.now number ≡ Some x → slice_get near number ≡ Some true →
+      IsNear task round.horizon.now x
+
+  pub near_none : AreNear []
+  near_none number x at is = let lt = slice_get_within [] number true is in absurd (omega (arith, lt))
+
+  -- one label more
+  pub near_more : (near : List Bool) (k : ℕ) (flag : Bool) (y : Label) → length near ≡ k → slice_get round.labels.now k ≡ Some y →
+      (flag ≡ true → IsNear task round.horizon.now y) → AreNear near → AreNear (near ++ flag ∷ [])
+  near_more near k flag y many at own before number x is marked =
+      let lt = slice_get_within (near ++ flag ∷ []) number true marked in
+      let long = length_push near flag in
+      ⊎_elim
+      (λ (lower : number < k). before number x is (sym (slice_get-push_before near flag number (subst (λ n. number < n) (sym many) lower)) ∙ marked))
+      (λ (upper : k ≤ number).
+      let same : number ≡ k = omega (arith, lt, long, many, upper) in
+      subst (IsNear task round.horizon.now) (same_Some _ _ (sym at ∙ ap (slice_get round.labels.now) (sym same) ∙ is))
+      (own (same_Some _ _ (sym (slice_get-push_last near flag number (same ∙ sym many)) ∙ marked))))
+      (cases_lt number k)
+
+  -- ---- the steps by one position after another
+
+  pub steps_none : (list : List Reached) (b : LabelFacts) → StepsAtFirst task round list 0 b → ⊥
+  steps_none list b steps = let below = steps.1 in omega (arith, below)
+
+  pub steps_more : (list : List Reached) (k : ℕ) (x : Reached) (b : LabelFacts) → slice_get list k ≡ Some x →
+      StepsAtFirst task round list (k + 1) b → StepsAtFirst task round list k b ⊎ StepsFromPosition task round x b
+  steps_more list k x b at steps =
+      let below = steps.1 in
+      ⊎_elim (λ lower. inl (steps.0, lower, steps.2, steps.3, steps.4))
+      (λ upper. let same : steps.0 ≡ k = omega (arith, below, upper) in
+      inr (subst (λ (y : Reached). StepsFromPosition task round y b) (same_Some _ _ (sym steps.3 ∙ ap (slice_get list) same ∙ at)) steps.4))
+      (cases_lt steps.0 k)
+
+  pub steps_all : (list : List Reached) (n : ℕ) (b : LabelFacts) → length list ≤ n → StepsAmong task round list b →
+      StepsAtFirst task round list n b
+  steps_all list n b whole among =
+      let at = slice_get-Contains list among.0 among.1 in
+      let lt = slice_get_within list at.0 among.0 at.1 in
+      (at.0, omega (arith, lt, whole), among.0, at.1, among.2)
+
+-- ---- the rides from a position
+
+module _ (task : Searched) (round : Round) (source : Source) (reached : Reached) (latest : List (Option Moment))
+    (rides : List CaughtRide) (is : IsRound task round) (own : IsSource task.feed task.query source)
+    (from : IsReachedFrom round.positions.now (stand_of_label source.label.now) reached)
+    (holds : HoldsFrom round.positions.now latest reached rides) where
+  abbrev me : Positioned
+  me = round.positions.now
+
+  abbrev stand : Stand
+  stand = stand_of_label source.label.now
+
+  -- one that departs no earlier than one gets there is caught
+  pub right_from : (caught : CaughtRide) → Contains rides caught → int_le reached.earliest.0 caught.facts.departure.0 ≡ true →
+      IsRight task.feed task.query stand caught
+  right_from caught at since =
+      subst (λ q. IsRight task.feed q stand caught) is.query
+      (subst (λ f. IsRight f me.query stand caught) is.feed
+      (kept_right me latest stand reached rides from holds caught at (int_le-true _ _ since)))
+
+  -- one that departs earlier leads nowhere
+  pub by_passed : (k : ℕ) (caught : CaughtRide) (b : LabelFacts) → slice_get rides k ≡ Some caught →
+      int_le reached.earliest.0 caught.facts.departure.0 ≡ false → StepsByFirst task.feed task.query source rides (k + 1) b →
+      StepsByFirst task.feed task.query source rides k b
+  by_passed k caught b at before steps =
+      let below = steps.1 in
+      ⊎_elim (λ lower. (steps.0, lower, steps.2, steps.3, steps.4))
+      (λ upper.
+      let same : steps.0 ≡ k = omega (arith, below, upper) in
+      let by = subst (λ (c : CaughtRide). StepsBy task.feed task.query (facts_of source.label.now) c.ride b)
+      (same_Some _ _ (sym steps.3 ∙ ap (slice_get rides) same ∙ at)) steps.4 in
+      let has = slice_get-Contains-back k caught at in
+      absurd (kept_never me latest stand reached rides from holds caught _ has (earlier reached.earliest.0 caught.facts.departure.0 before)
+      (step_caught task me source.label.now b is.feed is.query (caught.ride, by.0, by.1))))
+      (cases_lt steps.0 k)
+    where
+      earlier : (y z : ℤ) → int_le y z ≡ false → z <ℤ y
+      earlier y z is = grind (arith, ints, is)
+
+      slice_get-Contains-back : (i : ℕ) (x : CaughtRide) → slice_get rides i ≡ Some x → Contains rides x
+      slice_get-Contains-back i x got =
+          let lt = slice_get_within rides i x got in
+          (i, lt, same_Some _ _ (sym (slice_get-get_or rides i x lt) ∙ got))
+
+  -- each step by a ride from there is by one of them, or leads to what the search may lack
+  pub steps_from : (b : LabelFacts) → source.label.now.rides ≡ round.count → IsFairIn task round source.label.now latest →
+      StepsAt task me source.label.now reached b →
+      StepsByFirst task.feed task.query source rides (length rides) b ⊎ Lacks task round.finals.now b
+  steps_from b counts fair step = by (is_early latest step.0.2.facts.to.0 step.0.2.facts.arrival.0) refl
+    where
+      within : IsWithinWindow me.query stand.at
+      within = subst (λ q. IsWithinWindow q stand.at) (sym is.query) own.within
+
+      by : (early : Bool) → is_early latest step.0.2.facts.to.0 step.0.2.facts.arrival.0 ≡ early →
+          StepsByFirst task.feed task.query source rides (length rides) b ⊎ Lacks task round.finals.now b
+      by true early =
+          let some = has_kept me latest stand reached rides from holds step.0.0 (stand_at_end step.0.2.facts) within
+          (step_caught task me source.label.now b is.feed is.query step.0) early step.1 in
+          let at = slice_get-Contains rides some.0 some.1 in
+          let lt = slice_get_within rides at.0 some.0 at.1 in
+          inl (at.0, lt, some.0, at.1, (step.0.1, subst (λ (r : Ride). IsLabelStep task.feed task.query (facts_of source.label.now) r step.0.1 b) (sym some.2) step.0.2))
+      by false late = inr (fair b step.0 counts late)

@@ -1,0 +1,8 @@
+use Rattle.std.proofs.Common.{rules}
+use Rattle.std.proofs.lemmas.List.Sorted.{IsNonDecreasingBy-from_sort_by_key}
+use Rattle.plan_rounds.specs.Scans.{place_of}
+use Rattle.plan_rounds.proofs.scan.put_in_order.Goals as goal
+
+pub returns-clause-rises : goal.returns-clause-rises
+returns-clause-rises c =
+    IsNonDecreasingBy-from_sort_by_key (λ reached. place_of reached) _ c.sort_unstable_by_key.ensures.sorted (λ a r q k. search rules)

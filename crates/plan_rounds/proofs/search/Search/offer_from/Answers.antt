@@ -1,0 +1,36 @@
+use Rattle.std.proofs.Common.{◌≡◌, ◌+◌, ◌∙◌, ap, subst, sym, false}
+use Rattle.std.proofs.lemmas.Option.{same_Some}
+use Rattle.std.proofs.lemmas.Result.{on_ok_weaker}
+use Rattle.plan_rides.specs.InTime.{is_early}
+use Rattle.plan_rounds.specs.Scans.{StepsAt}
+use Rattle.plan_rounds.specs.Searched.{Lacks}
+use Rattle.plan_rounds.specs.declared.label.Label.{Label}
+use Rattle.plan_rounds.proofs.SourceLaws.{source_of}
+use Rattle.plan_rounds.proofs.SpreadLaws.{spreads_at, spreads_same}
+use Rattle.plan_rounds.proofs.search.Search.offer_from.Goals as goal
+
+pub offer_rides-requires-clause-source : goal.offer_rides-requires-clause-source
+offer_rides-requires-clause-source c =
+    let marked = c.requires.marked in
+    let same = same_Some c.get-label.result marked.label (sym c.get-label.ensures ∙ marked.is) in
+    source_of _ _ _ c.get-label.ensures
+    (c.requires.round.origins c.args.reached.now.number _ c.get-label.ensures (ap (λ (x : Label). x.rides) same ∙ marked.counts))
+
+pub offer_rides-requires-clause-fair : goal.offer_rides-requires-clause-fair
+offer_rides-requires-clause-fair c b to counts late =
+    c.requires.fair c.get-label.result c.get-label.ensures b to counts
+    (subst (λ l. is_early l to.2.facts.to.0 to.2.facts.arrival.0 ≡ false) c.in_ok-keep.ensures.latest late)
+
+pub returns-clause-spreads : goal.returns-clause-spreads
+returns-clause-spreads c =
+    let me = c.args.self.now in
+    let round = c.args.round.now in
+    let marked = c.requires.marked in
+    let same = same_Some c.get-label.result marked.label (sym c.get-label.ensures ∙ marked.is) in
+    let counts = ap (λ (x : Label). x.rides) same ∙ marked.counts in
+    on_ok_weaker c.offer_rides.result
+    (λ spreads. spreads_same me.feed me.query (Lacks me round.finals.now) round.labels.now (round.count + 1) _ _ _ _
+    (spreads_at me.feed me.query (Lacks me round.finals.now) round.labels.now _ _ _ _ _ counts spreads)
+    (λ b step. subst (λ (x : Label). StepsAt me round.positions.now x c.args.reached.now b)
+    (same_Some step.0 c.get-label.result (sym step.1 ∙ c.get-label.ensures)) step.2))
+    c.offer_rides.ensures.spreads

@@ -1,0 +1,111 @@
+use Rattle.std.proofs.Common.{◌≡◌, ◌∙◌, ◌+◌, ◌<◌, ◌≤◌, ap, arith, length, refl, subst, sym, true, false, ⊎_elim, inl, inr}
+use Rattle.std.specs.Prelude.{Some, slice_get}
+use Rattle.std.proofs.lemmas.List.Elements.{Contains-get_or}
+use Rattle.std.proofs.lemmas.Option.{slice_get_read, slice_get_within}
+use Rattle.plan_rides.specs.Reached.{Keeping}
+use Rattle.plan_rounds.specs.Scans.{IsMarked, StepsAtFirst}
+use Rattle.plan_rounds.specs.Searched.{Lacks}
+use Rattle.plan_rounds.proofs.ScanLaws.{AreFairIn, fair_in, lasts_in, steps_all, steps_more, steps_none}
+use Rattle.plan_rounds.proofs.SourceLaws.{from_all}
+use Rattle.plan_rounds.proofs.SpreadLaws.{spreads_but, spreads_more, spreads_none}
+use Rattle.plan_rounds.proofs.search.Search.scan.Goals as goal
+use Rattle.plan_rounds.proofs.search.Search.scan.Goals.{then-index+in_ok-offer_from, else-index+in_ok-offer_from-2}
+
+pub none-by_soon-requires : goal.none-by_soon-requires
+none-by_soon-requires c =
+    lasts_in c.args.self.now c.args.round.now c.prospects_for-soon.result.now c.from-more.result _ _ c.requires.round
+    c.prospects_for-soon.ensures.lasts c.latest.ensures c.lasts.ensures
+
+pub none-by_all-requires : goal.none-by_all-requires
+none-by_all-requires c =
+    lasts_in c.args.self.now c.args.round.now c.prospects_for-all.result.now c.from-more.result _ _ c.requires.round
+    c.prospects_for-all.ensures.lasts c.latest-2.ensures c.lasts-2.ensures
+
+pub loop-k-init : goal.loop-k-init
+loop-k-init c =
+    let me = c.args.self.now in
+    let round = c.args.round.now in
+    let more = c.from-more.result in
+    let from = c.from-more.ensures in
+    let limit = c.limit.ensures.is in
+    let few = c.requires.round.few in
+    let left : round.count + 1 + more ≡ me.query.rides = omega (arith, from, limit, few) in
+    record {
+      spreads = spreads_none me.feed me.query (Lacks me round.finals.now) round.labels.now (round.count + 1)
+          (StepsAtFirst me round c.in_ok-marks.marks.reached.items 0) c.args.bags.now
+          (λ b steps. absurd (steps_none me round c.in_ok-marks.marks.reached.items b steps));
+      fares = c.requires.fares;
+      soon = ap (λ (k : Keeping). k.positions) c.none-by_soon.ensures;
+      soon_fair = fair_in me round true c.prospects_for-soon.result.now more _ c.requires.round c.prospects_for-soon.ensures.fair left
+          (ap (λ (k : Keeping). k.latest) c.none-by_soon.ensures ∙ c.latest.ensures);
+      all = ap (λ (k : Keeping). k.positions) c.none-by_all.ensures;
+      all_fair = fair_in me round false c.prospects_for-all.result.now more _ c.requires.round c.prospects_for-all.ensures.fair left
+          (ap (λ (k : Keeping). k.latest) c.none-by_all.ensures ∙ c.latest-2.ensures);
+    }
+
+pub index-requires : goal.index-requires
+index-requires c =
+    let round = c.args.round.now in
+    let marks = c.in_ok-marks.marks in
+    let reached = c.index-reached.result.now in
+    let lt : c.loop-k.k < length marks.reached.items = omega (arith, c.loop-k-test.true, c.len-k-end.ensures, marks.reached.ok.0) in
+    let marked = subst (IsMarked round) (sym c.index-reached.ensures)
+    (c.in_ok-marks.ensures.reached.right _ (Contains-get_or marks.reached.items c.loop-k.k reached lt)) in
+    let within = slice_get_within round.labels.now reached.number marked.label marked.is in
+    let many = c.in_ok-marks.ensures.many in
+    omega (arith, within, many, marks.near.ok.0)
+
+pub offer_from-requires-clause-fair : goal.offer_from-requires-clause-fair
+offer_from-requires-clause-fair c x at b to counts late =
+    let round = c.args.round.now in
+    let near = c.in_ok-marks.marks.near in
+    let number = c.index-reached.result.now.number in
+    let within = slice_get_within round.labels.now number x at in
+    let many = c.in_ok-marks.ensures.many in
+    let lt : number < length near.items = omega (arith, within, many) in
+    let is = slice_get_read near.items (length near.items) number c.index.result.now refl lt c.index.ensures ∙ ap Some c.if-index.true in
+    c.loop-k.invariant.soon_fair number x at counts (λ e. c.in_ok-marks.ensures.near number x at is) b to counts late
+
+pub loop-k-preserved : goal.loop-k-preserved
+loop-k-preserved c =
+    let me = c.args.self.now in
+    let round = c.args.round.now in
+    let list = c.in_ok-marks.marks.reached in
+    let k = c.loop-k.k in
+    let was = c.loop-k.invariant in
+    let reached = c.index-reached.result.now in
+    let lt : k < length list.items = omega (arith, c.loop-k-test.true, c.len-k-end.ensures, list.ok.0) in
+    let at = slice_get_read list.items (length list.items) k reached refl lt c.index-reached.ensures in
+    elim c.if-index.branch [
+      | then-index+in_ok-offer_from w ↦
+          record {
+            spreads = rw w.bags-is (spreads_more me.feed me.query (Lacks me round.finals.now) round.labels.now (round.count + 1) _ _ _ _ _ _
+                was.spreads w.in_ok-offer_from.ensures.spreads (λ b. steps_more me round list.items k reached b at));
+            fares = rw w.found-is w.in_ok-offer_from.ensures.fares;
+            soon = rw w.by_soon-is (w.in_ok-offer_from.ensures.positions ∙ was.soon);
+            soon_fair = rw w.by_soon-is (subst (AreFairIn me round true) (sym w.in_ok-offer_from.ensures.latest) was.soon_fair);
+            all = rw w.by_all-is was.all;
+            all_fair = rw w.by_all-is was.all_fair;
+          }
+      | else-index+in_ok-offer_from-2 w ↦
+          record {
+            spreads = rw w.bags-is (spreads_more me.feed me.query (Lacks me round.finals.now) round.labels.now (round.count + 1) _ _ _ _ _ _
+                was.spreads w.in_ok-offer_from-2.ensures.spreads (λ b. steps_more me round list.items k reached b at));
+            fares = rw w.found-is w.in_ok-offer_from-2.ensures.fares;
+            soon = rw w.by_soon-is was.soon;
+            soon_fair = rw w.by_soon-is was.soon_fair;
+            all = rw w.by_all-is (w.in_ok-offer_from-2.ensures.positions ∙ was.all);
+            all_fair = rw w.by_all-is (subst (AreFairIn me round false) (sym w.in_ok-offer_from-2.ensures.latest) was.all_fair);
+          }
+    ]
+
+pub returns-clause-spreads : goal.returns-clause-spreads
+returns-clause-spreads c =
+    let me = c.args.self.now in
+    let round = c.args.round.now in
+    let list = c.in_ok-marks.marks.reached in
+    let whole : length list.items ≤ c.loop-k.k = omega (arith, c.loop-k-test.false, c.len-k-end.ensures, list.ok.0) in
+    spreads_but me.feed me.query (Lacks me round.finals.now) round.labels.now (round.count + 1) _ _ _ _ c.loop-k.invariant.spreads
+    (λ b from. ⊎_elim (λ among. inl (steps_all me round list.items c.loop-k.k b whole among)) inr
+    (c.in_ok-marks.ensures.reached.all b
+    (from_all me.feed me.query round.labels.now round.count (length round.labels.now) b (omega arith) from)))

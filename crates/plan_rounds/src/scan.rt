@@ -1,0 +1,259 @@
+//! How a round goes on from its labels: pattern by pattern, and position by position.
+ghost use Rattle.std.specs.Prelude.{◌≡◌, true, Some, int_le, slice_get, IfOk, OnOk};
+ghost use Rattle.std.specs.List.Sorted.{IsNonDecreasingBy, IsPermutation};
+ghost use Rattle.plan_rides.specs.Reached.{HoldsFrom, IsReachedFrom};
+ghost use Rattle.plan_rounds.specs.Labels.{stand_of_label};
+ghost use Rattle.plan_rounds.specs.Moves.{HasFares};
+ghost use Rattle.plan_rounds.specs.Scans.{AddsMarks, AreFairFor, AreMarks, HasLasts, IsFairIn, IsMarked, IsNear, IsRound, SpreadsIn, StepsAt, StepsFromPosition, place_of};
+ghost use Rattle.plan_rounds.specs.Sources.{IsSource, SpreadsFrom};
+ghost use Rattle.plan_rounds.specs.Stores.{StepsFrom};
+ghost use Rattle.plan_rounds.specs.declared.label.Label.{Label};
+
+use crate::finals::Final;
+use crate::horizon::Horizon;
+use crate::label_list::LabelList;
+use crate::prospects::Prospects;
+use crate::search::{Found, Search, Source};
+use crate::stop_bags::StopBags;
+use plan_rides::{CaughtRide, KeptRides, Positions, Reached, Traveller};
+use std::alloc::AllocError;
+
+/// What a round goes on from: the labels, how many rides those of the last round have, where riders may board, and what is found.
+pub struct Round<'r, 'f> {
+    pub(crate) positions: &'r Positions<'r, 'f>,
+    pub(crate) labels: &'r LabelList,
+    pub(crate) count: u8,
+    pub(crate) finals: &'r [Final],
+    pub(crate) horizon: &'r Option<Horizon>,
+}
+
+// Written out, so that what holds one needn't look into it to let go of it.
+impl<'r, 'f> Drop for Round<'r, 'f> {
+    fn drop(self) {
+        let Round {
+            positions: _,
+            labels: _,
+            count: _,
+            finals: _,
+            horizon: _,
+        } = self;
+    }
+}
+
+/// The positions that the labels of a round reach, by pattern and position, and by number which of the labels are near: those
+/// whose rides are tried by the prospects of the horizon.
+pub struct Marks {
+    pub(crate) reached: Vec<Reached>,
+    pub(crate) near: Vec<bool>,
+}
+
+// Written out, so that what holds one needn't look into it to let go of it.
+impl Drop for Marks {
+    fn drop(self) {
+        let Marks {
+            reached: _,
+            near: _,
+        } = self;
+    }
+}
+
+/// The place of a position among all, by pattern.
+fn place_of(reached: Reached) -> u64
+    ensures { result ≡ place_of reached }
+{
+    u64::from(reached.serving.pattern) * (1 << 32) + u64::from(reached.serving.position)
+}
+
+/// Puts positions in the order of their patterns, and of their places there.
+fn put_in_order(reached: &mut Vec<Reached>)
+    ensures moved { IsPermutation reached.old.items reached.new.items }
+    ensures rises { IsNonDecreasingBy place_of reached.new.items }
+{
+    reached.sort_unstable_by_key(|at| place_of(*at));
+}
+
+/// Whether the ride departs no earlier than one gets to the position.
+fn departs_since(caught: &CaughtRide, reached: &Reached) -> bool
+    ensures { result ≡ int_le reached.now.earliest.0 caught.now.facts.departure.0 }
+{
+    reached.earliest.0 <= caught.facts.departure.0
+}
+
+impl<'s, 'f> Search<'s, 'f> {
+    /// Whether rides from the label are tried by the prospects of the horizon.
+    fn is_near(&self, source: &Source, horizon: &Option<Horizon>) -> bool
+        requires { IsSource self.now.feed self.now.query source.now }
+        ensures { result ≡ true → IsNear self.now horizon.now source.now.label.now }
+    {
+        match horizon {
+            Some(near) => self.is_beyond(source, near),
+            None => false,
+        }
+    }
+
+    /// The prospects that rides are tried by: those of the horizon from labels that are near, or else those of journeys that
+    /// end in time.
+    fn prospects_for<'p>(&'p self, horizon: &'p Option<Horizon>, near: bool) -> &'p Prospects
+        ensures fair { AreFairFor self.now horizon.now near result.now }
+        ensures lasts { HasLasts self.now horizon.now result.now }
+    {
+        let _feed = self.feed();
+        match horizon {
+            Some(by) => {
+                if near {
+                    &by.prospects
+                } else {
+                    self.prospects()
+                }
+            }
+            None => self.prospects(),
+        }
+    }
+
+    /// Appends the positions that the label reaches.
+    fn reach(
+        &self,
+        round: &Round<'_, 'f>,
+        source: &Source,
+        near: bool,
+        reached: &mut Vec<Reached>,
+    ) -> Result<(), AllocError>
+        requires round { IsRound self.now round.now }
+        requires source { IsSource self.now.feed self.now.query source.now }
+        requires near { near ≡ true → IsNear self.now round.now.horizon.now source.now.label.now }
+        ensures { OnOk result (AddsMarks self.now round.now source.now reached.old.items reached.new.items) }
+    {
+        let more = usize::from(self.limit() - source.label.rides - 1);
+        let prospects = self.prospects_for(round.horizon, near);
+        let who = Traveller {
+            standing: source.label.standing(),
+            number: source.number,
+        };
+        round.positions.reach(prospects.lasts(more), &who, reached)
+    }
+
+    /// The positions that the labels of the last round reach.
+    fn marks(&self, round: &Round<'_, 'f>) -> Result<Marks, AllocError>
+        requires { IsRound self.now round.now }
+        ensures { IfOk result (λ marks. AreMarks self.now round.now marks) }
+    {
+        let labels = round.labels;
+        let mut reached = Vec::new(self.alloc);
+        let mut near = Vec::with_capacity(self.alloc, labels.len())?;
+        for number in 0..labels.len() {
+            if labels.kept(number).rides == round.count {
+                let label = labels.get(number);
+                let source = Source {
+                    labels,
+                    number: number as u32,
+                    label: &label,
+                };
+                let is_near = self.is_near(&source, round.horizon);
+                self.reach(round, &source, is_near, &mut reached)?;
+                near.push(is_near)?;
+            } else {
+                near.push(false)?;
+            }
+        }
+        put_in_order(&mut reached);
+        Ok(Marks { reached, near })
+    }
+
+    /// Offers what the rides lead to from the label that depart no earlier than it gets to the position.
+    fn offer_rides(
+        &self,
+        round: &Round<'_, 'f>,
+        source: &Source,
+        reached: &Reached,
+        kept: &KeptRides,
+        found: &mut Found<'_, 'f>,
+        bags: &mut StopBags,
+    ) -> Result<(), AllocError>
+        requires round { IsRound self.now round.now }
+        requires source { IsSource self.now.feed self.now.query source.now }
+        requires labels { source.now.labels.now ≡ round.now.labels.now }
+        requires counts { source.now.label.now.rides ≡ round.now.count }
+        requires from { IsReachedFrom round.now.positions.now (stand_of_label source.now.label.now) reached.now }
+        requires fair { IsFairIn self.now round.now source.now.label.now kept.now.latest }
+        requires holds { HoldsFrom round.now.positions.now kept.now.latest reached.now kept.now.rides }
+        requires fares { HasFares self.now found.old }
+        ensures fares { HasFares self.now found.new }
+        ensures spreads { OnOk result (SpreadsFrom self.now round.now.finals.now source.now (StepsAt self.now round.now.positions.now source.now.label.now reached.now) bags.old bags.new) }
+    {
+        let rides = kept.rides();
+        for k in 0..rides.len() {
+            if departs_since(&rides[k], reached) {
+                self.offer_ride(source, round.finals, &rides[k], found, bags)?;
+            }
+        }
+        Ok(())
+    }
+
+    /// Offers what one more ride from the position leads to, from the label that reaches it. What `kept` holds is lost.
+    fn offer_from(
+        &self,
+        round: &Round<'_, 'f>,
+        reached: &Reached,
+        kept: &mut KeptRides,
+        found: &mut Found<'_, 'f>,
+        bags: &mut StopBags,
+    ) -> Result<(), AllocError>
+        requires round { IsRound self.now round.now }
+        requires marked { IsMarked round.now reached.now }
+        requires positions { kept.old.positions ≡ round.now.positions.now }
+        requires fair { (x : Label) → slice_get round.now.labels.now reached.now.number ≡ Some x → IsFairIn self.now round.now x kept.old.latest }
+        requires fares { HasFares self.now found.old }
+        ensures positions { kept.new.positions ≡ kept.old.positions }
+        ensures latest { kept.new.latest ≡ kept.old.latest }
+        ensures fares { HasFares self.now found.new }
+        ensures spreads { OnOk result (SpreadsIn self.now round.now (StepsFromPosition self.now round.now reached.now) bags.old bags.new) }
+    {
+        kept.keep(reached)?;
+        let label = round.labels.get(reached.number as usize);
+        let source = Source {
+            labels: round.labels,
+            number: reached.number,
+            label: &label,
+        };
+        self.offer_rides(round, &source, reached, kept, found, bags)
+    }
+
+    /// Offers what one more ride leads to from the labels of the last round, position by position.
+    pub(crate) fn scan(
+        &self,
+        round: &Round<'_, 'f>,
+        found: &mut Found<'_, 'f>,
+        bags: &mut StopBags,
+    ) -> Result<(), AllocError>
+        requires round { IsRound self.now round.now }
+        requires fares { HasFares self.now found.old }
+        ensures fares { HasFares self.now found.new }
+        ensures spreads { OnOk result (SpreadsIn self.now round.now (StepsFrom self.now.feed self.now.query round.now.labels.now round.now.count) bags.old bags.new) }
+    {
+        let marks = self.marks(round)?;
+        let more = usize::from(self.limit() - round.count - 1);
+        let soon = self.prospects_for(round.horizon, true);
+        let all = self.prospects_for(round.horizon, false);
+        let mut by_soon = KeptRides::none(
+            self.alloc,
+            round.positions,
+            soon.latest(more),
+            soon.lasts(more),
+        );
+        let mut by_all = KeptRides::none(
+            self.alloc,
+            round.positions,
+            all.latest(more),
+            all.lasts(more),
+        );
+        for k in 0..marks.reached.len() {
+            let reached = &marks.reached[k];
+            if marks.near[reached.number as usize] {
+                self.offer_from(round, reached, &mut by_soon, found, bags)?;
+            } else {
+                self.offer_from(round, reached, &mut by_all, found, bags)?;
+            }
+        }
+        Ok(())
+    }
+}
