@@ -10,6 +10,7 @@ ghost use Rattle.feed_rows.specs.Calls.{calls_of, first_departure};
 ghost use Rattle.feed_rows.specs.Shifts.{has_frequencies, shifts_of};
 ghost use Rattle.feed_rows.specs.Rides.{runs_on, ride_facts, trip_network};
 ghost use Rattle.feed_rows.specs.Queries.{find_stop, find_trip};
+ghost use Rattle.feed_rows.specs.PriceQueries.{call_position};
 ghost use Rattle.feed_rows.specs.StopLinks.{link, stop_set};
 ghost use Rattle.feed_rows.specs.Journeys.{stands_for, access, egress, direct, is_caught};
 ghost use Rattle.feed_rows.specs.JourneyStands.{way_to, way_out, end_arrival};
@@ -239,6 +240,21 @@ impl<'f> Timetable<'f> {
             Some(call) => call.departure,
             None => 0,
         }
+    }
+
+    /// The position of a trip's first call with this `stop_sequence`. None exactly where no call has it.
+    #[tactic(auto, using(plain_laws::proofs::Laws::found_firsts))]
+    pub fn call_position(&self, trip: TripId, sequence: u32) -> Option<u32>
+        requires { trip.0 < length self.now.trips }
+        ensures { result ≡ call_position self.now trip sequence }
+    {
+        let calls = self.calls_of(trip);
+        for position in 0..calls.len() {
+            if calls.at(position).sequence == sequence {
+                return Some(position as u32);
+            }
+        }
+        None
     }
 
     /// Where and when a ride goes. None exactly where it is no ride of the feed.
