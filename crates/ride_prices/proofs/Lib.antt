@@ -1,4 +1,3 @@
-pub mod CallLaws
 pub mod LegLaws
 pub mod NameLaws
 pub mod RideLaws

@@ -1,7 +1,7 @@
 //! The ride that a word names.
 ghost use Rattle.std.specs.Prelude.{◌≡◌, ◌<◌, ◌≤◌, ◌≤ℤ◌, length, pos, negsuc, IfSome, option_map, Some};
 ghost use Rattle.feed_rows.specs.Limits.{least_shift, most_shift};
-ghost use Rattle.feed_rows.specs.PriceQueries.{named_shift, call_position, named_ride};
+ghost use Rattle.feed_rows.specs.PriceQueries.{named_shift, named_ride};
 ghost use Rattle.feed_rows.specs.Queries.{find_trip};
 ghost use Rattle.feed_rows.specs.Rides.{is_ride, ride_facts};
 ghost use Rattle.plain_laws.specs.Plain.{when};
@@ -47,21 +47,6 @@ fn named_shift(timetable: &Timetable, trip: TripId, start: Option<u32>) -> Optio
     }
 }
 
-// The place of the trip's first call with this `stop_sequence`.
-fn call_position(timetable: &Timetable, trip: TripId, sequence: u32) -> Option<u32>
-    requires { trip.0 < length timetable.now.trips }
-    ensures { result ≡ call_position timetable.now trip sequence }
-{
-    let calls = timetable.calls_of(trip);
-    for place in 0..calls.len() {
-        let call = calls.at(place);
-        if call.sequence == sequence {
-            return Some(place as u32);
-        }
-    }
-    None
-}
-
 // The ride, with where and when it goes. None exactly where it is no ride of the feed.
 #[tactic(auto, using(crate::proofs::RideLaws::ride_known, crate::proofs::RideLaws::ride_unknown))]
 fn known_ride(timetable: &Timetable, ride: Ride) -> Option<NamedRide>
@@ -88,8 +73,8 @@ pub fn named_ride(timetable: &Timetable, word: &RideWord) -> Option<NamedRide>
 {
     let trip = find_trip(timetable, word.trip)?;
     let shift = named_shift(timetable, trip, word.start)?;
-    let from = call_position(timetable, trip, word.from)?;
-    let to = call_position(timetable, trip, word.to)?;
+    let from = timetable.call_position(trip, word.from)?;
+    let to = timetable.call_position(trip, word.to)?;
     let ride = Ride {
         trip,
         day: word.day,
