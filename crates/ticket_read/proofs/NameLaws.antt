@@ -48,21 +48,6 @@ trip_within feed id trip is = by (find_below (length feed.trips) (has_trip_id fe
         let number : i ≡ trip.0 = ap (λ (t : TripId). t.0) same in
         rw (← number) first.within
 
--- a test of the call at a place
-pub at_call : (kept calls : List Call) (k : ℕ) (call : Call) (test : Call → Bool) (b : Bool) → kept ≡ calls →
-    slice_get kept k ≡ Some call → test call ≡ b → at_and calls k test ≡ b
-at_call kept calls k call test b same got e = subst (λ (cs : List Call). at_and cs k test ≡ b) same (rw got e)
-
--- a place among the calls
-pub call_within : (kept calls : List Call) (k : ℕ) (call : Call) → kept ≡ calls → slice_get kept k ≡ Some call →
-    k < length calls
-call_within kept calls k call same got =
-    subst (λ (cs : List Call). k < length cs) same (slice_get_within kept k call got)
-
--- numbers that differ
-pub apart : (a b : ℕ) → (a ≡ b → ⊥) → (a == b) ≡ false
-apart a b differ = grind (arith, nat_tests, differ)
-
 -- ---- names that are read back
 
 -- what one number alone passes is found there

@@ -4,7 +4,6 @@ ghost use Rattle.transit_base.specs.Limits.{most_time};
 ghost use Rattle.feed_rows.specs.Rides.{ride_facts};
 ghost use Rattle.feed_rows.specs.RideWords.{start_value};
 ghost use Rattle.feed_rows.specs.Queries.{find_trip};
-ghost use Rattle.feed_rows.specs.PriceQueries.{call_position};
 ghost use Rattle.ticket_read.specs.Items.{number_in, row_in, day_in, shift_by, place_in, stop_in, run_of, ride_of, ride_item, walk_item, stay_item, leg_item, change_row, change_item, item_of};
 
 use crate::cuts::field;
@@ -81,21 +80,6 @@ fn shift_by(timetable: &Timetable, trip: TripId, start: Option<u32>) -> i64
     }
 }
 
-// The place of the trip's first call with this `stop_sequence`.
-fn call_position(timetable: &Timetable, trip: TripId, sequence: u32) -> Option<u32>
-    requires { trip.0 < length timetable.now.trips }
-    ensures { result ≡ call_position timetable.now trip sequence }
-{
-    let calls = timetable.calls_of(trip);
-    for place in 0..calls.len() {
-        let call = calls.at(place);
-        if call.sequence == sequence {
-            return Some(place as u32);
-        }
-    }
-    None
-}
-
 // The place of the call that a field names by its `stop_sequence`.
 #[tactic(auto, unfolding(crate::specs::Items::place_in))]
 fn place_in(timetable: &Timetable, trip: TripId, text: &[u8]) -> Option<u32>
@@ -103,7 +87,7 @@ fn place_in(timetable: &Timetable, trip: TripId, text: &[u8]) -> Option<u32>
     ensures { result ≡ place_in timetable.now trip text.now }
 {
     let sequence = number_in(text)?;
-    call_position(timetable, trip, sequence)
+    timetable.call_position(trip, sequence)
 }
 
 // The ride of a trip that the fields behind its id name.
