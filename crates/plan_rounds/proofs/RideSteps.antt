@@ -1,5 +1,5 @@
 -- The rides that are caught from a label, and the labels that they lead to.
-use Rattle.std.proofs.Common.{◌≡◌, refl, sym, ◌∙◌, ap, subst, ℕ, ◌+◌, ◌<◌, ◌≤◌, ◌⊎◌, inl, inr, ⊎_elim, Bool, true, false, List, [], length, arith}
+use Rattle.std.proofs.Common.{◌≡◌, refl, sym, ◌∙◌, ap, subst, ℕ, ◌+◌, ◌<◌, ◌≤◌, ◌⊎◌, inl, inr, ⊎_elim, true, List, [], length, arith}
 use Rattle.std.specs.Prelude.{IsTrue, Some, slice_get, option_map}
 use Rattle.std.proofs.lemmas.Bool.{cases_lt}
 use Rattle.std.proofs.lemmas.Int.{ints}
@@ -8,7 +8,6 @@ use Rattle.transit_base.specs.declared.numbers.StopId.{StopId}
 use Rattle.feed_rows.specs.Journeys.{stands_for}
 use Rattle.feed_rows.specs.declared.journeys.LegFacts.{LegFacts}
 use Rattle.feed_rows.specs.declared.journeys.Query.{Query}
-use Rattle.feed_rows.specs.declared.journeys.Ride.{Ride}
 use Rattle.feed_rows.specs.declared.journeys.RideFacts.{RideFacts}
 use Rattle.feed_rows.specs.declared.states.Move.{Move}
 use Rattle.feed_rows.specs.FareSteps.{move_after}
@@ -20,23 +19,18 @@ use Rattle.feed_rows.specs.PartialJourneys.{LabelFacts}
 use Rattle.feed_rows.specs.SoundFeed.{IsSoundFeed}
 use Rattle.plain_laws.proofs.Laws.{le-int_le, slice_get-Contains}
 use Rattle.plan_rides.specs.InTime.{IsRight}
-use Rattle.plan_rounds.specs.Horizons.{IsFair}
-use Rattle.plan_rounds.specs.Prospects.{ProspectLists, latest_of}
-use Rattle.plan_rounds.specs.Searched.{Searched, Lacks}
-use Rattle.plan_rounds.specs.declared.finals.Final.{Final}
-use Rattle.plan_rounds.proofs.ProspectLaws.{in_time_of}
 use Rattle.plan_rides.specs.declared.caught.CaughtRide.{CaughtRide}
 use Rattle.feed_rows.specs.StopLinks.{stop_set}
 use Rattle.plan_rides.proofs.DepartureLaws.{ride_end}
 use Rattle.plan_rides.proofs.MarkLaws.{member_of_stands_for}
 use Rattle.plan_rides.proofs.CaughtLaws.{caught_ride, caught_within}
-use Rattle.round_laws.specs.LabelSteps.{IsCaughtRide, IsLabelStep, facts_after, start_facts}
+use Rattle.round_laws.specs.LabelSteps.{IsCaughtRide, facts_after, start_facts}
 use Rattle.plan_rounds.specs.declared.label.Label.{Label}
 use Rattle.plan_rounds.specs.declared.search.Source.{Source}
 use Rattle.plan_rounds.specs.Labels.{IsBounded, facts_of, label_of, stand_of_label, started, went_on}
 use Rattle.plan_rounds.specs.Moves.{AreMovesOf}
 use Rattle.plan_rounds.specs.Sources.{IsSource, StepsByFirst, LeadsByFirst}
-use Rattle.plan_rounds.specs.Stores.{IsFresh, IsPrunedBy, StepsBy, StepsTo, IsStartOf, IsStartAmong}
+use Rattle.plan_rounds.specs.Stores.{IsFresh, IsPrunedBy, StepsBy, IsStartOf, IsStartAmong}
 use Rattle.plan_rounds.proofs.StopLaws.{stands_inside}
 
 -- ---- rides

@@ -1,23 +1,19 @@
 -- What the positions are that labels reach, and what is offered of the rides from them.
-use Rattle.std.proofs.Common.{◌≡◌, refl, sym, ◌∙◌, ap, subst, ℕ, ◌+◌, ◌<◌, ◌≤◌, ◌⊎◌, inl, inr, ⊎_elim, Bool, true, false, List, [], ◌∷◌, ◌++◌, length, arith, ℤ, ◌≤ℤ◌, ◌<ℤ◌}
-use Rattle.std.specs.Prelude.{Option, Some, slice_get, Contains, IfSome, IsPermutation, int_le}
+use Rattle.std.proofs.Common.{◌≡◌, refl, sym, ◌∙◌, ap, subst, ℕ, ◌+◌, ◌<◌, ◌≤◌, ◌⊎◌, inl, inr, ⊎_elim, Bool, true, false, List, [], ◌∷◌, ◌++◌, length, arith, ℤ, ◌<ℤ◌}
+use Rattle.std.specs.Prelude.{Option, Some, slice_get, Contains, IsPermutation, int_le}
 use Rattle.std.proofs.lemmas.Bool.{cases_lt}
 use Rattle.std.proofs.lemmas.Int.{ints}
 use Rattle.std.proofs.lemmas.List.{length_push}
-use Rattle.std.proofs.lemmas.List.Elements.{Contains-get_or}
 use Rattle.std.proofs.lemmas.List.Sorted.{Contains-permutation, IsPermutation-sym}
 use Rattle.std.proofs.lemmas.Option.{same_Some, slice_get_within, slice_get-get_or}
 use Rattle.transit_base.specs.declared.moments.Moment.{Moment}
-use Rattle.feed_rows.specs.declared.journeys.Query.{Query}
 use Rattle.feed_rows.specs.declared.journeys.Ride.{Ride}
-use Rattle.feed_rows.specs.FeedRows.{FeedRows}
 use Rattle.feed_rows.specs.JourneyStands.{Stand, stand_at_end}
 use Rattle.feed_rows.specs.PartialJourneys.{LabelFacts}
 use Rattle.plain_laws.proofs.Laws.{int_le-true, slice_get-Contains, slice_get-push_before, slice_get-push_last}
 use Rattle.plan_rides.specs.declared.caught.CaughtRide.{CaughtRide}
 use Rattle.plan_rides.specs.declared.positions.Reached.{Reached}
-use Rattle.plan_rides.specs.Departures.{TakesServing}
-use Rattle.plan_rides.specs.InTime.{AreLastDepartures, HasRide, IsRight, IsWithinWindow, is_early, next_in_time}
+use Rattle.plan_rides.specs.InTime.{AreLastDepartures, IsRight, IsWithinWindow, is_early, next_in_time}
 use Rattle.plan_rides.specs.Reached.{AddsReached, HoldsFrom, IsAny, IsReachedFrom, Positioned}
 use Rattle.plan_rides.proofs.FoundLaws.{has_kept, kept_never, kept_right}
 use Rattle.round_laws.specs.LabelSteps.{IsLabelStep}
@@ -27,10 +23,10 @@ use Rattle.plan_rounds.specs.declared.search.Source.{Source}
 use Rattle.plan_rounds.specs.Horizons.{IsFair}
 use Rattle.plan_rounds.specs.Labels.{facts_of, stand_of_label}
 use Rattle.plan_rounds.specs.Prospects.{ProspectLists, latest_of, lasts_of}
-use Rattle.plan_rounds.specs.Scans.{AddsMarks, AreFairFor, AreReached, HasLasts, IsFairIn, IsMarked, IsNear, IsRound, StepsAmong, StepsAt, StepsAtFirst, StepsFromPosition}
+use Rattle.plan_rounds.specs.Scans.{AddsMarks, AreFairFor, AreReached, HasLasts, IsFairIn, IsNear, IsRound, StepsAmong, StepsAt, StepsAtFirst, StepsFromPosition}
 use Rattle.plan_rounds.specs.Searched.{Searched, Lacks}
 use Rattle.plan_rounds.specs.Sources.{IsSource, StepsByFirst}
-use Rattle.plan_rounds.specs.Stores.{StepsBy, StepsFromFirst, StepsTo}
+use Rattle.plan_rounds.specs.Stores.{StepsBy, StepsTo}
 use Rattle.plan_rounds.proofs.ProspectLaws.{in_time_of}
 use Rattle.plan_rounds.proofs.SourceLaws.{from_more, from_only}
 

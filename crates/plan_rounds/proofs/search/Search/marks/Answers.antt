@@ -1,4 +1,4 @@
-use Rattle.std.proofs.Common.{◌≡◌, ◌∙◌, ap, refl, subst, sym, arith, length, ◌+◌, ◌++◌, ◌∷◌, [], true, false}
+use Rattle.std.proofs.Common.{◌≡◌, ◌∙◌, ap, refl, subst, sym, arith, length, true, false}
 use Rattle.std.proofs.lemmas.List.{length_push}
 use Rattle.plan_rounds.specs.Kept.{whole_by}
 use Rattle.plan_rounds.specs.Scans.{AreReached}

@@ -1,5 +1,5 @@
 use Rattle.std.proofs.Common.{◌≡◌, length}
-use Rattle.plan_rounds.specs.Scans.{AreReached, IsRound}
+use Rattle.plan_rounds.specs.Scans.{AreReached}
 use Rattle.plan_rounds.proofs.ScanLaws.{AreNear}
 use Rattle.plan_rounds.proofs.search.Search.marks.Given as goal
 

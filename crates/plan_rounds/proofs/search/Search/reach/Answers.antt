@@ -3,7 +3,6 @@ use Rattle.std.specs.Prelude.{OnOk}
 use Rattle.std.proofs.lemmas.Result.{on_ok_weaker}
 use Rattle.feed_timetable.specs.Standings.{stand_of}
 use Rattle.plan_rides.specs.Reached.{AddsReached, IsAny}
-use Rattle.plan_rounds.specs.Labels.{stand_of_label}
 use Rattle.plan_rounds.specs.Prospects.{lasts_of}
 use Rattle.plan_rounds.proofs.ScanLaws.{marks_of}
 use Rattle.plan_rounds.proofs.search.Search.reach.Goals as goal
