@@ -15,7 +15,7 @@ use Rattle.feed_rows.specs.FeedRows.{FeedRows}
 use Rattle.feed_rows.specs.SoundTimetable.{AreSoundStops}
 use Rattle.feed_rows.specs.StopLinks.{is_platform, parent_of, stop_set, row_between, governing_row, same_station, unruled_link, link_by, link}
 use Rattle.feed_rows.specs.StopSets.{stop_sets, own_set, row_sets_at}
-use Rattle.plain_laws.specs.Plain.{filled_and, joined_below}
+use Rattle.plain_laws.specs.Plain.{filled_and}
 use Rattle.plain_laws.proofs.Laws.{filled_and-true, All-slice_get, Contains-cons_first, Contains-joined_below, none_either, find-tells}
 use Rattle.feed_laws.proofs.StopSetLaws.{joined_below-set, stop_sets-at}
 use Rattle.feed_walks.specs.Rules.{group_at, AreRules}

@@ -1,7 +1,7 @@
 -- The rows of transfers.txt, to be looked up by their two stops.
-use Rattle.std.specs.Prelude.{◌≡◌, ℕ, ◌<◌, ◌≤◌, ◌==◌, ◌&&◌, List, [], length, slice_get, unwrap_or, filter, find}
+use Rattle.std.specs.Prelude.{◌≡◌, ℕ, ◌+◌, ◌*◌, ◌^◌, ◌<◌, ◌≤◌, ◌==◌, ◌&&◌, List, [], length, slice_get, unwrap_or, filter, find}
 use Rattle.std.specs.List.{AllWithin}
-use Rattle.std.specs.List.Sorted.{IsNonDecreasingBy}
+use Rattle.std.specs.List.Sorted.{IsNonDecreasingBy, IsPermutation}
 use Rattle.feed_rows.specs.declared.rows.LinkRow.{LinkRow}
 use Rattle.plain_laws.specs.declared.groups.Grouped.{Grouped}
 
@@ -19,10 +19,15 @@ pub record IsPlace {X : Type 0} (number : X → ℕ) (xs : List X) (n place : �
 abbrev pub by_start : LinkRow → Grouped LinkRow
 by_start row = record { group = row.from.0; item = row }
 
--- the rows stand by the stops that they lead to, and those to one stop as before
-pub record AreByTarget (old new : List (Grouped LinkRow)) : Type 0 where
-  pub rises : IsNonDecreasingBy (λ (m : Grouped LinkRow). m.item.to.0) new
-  pub same : (i : ℕ) → filter (λ m. m.item.to.0 == i) new ≡ filter (λ m. m.item.to.0 == i) old
+-- a row's number in the order of the stops from and to which it leads
+abbrev pub rank : LinkRow → ℕ
+rank row = row.from.0 * 2 ^ 32 + row.to.0
+
+-- the rows stand by their two stops, those between the same two as before, and none is new
+pub record AreByStops (old new : List LinkRow) : Type 0 where
+  pub rises : IsNonDecreasingBy rank new
+  pub same : (n : ℕ) → filter (λ row. rank row == n) new ≡ filter (λ row. rank row == n) old
+  pub moved : IsPermutation old new
 
 -- the rows from each stop stand by the stops that they lead to, and the first of those to one stop is the earliest row
 pub record AreRules (links : List LinkRow) (rules : List (List LinkRow)) : Type 0 where

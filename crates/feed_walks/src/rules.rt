@@ -5,7 +5,7 @@ ghost use Rattle.std.specs.List.Sorted.{IsNonDecreasingBy};
 ghost use Rattle.feed_rows.specs.FeedRows.{FeedRows};
 ghost use Rattle.feed_rows.specs.StopLinks as linked;
 ghost use Rattle.plain_laws.specs.Plain.{filled_and};
-ghost use Rattle.feed_walks.specs.Rules.{IsPlace, by_start, AreByTarget, AreRules};
+ghost use Rattle.feed_walks.specs.Rules.{IsPlace, by_start, rank, AreByStops, AreRules};
 
 use feed_rows::{Feed, LinkRow, PLATFORM, StopRow};
 use plain_laws::{Grouped, Groups};
@@ -13,35 +13,46 @@ use std::alloc::{AllocError, Global};
 use transit_base::{Secs, StopId};
 
 /// The rows from each stop, by the stop that they lead to, and among those to one stop in file order.
+///
+/// They are sorted once, by both stops, so that a file in this order costs no more than a look.
 pub fn rules_of(alloc: Global, links: &[LinkRow], count: u32) -> Result<Groups<LinkRow>, AllocError>
-    requires { All (λ (row : LinkRow). row.from.0 < count) links.now }
+    requires froms { All (λ (row : LinkRow). row.from.0 < count) links.now }
+    requires tos { All (λ (row : LinkRow). row.to.0 < count) links.now }
     ensures { IfOk result (λ rules. AreRules links.now rules) }
 {
-    let mut rows = grouped_rows(alloc, links)?;
-    sort_by_target(&mut rows)?;
-    let rules = Groups::of(alloc, rows, count)?;
+    let mut rows = links.to_vec(alloc)?;
+    sort_by_stops(&mut rows)?;
+    let grouped = grouped_rows(alloc, rows.as_slice())?;
+    let rules = Groups::of(alloc, grouped, count)?;
     Ok(rules)
 }
 
-/// The rows, each with the stop that it leads from.
-fn grouped_rows(alloc: Global, links: &[LinkRow]) -> Result<Vec<Grouped<LinkRow>>, AllocError>
-    ensures { IfOk result (λ rows. rows.items ≡ map by_start links.now) }
+/// Puts rows in the order of the stops that they lead from, and then of those that they lead to. Rows between the same
+/// two keep their order.
+fn sort_by_stops(rows: &mut Vec<LinkRow>) -> Result<(), AllocError>
+    ensures { OnOk result (AreByStops rows.old.items rows.new.items) }
 {
-    links
-        .iter()
+    rows.sort_by_key(|row| rank_of(row))?;
+    Ok(())
+}
+
+/// The row's number in the order of its two stops.
+fn rank_of(row: &LinkRow) -> u64
+    ensures { result ≡ rank row.now }
+{
+    row.from.0 as u64 * (1 << 32) + row.to.0 as u64
+}
+
+/// The rows, each with the stop that it leads from.
+fn grouped_rows(alloc: Global, rows: &[LinkRow]) -> Result<Vec<Grouped<LinkRow>>, AllocError>
+    ensures { IfOk result (λ grouped. grouped.items ≡ map by_start rows.now) }
+{
+    rows.iter()
         .map(|row| Grouped {
             group: row.from.0,
             item: *row,
         })
         .collect(alloc)
-}
-
-/// Puts rows in the order of the stops that they lead to. Rows to one stop keep their order.
-fn sort_by_target(rows: &mut Vec<Grouped<LinkRow>>) -> Result<(), AllocError>
-    ensures { OnOk result (AreByTarget rows.old.items rows.new.items) }
-{
-    rows.sort_by_key(|row| row.item.to.0)?;
-    Ok(())
 }
 
 /// How many of the rows lead to an earlier stop.
