@@ -6,7 +6,7 @@ ghost use Rattle.plan_rides.specs.Reached.{HoldsFrom, IsNoLater, keeping};
 
 use crate::caught::CaughtRide;
 use crate::positions::{Positions, Reached};
-use std::alloc::{AllocError, Global};
+use std::alloc::AllocError;
 use std::marker::Model;
 use transit_base::Moment;
 
@@ -61,22 +61,23 @@ impl<'p, 'f> Model for KeptRides<'p, 'f> {
 }
 
 impl<'p, 'f> KeptRides<'p, 'f> {
-    /// None yet.
+    /// None yet, with the room of this list, whose rides are lost.
     pub fn none(
-        alloc: Global,
         positions: &'p Positions<'p, 'f>,
         latest: &'p [Option<Moment>],
         lasts: &'p [Option<Moment>],
+        mut room: Vec<CaughtRide>,
     ) -> KeptRides<'p, 'f>
         requires { AreLastDepartures positions.now.feed positions.now.query latest.now lasts.now }
         ensures { result ≡ keeping positions.now latest.now [] }
     {
+        room.clear();
         KeptRides {
             positions,
             latest,
             lasts,
             of: None,
-            rides: Vec::new(alloc),
+            rides: room,
         }
     }
 
@@ -116,5 +117,19 @@ impl<'p, 'f> KeptRides<'p, 'f> {
         ensures { result.now ≡ self.now.rides }
     {
         &self.rides
+    }
+
+    /// The list of the rides, for its room.
+    pub fn into_room(self) -> Vec<CaughtRide>
+        ensures { result.items ≡ self.entry.rides }
+    {
+        let KeptRides {
+            positions: _,
+            latest: _,
+            lasts: _,
+            of: _,
+            rides,
+        } = self;
+        rides
     }
 }

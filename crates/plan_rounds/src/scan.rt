@@ -16,7 +16,8 @@ use crate::prospects::Prospects;
 use crate::search::{Found, Search, Source};
 use crate::stop_bags::StopBags;
 use plan_rides::{CaughtRide, KeptRides, Positions, Reached, Traveller};
-use std::alloc::AllocError;
+use std::alloc::{AllocError, Global};
+use std::mem;
 
 /// What a round goes on from: the labels, how many rides those of the last round have, where riders may board, and what is found.
 pub struct Round<'r, 'f> {
@@ -54,6 +55,16 @@ impl Drop for Marks {
             reached: _,
             near: _,
         } = self;
+    }
+}
+
+impl Marks {
+    /// None yet.
+    pub fn none(alloc: Global) -> Marks {
+        Marks {
+            reached: Vec::new(alloc),
+            near: Vec::new(alloc),
+        }
     }
 }
 
@@ -132,14 +143,14 @@ impl<'s, 'f> Search<'s, 'f> {
         round.positions.reach(prospects.lasts(more), &who, reached)
     }
 
-    /// The positions that the labels of the last round reach.
-    fn marks(&self, round: &Round<'_, 'f>) -> Result<Marks, AllocError>
+    /// Replaces what `marks` holds by the positions that the labels of the last round reach.
+    fn mark(&self, round: &Round<'_, 'f>, marks: &mut Marks) -> Result<(), AllocError>
         requires { IsRound self.now round.now }
-        ensures { IfOk result (λ marks. AreMarks self.now round.now marks) }
+        ensures { OnOk result (AreMarks self.now round.now marks.new) }
     {
         let labels = round.labels;
-        let mut reached = Vec::new(self.alloc);
-        let mut near = Vec::with_capacity(self.alloc, labels.len())?;
+        marks.reached.clear();
+        marks.near.clear();
         for number in 0..labels.len() {
             if labels.kept(number).rides == round.count {
                 let label = labels.get(number);
@@ -149,14 +160,14 @@ impl<'s, 'f> Search<'s, 'f> {
                     label: &label,
                 };
                 let is_near = self.is_near(&source, round.horizon);
-                self.reach(round, &source, is_near, &mut reached)?;
-                near.push(is_near)?;
+                self.reach(round, &source, is_near, &mut marks.reached)?;
+                marks.near.push(is_near)?;
             } else {
-                near.push(false)?;
+                marks.near.push(false)?;
             }
         }
-        put_in_order(&mut reached);
-        Ok(Marks { reached, near })
+        put_in_order(&mut marks.reached);
+        Ok(())
     }
 
     /// Offers what the rides lead to from the label that depart no earlier than it gets to the position.
@@ -218,10 +229,11 @@ impl<'s, 'f> Search<'s, 'f> {
         self.offer_rides(round, &source, reached, kept, found, bags)
     }
 
-    /// Offers what one more ride leads to from the labels of the last round, position by position.
+    /// Offers what one more ride leads to from the labels of the last round, position by position. What `marks` holds is lost.
     pub(crate) fn scan(
         &self,
         round: &Round<'_, 'f>,
+        marks: &mut Marks,
         found: &mut Found<'_, 'f>,
         bags: &mut StopBags,
     ) -> Result<(), AllocError>
@@ -230,21 +242,21 @@ impl<'s, 'f> Search<'s, 'f> {
         ensures fares { HasFares self.now found.new }
         ensures spreads { OnOk result (SpreadsIn self.now round.now (StepsFrom self.now.feed self.now.query round.now.labels.now round.now.count) bags.old bags.new) }
     {
-        let marks = self.marks(round)?;
+        self.mark(round, marks)?;
         let more = usize::from(self.limit() - round.count - 1);
         let soon = self.prospects_for(round.horizon, true);
         let all = self.prospects_for(round.horizon, false);
         let mut by_soon = KeptRides::none(
-            self.alloc,
             round.positions,
             soon.latest(more),
             soon.lasts(more),
+            mem::replace(&mut found.soon, Vec::new(self.alloc)),
         );
         let mut by_all = KeptRides::none(
-            self.alloc,
             round.positions,
             all.latest(more),
             all.lasts(more),
+            mem::replace(&mut found.all, Vec::new(self.alloc)),
         );
         for k in 0..marks.reached.len() {
             let reached = &marks.reached[k];
@@ -254,6 +266,8 @@ impl<'s, 'f> Search<'s, 'f> {
                 self.offer_from(round, reached, &mut by_all, found, bags)?;
             }
         }
+        found.soon = by_soon.into_room();
+        found.all = by_all.into_room();
         Ok(())
     }
 }

@@ -28,7 +28,7 @@ use crate::label::Label;
 use crate::label_list::LabelList;
 use crate::moves::is_bettered;
 use crate::prospects::Prospects;
-use crate::scan::Round;
+use crate::scan::{Marks, Round};
 use crate::stop_bags::StopBags;
 use fare_automaton::{Automaton, KnownOptions};
 use fare_timeframes::{Timeframes, blank_leg};
@@ -111,6 +111,9 @@ pub struct Found<'a, 'f> {
     pub(crate) leg: LegFacts,
     places: Vec<Option<ChangeChoice>>,
     moves: Vec<Move>,
+    /// Room for rides that are tried by the prospects of the horizon, and for the others.
+    pub(crate) soon: Vec<CaughtRide>,
+    pub(crate) all: Vec<CaughtRide>,
 }
 
 // Written out, so that what holds one needn't look into it to let go of it.
@@ -121,6 +124,8 @@ impl<'a, 'f> Drop for Found<'a, 'f> {
             leg: _,
             places: _,
             moves: _,
+            soon: _,
+            all: _,
         } = self;
     }
 }
@@ -338,12 +343,13 @@ impl<'s, 'f> Search<'s, 'f> {
         &self.prospects
     }
 
-    /// Offers what one more ride leads to from the labels with so many rides.
+    /// Offers what one more ride leads to from the labels with so many rides. What `marks` holds is lost.
     fn spread(
         &self,
         labels: &LabelList,
         count: u8,
         finals: &[Final],
+        marks: &mut Marks,
         found: &mut Found<'_, 'f>,
         bags: &mut StopBags,
     ) -> Result<(), AllocError>
@@ -365,7 +371,7 @@ impl<'s, 'f> Search<'s, 'f> {
             finals,
             horizon: &horizon,
         };
-        self.scan(&round, found, bags)
+        self.scan(&round, marks, found, bags)
     }
 
     /// Adds the labels that have so many rides, and what they end in.
@@ -415,9 +421,19 @@ impl<'s, 'f> Search<'s, 'f> {
             leg: blank_leg(self.alloc),
             places: Vec::new(self.alloc),
             moves: Vec::new(self.alloc),
+            soon: Vec::new(self.alloc),
+            all: Vec::new(self.alloc),
         };
+        let mut marks = Marks::none(self.alloc);
         for count in 0..limit {
-            self.spread(&labels, count, front.items(), &mut found, &mut bags)?;
+            self.spread(
+                &labels,
+                count,
+                front.items(),
+                &mut marks,
+                &mut found,
+                &mut bags,
+            )?;
             self.gather(count + 1, &bags, &mut labels, &mut front)?;
         }
         Ok((labels, front))
