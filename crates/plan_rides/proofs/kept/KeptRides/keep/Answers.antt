@@ -7,8 +7,7 @@ pub invariant_of-self-2 : goal.invariant_of-self-2
 invariant_of-self-2 c =
     let me = c.self.inside.positions.now in
     let latest = c.self.inside.latest.now in
-    let reached = c.args.reached.now in
-    (
+    let reached = c.args.reached.now in (
       c.self.invariant.0,
       holds_found me latest reached c.add_rides.new.rides.items
           (subst (λ old. AddsFound me.feed me.query latest reached.stop.0 reached.earliest.0 (IsFromReached me reached) old c.add_rides.new.rides.items)
