@@ -27,8 +27,12 @@ use Rattle.plan_rides.specs.InTime.{AreLastDepartures, HasCaught, HasRide, IsRig
 use Rattle.plan_rides.specs.Lasts.{IsEarlyRide}
 use Rattle.plan_rides.specs.Reached.{AddsFound, AddsReached, HoldsFrom, IsAny, IsFound, IsFromReached, IsNoLater, IsReachedFrom, Positioned}
 use Rattle.plan_rides.proofs.CaughtLaws.{IsCaughtRide, caught_facts, caught_ride, facts_by, stop_id}
-use Rattle.plan_rides.proofs.LatestLaws.{caught_parts, early_past, no_lasts}
+use Rattle.plan_rides.proofs.LatestLaws.{caught_parts, early_past, no_lasts, onward}
 use Rattle.plan_rides.proofs.DepartureLaws.{taken_stop}
+
+-- no moment is later than itself
+itself : (x : ℤ) → x ≤ℤ x
+itself x = omega (arith, ints)
 
 module _ (feed : FeedRows) (query : Query) (latest : List (Option Moment)) (stop : ℕ) (from : ℤ) where
   -- one part after another
@@ -94,9 +98,6 @@ module _ (feed : FeedRows) (query : Query) (latest : List (Option Moment)) (stop
       let same : among.0 ≡ k = omega arith in
       inr (subst (λ d. IsBy feed d ride) (same_Some _ _ (sym among.3 ∙ ap (slice_get departures) same ∙ slice_get-get_or departures k x lt)) among.4))
       (cases_lt among.0 k))
-    where
-      onward : (x y z : ℤ) → x ≤ℤ y → y ≤ℤ z → x ≤ℤ z
-      onward x y z p q = omega (arith, ints)
 
   -- where the departures from one on are too late, those before it are all that get somewhere
   pub found_until : (lasts : List (Option Moment)) (departures : List Departure) (n k : ℕ) (old new : List CaughtRide) →
@@ -143,9 +144,6 @@ module _ (feed : FeedRows) (query : Query) (latest : List (Option Moment)) (d : 
           since = subst (λ (f : RideFacts). d.at.0 ≤ℤ f.departure.0) got.1 (itself d.at.0);
           until = subst (λ (f : RideFacts). f.arrival.0 ≤ℤ deadline query) got.1 (int_le-true _ _ parts.1);
         }
-      where
-        itself : (x : ℤ) → x ≤ℤ x
-        itself x = omega (arith, ints)
 
     -- it is added
     pub found_ride : (ride : Ride) (facts : RideFacts) (old new : List CaughtRide) →
@@ -241,15 +239,15 @@ found_right me stand reached caught is found = record {
   next = rw (found.goes, catches, in_time) refl;
 }
   where
-    onward : (at way from departs : ℤ) → from ≡ at +ℤ way → from ≤ℤ departs → (at +ℤ way) ≤ℤ departs
-    onward at way from departs same le = omega (arith, ints)
+    behind_way : (at way from departs : ℤ) → from ≡ at +ℤ way → from ≤ℤ departs → (at +ℤ way) ≤ℤ departs
+    behind_way at way from departs same le = omega (arith, ints)
 
     way_is : way_to me.feed me.query stand caught.facts.from ≡ Some is.way
     way_is = ap (way_to me.feed me.query stand) (ap stop_id found.boards) ∙ is.way_is
 
     catches : is_caught stand.at (way_to me.feed me.query stand caught.facts.from) caught.facts ≡ true
     catches = rw way_is (le-int_le (stand.at +ℤ pos is.way) caught.facts.departure.0
-        (onward stand.at (pos is.way) reached.earliest.0 caught.facts.departure.0 is.at found.since))
+        (behind_way stand.at (pos is.way) reached.earliest.0 caught.facts.departure.0 is.at found.since))
 
     in_time : int_le caught.facts.arrival.0 (deadline me.query) ≡ true
     in_time = le-int_le caught.facts.arrival.0 (deadline me.query) found.until
@@ -344,9 +342,6 @@ all_right me stand n list rides found k x lt = found.right (get_or rides k x) (C
 
 -- ---- rides that are kept
 
-itself : (x : ℤ) → x ≤ℤ x
-itself x = omega (arith, ints)
-
 -- those that were found
 pub holds_found : (me : Positioned) (latest : List (Option Moment)) (reached : Reached) (rides : List CaughtRide) →
     AddsFound me.feed me.query latest reached.stop.0 reached.earliest.0 (IsFromReached me reached) [] rides →
@@ -377,9 +372,6 @@ holds_later me latest one other rides no_later holds = record {
         until = found.until;
       };
 }
-  where
-    onward : (x y z : ℤ) → x ≤ℤ y → y ≤ℤ z → x ≤ℤ z
-    onward x y z p q = omega (arith, ints)
 
 module _ (me : Positioned) (latest : List (Option Moment)) (stand : Stand) (reached : Reached) (rides : List CaughtRide)
     (is : IsReachedFrom me stand reached) (holds : HoldsFrom me latest reached rides) where

@@ -31,13 +31,14 @@ use Rattle.plan_rides.specs.Latest.{latest_at, HasEarlyWalks, AreAllBefore, AreL
 use Rattle.plan_rides.proofs.CaughtLaws.{IsCaughtRide, caught_ride, in_walks}
 use Rattle.plan_rides.proofs.DepartureLaws.{no_boarding, ride_stop}
 
+-- what is no later than what is no later
+pub onward : (x y z : ℤ) → x ≤ℤ y → y ≤ℤ z → x ≤ℤ z
+onward x y z p q = omega (arith, ints)
+
 -- whoever is earlier is early enough too
 pub by_earlier : (latest : Option Moment) (a b : ℤ) → a ≤ℤ b → is_by latest b ≡ true → is_by latest a ≡ true
 unfolding is_by
 by_earlier (Some moment) a b before is = le-int_le a moment.0 (onward a b moment.0 before (int_le-true b moment.0 is))
-  where
-    onward : (x y z : ℤ) → x ≤ℤ y → y ≤ℤ z → x ≤ℤ z
-    onward x y z p q = omega (arith, ints)
 by_earlier None a b before is = absurd (let no : false ≡ true = is in cc)
 
 -- so is whoever is by the earlier of two moments
@@ -47,9 +48,6 @@ unfolding is_by
 by_later one other a b at first second before is =
     subst (λ o. is_by o at ≡ true) (sym second) (le-int_le at b.0 (onward at a.0 b.0
     (int_le-true at a.0 (subst (λ o. is_by o at ≡ true) first is)) before))
-  where
-    onward : (x y z : ℤ) → x ≤ℤ y → y ≤ℤ z → x ≤ℤ z
-    onward x y z p q = omega (arith, ints)
 
 -- a moment is by what is the same
 pub by_same : (one other : Option Moment) (at : ℤ) → one ≡ other → is_by other at ≡ true → is_by one at ≡ true
@@ -157,13 +155,13 @@ pub caught_parts : (feed : FeedRows) (query : Query) (latest : List (Option Mome
     (query.departure.0 ≤ℤ c.facts.departure.0) × (c.facts.arrival.0 ≤ℤ deadline query)
     × (is_early latest c.facts.to.0 c.facts.arrival.0 ≡ true)
 caught_parts feed query latest stand ride next within early c = (
-  onward query.departure.0 stand.at c.facts.departure.0 c.way within.since c.catches,
+  behind_way query.departure.0 stand.at c.facts.departure.0 c.way within.since c.catches,
   subst (λ (s : Stand). s.at ≤ℤ deadline query) (sym c.ends) c.in_time,
   subst (λ (s : Stand). is_early latest s.stop.0 s.at ≡ true) (sym c.ends) early,
 )
   where
-    onward : (from at departs : ℤ) (way : ℕ) → from ≤ℤ at → (at +ℤ pos way) ≤ℤ departs → from ≤ℤ departs
-    onward from at departs way a b = omega (arith, ints)
+    behind_way : (from at departs : ℤ) (way : ℕ) → from ≤ℤ at → (at +ℤ pos way) ≤ℤ departs → from ≤ℤ departs
+    behind_way from at departs way a b = omega (arith, ints)
 
 module _ (feed : FeedRows) (query : Query) (latest lasts new : List (Option Moment)) (sound : IsSoundFeed feed)
     (last : AreLasts feed query latest lasts) (before : AreAllBefore feed query latest lasts new) where

@@ -16,7 +16,7 @@ use crate::prospects::Prospects;
 use crate::search::{Found, Search, Source};
 use crate::stop_bags::StopBags;
 use plan_rides::{CaughtRide, KeptRides, Positions, Reached, Traveller};
-use std::alloc::{AllocError, Global};
+use std::alloc::AllocError;
 use std::mem;
 
 /// What a round goes on from: the labels, how many rides those of the last round have, where riders may board, and what is found.
@@ -55,16 +55,6 @@ impl Drop for Marks {
             reached: _,
             near: _,
         } = self;
-    }
-}
-
-impl Marks {
-    /// None yet.
-    pub fn none(alloc: Global) -> Marks {
-        Marks {
-            reached: Vec::new(alloc),
-            near: Vec::new(alloc),
-        }
     }
 }
 
@@ -200,7 +190,7 @@ impl<'s, 'f> Search<'s, 'f> {
         Ok(())
     }
 
-    /// Offers what one more ride from the position leads to, from the label that reaches it. What `kept` holds is lost.
+    /// Offers what one more ride from the position leads to, from the label that reaches it. `kept` then has the rides from there.
     fn offer_from(
         &self,
         round: &Round<'_, 'f>,

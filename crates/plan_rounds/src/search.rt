@@ -424,7 +424,10 @@ impl<'s, 'f> Search<'s, 'f> {
             soon: Vec::new(self.alloc),
             all: Vec::new(self.alloc),
         };
-        let mut marks = Marks::none(self.alloc);
+        let mut marks = Marks {
+            reached: Vec::new(self.alloc),
+            near: Vec::new(self.alloc),
+        };
         for count in 0..limit {
             self.spread(
                 &labels,
