@@ -62,13 +62,15 @@ fn read_call<R: Read>(
     ensures row { IfOk result (λ call. call ≡ call_row ids.now (fields_behind (header fields.now.header) fields.now.fields)) }
     ensures same { trip.new ≡ trip.old }
 {
-    let numbers = match read_call_fields(row, fields) {
+    let trip_id = fields.field(ColumnName::TripId);
+    let stop_id = fields.field(ColumnName::StopId);
+    let numbers = match read_call_fields(row, fields, trip_id, stop_id) {
         Ok(numbers) => numbers,
         Err(fault) => return Err(TextError::Fault(fault)),
     };
     let [_, _, sequence, arrival, departure, pickup, drop_off] = numbers;
-    let trip = trip.number(fields.field(ColumnName::TripId))?;
-    let stop = ids.stops.number(fields.field(ColumnName::StopId));
+    let trip = trip.number(trip_id)?;
+    let stop = ids.stops.number(stop_id);
     Ok(StopTimeRow {
         trip: TripId(trip),
         stop: StopId(stop),

@@ -63,10 +63,8 @@ impl<'r, R: Read> Fields for RecordRow<'r, R> {
     #[tactic(auto, unfolding(feed_faults::specs::Records::field, feed_faults::specs::Records::column_of))]
     fn field(&self, name: ColumnName) -> &[u8] {
         match self.header.column(name) {
-            Some(place) if (place as usize) < self.records.len() => {
-                self.records.field(place as usize)
-            }
-            _ => &[],
+            Some(place) => self.records.field(place as usize),
+            None => &[],
         }
     }
 }

@@ -1,8 +1,8 @@
 -- Blanks at the ends of a text.
-use Rattle.std.proofs.Common.{◌≡◌, ℕ, ◌+◌, ◌<◌, List, [], ◌∷◌, true, false, zero, suc, length, take, drop, get_or, refl, arith, add-one}
+use Rattle.std.proofs.Common.{◌≡◌, ℕ, ◌+◌, ◌-◌, ◌<◌, List, [], ◌∷◌, true, false, zero, suc, length, take, drop, get_or, refl, ap, subst, ◌∙◌, arith, add-one}
 use Rattle.std.specs.Prelude.{reverse}
-use Rattle.std.proofs.lemmas.List.{reverse-append, take_more}
-use Rattle.feed_faults.specs.Records.{is_blank, cut_start}
+use Rattle.std.proofs.lemmas.List.{reverse-append, reverse-reverse, take_all, take_more}
+use Rattle.feed_faults.specs.Records.{is_blank, cut_start, cut}
 
 -- a blank at the start is cut
 pub start_more : (text : List ℕ) (i : ℕ) → i < length text → is_blank (get_or text i 0) ≡ true
@@ -29,3 +29,19 @@ end_more text i lt b = rw (turned text i lt, b) refl
 pub end_here : (text : List ℕ) (i : ℕ) → i < length text → is_blank (get_or text i 0) ≡ false
     → cut_start (reverse (take (i + 1) text)) ≡ reverse (take (i + 1) text)
 end_here text i lt b = rw (turned text i lt, b) refl
+
+-- a text that neither begins nor ends with a blank stays
+pub uncut : (text : List ℕ) → 0 < length text → is_blank (get_or text 0 0) ≡ false → is_blank (get_or text (length text - 1) 0) ≡ false
+    → cut text ≡ text
+unfolding cut
+uncut text some first last = rw start end
+  where
+    start : cut_start text ≡ text
+    start = start_here text 0 some first
+
+    whole : cut_start (reverse text) ≡ reverse text
+    whole = subst (λ t. cut_start (reverse t) ≡ reverse t) (take_all (length text - 1 + 1) text (omega (arith, some)))
+        (end_here text (length text - 1) (omega (arith, some)) last)
+
+    end : reverse (cut_start (reverse text)) ≡ text
+    end = ap reverse whole ∙ reverse-reverse text

@@ -138,15 +138,19 @@ fn read_text<F: Fields>(fields: &F, grammar: Grammar, text: &[u8]) -> Result<Opt
     Ok(number)
 }
 
-// What the field of a row in a column tells, or what is wrong with it.
+// What the text of a row's field in a column tells, or what is wrong with it.
 #[inline(always)]
 #[tactic(auto, unfolding(feed_faults::specs::FormFaults::field_misfit), using(crate::proofs::NumberLaws::nothing_told))]
-fn read_field<F: Fields>(fields: &F, rule: ColumnRule) -> Result<Option<i64>, FaultKind>
+fn read_field<F: Fields>(
+    fields: &F,
+    rule: ColumnRule,
+    text: &[u8],
+) -> Result<Option<i64>, FaultKind>
+    requires { text.now ≡ F.at fields.now rule.name }
     ensures fault { IfErr result (λ kind. field_misfit (F.at fields.now) rule ≡ Some kind) }
     ensures sound { OnOk result (field_misfit (F.at fields.now) rule ≡ None) }
     ensures number { IfOk result (λ number. number ≡ field_number (F.at fields.now) rule) }
 {
-    let text = fields.field(rule.name);
     if is_filled(text) {
         return read_text(fields, rule.grammar, text);
     }
@@ -156,10 +160,31 @@ fn read_field<F: Fields>(fields: &F, rule: ColumnRule) -> Result<Option<i64>, Fa
     }
 }
 
-/// What the field of a row in a column tells: none where it is empty, or an id. Answers its fault, where it has one. Inlined, so
-/// that a column that is known is judged without a look at its rule.
+/// What the text of a row's field in a column tells: none where it is empty, or an id. Answers its fault, where it has one.
+/// Inlined, so that a column that is known is judged without a look at its rule.
 #[inline(always)]
 #[tactic(auto, using(crate::proofs::NumberLaws::own_fault, crate::proofs::NumberLaws::no_fault))]
+pub fn read_found<F: Fields>(
+    file: FileName,
+    row: u32,
+    fields: &F,
+    rule: ColumnRule,
+    text: &[u8],
+) -> Result<Option<i64>, FeedFault>
+    requires few { row < row_limit }
+    requires text { text.now ≡ F.at fields.now rule.name }
+    ensures fault { IfErr result (λ fault. fault_of_field file row (F.at fields.now) rule ≡ Some fault) }
+    ensures sound { OnOk result (fault_of_field file row (F.at fields.now) rule ≡ None) }
+    ensures number { IfOk result (λ number. number ≡ field_number (F.at fields.now) rule) }
+{
+    match read_field(fields, rule, text) {
+        Ok(number) => Ok(number),
+        Err(kind) => Err(field_fault(file, row, rule.name, kind)),
+    }
+}
+
+/// What the field of a row in a column tells, as `read_found` does.
+#[inline(always)]
 pub fn read_column<F: Fields>(
     file: FileName,
     row: u32,
@@ -171,10 +196,7 @@ pub fn read_column<F: Fields>(
     ensures sound { OnOk result (fault_of_field file row (F.at fields.now) rule ≡ None) }
     ensures number { IfOk result (λ number. number ≡ field_number (F.at fields.now) rule) }
 {
-    match read_field(fields, rule) {
-        Ok(number) => Ok(number),
-        Err(kind) => Err(field_fault(file, row, rule.name, kind)),
-    }
+    read_found(file, row, fields, rule, fields.field(rule.name))
 }
 
 /// Whether a row of `transfers.txt` is passed over: it is of type 4 or 5, or it names routes or trips.

@@ -19,7 +19,9 @@ pub use amounts::amount_of;
 pub use dates::{date_of, day_of_parts};
 pub use errors::TextError;
 pub use faults::{field_fault, file_fault, row_fault};
-pub use fields::{Fields, is_filled, is_passed_over, nat_of, natural, read_column, read_fields};
+pub use fields::{
+    Fields, is_filled, is_passed_over, nat_of, natural, read_column, read_fields, read_found,
+};
 pub use ids::{currency_of, id_ok};
 pub use numbers::{count_of, int_of, time_of};
 pub use reading::{header_fault, is_always_needed, is_text};

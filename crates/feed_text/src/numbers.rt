@@ -47,6 +47,7 @@ pub(crate) fn small_number_of(text: &[u8], most: u32) -> Option<u32>
 
 /// The seconds of a time: one to three digits of hours up to 167, and two digits each of minutes and seconds up to 59, with
 /// colons between. None exactly where the text is no such time of at most so many seconds.
+#[inline(always)]
 #[tactic(auto, unfolding(feed_rows::specs::TimeGrammar::time_value))]
 pub fn time_of(text: &[u8], most: u32) -> Option<u32>
     ensures value { result ≡ time_value most text.now }
@@ -70,6 +71,7 @@ pub fn time_of(text: &[u8], most: u32) -> Option<u32>
 }
 
 // An optional minus sign and one or more digits, where the digits' number is below 2^64.
+#[inline(always)]
 fn signed_number_of(text: &[u8]) -> Option<i128>
     ensures { result ≡ if_between (neg_ℤ (pos (2 ^ 64 - 1))) (pos (2 ^ 64 - 1)) (signed_value number_value text.now) }
 {
@@ -81,6 +83,7 @@ fn signed_number_of(text: &[u8]) -> Option<i128>
 
 /// The value of an integer: an optional minus sign and one or more digits, leading zeros among them. None exactly where the
 /// text is no integer from `least` to `most`.
+#[inline(always)]
 #[tactic(auto, unfolding(feed_faults::specs::FieldGrammars::int_value))]
 pub fn int_of(text: &[u8], least: i64, most: i64) -> Option<i64>
     ensures { result ≡ int_value least most text.now }

@@ -78,10 +78,9 @@ impl<R: Read> Records<R> {
         self.row.len().max(1)
     }
 
-    /// A field of the last record, without the blanks at its ends.
+    /// A field of the last record, without the blanks at its ends; empty past its last one.
     #[inline(always)]
     pub fn field(&self, place: usize) -> &[u8]
-        requires { place < length (last_record self.now) }
         ensures { result.now ≡ get_or (last_record self.now) place [] }
     {
         match self.row.get(place) {
