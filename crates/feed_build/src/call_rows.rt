@@ -1,20 +1,18 @@
 //! The rows of stop_times.txt so far.
-ghost use Rattle.std.specs.Prelude.{◌≡◌, ◌<◌, ◌++◌, ◌∷◌, [], List, ℕ, Option, None, length, IfOk, IfErr, OnOk};
+ghost use Rattle.std.specs.Prelude.{◌≡◌, ◌<◌, ◌++◌, ◌∷◌, [], List, ℕ, Option, None, Some, length, IfOk, IfErr, OnOk};
 ghost use Rattle.feed_rows.specs.declared.names.FileName.TheVariants as file;
 ghost use Rattle.feed_faults.specs.Records.{header};
 ghost use Rattle.feed_text.specs.Reader.{StandsBehind, last_record};
 ghost use Rattle.feed_text.specs.RowLimits.{row_limit};
-ghost use Rattle.feed_text.specs.TextErrors.{IsErrorOf};
 ghost use Rattle.feed_build.specs.CallRows.{call_row, call_fault, fields_behind};
 ghost use Rattle.feed_build.specs.CallsSoFar.{HasCalls, IsOwnFault};
 
 use crate::call_fields::read_call_fields;
-use crate::last_trip::LastTrip;
 use crate::stop_times::{CallError, StopTimes};
 use crate::values::is_code;
 use feed_rows::{CallTime, ColumnName, FeedFault, FileName, StopTimeRow, StopTimeRows};
-use feed_tables::{CallIds, NamedTable, RecordRow};
-use feed_text::{Fields, Records, SeenTable, Table, TextError, header_fault, nat_of, natural};
+use feed_tables::{CallIds, LastSought, NamedTable, RecordRow};
+use feed_text::{Fields, Records, SeenTable, Table, header_fault, nat_of, natural};
 use std::alloc::{AllocError, Global};
 use std::io::Read;
 use transit_base::{StopId, TripId};
@@ -26,7 +24,7 @@ const NOT_AVAILABLE: u32 = 1;
 pub struct CallRows<'i, 't> {
     ids: &'i CallIds<'t>,
     header: NamedTable,
-    trip: LastTrip<'i, 't>,
+    trips: LastSought<'i, 't>,
     rows: StopTimeRows,
     table: SeenTable,
     // The first fault of the header and of the rows.
@@ -39,7 +37,7 @@ impl<'i, 't> Drop for CallRows<'i, 't> {
         let CallRows {
             ids: _,
             header: _,
-            trip: _,
+            trips: _,
             rows: _,
             table: _,
             fault: _,
@@ -47,33 +45,31 @@ impl<'i, 't> Drop for CallRows<'i, 't> {
     }
 }
 
-// The row that a record makes, judged as it is read. `Fault` is its fault.
+// The row that a record makes, judged as it is read, or its fault.
 #[tactic(auto, unfolding(crate::specs::CallRows::call_row), using(crate::proofs::ValueLaws::values))]
 fn read_call<R: Read>(
     ids: &CallIds,
-    trip: &mut LastTrip,
+    trips: &mut LastSought,
     row: u32,
     fields: &RecordRow<R>,
-) -> Result<StopTimeRow, TextError>
+) -> Result<StopTimeRow, FeedFault>
     requires few { row < row_limit }
-    requires trip { trip.old ≡ ids.now.trips }
-    ensures fault { IfErr result (IsErrorOf (call_fault (header fields.now.header) row fields.now.fields)) }
+    requires trips { trips.old ≡ ids.now.trips }
+    ensures fault { IfErr result (λ fault. call_fault (header fields.now.header) row fields.now.fields ≡ Some fault) }
     ensures sound { OnOk result (call_fault (header fields.now.header) row fields.now.fields ≡ None) }
     ensures row { IfOk result (λ call. call ≡ call_row ids.now (fields_behind (header fields.now.header) fields.now.fields)) }
-    ensures same { trip.new ≡ trip.old }
+    ensures same { trips.new ≡ trips.old }
 {
     let trip_id = fields.field(ColumnName::TripId);
     let stop_id = fields.field(ColumnName::StopId);
-    let numbers = match read_call_fields(row, fields, trip_id, stop_id) {
-        Ok(numbers) => numbers,
-        Err(fault) => return Err(TextError::Fault(fault)),
-    };
+    // Both are looked up in two steps, so that the other fields are read while memory is waited for.
+    let trip = trips.seek(trip_id);
+    let stop = ids.stops.seek(stop_id);
+    let numbers = read_call_fields(row, fields, trip_id, stop_id)?;
     let [_, _, sequence, arrival, departure, pickup, drop_off] = numbers;
-    let trip = trip.number(trip_id)?;
-    let stop = ids.stops.number(stop_id);
     Ok(StopTimeRow {
-        trip: TripId(trip),
-        stop: StopId(stop),
+        trip: TripId(trip.number()),
+        stop: StopId(stop.number()),
         sequence: nat_of(sequence),
         arrival: CallTime::of(natural(arrival)),
         departure: CallTime::of(natural(departure)),
@@ -101,7 +97,7 @@ impl<'i, 't> CallRows<'i, 't> {
         Ok(CallRows {
             ids,
             header: NamedTable::of(alloc, header)?,
-            trip: LastTrip::none(alloc, &ids.trips),
+            trips: LastSought::of(&ids.trips),
             rows: StopTimeRows::empty(alloc),
             table,
             fault,
@@ -114,8 +110,8 @@ impl<'i, 't> CallRows<'i, 't> {
     /// Want of memory.
     pub fn take<R: Read>(&mut self, row: u32, records: &Records<R>) -> Result<(), AllocError>
         requires few { row < row_limit }
-        requires trip { self.old.trip ≡ self.old.ids.now.trips }
-        ensures trip { self.new.trip ≡ self.new.ids.now.trips }
+        requires trips { self.old.trips ≡ self.old.ids.now.trips }
+        ensures trips { self.new.trips ≡ self.new.ids.now.trips }
         ensures calls { OnOk result ((ids : CallIds) (head : List (List ℕ)) (rows : List (List (List ℕ))) → row ≡ length rows → HasCalls ids head rows self.old → HasCalls ids head (rows ++ last_record records.now ∷ []) self.new) }
     {
         self.table.see(records)?;
@@ -123,10 +119,9 @@ impl<'i, 't> CallRows<'i, 't> {
             return Ok(());
         }
         let record = RecordRow::of(&self.header, records);
-        match read_call(self.ids, &mut self.trip, row, &record) {
+        match read_call(self.ids, &mut self.trips, row, &record) {
             Ok(call) => self.rows.push(call)?,
-            Err(TextError::Fault(fault)) => self.fault = Some(fault),
-            Err(TextError::NoMemory) => return Err(AllocError),
+            Err(fault) => self.fault = Some(fault),
         }
         Ok(())
     }
@@ -139,7 +134,7 @@ impl<'i, 't> CallRows<'i, 't> {
         let CallRows {
             ids: _,
             header: _,
-            trip: _,
+            trips: _,
             rows,
             table,
             fault,

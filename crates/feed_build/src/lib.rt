@@ -6,7 +6,6 @@ mod call_fields;
 mod call_rows;
 mod fares;
 mod feed;
-mod last_trip;
 mod name_hash;
 mod numbering;
 mod parts;

@@ -1,6 +1,7 @@
 -- The rows of a table by their ids: the earliest row with an id is found where a row has it, and else none.
-use Rattle.std.proofs.Common.{All, ◌≡◌, refl, sym, ◌∙◌, ap, subst, ℕ, ◌+◌, ◌<◌, ◌≤◌, ◌⊎◌, inl, inr, ⊎_elim, Bool, true, false, ◌==◌, ◌||◌, List, [], ◌∷◌, ◌++◌, length, get_or, AllPairs, IsPermutation, bytes_eq, arith, Option, Some, None, nat_lt, slice_get}
+use Rattle.std.proofs.Common.{All, ◌≡◌, refl, sym, ◌∙◌, ap, subst, ℕ, ◌+◌, ◌<◌, ◌≤◌, ◌⊎◌, inl, inr, ⊎_elim, Bool, true, false, ◌==◌, ◌||◌, List, [], ◌∷◌, ◌++◌, length, get_or, AllPairs, IsPermutation, bytes_eq, arith, Option, Some, None, nat_lt}
 use Rattle.std.specs.Prelude.{IfSome}
+use Rattle.std.specs.Bool.{then_some}
 use Rattle.std.specs.List.{list_any}
 use Rattle.std.specs.List.Sorted.{IsSortedByKey, IsPartitionedBy}
 use Rattle.std.specs.Cmp.Lexicographic.{slice_cmp}
@@ -12,7 +13,6 @@ use Rattle.std.proofs.lemmas.Bool.Decides.{nat_tests}
 use Rattle.std.proofs.lemmas.Cmp.{nat_cmp_total, nat_list_cmp_total, tied_itself, on_total, then_total}
 use Rattle.std.proofs.lemmas.Map.Text.{is_eq-slice_cmp}
 use Rattle.std.proofs.lemmas.Slice.Eq.{bytes_eq-Decides}
-use Rattle.std.proofs.lemmas.Option.{slice_get_cases}
 use Rattle.std.proofs.lemmas.List.{get_or_default}
 use Rattle.std.proofs.lemmas.List.Elements.{All-push, All-contains}
 use Rattle.std.proofs.lemmas.List.Folds.{list_any-append}
@@ -24,7 +24,7 @@ use Rattle.feed_faults.specs.Records.{FileTable, row_count, field}
 use Rattle.feed_faults.specs.RowKeys.{row_of, is_doubled}
 use Rattle.feed_tables.specs.declared.id_rows.IdRow.{IdRow}
 use Rattle.feed_tables.proofs.PrefixLaws.{prefix_of_rises}
-use Rattle.feed_tables.specs.OrderedRows.{prefix_of, IsPrefixed, AreIdRows, IsNotAfter, AreOrderedRows, IsPlaceOf, row_at}
+use Rattle.feed_tables.specs.OrderedRows.{prefix_of, IsPrefixed, AreIdRows, IsNotAfter, AreOrderedRows, IsPlaceOf}
 
 -- no row is listed at first
 pub none_listed : (table : FileTable) (name : ColumnName) → AreIdRows table name 0 []
@@ -263,27 +263,19 @@ row_of_none table name rows id place ordered is_place apart = find_below_none te
         step (inr other) = other
         step (inl too) = absurd (wrong k (has_id table name rows id k ordered.rows_are below too))
 
--- so the row at the place of the id is the earliest with it, where it has it
-pub row_of_at : (table : FileTable) (name : ColumnName) (rows : List IdRow) (id : List ℕ) (place : ℕ) → AreOrderedRows table name rows → IsPlaceOf rows id place → row_at rows place id ≡ row_of table name id
-row_of_at table name rows id place ordered is_place = ⊎_elim inside past (slice_get_cases rows place).1
-  where
-    past : (length rows ≤ place) × (slice_get rows place ≡ None) → row_at rows place id ≡ row_of table name id
-    past end = let beyond = end.0 in rw end.1 (sym (row_of_none table name rows id place ordered is_place (λ d lt same. absurd (omega arith))))
+-- so what is found of an id is the row at its place, where that has the id
+module _ (table : FileTable) (name : ColumnName) (rows : List IdRow) (id : List ℕ) (place : ℕ) (ordered : AreOrderedRows table name rows) (is_place : IsPlaceOf rows id place) where
+  pub row_of_past : length rows ≤ place → None ≡ row_of table name id
+  row_of_past past = sym (row_of_none table name rows id place ordered is_place (λ d lt same. absurd (omega arith)))
 
-    inside : (entry : IdRow) × (place < length rows) × (slice_get rows place ≡ Some entry) × (get_or rows place entry ≡ entry) → row_at rows place id ≡ row_of table name id
-    inside at = tell (cases_Bool (bytes_eq entry.id.now id))
-      where
-        entry : IdRow
-        entry = at.0
-
-        tell : (bytes_eq entry.id.now id ≡ true) ⊎ (bytes_eq entry.id.now id ≡ false) → row_at rows place id ≡ row_of table name id
-        tell (inl hit) =
-            let is : entry.id.now ≡ id = (bytes_eq-Decides entry.id.now id).0 hit in
-            rw (at.2, hit) (sym (row_of_hit table name rows id place entry ordered is_place at.1 (ap (λ (x : IdRow). x.id.now) at.3 ∙ is) ∙ ap (λ (x : IdRow). Some x.row) at.3))
-        tell (inr miss) =
-            rw (at.2, miss) (sym (row_of_none table name rows id place ordered is_place (λ d within same.
-            let other : entry.id.now ≡ id = sym (ap (λ (x : IdRow). x.id.now) (get_or_default rows place d entry at.1 ∙ at.3)) ∙ same in
-            let no : true ≡ false = sym ((bytes_eq-Decides entry.id.now id).1 other) ∙ miss in cc)))
+  pub row_of_at : (entry : IdRow) → place < length rows → entry ≡ get_or rows place entry → (hit : Bool) → hit ≡ bytes_eq entry.id.now id → then_some hit entry.row ≡ row_of table name id
+  row_of_at entry lt is true e =
+      let own : (get_or rows place entry).id.now ≡ id = ap (λ (x : IdRow). x.id.now) (sym is) ∙ (bytes_eq-Decides entry.id.now id).0 (sym e) in
+      ap (λ (x : IdRow). Some x.row) is ∙ sym (row_of_hit table name rows id place entry ordered is_place lt own)
+  row_of_at entry lt is false e =
+      sym (row_of_none table name rows id place ordered is_place (λ d within same.
+      let other : entry.id.now ≡ id = ap (λ (x : IdRow). x.id.now) (is ∙ get_or_default rows place entry d lt) ∙ same in
+      let no : false ≡ true = e ∙ (bytes_eq-Decides entry.id.now id).1 other in cc))
 
 -- what is found is a row of the table
 pub row_of_within : (table : FileTable) (name : ColumnName) (id : List ℕ) (found : Option ℕ) → found ≡ row_of table name id → IfSome found (λ row. row < row_count table)

@@ -1,6 +1,7 @@
 pub mod PrefixLaws
+pub mod KeyLaws
 pub mod IdLaws
-pub mod GuessLaws
+pub mod SlotLaws
 pub mod PassLaws
 pub mod HeldLaws
 pub mod TakenFiles

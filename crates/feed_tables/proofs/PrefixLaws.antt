@@ -1,18 +1,18 @@
 -- The numbers that texts of bytes begin with: they don't fall from a text to a greater one.
-use Rattle.std.proofs.Common.{lit<, ◌≡◌, refl, sym, ◌∙◌, ap, ℕ, zero, suc, ◌+◌, ◌*◌, ◌^◌, ◌<◌, ◌≤◌, ◌⊎◌, inl, inr, true, false, ◌==◌, List, [], ◌∷◌, length, get_or, nat_lt, bytes_eq, arith}
+use Rattle.std.proofs.Common.{lit<, ◌≡◌, refl, sym, ◌∙◌, ap, ℕ, zero, suc, ◌+◌, ◌*◌, ◌/◌, ◌^◌, ◌<◌, ◌≤◌, ◌⊎◌, inl, inr, true, false, ◌==◌, List, [], ◌∷◌, length, get_or, nat_lt, bytes_eq, arith}
 use Rattle.std.proofs.Math.Nat.{mul-le-mul_left, pow-le-pow_right}
 use Rattle.std.specs.Cmp.Lexicographic.{slice_cmp}
 use Rattle.std.specs.List.Sorted.{IsPartitionedBy}
 use Rattle.std.specs.Ordering.{nat_cmp, ordering_reverse, is_lt, is_eq}
 use Rattle.std.specs.declared.cmp.Ordering.{Ordering}
 use Rattle.std.specs.declared.cmp.Ordering.TheVariants.{Less, Equal, Greater}
-use Rattle.std.proofs.lemmas.Bool.{cases_eq, cases_lt}
+use Rattle.std.proofs.lemmas.Bool.{cases_Bool, cases_eq, cases_lt}
 use Rattle.std.proofs.lemmas.Bool.Decides.{nat_tests}
 use Rattle.std.proofs.lemmas.Cmp.{nat_list_cmp_total}
 use Rattle.std.proofs.lemmas.Map.Text.{is_eq-slice_cmp}
 use Rattle.std.proofs.lemmas.Slice.Eq.{bytes_eq-Decides}
 use Rattle.feed_tables.specs.declared.id_rows.IdRow.{IdRow}
-use Rattle.feed_tables.specs.OrderedRows.{prefix_below, prefix_of, AreBytes, BeginsWith, IsPrefixed, is_id_before}
+use Rattle.feed_tables.specs.OrderedRows.{prefix_below, first_seven, prefix_of, AreBytes, BeginsWith, IsPrefixed, is_id_before}
 
 -- one more byte
 pub prefix_next : (n : ℕ) (text : List ℕ) → prefix_below (n + 1) text ≡ prefix_below n text * 256 + get_or text n 0
@@ -75,12 +75,22 @@ pub prefix_of_rises : (x y : List ℕ) → AreBytes x → slice_cmp nat_cmp x y 
 unfolding prefix_of
 prefix_of_rises = prefix_rises 8
 
-pub begins_with : (prefix : ℕ) (id : List ℕ) → prefix ≡ prefix_below 8 id → AreBytes id → BeginsWith prefix id
-unfolding prefix_of
-begins_with prefix id number bytes = record { number = number; bytes = bytes }
+-- seven bytes leave room for one more
+pub start_small : (text : List ℕ) → AreBytes text → first_seven text < 256 ^ 7
+unfolding first_seven
+start_small = prefix_small 7
+
+pub started : (start : ℕ) (text : List ℕ) → start ≡ prefix_below 7 text → start ≡ first_seven text
+unfolding first_seven
+started start text e = e
+
+-- the eighth byte behind them
+pub begins_with : (start : ℕ) (id : List ℕ) → start ≡ first_seven id → AreBytes id → BeginsWith (start * 256 + get_or id 7 0) id
+unfolding prefix_of first_seven
+begins_with start id e bytes = record { number = ap (λ n. n * 256 + get_or id 7 0) e; bytes = bytes }
 
 -- texts of so many bytes at most whose numbers and lengths are the same are one
-same_bytes : (n : ℕ) (x y : List ℕ) → AreBytes x → AreBytes y → length x ≡ length y → length y ≤ n
+pub same_bytes : (n : ℕ) (x y : List ℕ) → AreBytes x → AreBytes y → length x ≡ length y → length y ≤ n
     → prefix_below n x ≡ prefix_below n y → x ≡ y
 same_bytes n [] [] first second long few e = refl
 same_bytes n [] (b ∷ y) first second long few e = absurd (omega arith)
@@ -120,14 +130,6 @@ same_bytes (suc n) (a ∷ x) (b ∷ y) first second long few e =
     cons : a ≡ b → x ≡ y → a ∷ x ≡ b ∷ y
     cons one rest = rw (one, rest) refl
 
--- an id is told by its number and its length, where it has at most eight bytes
-pub same_id : (x y : List ℕ) (p q : ℕ) → BeginsWith p x → BeginsWith q y → p ≡ q → length x ≡ length y → length y ≤ 8
-    → bytes_eq x y ≡ true
-unfolding prefix_of
-same_id x y p q first second same long few =
-    let numbers = sym first.number ∙ same ∙ second.number in
-    (bytes_eq-Decides x y).1 (same_bytes 8 x y first.bytes second.bytes long few numbers)
-
 -- texts of numbers that differ are told apart by these
 pub told_by_prefix : (entry : IdRow) (prefix : ℕ) (id : List ℕ) → IsPrefixed entry → AreBytes id → prefix ≡ prefix_of id → is_id_before entry prefix id ≡ is_lt (slice_cmp nat_cmp entry.id.now id)
 told_by_prefix entry prefix id is bytes number = step (cases_eq entry.prefix prefix) (slice_cmp nat_cmp entry.id.now id) refl
@@ -166,3 +168,16 @@ told_by_prefix entry prefix id is bytes number = step (cases_eq entry.prefix pre
 pub tests_parted : (rows : List IdRow) (prefix : ℕ) (id : List ℕ) → ((k : ℕ) (d : IdRow) → k < length rows → is_id_before (get_or rows k d) prefix id ≡ is_lt (slice_cmp nat_cmp (get_or rows k d).id.now id))
     → IsPartitionedBy (λ (entry : IdRow). is_lt (slice_cmp nat_cmp entry.id.now id)) rows → IsPartitionedBy (λ (entry : IdRow). is_id_before entry prefix id) rows
 tests_parted rows prefix id told parted i j d le within before = told i d (omega arith) ∙ parted i j d le within (sym (told j d within) ∙ before)
+
+-- ids that begin with other numbers are others
+pub other_start : (entry other : IdRow) → IsPrefixed entry → IsPrefixed other → (entry.prefix ≡ other.prefix → ⊥) → bytes_eq entry.id.now other.id.now ≡ false
+other_start entry other first second apart = step (cases_Bool (bytes_eq entry.id.now other.id.now))
+  where
+    step : (bytes_eq entry.id.now other.id.now ≡ true) ⊎ (bytes_eq entry.id.now other.id.now ≡ false) → bytes_eq entry.id.now other.id.now ≡ false
+    step (inr other_id) = other_id
+    step (inl same) = absurd (apart (first.number ∙ ap prefix_of ((bytes_eq-Decides entry.id.now other.id.now).0 same) ∙ sym second.number))
+
+-- the number that an id begins with tells that of its first seven bytes
+pub start_in : (prefix : ℕ) (id : List ℕ) → BeginsWith prefix id → prefix / 256 ≡ first_seven id
+unfolding prefix_of first_seven
+start_in prefix id begins = let byte = begins.bytes 7 in let number = begins.number in omega (arith, byte, number)

@@ -2,7 +2,9 @@ pub mod RowNumbers
 pub mod KeptTables
 pub mod Columns
 pub mod IndexedColumns
+pub mod SoughtIds
 pub mod IdColumns
 pub mod OrderedRows
-pub mod Guesses
+pub mod IdKeys
+pub mod Slots
 pub mod LeftFiles

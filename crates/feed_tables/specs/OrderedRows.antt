@@ -1,10 +1,9 @@
 -- The rows of a table in the order of their fields in a column.
-use Rattle.std.specs.Prelude.{◌≡◌, ℕ, zero, suc, ◌+◌, ◌*◌, ◌<◌, ◌≤◌, ◌==◌, nat_lt, if◌then◌else◌, Bool, true, false, List, length, slice_index, slice_index_or, slice_get, bytes_eq, Option, option_and_then, All, AllPairs}
+use Rattle.std.specs.Prelude.{◌≡◌, ℕ, zero, suc, ◌+◌, ◌*◌, ◌<◌, ◌≤◌, ◌==◌, nat_lt, if◌then◌else◌, Bool, true, false, List, length, slice_index, slice_index_or, All, AllPairs}
 use Rattle.std.specs.List.{list_any}
 use Rattle.std.specs.Cmp.Lexicographic.{slice_cmp}
 use Rattle.std.specs.Ordering.{nat_cmp, ordering_then, is_lt}
 use Rattle.feed_rows.specs.declared.names.ColumnName.{ColumnName}
-use Rattle.plain_laws.specs.Plain.{when}
 use Rattle.feed_faults.specs.Records.{FileTable, row_count, field}
 use Rattle.feed_tables.specs.declared.id_rows.IdRow.{IdRow}
 
@@ -12,6 +11,10 @@ use Rattle.feed_tables.specs.declared.id_rows.IdRow.{IdRow}
 abbrev pub prefix_below : ℕ → List ℕ → ℕ
 prefix_below zero text = 0
 prefix_below (suc n) text = prefix_below n text * 256 + slice_index text n
+
+-- the number that the first seven bytes make
+unfoldable pub first_seven : List ℕ → ℕ
+first_seven text = prefix_below 7 text
 
 -- the number that the first eight bytes make
 unfoldable pub prefix_of : List ℕ → ℕ
@@ -56,6 +59,6 @@ pub record IsPlaceOf (rows : List IdRow) (id : List ℕ) (place : ℕ) : Type 0 
 abbrev pub is_id_before : IdRow → ℕ → List ℕ → Bool
 is_id_before entry prefix id = if entry.prefix == prefix then is_lt (slice_cmp nat_cmp entry.id.now id) else nat_lt entry.prefix prefix
 
--- the row at a place, where its id is this one
-abbrev pub row_at : List IdRow → ℕ → List ℕ → Option ℕ
-row_at rows place id = option_and_then (λ (entry : IdRow). when (bytes_eq entry.id.now id) entry.row) (slice_get rows place)
+-- the row at a place is the first with its id
+abbrev pub IsFirst : List IdRow → ℕ → Type 0
+IsFirst rows place = (d : IdRow) → place < length rows → IsPlaceOf rows (slice_index_or rows place d).id.now place

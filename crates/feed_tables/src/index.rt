@@ -3,10 +3,13 @@ ghost use Rattle.std.specs.Prelude.{◌≡◌, ◌<◌, IfOk, IfSome};
 ghost use Rattle.feed_faults.specs.Records.{row_count};
 ghost use Rattle.feed_faults.specs.RowKeys.{row_of, is_unknown, is_doubled};
 ghost use Rattle.feed_faults.specs.AcceptedFeed.{row_number};
+ghost use Rattle.feed_tables.specs.IdKeys.{IsKeyOf};
 
-use crate::guesses::{found_row, guesses_of};
-use crate::id_rows::{IdRow, ordered_rows};
+use crate::id_keys::key_of;
+use crate::id_rows::{IdRow, ordered_rows, place_of};
 use crate::named::NamedTable;
+use crate::seek::Seek;
+use crate::slots::{Slots, slots_of};
 use feed_rows::ColumnName;
 use std::alloc::{AllocError, Global};
 use std::marker::Model;
@@ -17,19 +20,19 @@ pub struct IdIndex<'t> {
     name: ColumnName,
     // All rows, in the order of their ids.
     rows: Vec<IdRow<'t>>,
-    // Where an id may stand among them, looked up before they are searched.
-    guesses: Vec<u32>,
+    // Where an id is looked for before the rows are searched.
+    slots: Slots,
 }
 
 impl<'t> Model for IdIndex<'t> {
     ghost use Rattle.feed_tables.specs.IndexedColumns.{IndexedColumn};
-    ghost use Rattle.feed_tables.specs.Guesses.{IsIndex};
+    ghost use Rattle.feed_tables.specs.Slots.{IsIndex};
 
     ghost Value = { IndexedColumn };
 
     ghost view = { λ i. record { table = i.table.now; name = i.name } };
 
-    ghost invariant = { λ i. IsIndex i.table.now i.name i.rows.items i.guesses.items };
+    ghost invariant = { λ i. IsIndex i.table.now i.name i.rows.items i.slots };
 }
 
 // Written out, so that what lets go of an index needn't look into it.
@@ -39,7 +42,7 @@ impl<'t> Drop for IdIndex<'t> {
             table: _,
             name: _,
             rows: _,
-            guesses: _,
+            slots: _,
         } = self;
     }
 }
@@ -57,31 +60,91 @@ impl<'t> IdIndex<'t> {
         ensures { IfOk result (λ index. index ≡ record { table = table.now; name = name }) }
     {
         let rows = ordered_rows(alloc, table, name)?;
-        let guesses = guesses_of(alloc, &rows)?;
+        let slots = slots_of(alloc, &rows)?;
         Ok(IdIndex {
             table,
             name,
             rows,
-            guesses,
+            slots,
         })
     }
 
-    /// The earliest row with this id: by a guess, or else by a binary search.
+    // The earliest row with this id, by a binary search. Few ids come here: those that no row has, and those without a slot.
+    #[cold]
+    #[inline(never)]
+    fn searched_row(&self, id: &[u8]) -> Option<u32>
+        ensures { result ≡ row_of self.now.table self.now.name id.now }
+    {
+        let entry = self.rows.get(place_of(&self.rows, id))?;
+        (entry.id == id).then_some(entry.row)
+    }
+
+    // The row in a slot, where it has this id, which has this key. One of at most seven bytes is told by its key alone, so
+    // that none of the table's text is read.
+    #[inline(always)]
+    pub(crate) fn row_in(&self, slot: usize, key: u64, id: &[u8]) -> Option<u32>
+        requires { IsKeyOf key id.now }
+        ensures { IfSome result (λ row. row_of self.now.table self.now.name id.now ≡ Some row) }
+    {
+        if slot >= self.slots.rows.len() || self.slots.keys[slot] != key {
+            return None;
+        }
+        let row = self.slots.rows[slot];
+        if row < self.table.rows() && (id.len() <= 7 || self.table.field(row, self.name) == id) {
+            return Some(row);
+        }
+        None
+    }
+
+    // The earliest row with this id: that in the slot, where it has the id, or else by a binary search.
+    #[inline(always)]
+    pub(crate) fn row_by(&self, slot: usize, key: u64, id: &[u8]) -> Option<u32>
+        requires { IsKeyOf key id.now }
+        ensures row { result ≡ row_of self.now.table self.now.name id.now }
+        ensures within { IfSome result (λ row. row < row_count self.now.table) }
+    {
+        match self.row_in(slot, key, id) {
+            Some(row) => Some(row),
+            None => self.searched_row(id),
+        }
+    }
+
+    // The slot of an id with this key.
+    #[inline(always)]
+    pub(crate) fn slot_of(&self, key: u64, id: &[u8]) -> usize {
+        self.slots.slot_of(key, id)
+    }
+
+    // How many rows there are.
+    #[inline(always)]
+    pub(crate) fn count(&self) -> u32
+        ensures { result ≡ row_count self.now.table }
+    {
+        self.table.rows()
+    }
+
+    /// Begins to look for the earliest row with an id.
+    #[inline(always)]
+    pub fn seek<'i, 'r>(&'i self, id: &'r [u8]) -> Seek<'i, 't, 'r>
+        ensures { result ≡ record { column = self.now; id = id.now } }
+    {
+        let key = key_of(id);
+        Seek::at(self, self.slot_of(key, id), key, id)
+    }
+
+    /// The earliest row with this id.
     pub fn row_of(&self, id: &[u8]) -> Option<u32>
         ensures row { result ≡ row_of self.now.table self.now.name id.now }
         ensures within { IfSome result (λ row. row < row_count self.now.table) }
     {
-        found_row(&self.rows, &self.guesses, id)
+        self.seek(id).row()
     }
 
     /// The number of the earliest row with this id; that after the last row where no row has it.
     pub fn number(&self, id: &[u8]) -> u32
         ensures { result ≡ row_number self.now.table self.now.name id.now }
     {
-        match self.row_of(id) {
-            Some(row) => row,
-            None => self.table.rows(),
-        }
+        self.seek(id).number()
     }
 
     /// Whether an id is filled and no row has it: an empty reference is no fault.

@@ -2,7 +2,7 @@
 #![tactic(auto)]
 
 mod files;
-mod guesses;
+mod id_keys;
 mod id_rows;
 mod ids;
 mod index;
@@ -12,6 +12,8 @@ mod read_table;
 mod reading;
 mod record_row;
 mod rows;
+mod seek;
+mod slots;
 mod tables;
 
 pub use files::MOST_ROWS;
@@ -22,4 +24,5 @@ pub use named::{NamedTable, TableRow};
 pub use read_table::ReadTable;
 pub use reading::read_tables;
 pub use record_row::RecordRow;
+pub use seek::{LastSought, Seek};
 pub use tables::{CallTable, Tables};

@@ -44,7 +44,7 @@ returns-then-not-branch-2-clause-why g c =
 
 pub loop-row-preserved : goal.loop-row-preserved
 loop-row-preserved g c = record {
-  trip = c.in_ok-take.ensures.trip;
+  trips = c.in_ok-take.ensures.trips;
   read = λ start stands.
       let so_far = c.loop-row.invariant.read start stands in
       let one_more = rw c.if-not-branch-2.false at (c.in_ok-next-2.ensures.goes_on start (so_far.0 ∷ so_far.1) so_far.2) in

@@ -10,8 +10,8 @@ pub returns : goal.returns
 returns c =
     let rows = c.args.rows.now in
     let id = c.args.id.now in
-    let prefix = c.args.prefix in
-    let begins = c.requires.begins in
+    let prefix = c.prefix_of-prefix.result in
+    let begins = c.prefix_of-prefix.ensures in
     let told = λ (k : ℕ) (d : IdRow) (lt : k < length rows).
     told_by_prefix (get_or rows k d) prefix id (c.requires.prefixed k d lt) begins.bytes begins.number in
     let point = IsPartitionPoint-from_clause (λ (entry : IdRow). is_id_before entry prefix id) _ _ c.partition_point.ensures.partitioned (tests_parted rows prefix id told (ids_parted rows id c.requires.sorted)) (λ a r q k. search rules) in

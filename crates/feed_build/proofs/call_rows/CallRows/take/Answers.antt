@@ -14,7 +14,7 @@ returns-in_ok-push-in-Ok-clause-calls g c = λ ids head rows count has.
     adds_row ids head rows (last_record c.args.records.now) c.args.self.now _ has refl c.in-Ok.ensures.same refl c.in_ok-see.ensures (sym c.is_some.ensures ∙ c.if-is_some.false) own refl
     (c.in_ok-push-in-Ok.ensures.ok ∙ ap (λ call. c.args.self.now.rows ++ call ∷ []) call)
 
-pub returns-in-Err-Fault-clause-calls : goal.returns-in-Err-Fault-clause-calls
-returns-in-Err-Fault-clause-calls g c = λ ids head rows count has.
-    let own = rw (c.of-record.ensures, has.header_is, count, c.in-Err-Fault.field-0-is) at c.in-Err-Fault.ensures.fault in
-    finds_fault ids head rows (last_record c.args.records.now) c.args.self.now _ has refl c.in-Err-Fault.ensures.same refl c.in_ok-see.ensures c.in-Err-Fault.fault (sym c.is_some.ensures ∙ c.if-is_some.false) own refl
+pub returns-in-Err-clause-calls : goal.returns-in-Err-clause-calls
+returns-in-Err-clause-calls g c = λ ids head rows count has.
+    let own = rw (c.of-record.ensures, has.header_is, count) at c.in-Err.ensures.fault in
+    finds_fault ids head rows (last_record c.args.records.now) c.args.self.now _ has refl c.in-Err.ensures.same refl c.in_ok-see.ensures c.in-Err.fault (sym c.is_some.ensures ∙ c.if-is_some.false) own refl
