@@ -1,10 +1,11 @@
 -- The places of columns in a header.
-use Rattle.std.specs.Prelude.{◌≡◌, ◌≤◌, ◌∷◌, [], ℕ, List, Option, map}
+use Rattle.std.specs.Prelude.{◌≡◌, ◌≤◌, ◌∷◌, [], ℕ, List, Option, length, map}
 use Rattle.feed_rows.specs.Names.{all_columns}
 use Rattle.feed_faults.specs.Records.{FileTable, header, row_count, column_of}
 
--- these are the places of all columns in the header of a table, which has at most so many data rows
-pub record ArePlaces (most : ℕ) (table : FileTable) (places : List (Option ℕ)) : Type 0 where
+-- these are the width of a table's header and the places of all columns in it; the table has at most so many data rows
+pub record ArePlaces (most : ℕ) (table : FileTable) (width : ℕ) (places : List (Option ℕ)) : Type 0 where
+  pub wide : width ≡ length (header table)
   pub are : places ≡ map (column_of table) all_columns
   pub few : row_count table ≤ most
 

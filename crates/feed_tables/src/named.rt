@@ -10,11 +10,16 @@ use feed_text::{Fields, Table};
 use std::alloc::{AllocError, Global};
 use std::marker::Model;
 
+// How many names of columns there are.
+const COLUMNS: usize = 58;
+
 /// A file's table, whose fields are found by the names of their columns. Contracts see it as the table.
 pub struct NamedTable {
     table: Table,
+    // How many columns the header has.
+    width: usize,
     // The place of each column in the header, in the order of `ColumnName::all`.
-    places: Vec<Option<u32>>,
+    places: [Option<u32>; COLUMNS],
 }
 
 impl Model for NamedTable {
@@ -26,7 +31,7 @@ impl Model for NamedTable {
 
     ghost view = { λ t. t.table };
 
-    ghost invariant = { λ t. ArePlaces row_limit t.table t.places.items };
+    ghost invariant = { λ t. ArePlaces row_limit t.table t.width t.places };
 }
 
 // Written out, so that what lets go of many tables needn't look into each.
@@ -34,6 +39,7 @@ impl Drop for NamedTable {
     fn drop(self) {
         let NamedTable {
             table: _,
+            width: _,
             places: _,
         } = self;
     }
@@ -49,6 +55,17 @@ fn places_of(alloc: Global, table: &Table) -> Result<Vec<Option<u32>>, AllocErro
         .collect(alloc)
 }
 
+// These places without a list.
+fn kept_places(places: &[Option<u32>]) -> [Option<u32>; COLUMNS]
+    requires { length places.now ≡ 58 }
+    ensures { result ≡ places.now }
+{
+    let Some(kept) = places.as_array() else {
+        unreachable!();
+    };
+    *kept
+}
+
 impl NamedTable {
     /// The table with the places of its columns.
     ///
@@ -58,8 +75,13 @@ impl NamedTable {
         requires { row_count table ≤ row_limit }
         ensures { IfOk result (λ named. named ≡ table) }
     {
+        let width = table.columns() as usize;
         let places = places_of(alloc, &table)?;
-        Ok(NamedTable { table, places })
+        Ok(NamedTable {
+            table,
+            width,
+            places: kept_places(&places),
+        })
     }
 
     /// How many data rows there are.
@@ -71,13 +93,15 @@ impl NamedTable {
     }
 
     // How many columns the header has.
+    #[inline(always)]
     pub(crate) fn width(&self) -> usize
         ensures { result ≡ length (header self.now) }
     {
-        self.table.columns() as usize
+        self.width
     }
 
     // The place of a column in the header.
+    #[inline(always)]
     pub(crate) fn column(&self, name: ColumnName) -> Option<u32>
         ensures { result ≡ column_of self.now name }
     {
