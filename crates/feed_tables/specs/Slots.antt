@@ -28,8 +28,9 @@ pub record IsIndex (table : FileTable) (name : ColumnName) (rows : List IdRow) (
   pub ordered : AreOrderedRows table name rows
   pub slotted : AreSlots rows slots
 
--- there are as many buckets, and a link for each row
+-- there are as many buckets, and a link and a hash for each row
 pub record AreBuckets (rows : List IdRow) (count : ℕ) (buckets : Buckets) : Type 0 where
   pub sized : length buckets.sizes.items ≡ count
   pub headed : length buckets.lasts.items ≡ count
   pub linked : length buckets.links.items ≡ length rows
+  pub hashed : length buckets.hashes.items ≡ length rows

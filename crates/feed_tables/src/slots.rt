@@ -101,8 +101,9 @@ struct Buckets {
     // By bucket: how many places it has, and the last one.
     sizes: Vec<u32>,
     lasts: Vec<u32>,
-    // By place: the one before it in its bucket.
+    // By place: the one before it in its bucket, and the hash of its id.
     links: Vec<u32>,
+    hashes: Vec<u64>,
 }
 
 // Written out, so that what lets go of buckets needn't look into them.
@@ -112,6 +113,7 @@ impl Drop for Buckets {
             sizes: _,
             lasts: _,
             links: _,
+            hashes: _,
         } = self;
     }
 }
@@ -126,12 +128,14 @@ fn buckets_of(alloc: Global, rows: &[IdRow], count: usize) -> Result<Buckets, Al
     let mut sizes = vec![in alloc; 0u32; count]?;
     let mut lasts = vec![in alloc; FREE; count]?;
     let mut links = vec![in alloc; FREE; rows.len()]?;
+    let mut hashes = vec![in alloc; 0u64; rows.len()]?;
     for place in 0..rows.len() {
         let Ok(link) = u32::try_from(place) else {
             break;
         };
         if is_first(rows, place) {
-            let bucket = bucket_of(hash_at(rows, place), count);
+            hashes[place] = hash_at(rows, place);
+            let bucket = bucket_of(hashes[place], count);
             links[place] = lasts[bucket];
             lasts[bucket] = link;
             sizes[bucket] = sizes[bucket].saturating_add(1);
@@ -141,28 +145,22 @@ fn buckets_of(alloc: Global, rows: &[IdRow], count: usize) -> Result<Buckets, Al
         sizes,
         lasts,
         links,
+        hashes,
     })
 }
 
 // Replaces what `members` holds by the rows of a bucket.
-fn gather(
-    buckets: &Buckets,
-    rows: &[IdRow],
-    bucket: usize,
-    members: &mut Vec<Member>,
-) -> Result<(), AllocError>
-    requires prefixed { All IsPrefixed rows.now }
-    requires buckets { AreBuckets rows.now (length buckets.now.sizes.items) buckets.now }
-    requires within { bucket < length buckets.now.sizes.items }
+fn gather(buckets: &Buckets, bucket: usize, members: &mut Vec<Member>) -> Result<(), AllocError>
+    requires linked { length buckets.now.links.items ≡ length buckets.now.hashes.items }
+    requires sized { bucket < length buckets.now.sizes.items }
+    requires within { bucket < length buckets.now.lasts.items }
 {
     members.clear();
     let mut place = buckets.lasts[bucket] as usize;
     for _ in 0..buckets.sizes[bucket] {
-        if place < rows.len() {
-            members.push(Member {
-                place,
-                hash: hash_at(rows, place),
-            })?;
+        if place < buckets.links.len() {
+            let hash = buckets.hashes[place];
+            members.push(Member { place, hash })?;
             place = buckets.links[place] as usize;
         }
     }
@@ -285,7 +283,7 @@ pub fn slots_of(alloc: Global, rows: &[IdRow]) -> Result<Slots, AllocError>
     for step in 0..LARGEST {
         for bucket in 0..count {
             if buckets.sizes[bucket] == LARGEST - step {
-                gather(&buckets, rows, bucket, &mut members)?;
+                gather(&buckets, bucket, &mut members)?;
                 slots.fill(rows, bucket, &members);
             }
         }
