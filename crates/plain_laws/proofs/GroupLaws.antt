@@ -1,70 +1,70 @@
 -- Items in numbered groups.
-use Rattle.std.proofs.Common.{ℕ, ◌+◌, ◌<◌, List, [], ◌∷◌, arith, ◌≤◌, ⊎_elim, ◌≡◌, sym, ap, ◌-◌, true, false, length, drop, refl, subst, ◌++◌, ◌∙◌, get_or, ◌⊎◌, inl, inr, Contains, zero, suc, add-one, length-append}
+use Rattle.std.proofs.Common.{ℕ, ◌+◌, ◌<◌, List, [], ◌∷◌, arith, ◌≤◌, ⊎_elim, ◌≡◌, sym, ap, true, false, length, take, refl, subst, ◌++◌, ◌∙◌, get_or, ◌⊎◌, inl, inr, Contains, zero, suc, add-one, length-append}
 use Rattle.plain_laws.specs.declared.groups.Grouped.{Grouped}
-use Rattle.plain_laws.specs.Groups.{IsStart, group_of, IsRegrouped, groups_below}
-use Rattle.std.proofs.lemmas.Bool.{cases_lt, cases_Bool}
-use Rattle.plain_laws.proofs.FilterLaws.{filter_part, same_ties}
-use Rattle.std.specs.Prelude.{◌==◌, slice_range, map, slice_index, Some, slice_get, filter, unwrap_or}
-use Rattle.std.specs.List.{AllWithin}
+use Rattle.std.proofs.Math.ListN.{set}
+use Rattle.plain_laws.specs.declared.groups.Chains.{Chains}
+use Rattle.plain_laws.specs.Groups.{AreChains, IsNextOf, group_of, groups_below}
+use Rattle.std.proofs.lemmas.Bool.{cases_eq, cases_lt, cases_Bool}
+use Rattle.std.specs.Prelude.{◌==◌, map, slice_get, filter, unwrap_or}
 use Rattle.std.proofs.lemmas.Bool.Decides.{nat_tests}
-use Rattle.std.proofs.lemmas.List.{take-map, drop-map, length_push, get_or_push, get_or_append_left, length-map}
-use Rattle.std.specs.List.Sorted.{IsPermutation, IsNonDecreasingBy, IsStableByKey}
-use Rattle.std.specs.Ordering.{nat_cmp}
-use Rattle.std.proofs.lemmas.List.Sorted.{length_permutation}
-use Rattle.plain_laws.proofs.BelowLaws.{list_below-same, length-list_below, slice_get-list_below}
-use Rattle.std.proofs.lemmas.Grind.{get_or_default_zero}
+use Rattle.std.proofs.lemmas.List.{take_more, get_or_default, get_or-set_same, get_or-set_other, length-set}
+use Rattle.std.specs.List.Sorted.{IsNonDecreasingBy}
+use Rattle.plain_laws.proofs.BelowLaws.{get_or-list_below, length-list_below, slice_get-list_below}
 use Rattle.plain_laws.proofs.OrderLaws.{Contains-cons_cases, Contains-cons_first, Contains-cons_later}
 use Rattle.plain_laws.specs.Below.{joined_below, list_below}
 use Rattle.std.proofs.lemmas.List.Kept.{IsNonDecreasingBy-filter}
 use Rattle.std.proofs.lemmas.Option.{slice_get_past}
 use Rattle.plain_laws.specs.Parts.{parts, Rise}
 use Rattle.plain_laws.proofs.PartLaws.{pushed_part}
+use Rattle.plain_laws.proofs.JoinedLaws.{joined_below-same}
 
--- no group begins after the next
-hits : {X : Type 0} (members : List (Grouped X)) (i a b : ℕ) → IsStart members i a → IsStart members (i + 1) b → b < a → ⊥
-hits [] i a b start next lt = let within = start.within in omega arith
-hits (m ∷ members) i a b start next lt =
-    let within = start.within in
-    let less = start.below b m (omega arith) lt in
-    let more = next.past b m (omega arith) (omega arith) in
-    omega arith
-
-pub start_order : {X : Type 0} (members : List (Grouped X)) (i a b : ℕ) → IsStart members i a → IsStart members (i + 1) b → a ≤ b
-start_order members i a b start next = ⊎_elim (λ (lt : b < a). absurd (hits members i a b start next lt)) (λ (le : a ≤ b). le) (cases_lt b a)
-
--- the items of a group stand from its start to the next group's
-pub group_of-starts : {X : Type 0} (members : List (Grouped X)) (i a b : ℕ) → IsStart members i a → IsStart members (i + 1) b → map (λ m. m.item) (slice_range members a b) ≡ group_of members i
-group_of-starts {X} members i a b start next =
-    let within = start.within in
-    let bound = next.within in
-    ap (map (λ (m : Grouped X). m.item)) (sym (filter_part (λ m. m.group == i) members a b order bound before inside after))
+-- a group of two lists
+pub group_of-append : {X : Type 0} (ms ns : List (Grouped X)) (i : ℕ) → group_of (ms ++ ns) i ≡ group_of ms i ++ group_of ns i
+group_of-append [] ns i = refl
+group_of-append {X} (m ∷ ms) ns i = step (cases_Bool (m.group == i)) (group_of-append ms ns i)
   where
-    order : a ≤ b
-    order = start_order members i a b start next
+    step : ((m.group == i) ≡ true) ⊎ ((m.group == i) ≡ false) → group_of (ms ++ ns) i ≡ group_of ms i ++ group_of ns i → group_of ((m ∷ ms) ++ ns) i ≡ group_of (m ∷ ms) i ++ group_of ns i
+    step (inl hit) rest = rw hit (ap (λ xs. m.item ∷ xs) rest)
+    step (inr miss) rest = rw miss rest
 
-    before : AllWithin (λ m. (m.group == i) ≡ false) members 0 a
-    before k d low lt = let less = start.below k d low lt in grind (arith, nat_tests, less)
-
-    inside : AllWithin (λ m. (m.group == i) ≡ true) members a b
-    inside k d low lt = let bound = next.within in let less = next.below k d (omega arith) lt in let more = start.past k d low (omega arith) in grind (arith, nat_tests, less, more)
-
-    after : AllWithin (λ m. (m.group == i) ≡ false) members b (length members)
-    after k d low lt = let more = next.past k d low lt in grind (arith, nat_tests, more)
-
--- what a stable sort by the groups' numbers gives
-pub regrouped : {X : Type 0} (old new : List (Grouped X)) → IsNonDecreasingBy (λ (m : Grouped X). m.group) new → IsPermutation old new → IsStableByKey (λ (m : Grouped X). m.group) nat_cmp old new → IsRegrouped old new
-regrouped {X} [] new rises moved stable = record { rises = rises; same = λ i. ap (λ ms. group_of ms i) (none new (length_permutation [] new moved)) }
+-- one member more before others
+group_of-cons : {X : Type 0} (m : Grouped X) (xs ys : List (Grouped X)) (i : ℕ) → group_of xs i ≡ group_of ys i → group_of (m ∷ xs) i ≡ group_of (m ∷ ys) i
+group_of-cons {X} m xs ys i same = step (cases_Bool (m.group == i))
   where
-    none : (xs : List (Grouped X)) → length xs ≡ 0 → xs ≡ []
-    none [] e = refl
-    none (x ∷ xs) e = absurd (omega arith)
-regrouped (m ∷ old) new rises moved stable =
-    record { rises = rises; same = λ i. ap (map (λ x. x.item)) (same_ties (λ x. x.group) (m ∷ old) new i (record { group = i; item = m.item }) refl stable) }
+    step : ((m.group == i) ≡ true) ⊎ ((m.group == i) ≡ false) → group_of (m ∷ xs) i ≡ group_of (m ∷ ys) i
+    step (inl hit) = rw hit (ap (λ items. m.item ∷ items) same)
+    step (inr miss) = rw miss same
 
--- members that are put by their groups have the groups that they had
-pub groups_below-regrouped : {X : Type 0} (n : ℕ) (old new : List (Grouped X)) → IsRegrouped old new → groups_below n new ≡ groups_below n old
-unfolding groups_below
-groups_below-regrouped n old new put = list_below-same n (group_of new) (group_of old) (λ i lt. put.same i)
+-- a group is as it was before members of which none is its own
+group_of-passed : {X : Type 0} (members : List (Grouped X)) (i from place : ℕ) → from ≤ place
+    → ((k : ℕ) (d : Grouped X) → from ≤ k → k < place → k < length members → (get_or members k d).group ≡ i → ⊥)
+    → group_of (take place members) i ≡ group_of (take from members) i
+group_of-passed [] i zero zero le none = refl
+group_of-passed [] i zero (suc place) le none = refl
+group_of-passed [] i (suc from) zero le none = absurd (omega arith)
+group_of-passed [] i (suc from) (suc place) le none = refl
+group_of-passed (m ∷ members) i zero zero le none = refl
+group_of-passed (m ∷ members) i (suc from) zero le none = absurd (omega arith)
+group_of-passed (m ∷ members) i zero (suc place) le none =
+    let other : (m.group == i) ≡ false = grind (arith, nat_tests, none 0 m (omega arith) (omega arith) (omega arith)) in
+    rw other (group_of-passed members i zero place (omega arith) (λ k d low lt within. none (suc k) d (omega arith) (omega arith) (omega arith)))
+group_of-passed (m ∷ members) i (suc from) (suc place) le none =
+    group_of-cons m (take place members) (take from members) i
+    (group_of-passed members i from place (omega arith) (λ k d low lt within. none (suc k) d (omega arith) (omega arith) (omega arith)))
+
+-- the first member of a group, after those before it
+pub group_of-start : {X : Type 0} (members : List (Grouped X)) (i place : ℕ) → IsNextOf members i 0 place → [] ≡ group_of (take place members) i
+group_of-start members i place next = sym (group_of-passed members i 0 place next.forward next.none)
+
+-- and each next one
+pub group_of-next : {X : Type 0} (members : List (Grouped X)) (i place after : ℕ) (d : Grouped X) → place < length members → (get_or members place d).group ≡ i
+    → IsNextOf members i (place + 1) after → group_of (take after members) i ≡ group_of (take place members) i ++ (get_or members place d).item ∷ []
+group_of-next members i place after d lt own next =
+    let hit : ((get_or members place d).group == i) ≡ true = grind (arith, nat_tests, own) in
+    group_of-passed members i (place + 1) after next.forward next.none
+    ∙ ap (λ ms. group_of ms i) (take_more members place d lt)
+    ∙ group_of-append (take place members) (get_or members place d ∷ []) i
+    ∙ rw hit refl
 
 -- the members of a group
 pub Contains-group_of : {X : Type 0} (ms : List (Grouped X)) (i : ℕ) (x : X) → Contains ms (record { group = i; item = x }) → Contains (group_of ms i) x
@@ -88,14 +88,75 @@ group_of-tells {X} (m ∷ ms) i x at = step (cases_Bool (m.group == i)) (group_o
         (λ (there : Contains (group_of ms i) x). Contains-cons_later m ms (record { group = i; item = x }) (later there))
         (Contains-cons_cases m.item (group_of ms i) x (rw hit at at))
 
--- a group of two lists
-pub group_of-append : {X : Type 0} (ms ns : List (Grouped X)) (i : ℕ) → group_of (ms ++ ns) i ≡ group_of ms i ++ group_of ns i
-group_of-append [] ns i = refl
-group_of-append {X} (m ∷ ms) ns i = step (cases_Bool (m.group == i)) (group_of-append ms ns i)
-  where
-    step : ((m.group == i) ≡ true) ⊎ ((m.group == i) ≡ false) → group_of (ms ++ ns) i ≡ group_of ms i ++ group_of ns i → group_of ((m ∷ ms) ++ ns) i ≡ group_of (m ∷ ms) i ++ group_of ns i
-    step (inl hit) rest = rw hit (ap (λ xs. m.item ∷ xs) rest)
-    step (inr miss) rest = rw miss rest
+-- what is next from a place on is so from the place before, where that is of another group
+next_wider : {X : Type 0} (members : List (Grouped X)) (i from place : ℕ) → ((d : Grouped X) → (get_or members from d).group ≡ i → ⊥)
+    → IsNextOf members i (from + 1) place → IsNextOf members i from place
+next_wider members i from place other next =
+    let forward = next.forward in
+    record {
+      forward = omega arith;
+      none = λ k d low lt within own. ⊎_elim
+          (λ (here : k < from + 1). let same : k ≡ from = omega arith in other d (subst (λ n. (get_or members n d).group ≡ i) same own))
+          (λ (past : from + 1 ≤ k). next.none k d past lt within own)
+          (cases_lt k (from + 1));
+      own = next.own;
+    }
+
+module _ {X : Type 0} (members : List (Grouped X)) (place : ℕ) (d : Grouped X) (lt : place < length members) where
+  -- the group of the member at a place
+  abbrev own_group : ℕ
+  own_group = (get_or members place d).group
+
+  same_group : (e : Grouped X) → (get_or members place e).group ≡ own_group
+  same_group e = ap (λ (m : Grouped X). m.group) (get_or_default members place e d lt)
+
+  -- the member is put before those of its group
+  pub chain_put : (old new : Chains) (next : ℕ) → own_group < length old.firsts.items → next ≡ get_or old.firsts.items own_group next → AreChains members (place + 1) old
+      → new.firsts.items ≡ set old.firsts.items own_group place → new.nexts.items ≡ set old.nexts.items place next → AreChains members place new
+  chain_put old new next below at behind firsts nexts =
+      record {
+        long = rw (nexts, length-set old.nexts.items place next) behind.long;
+        first = λ i less. first i (omega (arith, less, many)) (cases_eq i own_group);
+        next = λ k e low within less. later k e low within (omega (arith, less, many)) (cases_eq k place);
+      }
+    where
+      many : length new.firsts.items ≡ length old.firsts.items
+      many = ap length firsts ∙ length-set old.firsts.items own_group place
+
+      first : (i : ℕ) → i < length old.firsts.items → (i ≡ own_group) ⊎ (i ≡ own_group → ⊥) → IsNextOf members i place (get_or new.firsts.items i 0)
+      first i less (inl same) =
+          let is : get_or new.firsts.items i 0 ≡ place = rw (firsts, same) (get_or-set_same old.firsts.items own_group place 0 below) in
+          rw is (record { forward = omega arith; none = λ k e low less within own. omega arith; own = λ e within. same_group e ∙ sym same })
+      first i less (inr other) =
+          let is : get_or new.firsts.items i 0 ≡ get_or old.firsts.items i 0 = rw firsts (get_or-set_other old.firsts.items own_group i place 0 other) in
+          rw is (next_wider members i place (get_or old.firsts.items i 0) (λ e own. other (sym own ∙ same_group e)) (behind.first i less))
+
+      later : (k : ℕ) (e : Grouped X) → place ≤ k → k < length members → (get_or members k e).group < length old.firsts.items → (k ≡ place) ⊎ (k ≡ place → ⊥)
+          → IsNextOf members (get_or members k e).group (k + 1) (get_or new.nexts.items k 0)
+      later k e low within less (inl same) =
+          let inside : place < length old.nexts.items = omega (arith, lt, behind.long) in
+          let first_is : next ≡ get_or old.firsts.items own_group 0 = at ∙ get_or_default old.firsts.items own_group next 0 below in
+          let is : get_or new.nexts.items place 0 ≡ get_or old.firsts.items own_group 0 = rw nexts (get_or-set_same old.nexts.items place next 0 inside ∙ first_is) in
+          rw (same, same_group e, is) (behind.first own_group below)
+      later k e low within less (inr other) =
+          let is : get_or new.nexts.items k 0 ≡ get_or old.nexts.items k 0 = rw nexts (get_or-set_other old.nexts.items place k next 0 other) in
+          rw is (behind.next k e (omega arith) within less)
+
+  -- one of no group is passed over
+  pub chain_passed : (chains : Chains) → length chains.firsts.items ≤ own_group → AreChains members (place + 1) chains → AreChains members place chains
+  chain_passed chains past behind =
+      record {
+        long = behind.long;
+        first = λ i less. next_wider members i place (get_or chains.firsts.items i 0) (λ e own. let is = same_group e in omega (arith, own, is, less, past)) (behind.first i less);
+        next = λ k e low within less. ⊎_elim
+            (λ (same : k < place + 1).
+            let one : k ≡ place = omega arith in
+            let is = same_group e in
+            let own = subst (λ n. (get_or members n e).group < length chains.firsts.items) one less in
+            absurd (omega (arith, is, own, past)))
+            (λ (later : place + 1 ≤ k). behind.next k e later within less)
+            (cases_lt k (place + 1));
+      }
 
 -- a group of what is joined
 pub group_of-joined_below : {X : Type 0} (n : ℕ) (f : ℕ → List (Grouped X)) (i : ℕ) → group_of (joined_below n f) i ≡ joined_below n (λ k. group_of (f k) i)
@@ -140,16 +201,19 @@ groups_below-past n members i past =
     let long = length-list_below n (group_of members) in
     rw (slice_get_past (list_below n (group_of members)) i (omega arith)) refl
 
--- one group more of members that stand by their groups
-pub group_pushed : {X : Type 0} (members : List (Grouped X)) (ends longer : List ℕ) (xs more : List X) (from to i end : ℕ) → IsStart members i from → IsStart members (i + 1) to
-    → Rise 0 ends (length xs) → parts 0 ends xs ≡ list_below i (group_of members) → more ≡ xs ++ map (λ m. m.item) (slice_range members from to) → longer ≡ ends ++ end ∷ [] → end ≡ length more
+-- all groups together
+pub joined-groups_below : {X : Type 0} (n : ℕ) (members : List (Grouped X)) → joined_below (length (groups_below n members)) (λ i. get_or (groups_below n members) i []) ≡ joined_below n (group_of members)
+unfolding groups_below
+joined-groups_below n members = rw (length-list_below n (group_of members)) (joined_below-same n (λ i. get_or (list_below n (group_of members)) i []) (group_of members) (λ i lt. get_or-list_below n (group_of members) i [] lt))
+
+-- one group more
+pub group_pushed : {X : Type 0} (members : List (Grouped X)) (ends longer : List ℕ) (xs more : List X) (i end : ℕ)
+    → Rise 0 ends (length xs) → parts 0 ends xs ≡ list_below i (group_of members) → more ≡ xs ++ group_of members i → longer ≡ ends ++ end ∷ [] → end ≡ length more
     → Rise 0 longer (length more) × (parts 0 longer more ≡ list_below (i + 1) (group_of members))
-group_pushed {X} members ends longer xs more from to i end start next rise before is_more is_longer at =
-    let part = map (λ (m : Grouped X). m.item) (slice_range members from to) in
-    let is : part ≡ group_of members i = group_of-starts members i from to start next in
-    let size : end ≡ length xs + length part = at ∙ ap length is_more ∙ length-append xs part in
-    let pushed = pushed_part ends longer xs part more end rise is_longer is_more size in
-    (pushed.0, pushed.1 ∙ rw (before, is, add-one) refl)
+group_pushed members ends longer xs more i end rise before is_more is_longer at =
+    let size : end ≡ length xs + length (group_of members i) = at ∙ ap length is_more ∙ length-append xs (group_of members i) in
+    let pushed = pushed_part ends longer xs (group_of members i) more end rise is_longer is_more size in
+    (pushed.0, pushed.1 ∙ rw (before, add-one) refl)
 
 -- items that are numbered by a key
 pub group_of-map : {X : Type 0} (key : X → ℕ) (xs : List X) (i : ℕ) → group_of (map (λ x. record { group = key x; item = x }) xs) i ≡ filter (λ x. key x == i) xs

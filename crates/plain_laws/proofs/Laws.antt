@@ -3,7 +3,7 @@ pub use Rattle.plain_laws.proofs.AscendingLaws.{past_each, ascending-push, ascen
 pub use Rattle.plain_laws.proofs.BelowLaws.{IsFirst, IsLast, NonePass, find_below_none, find_below_hit, find_below_cases, find_below_tells, find_below_some, find_below-same, last_below_none, last_below_hit, last_below_cases, last_below_tells, last_below_some, any_below_hit, any_below_tells, Contains-list_below, list_below_tells, list_any-list_below, collect_below_more, IsCollected, collect_below_tells, collect_below_some, first_below_found, find_below_found, find_below_next, sum_below-same, collect_below-same, all_below-same, length-list_below, slice_get-list_below, list_below-same, get_or-list_below, All-list_below, AllPairs-list_below, All-picks_below, length-picks_below, list_below-each, none_below, none_in, none_any, any_below_next, first_below_next, all_below-at, any_below-same, at_item, first_in_found, first_in_next, at_and-list_below, list_below_more, firsts, found_firsts}
 pub use Rattle.plain_laws.proofs.ByteMapLaws.{btree_map_updates_bytes}
 pub use Rattle.plain_laws.proofs.FilterLaws.{filter_none, filter_all, All-take_within, All-drop_within, filter_part, same_ties, Contains-filter, Contains-filter_passes, list_any-map, list_any-flat_map, list_any-filter, list_any_same, list_any_tells, Contains-map, map-tells, Contains-flat_map, flat_map-tells, filter-tells, any_passes, find_none, find-filter, filter-filter, filter-map, IsFound, find-tells, find-some, none_of_both, position_below, any_placed, passes_more}
-pub use Rattle.plain_laws.proofs.GroupLaws.{start_order, group_of-starts, regrouped, groups_below-regrouped, Contains-group_of, group_of-tells, group_of-append, group_of-joined_below, group_of-own, group_of-other, group_rises, groups_below-at, groups_below-past, group_pushed, group_of-map}
+pub use Rattle.plain_laws.proofs.GroupLaws.{group_of-start, group_of-next, Contains-group_of, group_of-tells, group_of-append, group_of-joined_below, group_of-own, group_of-other, group_rises, groups_below-at, groups_below-past, joined-groups_below, group_pushed, group_of-map}
 pub use Rattle.plain_laws.proofs.InsertLaws.{AllPairs-insert, list_any-insert, All-insert}
 pub use Rattle.plain_laws.proofs.JoinedLaws.{Contains-joined_below, joined_below-tells, AllPairs-joined_below, joined_below-same, one_where, joined_below-picks, joined_below-none, joined_below-one, joined_more}
 pub use Rattle.plain_laws.proofs.LeastLaws.{HasLeast, least_of_some, any_of_any, list_all-at, list_all-from, list_any-place, HasPlace, place_of_any}

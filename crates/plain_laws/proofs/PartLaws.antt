@@ -1,11 +1,11 @@
 -- A list in parts that lie one after another.
-use Rattle.std.proofs.Common.{◌≡◌, ℕ, ◌+◌, ◌-◌, ◌<◌, ◌≤◌, ◌++◌, List, [], ◌∷◌, zero, suc, length, take, drop, get_or, Some, refl, ap, sym, ◌∙◌, length-append, length-drop, length-take, arith}
+use Rattle.std.proofs.Common.{◌≡◌, ℕ, ◌+◌, ◌-◌, ◌<◌, ◌≤◌, ◌++◌, List, [], ◌∷◌, zero, suc, length, take, drop, get_or, Some, refl, ap, sym, ◌∙◌, length-append, length-drop, arith}
 use Rattle.std.specs.Prelude.{slice_get, slice_range}
 use Rattle.std.proofs.Math.Seq.{drop-append_seam, take-length}
-use Rattle.std.proofs.lemmas.List.{take-append-le, drop-append-le, same_lists}
+use Rattle.std.proofs.lemmas.List.{take_all, take-append-le, drop-append-le, same_lists}
 use Rattle.std.proofs.lemmas.Option.{slice_get-get_or}
 use Rattle.plain_laws.specs.Parts.{parts, Rise, start_of}
-use Rattle.plain_laws.specs.Below.{list_below}
+use Rattle.plain_laws.specs.Below.{joined_below, list_below}
 use Rattle.plain_laws.proofs.BelowLaws.{length-list_below, get_or-list_below}
 
 pub rise_le : (s : ℕ) (ends : List ℕ) (n : ℕ) → Rise s ends n → s ≤ n
@@ -66,6 +66,34 @@ pub slice_get-parts : {A : Type 0} (ends : List ℕ) (xs : List A) (i : ℕ) →
 slice_get-parts ends xs i lt =
     let long = length_parts 0 ends xs in
     slice_get-get_or (parts 0 ends xs) i [] (omega arith) ∙ ap Some (part_at 0 ends xs i [] lt)
+
+-- what stands up to a place, and from there up to a later one
+take_on : {A : Type 0} (s e : ℕ) (xs : List A) → s ≤ e → take s xs ++ slice_range xs s e ≡ take e xs
+take_on zero e xs le = let all : e - 0 ≡ e = omega arith in ap (λ n. take n xs) all
+take_on (suc s) zero xs le = absurd (omega arith)
+take_on {A} (suc s) (suc e) [] le = take_none (suc e - suc s)
+  where
+    take_none : (n : ℕ) → take {A = A} n [] ≡ []
+    take_none zero = refl
+    take_none (suc n) = refl
+take_on (suc s) (suc e) (x ∷ xs) le = let less : suc e - suc s ≡ e - s = omega arith in rw less (ap (λ ys. x ∷ ys) (take_on s e xs (omega arith)))
+
+-- the first parts are what stands before the next
+joined-first : {A : Type 0} (ends : List ℕ) (xs : List A) (n : ℕ) → Rise 0 ends (length xs) → n ≤ length ends
+    → joined_below n (λ i. get_or (parts 0 ends xs) i []) ≡ take (start_of 0 ends n) xs
+joined-first ends xs zero rise le = rw (start_zero 0 ends) refl
+joined-first ends xs (suc n) rise le =
+    let order = rise_at 0 ends (length xs) n rise (omega arith) in
+    rw (joined-first ends xs n rise (omega arith), part_at 0 ends xs n [] (omega arith), start_before 0 ends n (omega arith)) (take_on (start_of 0 ends n) (get_or ends n 0) xs order.0)
+
+start_past : (s : ℕ) (ends : List ℕ) (n : ℕ) → Rise s ends n → start_of s ends (length ends) ≡ n
+start_past s [] n rise = rise
+start_past s (e ∷ ends) n rise = start_past e ends n rise.1
+
+-- all parts are what they are made of
+pub joined-parts : {A : Type 0} (ends : List ℕ) (xs : List A) → Rise 0 ends (length xs) → xs ≡ joined_below (length (parts 0 ends xs)) (λ i. get_or (parts 0 ends xs) i [])
+joined-parts ends xs rise =
+    sym (rw (length_parts 0 ends xs) (joined-first ends xs (length ends) rise (omega arith) ∙ ap (λ n. take n xs) (start_past 0 ends (length xs) rise) ∙ take_all (length xs) xs (omega arith)))
 
 -- parts, one by one
 pub parts-list_below : {A : Type 0} (ends : List ℕ) (xs : List A) (n : ℕ) (f : ℕ → List A) → length ends ≡ n

@@ -1,7 +1,7 @@
 //! Lists in one vector: items in numbered groups, one group after another.
-ghost use Rattle.std.specs.Prelude.{◌≡◌, ℕ, ◌+◌, ◌++◌, ◌∷◌, ◌<◌, length, IfOk, OnOk, OnErr, Some, slice_get, unwrap_or, [], map};
-ghost use Rattle.std.specs.List.Sorted.{IsNonDecreasingBy};
-ghost use Rattle.plain_laws.specs.Groups.{groups_below, IsStart, IsRegrouped};
+ghost use Rattle.std.specs.Prelude.{◌≡◌, ℕ, ◌+◌, ◌^◌, ◌++◌, ◌∷◌, ◌<◌, length, get_or, IfOk, OnOk, OnErr, Some, slice_get, unwrap_or, []};
+ghost use Rattle.plain_laws.specs.Below.{joined_below};
+ghost use Rattle.plain_laws.specs.Groups.{group_of, groups_below, AreChains};
 ghost use Rattle.plain_laws.specs.Parts.{parts, Rise};
 
 use crate::parts::{part_of, push_end};
@@ -81,6 +81,13 @@ impl<T: Drop> Groups<T> {
         }
     }
 
+    /// All items, group by group.
+    pub fn items(&self) -> &[T]
+        ensures { result.now ≡ joined_below (length self.now) (λ i. get_or self.now i []) }
+    {
+        self.items.as_slice()
+    }
+
     /// How many groups there are.
     pub fn count(&self) -> usize
         ensures { result ≡ length self.now }
@@ -114,66 +121,87 @@ impl<T: Copy + Drop> Groups<T> {
     /// The groups with the numbers below `count` of these members.
     ///
     /// # Errors
-    /// Want of memory.
+    /// Want of memory; so counts that there would be 2^32 members or more.
     pub fn of(alloc: Global, members: Vec<Grouped<T>>, count: u32) -> Result<Groups<T>, AllocError>
         ensures { IfOk result (λ groups. groups ≡ groups_below count members.items) }
     {
-        let mut sorted = members;
-        regroup(&mut sorted)?;
-        let groups = groups_of_sorted(alloc, sorted.as_slice(), count)?;
-        Ok(groups)
+        let chains = Chains::of(alloc, &members, count)?;
+        let mut ends = Vec::with_capacity(alloc, count as usize)?;
+        let mut items = Vec::with_capacity(alloc, members.len())?;
+        for group in 0..count {
+            push_group(&mut items, &members, &chains, group)?;
+            push_end(&mut ends, items.len())?;
+        }
+        Ok(Groups { ends, items })
     }
 }
 
-/// Puts items of one group next to one another, and the groups in the order of their numbers.
-fn regroup<T: Copy + Drop>(members: &mut Vec<Grouped<T>>) -> Result<(), AllocError>
-    ensures { OnOk result (IsRegrouped members.old.items members.new.items) }
-{
-    members.sort_by_key(|member| member.group)?;
-    Ok(())
+// Past the places of all members.
+const NONE: u32 = u32::MAX;
+
+/// Members, each linked to the next of its group: no sort is needed to take them group by group.
+#[derive(Drop)]
+pub struct Chains {
+    /// By group: the place of its first member.
+    pub firsts: Vec<u32>,
+    /// By place: that of the next member of the same group.
+    pub nexts: Vec<u32>,
 }
 
-/// Where the items of the group end, which start at a place.
-fn end_of<T: Copy + Drop>(members: &[Grouped<T>], group: u32, start: usize) -> usize
-    requires rises { IsNonDecreasingBy (λ (m : Grouped T). m.group) members.now }
-    requires starts { IsStart members.now group start }
-    ensures { IsStart members.now (group + 1) result }
-{
-    for end in start..members.len() {
-        if members[end].group > group {
-            return end;
+impl Chains {
+    // The chains of the groups with the numbers below `count`.
+    fn of<T: Copy + Drop>(
+        alloc: Global,
+        members: &[Grouped<T>],
+        count: u32,
+    ) -> Result<Chains, AllocError>
+        ensures chains { IfOk result (AreChains members.now 0) }
+        ensures count { IfOk result (λ chains. length chains.firsts.items ≡ count) }
+    {
+        if members.len() >= NONE as usize {
+            return Err(AllocError);
+        }
+        let mut chains = Chains {
+            firsts: vec![in alloc; NONE; count as usize]?,
+            nexts: vec![in alloc; NONE; members.len()]?,
+        };
+        for passed in 0..members.len() {
+            chains.put(members, members.len() - passed - 1);
+        }
+        Ok(chains)
+    }
+
+    // Puts the member at a place before those of its group that stand behind it.
+    fn put<T: Copy + Drop>(&mut self, members: &[Grouped<T>], place: usize)
+        requires within { place < length members.now }
+        requires few { length members.now < 2 ^ 32 }
+        requires behind { AreChains members.now (place + 1) self.old }
+        ensures chains { AreChains members.now place self.new }
+        ensures count { length self.new.firsts.items ≡ length self.old.firsts.items }
+    {
+        let group = members[place].group as usize;
+        if group < self.firsts.len() {
+            self.nexts[place] = self.firsts[group];
+            self.firsts[group] = place as u32;
         }
     }
-    members.len()
 }
 
-/// Appends the items of the members.
-fn push_items<T: Copy + Drop>(items: &mut Vec<T>, members: &[Grouped<T>]) -> Result<(), AllocError>
-    ensures { OnOk result (items.new.items ≡ items.old.items ++ map (λ (m : Grouped T). m.item) members.now) }
+// Appends the items of a group.
+fn push_group<T: Copy + Drop>(
+    items: &mut Vec<T>,
+    members: &[Grouped<T>],
+    chains: &Chains,
+    group: u32,
+) -> Result<(), AllocError>
+    requires chains { AreChains members.now 0 chains.now }
+    requires below { group < length chains.now.firsts.items }
+    ensures { OnOk result (items.new.items ≡ items.old.items ++ group_of members.now group) }
 {
-    for member in members {
-        items.push(member.item)?;
+    let mut place = chains.firsts[group as usize] as usize;
+    while place < members.len() {
+        items.push(members[place].item)?;
+        place = chains.nexts[place] as usize;
     }
     Ok(())
-}
-
-/// The groups of members that stand by the numbers of their groups.
-fn groups_of_sorted<T: Copy + Drop>(
-    alloc: Global,
-    members: &[Grouped<T>],
-    count: u32,
-) -> Result<Groups<T>, AllocError>
-    requires { IsNonDecreasingBy (λ (m : Grouped T). m.group) members.now }
-    ensures { IfOk result (λ groups. groups ≡ groups_below count members.now) }
-{
-    let mut ends = Vec::with_capacity(alloc, count as usize)?;
-    let mut items = Vec::with_capacity(alloc, members.len())?;
-    let mut from = 0;
-    for group in 0..count {
-        let to = end_of(members, group, from);
-        push_items(&mut items, &members[from..to])?;
-        push_end(&mut ends, items.len())?;
-        from = to;
-    }
-    Ok(Groups { ends, items })
 }

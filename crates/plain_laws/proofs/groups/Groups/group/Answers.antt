@@ -1,5 +1,5 @@
 use Rattle.std.proofs.Common.{◌≡◌, ◌<◌, ◌∙◌, ap, length, get_or, arith}
-use Rattle.plain_laws.specs.Parts.{parts, start_of}
+use Rattle.plain_laws.specs.Parts.{start_of}
 use Rattle.plain_laws.proofs.PartLaws.{length_parts, slice_get-parts}
 use Rattle.plain_laws.proofs.groups.Groups.group.Goals as goal
 

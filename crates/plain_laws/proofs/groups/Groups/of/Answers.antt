@@ -1,7 +1,18 @@
-use Rattle.std.proofs.Common.{ap, ◌∙◌}
-use Rattle.plain_laws.specs.Groups.{groups_below}
-use Rattle.plain_laws.proofs.GroupLaws.{groups_below-regrouped}
+use Rattle.std.proofs.Common.{◌≡◌, ◌++◌, length, ap, ◌∙◌, arith}
+use Rattle.plain_laws.specs.Groups.{groups_below, group_of}
+use Rattle.plain_laws.specs.Below.{list_below}
+use Rattle.plain_laws.proofs.GroupLaws.{group_pushed}
 use Rattle.plain_laws.proofs.groups.Groups.of.Goals as goal
 
+pub loop-group-preserved : goal.loop-group-preserved
+loop-group-preserved g c =
+    let at : c.len-in-loop-group.result ≡ length c.push_group.new.items.items = omega (arith, c.len-in-loop-group.ensures) in
+    let grown : c.push_group.new.items.items ≡ c.loop-group.items.items ++ group_of c.args.members.items c.loop-group.group = c.in_ok-push_group.ensures ∙ ap (λ ms. c.loop-group.items.items ++ group_of ms c.loop-group.group) c.deref-in-loop-group.ensures.value in
+    let pushed = group_pushed c.args.members.items _ _ _ _ c.loop-group.group _ c.loop-group.invariant.rise c.loop-group.invariant.groups grown c.in_ok-push_end.ensures.ok at in
+    record { rise = pushed.0; groups = pushed.1 }
+
 pub returns : goal.returns
-returns g c = c.in_ok-groups.ensures ∙ ap (groups_below c.args.count) c.as_slice.ensures.value ∙ groups_below-regrouped _ _ _ c.in_ok-regroup.ensures
+unfolding groups_below
+returns g c =
+    let end : c.loop-group.group ≡ c.args.count = omega arith in
+    c.loop-group.invariant.groups ∙ ap (λ n. list_below n (group_of c.args.members.items)) end

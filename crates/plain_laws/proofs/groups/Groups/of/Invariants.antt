@@ -1,12 +1,11 @@
 use Rattle.std.proofs.Common.{◌≡◌, length}
 use Rattle.plain_laws.specs.Parts.{parts, Rise}
 use Rattle.plain_laws.specs.Below.{list_below}
-use Rattle.plain_laws.specs.Groups.{group_of, IsStart}
-use Rattle.plain_laws.proofs.groups.groups_of_sorted.Given as goal
+use Rattle.plain_laws.specs.Groups.{group_of}
+use Rattle.plain_laws.proofs.groups.Groups.of.Given as goal
 
 abbrev pub invariant-loop-group : goal.invariant-loop-group
 invariant-loop-group g l = record {
-  starts : IsStart l.members l.group l.from;
   rise : Rise 0 l.ends.items (length l.items.items);
-  groups : parts 0 l.ends.items l.items.items ≡ list_below l.group (group_of l.members);
+  groups : parts 0 l.ends.items l.items.items ≡ list_below l.group (group_of l.members.items);
 }
