@@ -1,87 +1,76 @@
--- Laws of the rows of transfers.txt, sorted by their two stops.
-use Rattle.std.proofs.Common.{◌≡◌, refl, sym, ◌∙◌, ap, ℕ, ◌+◌, ◌*◌, ◌^◌, ◌<◌, ◌≤◌, ⊎_elim, Bool, false, List, [], ◌∷◌, length, get_or, arith}
-use Rattle.std.specs.Prelude.{◌==◌, ◌&&◌, if◌then◌else◌, slice_get, filter, map, All}
-use Rattle.std.specs.List.Sorted.{IsNonDecreasingBy, IsPermutation, IsStableByKey}
-use Rattle.std.specs.Ordering.{nat_cmp}
+-- Laws of the rows of transfers.txt, in groups by their two stops.
+use Rattle.std.proofs.Common.{◌≡◌, refl, sym, ◌∙◌, ap, subst, ℕ, zero, suc, ◌<◌, ◌≤◌, ⊎_elim, Bool, false, List, [], ◌++◌, length, get_or, map, Contains, AllPairs, arith}
+use Rattle.std.specs.Prelude.{◌==◌, ◌&&◌, slice_get, filter, All}
+use Rattle.std.specs.List.Sorted.{IsNonDecreasingBy}
 use Rattle.std.proofs.Math.Bool.{and_comm}
 use Rattle.std.proofs.lemmas.Bool.{cases_lt}
 use Rattle.std.proofs.lemmas.Bool.Decides.{nat_tests}
-use Rattle.std.proofs.lemmas.List.Elements.{All-head, All-tail, filter_agree, filter_passes}
+use Rattle.std.proofs.lemmas.List.Elements.{filter-append, filter_agree, filter_passes}
 use Rattle.std.proofs.lemmas.List.Kept.{IsNonDecreasingBy-filter}
-use Rattle.std.proofs.lemmas.List.Sorted.{All-permutation}
 use Rattle.feed_rows.specs.declared.rows.LinkRow.{LinkRow}
-use Rattle.plain_laws.specs.declared.groups.Grouped.{Grouped}
-use Rattle.plain_laws.specs.Plain.{group_of, groups_below}
-use Rattle.plain_laws.proofs.Laws.{same_ties, groups_below-at, groups_below-past, filter_none, find_none, find-filter, filter-filter, filter-map}
-use Rattle.feed_walks.specs.Rules.{group_at, by_start, rank, AreByStops, AreRules}
-
--- what a stable sort by the ranks gives
-pub by_stops : (old new : List LinkRow) → IsNonDecreasingBy rank new → IsPermutation old new → IsStableByKey rank nat_cmp old new → AreByStops old new
-by_stops old new rises moved stable =
-    record { rises = rises; same = λ n. same_ties rank old new n (target n) (omega arith) stable; moved = moved }
-  where
-    target : ℕ → LinkRow
-    target n = record { from = record { 0 = 0 }; to = record { 0 = n }; forbidden = false; seconds = 0 }
-
--- rows that are grouped and taken out are as before
-items-grouped : (rows : List LinkRow) → map (λ m. m.item) (map by_start rows) ≡ rows
-items-grouped [] = refl
-items-grouped (row ∷ rows) = ap (λ rest. row ∷ rest) (items-grouped rows)
+use Rattle.plain_laws.specs.Plain.{group_of, groups_below, joined_below}
+use Rattle.plain_laws.proofs.Laws.{groups_below-at, groups_below-past, group_of-map, joined-groups_below, joined_below-same, joined_below-one, joined_below-none, AllPairs-joined_below, Contains-filter_passes, filter_none, find_none, find-filter, filter-filter}
+use Rattle.feed_walks.specs.Rules.{group_at, by_start, by_end, AreRules}
 
 -- the row leads from the one stop to the other
 abbrev between : ℕ → ℕ → LinkRow → Bool
 between i j row = (row.from.0 == i) && (row.to.0 == j)
 
-filter_alike : (p q : LinkRow → Bool) (rows : List LinkRow) → All (λ row. p row ≡ q row) rows → filter p rows ≡ filter q rows
-filter_alike p q [] all = refl
-filter_alike p q (row ∷ rows) all =
-    let rest = filter_alike p q rows (All-tail (λ r. p r ≡ q r) row rows all) in
-    rw (All-head (λ r. p r ≡ q r) row rows all) (ap (λ rs. if q row then row ∷ rs else rs) rest)
+-- a filter of what is joined
+filter-joined_below : {X : Type 0} (p : X → Bool) (n : ℕ) (f : ℕ → List X) → filter p (joined_below n f) ≡ joined_below n (λ k. filter p (f k))
+filter-joined_below p zero f = refl
+filter-joined_below p (suc n) f = filter-append p (joined_below n f) (f n) ∙ ap (λ xs. xs ++ filter p (f n)) (filter-joined_below p n f)
 
--- those between two stops are as before, since no others have their rank
-between_same : (old new : List LinkRow) (i j : ℕ) → AreByStops old new → All (λ row. row.to.0 < 2 ^ 32) old →
-    filter (between i j) new ≡ filter (between i j) old
-between_same old new i j by fits = ⊎_elim
-    (λ (less : j < 2 ^ 32).
-    let alike : (row : LinkRow) → row.to.0 < 2 ^ 32 → between i j row ≡ (rank row == i * 2 ^ 32 + j) =
-    λ row fit. grind (arith, nat_tests, less, fit) in
-    filter_alike (between i j) (λ row. rank row == i * 2 ^ 32 + j) new (λ k d lt. alike (get_or new k d) (fits_too k d lt))
-    ∙ by.same (i * 2 ^ 32 + j)
-    ∙ sym (filter_alike (between i j) (λ row. rank row == i * 2 ^ 32 + j) old (λ k d lt. alike (get_or old k d) (fits k d lt))))
-    (λ (more : 2 ^ 32 ≤ j).
-    let never : (row : LinkRow) → row.to.0 < 2 ^ 32 → between i j row ≡ false = λ row fit. grind (arith, nat_tests, more, fit) in
-    filter_none (between i j) new (λ k d lt. never (get_or new k d) (fits_too k d lt))
-    ∙ sym (filter_none (between i j) old (λ k d lt. never (get_or old k d) (fits k d lt))))
-    (cases_lt j (2 ^ 32))
-  where
-    fits_too : All (λ row. row.to.0 < 2 ^ 32) new
-    fits_too = All-permutation (λ row. row.to.0 < 2 ^ 32) old new by.moved fits
+-- the rows by the stops that they lead to
+module _ (links : List LinkRow) (n : ℕ) (within : All (λ row. row.to.0 < n) links) where
+  abbrev rows_to : ℕ → List LinkRow
+  rows_to j = filter (λ row. row.to.0 == j) links
 
--- the rows from one stop
-own_rows : (rows : List LinkRow) (i : ℕ) → group_of (map by_start rows) i ≡ filter (λ row. row.from.0 == i) rows
-own_rows rows i =
-    ap (map (λ m. m.item)) (filter-map (λ (m : Grouped LinkRow). m.group == i) by_start rows)
-    ∙ items-grouped (filter (λ row. row.from.0 == i) rows)
+  abbrev by_ends : List LinkRow
+  by_ends = joined_below n rows_to
 
--- they stand by the stops that they lead to
-own_rise : (rows : List LinkRow) (i : ℕ) → IsNonDecreasingBy rank rows → IsNonDecreasingBy (λ (row : LinkRow). row.to.0) (filter (λ row. row.from.0 == i) rows)
-own_rise rows i rises a b d le lt =
-    let up = IsNonDecreasingBy-filter rank (λ row. row.from.0 == i) rows rises a b d le lt in
-    let one = own a d (omega (arith, le, lt)) in
-    let other = own b d lt in
-    omega (arith, up, one, other)
-  where
-    own : (k : ℕ) (e : LinkRow) → k < length (filter (λ row. row.from.0 == i) rows) → (get_or (filter (λ row. row.from.0 == i) rows) k e).from.0 ≡ i
-    own k e lt = let passes = filter_passes (λ (row : LinkRow). row.from.0 == i) rows k e lt in grind (arith, nat_tests, passes)
+  leads_there : (j : ℕ) (row : LinkRow) → Contains (rows_to j) row → row.to.0 ≡ j
+  leads_there j row at = let passes = Contains-filter_passes (λ (r : LinkRow). r.to.0 == j) links row at in grind (arith, nat_tests, passes)
+
+  ends_ascend : AllPairs (λ a b. a.to.0 ≤ b.to.0) by_ends
+  ends_ascend = AllPairs-joined_below (λ a b. a.to.0 ≤ b.to.0) n rows_to
+      (λ j lt a b d less inside.
+      let one = filter_passes (λ (r : LinkRow). r.to.0 == j) links a d (omega arith) in
+      let other = filter_passes (λ (r : LinkRow). r.to.0 == j) links b d inside in
+      grind (arith, nat_tests, one, other))
+      (λ i j a b lt below here there. let one = leads_there i a here in let other = leads_there j b there in omega (arith, one, other, lt))
+
+  ends_rise : IsNonDecreasingBy (λ (row : LinkRow). row.to.0) by_ends
+  ends_rise a b d le lt = ⊎_elim
+      (λ (less : a < b). ends_ascend a b d less lt)
+      (λ (not_less : b ≤ a). let same : a ≡ b = omega arith in subst (λ k. (get_or by_ends a d).to.0 ≤ (get_or by_ends k d).to.0) same (omega arith))
+      (cases_lt a b)
+
+  -- those between two stops are as before
+  between_same : (i j : ℕ) → filter (between i j) by_ends ≡ filter (between i j) links
+  between_same i j = filter-joined_below (between i j) n rows_to ∙ ⊎_elim
+      (λ (lt : j < n).
+      joined_below-one n j (λ k. filter (between i j) (rows_to k)) lt
+      (λ k kn apart. filter-filter (between i j) (λ row. row.to.0 == k) links
+      ∙ filter_none (λ row. between i j row && (row.to.0 == k)) links (λ m d inside. grind (arith, nat_tests, apart)))
+      ∙ filter-filter (between i j) (λ row. row.to.0 == j) links
+      ∙ filter_agree (λ row. between i j row && (row.to.0 == j)) (between i j) (λ row. grind (arith, nat_tests)) links)
+      (λ (past : n ≤ j).
+      let none : filter (between i j) links ≡ [] = filter_none (between i j) links (λ m d inside. let less = within m d inside in grind (arith, nat_tests, less, past)) in
+      joined_below-none n (λ k. filter (between i j) (rows_to k))
+      (λ k kn. filter-filter (between i j) (λ row. row.to.0 == k) links
+      ∙ filter_none (λ row. between i j row && (row.to.0 == k)) links (λ m d inside. grind (arith, nat_tests, kn, past)))
+      ∙ sym none)
+      (cases_lt j n)
 
 -- the rows in groups, each by the stops that they lead to
-pub rules_from_groups : (links rows : List LinkRow) (members : List (Grouped LinkRow)) (rules : List (List LinkRow)) (n : ℕ) →
-    All (λ row. row.from.0 < n) links → All (λ row. row.to.0 < 2 ^ 32) links → AreByStops links rows →
-    members ≡ map by_start rows → rules ≡ groups_below n members → AreRules links rules
-rules_from_groups links rows members rules n within fits by is are =
+pub rules_from_groups : (links rows : List LinkRow) (ends rules : List (List LinkRow)) (n : ℕ) →
+    All (λ row. row.from.0 < n) links → All (λ row. row.to.0 < n) links → ends ≡ groups_below n (map by_end links) →
+    rows ≡ joined_below (length ends) (λ i. get_or ends i []) → rules ≡ groups_below n (map by_start rows) → AreRules links rules
+rules_from_groups links rows ends rules n within fits ends_are rows_are are =
     record {
       rises = λ i. ⊎_elim
-          (λ (lt : i < n). rw (group i lt) (own_rise rows i by.rises))
+          (λ (lt : i < n). rw (group i lt) (IsNonDecreasingBy-filter (λ (row : LinkRow). row.to.0) (λ row. row.from.0 == i) rows (subst (IsNonDecreasingBy (λ (row : LinkRow). row.to.0)) (sym same) (ends_rise links n fits))))
           (λ (past : n ≤ i). rw (none i past) (λ a b d le lt. absurd (omega arith)))
           (cases_lt i n);
       first = λ i j. ⊎_elim
@@ -90,14 +79,18 @@ rules_from_groups links rows members rules n within fits by is are =
           (cases_lt i n);
     }
   where
+    same : rows ≡ by_ends links n fits
+    same = rows_are ∙ ap (λ groups. joined_below (length groups) (λ i. get_or groups i [])) ends_are ∙ joined-groups_below n (map by_end links)
+        ∙ joined_below-same n (group_of (map by_end links)) (rows_to links n fits) (λ j lt. group_of-map (λ (row : LinkRow). row.to.0) links j)
+
     group : (i : ℕ) → i < n → group_at rules i ≡ filter (λ row. row.from.0 == i) rows
-    group i lt = rw are (groups_below-at n members i lt ∙ ap (λ ms. group_of ms i) is ∙ own_rows rows i)
+    group i lt = rw are (groups_below-at n (map by_start rows) i lt ∙ group_of-map (λ (row : LinkRow). row.from.0) rows i)
 
     none : (i : ℕ) → n ≤ i → group_at rules i ≡ []
-    none i past = rw are (groups_below-past n members i past)
+    none i past = rw are (groups_below-past n (map by_start rows) i past)
 
     group_to : (i j : ℕ) → filter (λ row. row.to.0 == j) (filter (λ row. row.from.0 == i) rows) ≡ filter (between i j) links
     group_to i j =
         filter-filter (λ (row : LinkRow). row.to.0 == j) (λ row. row.from.0 == i) rows
         ∙ filter_agree (λ (row : LinkRow). (row.to.0 == j) && (row.from.0 == i)) (between i j) (λ row. and_comm (row.to.0 == j) (row.from.0 == i)) rows
-        ∙ between_same links rows i j by fits
+        ∙ ap (filter (between i j)) same ∙ between_same links n fits i j

@@ -3,12 +3,12 @@ ghost use Rattle.std.specs.Prelude.{◌≡◌, ◌<◌, ◌≤◌, ◌++◌, ◌
 ghost use Rattle.std.specs.List.Sorted.{IsNonDecreasingBy};
 ghost use Rattle.feed_rows.specs.SoundTimetable.{AreSoundStops};
 ghost use Rattle.feed_rows.specs.StopLinks.{link};
-ghost use Rattle.feed_walks.specs.Rules.{IsPlace, AreRules};
+ghost use Rattle.feed_walks.specs.Rules.{IsPlace, AreRules, IsStart};
 ghost use Rattle.feed_walks.specs.Near.{AreReached, AreNear};
 ghost use Rattle.feed_walks.specs.OutOf.{step_list, out_of, walk_steps};
 
 use crate::near::near_of;
-use crate::rules::link_between;
+use crate::rules::Start;
 use feed_rows::{Feed, LinkRow};
 use plain_laws::Groups;
 use std::alloc::{AllocError, Global};
@@ -59,8 +59,9 @@ fn steps_to(
     ensures { OnOk result (steps.new.items ≡ out_of feed.now from) }
 {
     steps.clear();
+    let start = Start::of(feed, rules, from);
     for to in near {
-        push_step(steps, feed, rules, from, *to)?;
+        push_step(steps, feed, &start, *to)?;
     }
     Ok(())
 }
@@ -69,14 +70,13 @@ fn steps_to(
 fn push_step(
     steps: &mut Vec<Step>,
     feed: &Feed,
-    rules: &Groups<LinkRow>,
-    from: StopId,
+    start: &Start,
     to: StopId,
 ) -> Result<(), AllocError>
-    requires { AreRules feed.now.links rules.now }
-    ensures { OnOk result (steps.new.items ≡ steps.old.items ++ step_list to (link feed.now from to)) }
+    requires { IsStart feed.now start.now }
+    ensures { OnOk result (steps.new.items ≡ steps.old.items ++ step_list to (link feed.now start.now.stop to)) }
 {
-    if let Some(seconds) = link_between(feed, rules, from, to) {
+    if let Some(seconds) = start.link(feed, to) {
         steps.push(Step { to, seconds })?;
     }
     Ok(())

@@ -1,8 +1,10 @@
-use Rattle.std.proofs.Common.{arith}
+use Rattle.std.proofs.Common.{◌∙◌, ap}
+use Rattle.plain_laws.specs.Plain.{groups_below}
 use Rattle.feed_walks.proofs.RuleLaws.{rules_from_groups}
 use Rattle.feed_walks.proofs.rules.rules_of.Goals as goal
 
 pub returns : goal.returns
 returns c =
-    rules_from_groups _ _ _ _ _ c.requires.froms (λ k d lt. let less = c.requires.tos k d lt in omega (arith, less))
-    (rw (c.in_ok-rows.ensures.items_if_clones_equal (λ x y same. same)) at c.in_ok-sort_by_stops.ensures) (rw c.as_slice.ensures.value at c.in_ok-grouped.ensures) c.in_ok-rules.ensures
+    rules_from_groups c.args.links.now c.items.result.now _ _ c.args.count c.requires.froms c.requires.tos
+    (c.in_ok-by_end.ensures ∙ ap (groups_below c.args.count) c.in_ok-with_ends.ensures) c.items.ensures
+    (c.in_ok-rules.ensures ∙ ap (groups_below c.args.count) c.in_ok-with_starts.ensures)
