@@ -1,23 +1,22 @@
 -- The times that are laid beside rows, trip by trip.
-use Rattle.std.proofs.Common.{◌≡◌, refl, sym, ◌∙◌, ap, subst, ℕ, zero, suc, ◌+◌, ◌-◌, ◌<◌, ◌≤◌, ◌⊎◌, inl, inr, List, [], ◌∷◌, ◌++◌, length, length-append, get_or, take, drop, slice_set, get_or-set_other, get_or-set_same, arith, true}
+use Rattle.std.proofs.Common.{◌≡◌, refl, sym, ◌∙◌, ap, subst, ℕ, zero, suc, ◌+◌, ◌-◌, ◌<◌, ◌≤◌, ◌⊎◌, inl, inr, List, [], ◌∷◌, ◌++◌, length, get_or, take, drop, slice_set, get_or-set_other, get_or-set_same, arith, true}
 use Rattle.std.specs.Prelude.{Bool, Some, slice_get, slice_range}
 use Rattle.std.specs.List.{list_all}
 use Rattle.std.proofs.lemmas.Bool.{and_parts, cases_eq}
 use Rattle.std.proofs.lemmas.Option.{slice_get-get_or, slice_get_within}
-use Rattle.std.proofs.lemmas.List.{get_or_default, get_or-replicate, length-drop, length-replicate, length-take, take_all}
+use Rattle.std.proofs.lemmas.List.{get_or_default, get_or-replicate, length-replicate, length-take, take_all}
 use Rattle.std.proofs.Math.ListN.{replicate, length-set}
 use mathlib.Core.Bool.{true≢false}
 use Rattle.feed_rows.specs.declared.journeys.Call.{Call}
 use Rattle.feed_rows.specs.declared.rows.StopTimeRow.{StopTimeRow}
-use Rattle.feed_rows.specs.CallPass.{gap_at, pass, time_in}
+use Rattle.feed_rows.specs.CallPass.{pass}
 use Rattle.feed_rows.specs.Calls.{is_timed}
-use Rattle.feed_rows.specs.TimedTrips.{is_timed_at}
 use Rattle.feed_laws.proofs.TimedLaws.{is_timed_at_row}
 use Rattle.plain_laws.proofs.Laws.{length-list_below, list_all-at, slice_get-append_left, slice_get-list_below}
 use Rattle.trip_order.specs.Order.{no_time}
 use Rattle.feed_trips.specs.declared.together.Stretch.{Stretch}
 use Rattle.feed_trips.specs.Filled.{AreFilled, AreFilledFrom, AreFilledUp, AreKept, AreLaid, IsLaid}
-use Rattle.feed_trips.specs.Stretches.{no_stretch, rows_at, times_at, stretch_calls, AreStretches}
+use Rattle.feed_trips.specs.Stretches.{no_stretch, rows_at, stretch_calls, AreStretches}
 
 -- an item of a range of a list
 slice_get-take : {X : Type 0} (n : ℕ) (xs : List X) (k : ℕ) → k < n → slice_get (take n xs) k ≡ slice_get xs k

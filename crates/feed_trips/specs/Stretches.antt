@@ -63,6 +63,11 @@ abbrev pub IsPutAt : List StopTimeRow → ℕ → ℕ → List Stretch → List 
 IsPutAt rows from to old new =
     (d : StopTimeRow) → new ≡ slice_set old (slice_index_or rows from d).trip.0 (record { from = from; to = to })
 
+-- this is the stretch that the trip of the row at a place has
+abbrev pub IsStretchBefore : List StopTimeRow → ℕ → List Stretch → Stretch → Type 0
+IsStretchBefore rows place stretches s =
+    (d : StopTimeRow) → slice_index_or stretches (slice_index_or rows place d).trip.0 no_stretch ≡ s
+
 -- the trip of the row at a place has a stretch before it that the row doesn't lengthen: where the stretch ends just before
 -- the place, the row's sequence is below that of the row before
 pub record IsApart (rows : List StopTimeRow) (place : ℕ) (stretches : List Stretch) : Type 0 where

@@ -6,7 +6,7 @@ ghost use Rattle.std.specs.List.{list_all};
 ghost use Rattle.feed_rows.specs.declared.rows.StopTimeRow.{StopTimeRow};
 ghost use Rattle.feed_rows.specs.Calls.{is_timed as is_row_timed};
 ghost use Rattle.feed_trips.specs.Filled.{AreFilledUp, AreKept, AreLaid, IsLaid};
-ghost use Rattle.feed_trips.specs.Stretches.{AreStretches, GoesOn, IsAnew, IsApart, IsPiece, IsPutAt, IsScattered};
+ghost use Rattle.feed_trips.specs.Stretches.{AreStretches, GoesOn, IsAnew, IsApart, IsPiece, IsPutAt, IsScattered, IsStretchBefore};
 
 use crate::passes::fill_times;
 use feed_rows::StopTimeRow;
@@ -44,29 +44,39 @@ fn goes_on(rows: &[StopTimeRow], place: usize) -> bool
     before.trip.0 == row.trip.0 && before.sequence <= row.sequence
 }
 
-// Puts a piece of rows, from a place and up to another, as the stretch of their trip. False where the trip has rows
-// before.
+// Where the rows of a row's trip stand, as far as they were put.
+fn stretch_of(stretches: &[Stretch], rows: &[StopTimeRow], place: usize, trips: usize) -> Stretch
+    requires within { All (λ (r : StopTimeRow). r.trip.0 < trips) rows.now }
+    requires inside { place < length rows.now }
+    requires count { length stretches.now ≡ trips }
+    ensures { IsStretchBefore rows.now place stretches.now result }
+{
+    stretches[rows[place].trip.0 as usize]
+}
+
+// Puts a piece of rows, from a place and up to another, as the stretch of their trip, which was this one before. False where
+// the trip has rows before.
 fn put_piece(
     stretches: &mut Vec<Stretch>,
     rows: &[StopTimeRow],
     from: usize,
     to: usize,
     trips: usize,
+    stretch: Stretch,
 ) -> bool
     requires within { All (λ (r : StopTimeRow). r.trip.0 < trips) rows.now }
     requires few { length rows.now < 2 ^ 32 }
     requires piece { IsPiece rows.now from to }
     requires before { AreStretches rows.now from trips stretches.old.items }
+    requires stretch { IsStretchBefore rows.now from stretches.old.items stretch }
     ensures put { OnTrue result (AreStretches rows.now to trips stretches.new.items) }
     ensures set { OnTrue result (IsPutAt rows.now from to stretches.old.items stretches.new.items) }
     ensures apart { OnFalse result (IsApart rows.now from stretches.old.items) }
 {
-    let trip = rows[from].trip.0 as usize;
-    let stretch = stretches[trip];
     if stretch.from != stretch.to {
         return false;
     }
-    stretches[trip] = Stretch {
+    stretches[rows[from].trip.0 as usize] = Stretch {
         from: from as u32,
         to: to as u32,
     };
@@ -105,24 +115,27 @@ fn lay_piece(
 }
 
 impl Together {
-    // Puts a piece of rows, from a place and up to another, with its times. False where its trip has rows before.
+    // Puts a piece of rows, from a place and up to another, with its times, where its trip had this stretch before. False where
+    // the trip has rows before.
     fn put(
         &mut self,
         rows: &[StopTimeRow],
         from: usize,
         to: usize,
         trips: usize,
+        stretch: Stretch,
     ) -> Result<bool, AllocError>
         requires within { All (λ (r : StopTimeRow). r.trip.0 < trips) rows.now }
         requires few { length rows.now < 2 ^ 32 }
         requires piece { IsPiece rows.now from to }
         requires before { AreStretches rows.now from trips self.old.stretches.items }
         requires laid { AreLaid rows.now from self.old.stretches.items self.old.times.items }
+        requires stretch { IsStretchBefore rows.now from self.old.stretches.items stretch }
         ensures put { IfOk result (λ is_put. OnTrue is_put (AreStretches rows.now to trips self.new.stretches.items)) }
         ensures beside { IfOk result (λ is_put. OnTrue is_put (AreLaid rows.now to self.new.stretches.items self.new.times.items)) }
         ensures apart { IfOk result (λ is_put. OnFalse is_put (IsApart rows.now from self.old.stretches.items)) }
     {
-        if !put_piece(&mut self.stretches, rows, from, to, trips) {
+        if !put_piece(&mut self.stretches, rows, from, to, trips, stretch) {
             return Ok(false);
         }
         lay_piece(&mut self.times, rows, from, to)?;
@@ -164,15 +177,18 @@ pub fn together_of(
         times: Vec::new(alloc),
     };
     let mut from = 0;
+    // What is asked of a piece as it ends is read as it begins, so that no memory is waited for.
+    let mut stretch = Stretch { from: 0, to: 0 };
     for place in 0..rows.len() {
         if !goes_on(rows, place) {
-            if !found.put(rows, from, place, trips)? {
+            if !found.put(rows, from, place, trips, stretch)? {
                 return Ok(None);
             }
             from = place;
+            stretch = stretch_of(&found.stretches, rows, from, trips);
         }
     }
-    if from < rows.len() && !found.put(rows, from, rows.len(), trips)? {
+    if from < rows.len() && !found.put(rows, from, rows.len(), trips, stretch)? {
         return Ok(None);
     }
     fill_up(&mut found.times, rows.len())?;

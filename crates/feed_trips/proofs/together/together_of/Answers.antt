@@ -13,17 +13,19 @@ pub loop-place-preserved : goal.loop-place-preserved
 loop-place-preserved c =
     let before = c.loop-place.invariant in
     elim c.if-not-goes_on.branch [
-      | then-not-goes_on+in_ok-put+else-not-branch w ↦ rw (w.found-is, w.from-is) (record {
+      | then-not-goes_on+in_ok-put+else-not-branch w ↦ rw (w.found-is, w.from-is, w.stretch-is) (record {
         before = rw w.if-not-branch.false at w.in_ok-put.ensures.put;
         laid = rw w.if-not-branch.false at w.in_ok-put.ensures.beside;
         piece = λ lt. piece_alone _ _ c.loop-place-test.true (λ some. w.if-not-goes_on.ensures.anew);
         start = λ none. absurd (omega arith);
+        stretch = rw w.deref.ensures.value at w.stretch_of-stretch.ensures;
       })
-      | else-not-goes_on w ↦ rw (w.found-is, w.from-is) (record {
+      | else-not-goes_on w ↦ rw (w.found-is, w.from-is, w.stretch-is) (record {
         before = before.before;
         laid = before.laid;
         piece = λ lt. piece_on _ _ _ before.piece before.start c.loop-place-test.true w.if-not-goes_on.ensures.on;
         start = λ none. absurd (omega arith);
+        stretch = before.stretch;
       })
     ]
 

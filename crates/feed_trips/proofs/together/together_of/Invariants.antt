@@ -1,6 +1,6 @@
 use Rattle.std.proofs.Common.{◌≡◌, ◌<◌}
 use Rattle.feed_trips.specs.Filled.{AreLaid}
-use Rattle.feed_trips.specs.Stretches.{AreStretches, IsPiece}
+use Rattle.feed_trips.specs.Stretches.{AreStretches, IsPiece, IsStretchBefore}
 use Rattle.feed_trips.proofs.together.together_of.Given as goal
 
 abbrev pub invariant-loop-place : goal.invariant-loop-place
@@ -9,4 +9,5 @@ invariant-loop-place l = record {
   laid : AreLaid l.rows l.from l.found.stretches.items l.found.times.items;
   piece : 0 < l.place → IsPiece l.rows l.from l.place;
   start : l.place ≡ 0 → l.from ≡ 0;
+  stretch : IsStretchBefore l.rows l.from l.found.stretches.items l.stretch;
 }

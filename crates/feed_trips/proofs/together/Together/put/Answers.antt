@@ -1,4 +1,3 @@
-use Rattle.std.proofs.Common.{refl}
 use Rattle.feed_trips.proofs.LaidTimes.{more_laid}
 use Rattle.feed_trips.proofs.StretchLaws.{piece_begins, trip_stretched}
 use Rattle.trip_order.specs.Order.{no_time}
