@@ -13,7 +13,7 @@ use Rattle.feed_rows.specs.declared.names.ColumnName.{ColumnName}
 use Rattle.feed_faults.specs.Records.{FileTable, row_count, field}
 use Rattle.feed_faults.specs.RowKeys.{row_of}
 use Rattle.feed_text.specs.RowLimits.{row_limit}
-use Rattle.feed_tables.specs.OrderedRows.{IsNotAfter, AreOrderedRows, IsPlaceOf, IsFirst}
+use Rattle.feed_tables.specs.OrderedRows.{IsNotAfter, AreOrderedRows, IsPlaceOf, IsFirst, HasIdBefore}
 use Rattle.feed_tables.specs.declared.slots.Slots.{Slots}
 use Rattle.feed_tables.specs.IdKeys.{IsKeyOf}
 use Rattle.feed_tables.specs.Slots.{AreSlots, IsSlot}
@@ -59,6 +59,10 @@ module _ (rows : List IdRow) (up : AllPairs IsNotAfter rows) (place : ℕ) (d : 
           step (inl less) = rest less (cases_eq k (place - 1))
           step (inr too) = absurd (apart (omega arith) (sym same_last ∙ one_id last id_there too not_less))
 
+pub so : (b : Bool) → not b ≡ false → b ≡ true
+so true e = refl
+so false e = cc
+
 pub not_so : (b : Bool) → not b ≡ true → b ≡ false
 not_so true e = cc
 not_so false e = refl
@@ -76,6 +80,11 @@ other_first rows up place lt d apart e within =
     let here : (get_or rows place d).id.now ≡ (get_or rows place e).id.now = ap (λ (x : IdRow). x.id.now) (get_or_default rows place d e lt) in
     let hit = (bytes_eq-Decides (get_or rows (place - 1) d).id.now (get_or rows place d).id.now).1 (before ∙ same ∙ sym here) in
     let wrong : true ≡ false = sym hit ∙ apart in cc)
+
+-- one behind a row with its own id isn't
+pub later_one : (rows : List IdRow) (place : ℕ) → 1 ≤ place → place < length rows → (d : IdRow) → bytes_eq (get_or rows (place - 1) d).id.now (get_or rows place d).id.now ≡ true → HasIdBefore rows place
+later_one rows place some lt d one e =
+    (some, rw (get_or_default rows (place - 1) e d (omega (arith, lt)), get_or_default rows place e d lt) one)
 
 -- the first of rows in order with an id is the earliest row of the table with it
 first_row : (table : FileTable) (name : ColumnName) (rows : List IdRow) (place : ℕ) (d : IdRow) → AreOrderedRows table name rows

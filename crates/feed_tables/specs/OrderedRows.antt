@@ -1,5 +1,5 @@
 -- The rows of a table in the order of their fields in a column.
-use Rattle.std.specs.Prelude.{◌≡◌, ℕ, zero, suc, ◌+◌, ◌*◌, ◌<◌, ◌≤◌, ◌==◌, nat_lt, if◌then◌else◌, Bool, true, false, List, length, slice_index, slice_index_or, All, AllPairs}
+use Rattle.std.specs.Prelude.{◌≡◌, ℕ, zero, suc, ◌+◌, ◌*◌, ◌<◌, ◌-◌, ◌≤◌, ◌==◌, bytes_eq, nat_lt, if◌then◌else◌, Bool, true, false, List, length, slice_index, slice_index_or, All, AllPairs}
 use Rattle.std.specs.List.{list_any}
 use Rattle.std.specs.Cmp.Lexicographic.{slice_cmp}
 use Rattle.std.specs.Ordering.{nat_cmp, ordering_then, is_lt}
@@ -62,3 +62,7 @@ is_id_before entry prefix id = if entry.prefix == prefix then is_lt (slice_cmp n
 -- the row at a place is the first with its id
 abbrev pub IsFirst : List IdRow → ℕ → Type 0
 IsFirst rows place = (d : IdRow) → place < length rows → IsPlaceOf rows (slice_index_or rows place d).id.now place
+
+-- the row before the one at a place has its id
+abbrev pub HasIdBefore : List IdRow → ℕ → Type 0
+HasIdBefore rows place = (d : IdRow) → (1 ≤ place) × (bytes_eq (slice_index_or rows (place - 1) d).id.now (slice_index_or rows place d).id.now ≡ true)

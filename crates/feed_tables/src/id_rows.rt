@@ -1,10 +1,10 @@
 //! The rows of a table in the order of their ids.
 ghost use Rattle.std.specs.Prelude.{◌≡◌, ◌<◌, length, All, AllPairs, IfOk, bytes_eq};
-ghost use Rattle.std.specs.Bool.{OnTrue};
+ghost use Rattle.std.specs.Bool.{OnFalse, OnTrue};
 ghost use Rattle.std.specs.Cmp.Lexicographic.{slice_cmp};
 ghost use Rattle.std.specs.Ordering.{nat_cmp, is_lt};
 ghost use Rattle.feed_faults.specs.Records.{row_count};
-ghost use Rattle.feed_tables.specs.OrderedRows.{IsPrefixed, AreIdRows, AreOrderedRows, IsNotAfter, IsPlaceOf, IsFirst, is_id_before};
+ghost use Rattle.feed_tables.specs.OrderedRows.{IsPrefixed, AreIdRows, AreOrderedRows, IsNotAfter, IsPlaceOf, IsFirst, HasIdBefore, is_id_before};
 
 use crate::id_keys::prefix_of;
 use crate::named::NamedTable;
@@ -85,12 +85,13 @@ fn have_one_id(entry: &IdRow, other: &IdRow) -> bool
     entry.id == other.id
 }
 
-/// Whether no earlier row has the id of the row at a place.
+/// Whether no earlier row has the id of the row at a place: the one before it has another, if there is one.
 pub fn is_first(rows: &[IdRow], place: usize) -> bool
     requires sorted { AllPairs IsNotAfter rows.now }
     requires prefixed { All IsPrefixed rows.now }
     requires within { place < length rows.now }
-    ensures { OnTrue result (IsFirst rows.now place) }
+    ensures first { OnTrue result (IsFirst rows.now place) }
+    ensures later { OnFalse result (HasIdBefore rows.now place) }
 {
     if place == 0 {
         return true;
