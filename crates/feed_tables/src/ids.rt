@@ -62,44 +62,30 @@ impl IdColumn {
         IdColumn::LegGroup,
     ];
 
-    // The file of the column.
-    fn file(self) -> FileName
-        ensures { result ≡ file_of self }
-    {
-        match self {
-            IdColumn::Stop => FileName::Stops,
-            IdColumn::Route | IdColumn::RouteNetwork => FileName::Routes,
-            IdColumn::Trip => FileName::Trips,
-            IdColumn::Calendar => FileName::Calendar,
-            IdColumn::CalendarDate => FileName::CalendarDates,
-            IdColumn::Area => FileName::Areas,
-            IdColumn::Network => FileName::Networks,
-            IdColumn::NetworkRoute => FileName::RouteNetworks,
-            IdColumn::TimeframeGroup => FileName::Timeframes,
-            IdColumn::RiderCategory => FileName::RiderCategories,
-            IdColumn::FareMedia => FileName::FareMedia,
-            IdColumn::FareProduct => FileName::FareProducts,
-            IdColumn::LegGroup => FileName::FareLegRules,
-        }
-    }
+    // The file and the name of each column, in the order in which they are declared.
+    const COLUMNS: [(FileName, ColumnName); 14] = [
+        (FileName::Stops, ColumnName::StopId),
+        (FileName::Trips, ColumnName::TripId),
+        (FileName::Routes, ColumnName::RouteId),
+        (FileName::Routes, ColumnName::NetworkId),
+        (FileName::Calendar, ColumnName::ServiceId),
+        (FileName::CalendarDates, ColumnName::ServiceId),
+        (FileName::Areas, ColumnName::AreaId),
+        (FileName::Networks, ColumnName::NetworkId),
+        (FileName::RouteNetworks, ColumnName::RouteId),
+        (FileName::Timeframes, ColumnName::TimeframeGroupId),
+        (FileName::RiderCategories, ColumnName::RiderCategoryId),
+        (FileName::FareMedia, ColumnName::FareMediaId),
+        (FileName::FareProducts, ColumnName::FareProductId),
+        (FileName::FareLegRules, ColumnName::LegGroupId),
+    ];
 
-    // The name of the column.
-    fn name(self) -> ColumnName
-        ensures { result ≡ name_of self }
+    // The file and the name of the column.
+    fn place(self) -> (FileName, ColumnName)
+        ensures file { result.0 ≡ file_of self }
+        ensures name { result.1 ≡ name_of self }
     {
-        match self {
-            IdColumn::Stop => ColumnName::StopId,
-            IdColumn::Route | IdColumn::NetworkRoute => ColumnName::RouteId,
-            IdColumn::RouteNetwork | IdColumn::Network => ColumnName::NetworkId,
-            IdColumn::Trip => ColumnName::TripId,
-            IdColumn::Calendar | IdColumn::CalendarDate => ColumnName::ServiceId,
-            IdColumn::Area => ColumnName::AreaId,
-            IdColumn::TimeframeGroup => ColumnName::TimeframeGroupId,
-            IdColumn::RiderCategory => ColumnName::RiderCategoryId,
-            IdColumn::FareMedia => ColumnName::FareMediaId,
-            IdColumn::FareProduct => ColumnName::FareProductId,
-            IdColumn::LegGroup => ColumnName::LegGroupId,
-        }
+        IdColumn::COLUMNS[self as usize]
     }
 }
 
@@ -170,7 +156,8 @@ fn index_of<'t, C: CallTable>(
 ) -> Result<IdIndex<'t>, AllocError>
     ensures { IfOk result (λ index. index ≡ indexed tables.now column) }
 {
-    IdIndex::of(alloc, tables.get(column.file()), column.name())
+    let (file, name) = column.place();
+    IdIndex::of(alloc, tables.get(file), name)
 }
 
 impl<'t, C: CallTable> Ids<'t, C> {

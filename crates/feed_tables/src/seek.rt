@@ -11,6 +11,7 @@ use std::marker::Model;
 
 /// A look-up that was begun: where the id is looked for first is known, and nothing is read there yet. So a caller can do other
 /// work while memory is waited for. Contracts see it as the index and the id.
+#[derive(Drop)]
 pub struct Seek<'i, 't, 'r> {
     index: &'i IdIndex<'t>,
     slot: usize,
@@ -27,18 +28,6 @@ impl<'i, 't, 'r> Model for Seek<'i, 't, 'r> {
     ghost view = { λ seek. record { column = seek.index.now; id = seek.id.now } };
 
     ghost invariant = { λ seek. IsKeyOf seek.key seek.id.now };
-}
-
-// Written out, so that what lets go of it needn't look into it.
-impl<'i, 't, 'r> Drop for Seek<'i, 't, 'r> {
-    fn drop(self) {
-        let Seek {
-            index: _,
-            slot: _,
-            key: _,
-            id: _,
-        } = self;
-    }
 }
 
 impl<'i, 't, 'r> Seek<'i, 't, 'r> {
@@ -84,6 +73,7 @@ impl<'i, 't, 'r> Seek<'i, 't, 'r> {
 
 /// An index in which one id is mostly sought several times in a row: where the last one was is looked at first. Contracts see
 /// it as the index.
+#[derive(Drop)]
 pub struct LastSought<'i, 't> {
     index: &'i IdIndex<'t>,
     slot: usize,
@@ -95,13 +85,6 @@ impl<'i, 't> Model for LastSought<'i, 't> {
     ghost Value = { IndexedColumn };
 
     ghost view = { λ last. last.index.now };
-}
-
-// Written out, so that what lets go of it needn't look into it.
-impl<'i, 't> Drop for LastSought<'i, 't> {
-    fn drop(self) {
-        let LastSought { index: _, slot: _ } = self;
-    }
 }
 
 impl<'i, 't> LastSought<'i, 't> {
