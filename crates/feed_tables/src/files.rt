@@ -89,18 +89,6 @@ fn table_of_held(
     }
 }
 
-// The table of a file, judged before its rows.
-fn file_table(alloc: Global, files: &Files, file: FileName) -> Result<NamedTable, TextError>
-    requires { AreWithin files.now }
-    ensures fault { IfErr result (IsErrorOf (held_fault_before_rows (is_needed (held_in files.now) file) file (held_in files.now file))) }
-    ensures sound { OnOk result (held_fault_before_rows (is_needed (held_in files.now) file) file (held_in files.now file) ≡ None) }
-    ensures table { IfOk result (λ table. table ≡ table_of (held_in files.now file)) }
-{
-    let needed = is_needed(alloc, files, file)?;
-    let table = table_of_held(alloc, files.get(file), file, needed)?;
-    Ok(NamedTable::of(alloc, table)?)
-}
-
 /// The table of a file, judged by itself.
 ///
 /// # Errors
@@ -112,6 +100,7 @@ pub fn read_file(alloc: Global, files: &Files, file: FileName) -> Result<ReadTab
     ensures sound { OnOk result (form_fault (held_in files.now) file ≡ None) }
     ensures table { IfOk result (λ read. read ≡ read_of (held_in files.now) file) }
 {
-    let table = file_table(alloc, files, file)?;
-    ReadTable::of(alloc, file, table)
+    let needed = is_needed(alloc, files, file)?;
+    let table = table_of_held(alloc, files.get(file), file, needed)?;
+    ReadTable::of(alloc, file, NamedTable::of(alloc, table)?)
 }

@@ -117,15 +117,6 @@ impl<'t, C: CallTable> Tables<'t, C> {
         }
     }
 
-    // What a row of a file tells, in the order of the columns that are judged.
-    fn row_numbers(&self, file: FileName, row: u32) -> &'t [Option<i64>]
-        requires kept { has_table file ≡ true }
-        requires within { row < row_count (table_in self.now file) }
-        ensures { result.now ≡ numbers_of file (field (table_in self.now file) row) }
-    {
-        self.read_table(file).numbers(row)
-    }
-
     /// What a row of a file tells: of each column that is judged, in their order, the number of the field; none where it is
     /// empty, or an id.
     pub fn numbers<const N: usize>(&self, file: FileName, row: u32) -> &'t [Option<i64>; N]
@@ -134,7 +125,7 @@ impl<'t, C: CallTable> Tables<'t, C> {
         requires columns { length (judged_columns file (field (table_in self.now file) row)) ≡ N }
         ensures { result.now ≡ numbers_of file (field (table_in self.now file) row) }
     {
-        let Some(numbers) = self.row_numbers(file, row).as_array() else {
+        let Some(numbers) = self.read_table(file).numbers(row).as_array() else {
             unreachable!();
         };
         numbers
