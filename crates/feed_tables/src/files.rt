@@ -41,29 +41,8 @@ fn is_needed(alloc: Global, files: &Files, file: FileName) -> Result<bool, Alloc
     Ok(is_always_needed(file))
 }
 
-// The table of a file's bytes, judged before its rows.
-#[tactic(auto, using(crate::proofs::HeldLaws::fault_before_rows, crate::proofs::HeldLaws::missing_before_rows, crate::proofs::HeldLaws::none_before_rows, crate::proofs::HeldLaws::few_rows))]
-fn table_before_rows(
-    alloc: Global,
-    bytes: &[u8],
-    file: FileName,
-    needed: bool,
-) -> Result<Table, TextError>
-    requires within { length bytes.now ≤ most_bytes }
-    requires always { is_always_needed file ≡ true → needed ≡ true }
-    ensures fault { IfErr result (IsErrorOf (form_fault_of_bytes needed most_rows file bytes.now)) }
-    ensures sound { OnOk result (form_fault_of_bytes needed most_rows file bytes.now ≡ None) }
-    ensures table { IfOk result (λ table. table ≡ table_of_bytes bytes.now) }
-    ensures few { IfOk result (λ table. row_count table ≤ most_rows) }
-{
-    let table = Table::read(alloc, bytes, file, MOST_ROWS)?;
-    if needed && table.is_empty() {
-        return Err(TextError::Fault(file_fault(file, FaultKind::MissingFile)));
-    }
-    Ok(table)
-}
-
 // The table of what is held of a file, judged before its rows.
+#[tactic(auto, using(crate::proofs::HeldLaws::fault_before_rows, crate::proofs::HeldLaws::missing_before_rows, crate::proofs::HeldLaws::none_before_rows, crate::proofs::HeldLaws::few_rows))]
 fn table_of_held(
     alloc: Global,
     held: &FileBytes,
@@ -85,7 +64,13 @@ fn table_of_held(
             Ok(Table::empty(alloc))
         }
         FileBytes::TooLarge => Err(TextError::Fault(file_fault(file, FaultKind::FileTooLarge))),
-        FileBytes::Bytes(text) => table_before_rows(alloc, text.bytes(), file, needed),
+        FileBytes::Bytes(text) => {
+            let table = Table::read(alloc, text.bytes(), file, MOST_ROWS)?;
+            if needed && table.is_empty() {
+                return Err(TextError::Fault(file_fault(file, FaultKind::MissingFile)));
+            }
+            Ok(table)
+        }
     }
 }
 

@@ -148,18 +148,6 @@ impl<'t, C: CallTable> Drop for Ids<'t, C> {
     }
 }
 
-// The rows of the tables by the ids of a column.
-fn index_of<'t, C: CallTable>(
-    alloc: Global,
-    tables: &Tables<'t, C>,
-    column: IdColumn,
-) -> Result<IdIndex<'t>, AllocError>
-    ensures { IfOk result (λ index. index ≡ indexed tables.now column) }
-{
-    let (file, name) = column.place();
-    IdIndex::of(alloc, tables.get(file), name)
-}
-
 impl<'t, C: CallTable> Ids<'t, C> {
     /// The rows of the tables by their ids, of which those that stop times name stand.
     ///
@@ -175,7 +163,8 @@ impl<'t, C: CallTable> Ids<'t, C> {
     {
         let mut others = Vec::with_capacity(alloc, IdColumn::OTHERS.len())?;
         for (i, column) in IdColumn::OTHERS.iter().enumerate() {
-            others.push(index_of(alloc, tables, *column)?)?;
+            let (file, name) = column.place();
+            others.push(IdIndex::of(alloc, tables.get(file), name)?)?;
         }
         Ok(Ids {
             tables,

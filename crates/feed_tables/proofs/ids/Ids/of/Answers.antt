@@ -5,4 +5,4 @@ use Rattle.feed_tables.proofs.ids.Ids.of.Goals as goal
 
 pub loop-i-preserved : goal.loop-i-preserved
 loop-i-preserved g c =
-    rw (c.in_ok-push.ensures.items, c.loop-i.invariant, c.in_ok-index_of.ensures) (sym (map_more (indexed c.args.tables.now) other_id_columns c.loop-i.i _ c.loop-i-test.true))
+    rw (c.in_ok-push.ensures.items, c.loop-i.invariant, c.in_ok-of.ensures, c.get.ensures, c.place-file.ensures.file, c.place-file.ensures.name) (sym (map_more (indexed c.args.tables.now) other_id_columns c.loop-i.i _ c.loop-i-test.true))
