@@ -97,6 +97,7 @@ fn hash_at(rows: &[IdRow], place: usize) -> u64
 }
 
 // The places of rows by the buckets of their ids, linked to one another.
+#[derive(Drop)]
 struct Buckets {
     // By bucket: how many places it has, and the last one.
     sizes: Vec<u32>,
@@ -104,18 +105,6 @@ struct Buckets {
     // By place: the one before it in its bucket, and the hash of its id.
     links: Vec<u32>,
     hashes: Vec<u64>,
-}
-
-// Written out, so that what lets go of buckets needn't look into them.
-impl Drop for Buckets {
-    fn drop(self) {
-        let Buckets {
-            sizes: _,
-            lasts: _,
-            links: _,
-            hashes: _,
-        } = self;
-    }
 }
 
 // The rows that are the first with their ids, by so many buckets.
@@ -191,14 +180,6 @@ impl Slots {
         slot_by(hash, pilot, self.rows.len())
     }
 
-    // How many slots there are.
-    #[inline(always)]
-    fn count(&self) -> usize
-        ensures { result ≡ length self.now.rows.items }
-    {
-        self.rows.len()
-    }
-
     // Whether the slots of these by a pilot are free, and each is another one.
     fn are_free(&self, members: &[Member], pilot: u8) -> bool
         requires { 1 ≤ length self.now.rows.items }
@@ -258,7 +239,7 @@ impl Slots {
         };
         self.pilots[bucket] = pilot;
         for member in members {
-            let slot = slot_by(member.hash, pilot, self.count());
+            let slot = slot_by(member.hash, pilot, self.rows.len());
             self.put(rows, *member, slot);
         }
     }
