@@ -90,16 +90,10 @@ impl IdColumn {
 }
 
 /// The rows of stops.txt and of trips.txt by the ids that stop times name.
+#[derive(Drop)]
 pub struct CallIds<'t> {
     pub stops: IdIndex<'t>,
     pub trips: IdIndex<'t>,
-}
-
-// Written out, so that what lets go of the rows needn't look into them.
-impl<'t> Drop for CallIds<'t> {
-    fn drop(self) {
-        let CallIds { stops: _, trips: _ } = self;
-    }
 }
 
 impl<'t> CallIds<'t> {
@@ -119,6 +113,7 @@ impl<'t> CallIds<'t> {
 }
 
 /// The rows of a feed's tables by their ids, each column sorted once. Contracts see them as the tables.
+#[derive(Drop)]
 pub struct Ids<'t, C: CallTable> {
     tables: &'t Tables<'t, C>,
     calls: &'t CallIds<'t>,
@@ -135,17 +130,6 @@ impl<'t, C: CallTable> Model for Ids<'t, C> {
     ghost view = { λ i. i.tables.now };
 
     ghost invariant = { λ i. AreIds i.tables.now i.calls.now i.others.items };
-}
-
-// Written out, so that what lets go of the rows needn't look into them.
-impl<'t, C: CallTable> Drop for Ids<'t, C> {
-    fn drop(self) {
-        let Ids {
-            tables: _,
-            calls: _,
-            others: _,
-        } = self;
-    }
 }
 
 impl<'t, C: CallTable> Ids<'t, C> {

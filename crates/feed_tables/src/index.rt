@@ -15,6 +15,7 @@ use std::alloc::{AllocError, Global};
 use std::marker::Model;
 
 /// The rows of a table by their fields in one of its columns. Contracts see it as the table and the column.
+#[derive(Drop)]
 pub struct IdIndex<'t> {
     table: &'t NamedTable,
     name: ColumnName,
@@ -33,18 +34,6 @@ impl<'t> Model for IdIndex<'t> {
     ghost view = { λ i. record { table = i.table.now; name = i.name } };
 
     ghost invariant = { λ i. IsIndex i.table.now i.name i.rows.items i.slots };
-}
-
-// Written out, so that what lets go of an index needn't look into it.
-impl<'t> Drop for IdIndex<'t> {
-    fn drop(self) {
-        let IdIndex {
-            table: _,
-            name: _,
-            rows: _,
-            slots: _,
-        } = self;
-    }
 }
 
 impl<'t> IdIndex<'t> {

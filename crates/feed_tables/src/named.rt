@@ -14,6 +14,7 @@ use std::marker::Model;
 const COLUMNS: usize = 58;
 
 /// A file's table, whose fields are found by the names of their columns. Contracts see it as the table.
+#[derive(Drop)]
 pub struct NamedTable {
     table: Table,
     // How many columns the header has.
@@ -32,17 +33,6 @@ impl Model for NamedTable {
     ghost view = { λ t. t.table };
 
     ghost invariant = { λ t. ArePlaces row_limit t.table t.width t.places };
-}
-
-// Written out, so that what lets go of many tables needn't look into each.
-impl Drop for NamedTable {
-    fn drop(self) {
-        let NamedTable {
-            table: _,
-            width: _,
-            places: _,
-        } = self;
-    }
 }
 
 // The place of each column in the header.

@@ -14,6 +14,7 @@ use std::alloc::Global;
 use std::marker::Model;
 
 /// A file's table, and what its rows tell. Contracts see it as the file and the table.
+#[derive(Drop)]
 pub struct ReadTable {
     file: FileName,
     table: NamedTable,
@@ -29,17 +30,6 @@ impl Model for ReadTable {
     ghost view = { λ t. record { file = t.file; table = t.table } };
 
     ghost invariant = { λ t. t.numbers ≡ numbers_by_row t.file t.table };
-}
-
-// Written out, so that what lets go of many tables needn't look into each.
-impl Drop for ReadTable {
-    fn drop(self) {
-        let ReadTable {
-            file: _,
-            table: _,
-            numbers: _,
-        } = self;
-    }
 }
 
 impl ReadTable {

@@ -13,23 +13,13 @@ use std::alloc::{AllocError, Global};
 const FREE: u32 = u32::MAX;
 
 /// A slot for most ids of a column.
+#[derive(Drop)]
 pub struct Slots {
     // By bucket.
     pub pilots: Vec<u8>,
     // By slot: the key of its id, and the earliest row with it.
     pub keys: Vec<u64>,
     pub rows: Vec<u32>,
-}
-
-// Written out, so that what lets go of slots needn't look into them.
-impl Drop for Slots {
-    fn drop(self) {
-        let Slots {
-            pilots: _,
-            keys: _,
-            rows: _,
-        } = self;
-    }
 }
 
 // A hash with a number more.

@@ -31,6 +31,7 @@ impl CallTable for Brand {
 
 /// The table of each file of a feed, of which that of stop_times.txt isn't kept; a file that isn't there has one without a
 /// record. Contracts see it as the list of all tables, in the order of the files.
+#[derive(Drop)]
 pub struct Tables<'t, C: CallTable> {
     first: &'t [ReadTable],
     others: &'t [ReadTable],
@@ -48,18 +49,6 @@ impl<'t, C: CallTable> Model for Tables<'t, C> {
     ghost view = { λ t. tables_with t.first.now C.table t.others.now };
 
     ghost invariant = { λ t. AreKept t.first.now t.others.now C.table t.calls };
-}
-
-// Written out, so that what lets go of the tables needn't look into them.
-impl<'t, C: CallTable> Drop for Tables<'t, C> {
-    fn drop(self) {
-        let Tables {
-            first: _,
-            others: _,
-            calls: _,
-            call_table: _,
-        } = self;
-    }
 }
 
 // The place of a file in the order of the files.
