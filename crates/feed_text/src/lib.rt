@@ -7,7 +7,6 @@ mod dates;
 mod errors;
 mod faults;
 mod fields;
-mod flat;
 mod ids;
 mod numbers;
 mod reading;

@@ -8,7 +8,7 @@ ghost use Rattle.feed_text.specs.TableFields.{field_in};
 ghost use Rattle.feed_text.specs.Reader.{last_record};
 ghost use Rattle.plain_laws.specs.Plain.{parts, Rise};
 
-use crate::flat::push_fields;
+use crate::fields::is_filled;
 use crate::records::Records;
 use feed_rows::ColumnName;
 use plain_laws::{Groups, part_of, push_end};
@@ -40,6 +40,16 @@ impl Model for Table {
     ghost view = { λ t. parts 0 t.rows.items t.fields };
 
     ghost invariant = { λ t. Rise 0 t.rows.items (length t.fields) × (length t.rows.items ≤ 2 ^ 32) };
+}
+
+// Puts the fields of the last record behind those that are kept.
+fn push_fields<R: Read>(fields: &mut Groups<u8>, records: &Records<R>) -> Result<(), AllocError>
+    ensures { OnOk result (fields.new ≡ fields.old ++ last_record records.now) }
+{
+    for place in 0..records.len() {
+        fields.push(records.field(place))?;
+    }
+    Ok(())
 }
 
 // Puts a record behind those that are kept.
@@ -226,17 +236,6 @@ impl Table {
         self.field_at(row as usize + 1, column as usize)
     }
 
-    // Whether a field is filled.
-    fn has_filled(&self, place: usize, column: usize) -> bool
-        requires { place < length self.now }
-        ensures { result ≡ is_filled (field_in self.now place column) }
-    {
-        match self.field_at(place, column) {
-            [] => false,
-            [_, ..] => true,
-        }
-    }
-
     /// Whether a data row has a field past the header that isn't empty.
     #[tactic(auto, using(plain_laws::proofs::Laws::any_below_next, crate::proofs::HeaderLaws::none_before), unfolding(feed_faults::specs::Records::is_long))]
     pub fn extra(&self, row: u32) -> bool
@@ -250,7 +249,7 @@ impl Table {
             return false;
         }
         for column in past..width {
-            if self.has_filled(place, column) {
+            if is_filled(self.field_at(place, column)) {
                 return true;
             }
         }

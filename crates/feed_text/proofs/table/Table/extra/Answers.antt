@@ -19,10 +19,10 @@ loop-column-init c =
     none_before (length (header c.args.self.now)) (λ (k : ℕ). is_filled (field_in c.args.self.now (c.args.row + 1) k))
     c.columns-past.result (omega (arith, c.columns-past.ensures))
 
-pub returns-then-has_filled : goal.returns-then-has_filled
+pub returns-then-is_filled : goal.returns-then-is_filled
 unfolding is_long
-returns-then-has_filled c =
+returns-then-is_filled c =
     let past : nat_le (length (header c.args.self.now)) c.loop-column.column ≡ true = grind (arith, nat_tests, c.loop-column.auto.column, c.columns-past.ensures) in
-    let filled : is_filled (field_in c.args.self.now (c.args.row + 1) c.loop-column.column) ≡ true = sym c.if-has_filled.ensures in
+    let filled : is_filled (field_in c.args.self.now (c.args.row + 1) c.loop-column.column) ≡ true = rw c.field_at.ensures at (sym c.if-is_filled.ensures) in
     sym (any_below_hit _ (length (get_or c.args.self.now (c.args.row + 1) [])) c.loop-column.column
     (omega (arith, c.loop-column-test.true, c.width-width.ensures.count)) (rw (past, filled) refl))
