@@ -1,3 +1,4 @@
 pub mod PlaceLaws
 pub mod OrderLaws
+pub mod ToldLaws
 pub mod TogetherLaws

@@ -1,47 +1,154 @@
 -- What the neighbours of a place tell is what the definitions say of its row.
-use Rattle.std.proofs.Common.{◌≡◌, refl, sym, ◌∙◌, ap, subst, ℕ, ◌+◌, ◌-◌, ◌<◌, ◌≤◌, inr, ⊎_elim, Bool, true, false, List, length, get_or, Option, None, Some, arith}
-use Rattle.std.specs.Prelude.{◌==◌, ◌&&◌, ◌||◌, not, nat_lt, IfSome}
+use Rattle.std.proofs.Common.{◌≡◌, refl, sym, ◌∙◌, ap, subst, ℕ, zero, suc, ◌+◌, ◌-◌, ◌<◌, ◌≤◌, inr, ⊎_elim, Bool, true, false, List, length, Option, None, Some, arith}
+use Rattle.std.specs.Prelude.{◌==◌, ◌&&◌, ◌||◌, not, nat_lt, is_some}
+use Rattle.std.specs.Option.{option_or}
 use Rattle.std.proofs.lemmas.Bool.{cases_Bool, cases_eq, cases_lt, and_parts, and_from, eqb-true, eq-eqb, lt-ltb, ltb-true}
 use Rattle.plain_laws.specs.Plain.{at_and, any_below}
-use Rattle.plain_laws.proofs.Laws.{IsLast, last_below_tells, last_below_some, any_below_hit, any_below_tells, length-list_below, same_test, at_and-list_below}
+use Rattle.plain_laws.proofs.Laws.{any_below_hit, any_below_tells, length-list_below, same_test, at_and-list_below}
 use Rattle.feed_faults.specs.RowKeys.{is_repeated}
 use Rattle.feed_faults.specs.StopTimeRelations.{StopTime, has_time, is_earlier, first_filled, last_filled, same_place, comes_before, is_first, is_last, is_end_time_missing, is_nearest_before, do_times_decrease}
 use Rattle.feed_rows.specs.declared.rows.StopTimeRow.{StopTimeRow}
 use Rattle.trip_order.specs.declared.keys.PlaceKey.{PlaceKey}
+use Rattle.trip_order.specs.Order.{AreSorted, Precedes, key_of, key_at}
 use Rattle.stop_order.specs.declared.times.OrderFaults.{OrderFaults}
-use Rattle.stop_order.specs.Numbered.{numbered_at, named_time, named_times, no_faults, IsOneTrip, AreAllOrNone, AreFaults, faults_at, first_of_times, last_of_times}
-use Rattle.trip_order.specs.Order.{AreSorted, Precedes, key_at}
-use Rattle.stop_order.specs.Order.{AreOrdered, continues_trip, repeats, goes_further, is_timed_place, latest_timed, falls_behind, place_faults}
-use Rattle.stop_order.proofs.PlaceLaws.{Before, trip, sequence, timed, comes_hit, comes_told_first, comes_told_last, same_hit, same_told, timed_alike}
+use Rattle.stop_order.specs.Numbered.{numbered_at, named_time, named_times, IsOneTrip, AreFaults, faults_at, is_set, first_of_times, last_of_times}
+use Rattle.stop_order.specs.Order.{trip_at, AreOrdered, continues_trip, time_before, place_faults, AreTold}
+use Rattle.stop_order.proofs.PlaceLaws.{Before, sequence, timed, comes_hit, comes_told_first, comes_told_last, same_hit, same_told, timed_alike}
 
--- the last timed place is one of the places
-pub latest_within : (times : List StopTimeRow) (key : ℕ → PlaceKey) (place many : ℕ) (latest : Option ℕ) → latest ≡ latest_timed times key place → place < many → IfSome latest (λ q. q < many)
-unfolding latest_timed
-latest_within times key place many None e lt = tt
-latest_within times key place many (Some q) e lt = let last = last_below_tells (is_timed_place times key) place q (sym e) in let below = last.within in omega arith
+-- the row at a place of sorted keys
+abbrev pub key_row : List PlaceKey → ℕ → ℕ
+key_row keys place = (key_at keys place).row
+
+-- the stop time at a place
+abbrev time_at : List StopTimeRow → (ℕ → ℕ) → ℕ → StopTimeRow
+time_at times row place = numbered_at times (row place)
 
 -- sorted keys are such an order
-pub sorted_order : (times : List StopTimeRow) (keys : List PlaceKey) → AreSorted times keys → AreOrdered times (key_at keys)
+pub sorted_order : (times : List StopTimeRow) (keys : List PlaceKey) → AreSorted times keys → AreOrdered times (key_row keys)
 sorted_order times keys are =
     record {
-      own = λ place lt. are.own place (rw are.many lt);
+      own = λ place lt. (are.own place (rw are.many lt)).1;
       placed = λ row lt. let at = are.placed row lt in (at.0, rw (← are.many) at.1, at.2);
       together = λ i k j low high lt same.
-          let low' = not_after keys are i k low (omega (arith, are.many)) in
-          let high' = not_after keys are k j high (omega (arith, are.many)) in
+          let low' = not_after i k low (omega (arith, are.many)) in
+          let high' = not_after k j high (omega (arith, are.many)) in
           omega arith;
-      in_order = λ i j less lt same. are.in_order i j less (rw are.many lt);
+      in_order = λ i j less lt same. precedes i j less (rw are.many lt);
     }
   where
+    precedes : (i j : ℕ) → i < j → j < length keys → Precedes (key_of times (key_row keys i)) (key_of times (key_row keys j))
+    precedes i j less lt =
+        subst (λ (a : PlaceKey). Precedes a (key_of times (key_row keys j))) (are.own i (omega arith)).0
+        (subst (λ (b : PlaceKey). Precedes (key_at keys i) b) (are.own j lt).0 (are.in_order i j less lt))
+
     -- trips don't fall
     rises : (a b : PlaceKey) → Precedes a b → a.trip ≤ b.trip
     rises a b is = grind (arith, is)
 
-    not_after : (keys : List PlaceKey) → AreSorted times keys → (i j : ℕ) → i ≤ j → j < length keys → (key_at keys i).trip ≤ (key_at keys j).trip
-    not_after keys are i j le lj = ⊎_elim
+    not_after : (i j : ℕ) → i ≤ j → j < length keys → trip_at times (key_row keys i) ≤ trip_at times (key_row keys j)
+    not_after i j le lj = ⊎_elim
         (λ (same : i ≡ j). rw same (omega arith))
-        (λ (other : i ≡ j → ⊥). rises (key_at keys i) (key_at keys j) (are.in_order i j (omega arith) lj))
+        (λ (other : i ≡ j → ⊥). rises (key_of times (key_row keys i)) (key_of times (key_row keys j)) (precedes i j (omega arith) lj))
         (cases_eq i j)
+
+-- a place goes on with the trip of the one before it
+pub on_hit : (times : List StopTimeRow) (row : ℕ → ℕ) (k place : ℕ) → place ≡ k + 1 → place < length times → trip_at times (row k) ≡ trip_at times (row place) → continues_trip times row place ≡ true
+unfolding continues_trip
+on_hit times row k place next within same =
+    let back : place - 1 ≡ k = omega arith in
+    let same' : trip_at times (row (place - 1)) ≡ trip_at times (row place) = rw back same in
+    and_from (nat_lt 0 place && nat_lt place (length times)) (trip_at times (row (place - 1)) == trip_at times (row place))
+    (and_from (nat_lt 0 place) (nat_lt place (length times)) (lt-ltb 0 place (omega arith)) (lt-ltb place (length times) within))
+    (eq-eqb (trip_at times (row (place - 1))) (trip_at times (row place)) same')
+
+pub on_told : (times : List StopTimeRow) (row : ℕ → ℕ) (place : ℕ) → continues_trip times row place ≡ true → (0 < place) × (place < length times) × (trip_at times (row (place - 1)) ≡ trip_at times (row place))
+unfolding continues_trip
+on_told times row place on =
+    let two = and_parts (nat_lt 0 place && nat_lt place (length times)) (trip_at times (row (place - 1)) == trip_at times (row place)) on in
+    let ends = and_parts (nat_lt 0 place) (nat_lt place (length times)) two.0 in
+    (ltb-true 0 place ends.0, ltb-true place (length times) ends.1, eqb-true (trip_at times (row (place - 1))) (trip_at times (row place)) two.1)
+
+-- a row has a last time where it has a first
+either_set : (a b : Option ℕ) → is_some (option_or a b) ≡ is_some (option_or b a)
+either_set None None = refl
+either_set None (Some y) = refl
+either_set (Some x) None = refl
+either_set (Some x) (Some y) = refl
+
+timed_last : (time : StopTimeRow) → is_set time ≡ is_some (last_of_times time)
+timed_last time = either_set time.arrival time.departure
+
+none_of : (a : Option ℕ) → is_some a ≡ false → a ≡ None
+none_of None e = refl
+none_of (Some x) e = absurd (cc)
+
+some_of : (a : Option ℕ) → is_some a ≡ true → (x : ℕ) × (a ≡ Some x)
+some_of None e = absurd (cc)
+some_of (Some x) e = (x, refl)
+
+-- the nearest timed place before one in its trip, and its last time
+record IsNearest (times : List StopTimeRow) (row : ℕ → ℕ) (p t : ℕ) : Type 0 where
+  place : ℕ
+  ahead : place < p
+  here : trip_at times (row place) ≡ trip_at times (row p)
+  last : last_of_times (time_at times row place) ≡ Some t
+  later : (k : ℕ) → place < k → k < p → is_set (time_at times row k) ≡ false
+
+-- the time before a place is that of the nearest timed place before it in its trip
+before_told : (times : List StopTimeRow) (row : ℕ → ℕ) (p t : ℕ) → time_before times row p ≡ Some t → IsNearest times row p t
+unfolding time_before
+before_told times row zero t e = absurd (cc)
+before_told times row (suc k) t e = ⊎_elim
+    (λ (on : continues_trip times row (suc k) ≡ true).
+    let told = on_told times row (suc k) on in
+    let back : suc k - 1 ≡ k = omega arith in
+    let same : trip_at times (row k) ≡ trip_at times (row (suc k)) = rw back at told.2 in
+    let e' : option_or (last_of_times (time_at times row k)) (time_before times row k) ≡ Some t = rw on at e in
+    step (last_of_times (time_at times row k)) refl e' same (λ before. before_told times row k t before))
+    (λ (off : continues_trip times row (suc k) ≡ false). let no : None ≡ Some t = rw off at e in absurd (cc))
+    (cases_Bool (continues_trip times row (suc k)))
+  where
+    step : (last : Option ℕ) → last_of_times (time_at times row k) ≡ last → option_or last (time_before times row k) ≡ Some t → trip_at times (row k) ≡ trip_at times (row (suc k)) → (time_before times row k ≡ Some t → IsNearest times row k t) → IsNearest times row (suc k) t
+    step None is e same old =
+        let near = old e in
+        let ahead = near.ahead in
+        record {
+          place = near.place;
+          ahead = omega arith;
+          here = near.here ∙ same;
+          last = near.last;
+          later = λ j from to. ⊎_elim
+              (λ (own : j ≡ k). rw own (timed_last (time_at times row k) ∙ ap is_some is))
+              (λ (apart : j ≡ k → ⊥). near.later j from (omega arith))
+              (cases_eq j k);
+        }
+    step (Some u) is e same old =
+        record {
+          place = k;
+          ahead = omega arith;
+          here = same;
+          last = is ∙ e;
+          later = λ j from to. absurd (omega arith);
+        }
+
+before_hit : (times : List StopTimeRow) (row : ℕ → ℕ) → AreOrdered times row → (p t q : ℕ) → p < length times → q < p → trip_at times (row q) ≡ trip_at times (row p) → last_of_times (time_at times row q) ≡ Some t → ((k : ℕ) → q < k → k < p → is_set (time_at times row k) ≡ false) → time_before times row p ≡ Some t
+unfolding time_before
+before_hit times row are zero t q within ahead here last later = absurd (omega arith)
+before_hit times row are (suc k) t q within ahead here last later =
+    let same = are.together q k (suc k) (omega arith) (omega arith) within here in
+    let on = on_hit times row k (suc k) (omega arith) within same in
+    rw on (⊎_elim
+    (λ (own : q ≡ k). let last' : last_of_times (time_at times row k) ≡ Some t = rw own at last in rw last' refl)
+    (λ (apart : q ≡ k → ⊥).
+    let none = none_of (last_of_times (time_at times row k)) (sym (timed_last (time_at times row k)) ∙ later k (omega arith) (omega arith)) in
+    let old = before_hit times row are k t q (omega arith) (omega arith) (here ∙ sym same) last (λ j from to. later j from (omega arith)) in
+    rw none old)
+    (cases_eq q k))
+
+-- nothing is earlier than no time
+never : (first : Option ℕ) → is_earlier first None ≡ false
+never None = refl
+never (Some x) = refl
 
 -- what precedes comes before, within a trip
 before_from : (a b : PlaceKey) → Precedes a b → a.trip ≡ b.trip → Before a.sequence b.sequence a.row b.row
@@ -65,64 +172,47 @@ level_between a b c x y ac bc s =
 row_less : (a b : PlaceKey) → Precedes a b → a.trip ≡ b.trip → a.sequence ≡ b.sequence → a.row < b.row
 row_less a b is t s = grind (arith, is, t, s)
 
-module _ (times : List StopTimeRow) (key : ℕ → PlaceKey) (are : AreOrdered times key) (text : ℕ → List ℕ) (p : ℕ) (below : p < length times) (one : IsOneTrip times text (key p).row) where
-  -- the row at a place
-  abbrev row : ℕ → ℕ
-  row k = (key k).row
+module _ (times : List StopTimeRow) (row : ℕ → ℕ) (are : AreOrdered times row) (text : ℕ → List ℕ) (p : ℕ) (below : p < length times) (one : IsOneTrip times text (row p)) where
+  -- the key of the row at a place
+  abbrev key : ℕ → PlaceKey
+  key k = key_of times (row k)
 
   abbrev rows : List StopTime
   rows = named_times times text
 
   within : (k : ℕ) → k < length times → row k < length times
-  within k lt = (are.own k lt).1
-
-  -- a place's key is that of its row
-  trip_is : (k : ℕ) → k < length times → (key k).trip ≡ trip times text (row k)
-  trip_is k lt = ap (λ (key : PlaceKey). key.trip) (are.own k lt).0
-
-  sequence_is : (k : ℕ) → k < length times → (key k).sequence ≡ sequence times text (row k)
-  sequence_is k lt = ap (λ (key : PlaceKey). key.sequence) (are.own k lt).0
+  within k lt = are.own k lt
 
   -- the trip of a place is that of this place
   abbrev IsHere : ℕ → Type 0
-  IsHere k = (key k).trip ≡ (key p).trip
-
-  of_trip : (k : ℕ) → k < length times → IsHere k → trip times text (row k) ≡ trip times text (row p)
-  of_trip k lt here = sym (trip_is k lt) ∙ here ∙ trip_is p below
-
-  to_trip : (k : ℕ) → k < length times → trip times text (row k) ≡ trip times text (row p) → IsHere k
-  to_trip k lt e = trip_is k lt ∙ e ∙ sym (trip_is p below)
+  IsHere k = trip_at times (row k) ≡ trip_at times (row p)
 
   -- an earlier place of the trip comes before a later one
   comes : (i j : ℕ) → i < j → j < length times → IsHere i → IsHere j → comes_before rows (row i) (row j) ≡ true
   comes i j lt lj hi hj =
       let li : i < length times = omega arith in
       let is = before_from (key i) (key j) (are.in_order i j lt lj (hi ∙ sym hj)) (hi ∙ sym hj) in
-      let is' : Before (sequence times text (row i)) (sequence times text (row j)) (row i) (row j) = rw (← sequence_is i li, ← sequence_is j lj) is in
-      comes_hit times text (row p) (within p below) one (row i) (row j) (within i li) (within j lj) (of_trip i li hi) (of_trip j lj hj) is'
+      comes_hit times text (row p) (within p below) one (row i) (row j) (within i li) (within j lj) hi hj is
 
   earlier : (i j : ℕ) → i < length times → j < length times → IsHere i → IsHere j → Before (sequence times text (row i)) (sequence times text (row j)) (row i) (row j) → i < j
   earlier i j li lj hi hj is =
-      let is' : Before (key i).sequence (key j).sequence (row i) (row j) = rw (sequence_is i li, sequence_is j lj) is in
-      ⊎_elim (λ (same : i ≡ j). absurd (let itself : Before (key j).sequence (key j).sequence (row j) (row j) = rw same at is' in not_itself (key j).sequence (row j) itself))
+      ⊎_elim (λ (same : i ≡ j). absurd (let itself : Before (key j).sequence (key j).sequence (row j) (row j) = rw same at is in not_itself (key j).sequence (row j) itself))
       (λ (other : i ≡ j → ⊥). ⊎_elim (λ (lt : i < j). lt)
-      (λ (ge : j ≤ i). absurd (not_back (key i) (key j) (are.in_order j i (omega arith) li (hj ∙ sym hi)) (hi ∙ sym hj) is'))
+      (λ (ge : j ≤ i). absurd (not_back (key i) (key j) (are.in_order j i (omega arith) li (hj ∙ sym hi)) (hi ∙ sym hj) is))
       (cases_lt i j))
       (cases_eq i j)
 
   -- a row that comes before one of the trip is of the trip, at an earlier place
   comes_first : (i j : ℕ) → i < length times → j < length times → IsHere j → comes_before rows (row i) (row j) ≡ true → IsHere i × (i < j)
   comes_first i j li lj hj e =
-      let two = comes_told_last times text (row p) (within p below) one (row i) (row j) (within i li) (within j lj) (of_trip j lj hj) e in
-      let hi = to_trip i li two.0 in
-      (hi, earlier i j li lj hi hj two.1)
+      let two = comes_told_last times text (row p) (within p below) one (row i) (row j) (within i li) (within j lj) hj e in
+      (two.0, earlier i j li lj two.0 hj two.1)
 
   -- and one that comes after it is so at a later place
   comes_last : (i j : ℕ) → i < length times → j < length times → IsHere i → comes_before rows (row i) (row j) ≡ true → IsHere j × (i < j)
   comes_last i j li lj hi e =
-      let two = comes_told_first times text (row p) (within p below) one (row i) (row j) (within i li) (within j lj) (of_trip i li hi) e in
-      let hj = to_trip j lj two.0 in
-      (hj, earlier i j li lj hi hj two.1)
+      let two = comes_told_first times text (row p) (within p below) one (row i) (row j) (within i li) (within j lj) hi e in
+      (two.0, earlier i j li lj hi two.0 two.1)
 
   -- what lies between a place of the trip and this place is of the trip
   here_between : (i k : ℕ) → i ≤ k → k ≤ p → IsHere i → IsHere k
@@ -139,25 +229,25 @@ module _ (times : List StopTimeRow) (key : ℕ → PlaceKey) (are : AreOrdered t
   inside k lt = rw size (within k lt)
 
   -- the first of a trip
-  pub first_is : is_first rows (row p) ≡ not (continues_trip key p)
-  unfolding is_first continues_trip
-  first_is = ap not (same_test (any_below (length rows) (λ other. comes_before rows other (row p))) (nat_lt 0 p && ((key (p - 1)).trip == (key p).trip))
+  pub first_is : is_first rows (row p) ≡ not (continues_trip times row p)
+  unfolding is_first
+  first_is = ap not (same_test (any_below (length rows) (λ other. comes_before rows other (row p))) (continues_trip times row p)
       (λ some.
       let found = any_below_tells (λ other. comes_before rows other (row p)) (length rows) some in
       let at = place found.0 found.1 in
       let comes' : comes_before rows (row at.0) (row p) ≡ true = rw at.2 found.2 in
       let two = comes_first at.0 p at.1 below refl comes' in
       let lt = two.1 in
-      and_from (nat_lt 0 p) ((key (p - 1)).trip == (key p).trip) (lt-ltb 0 p (omega arith)) (eq-eqb (key (p - 1)).trip (key p).trip (here_between at.0 (p - 1) (omega arith) (omega arith) two.0)))
+      on_hit times row (p - 1) p (omega arith) below (here_between at.0 (p - 1) (omega arith) (omega arith) two.0))
       (λ on.
-      let two = and_parts (nat_lt 0 p) ((key (p - 1)).trip == (key p).trip) on in
-      let lt = ltb-true 0 p two.0 in
-      any_below_hit (λ other. comes_before rows other (row p)) (length rows) (row (p - 1)) (inside (p - 1) (omega arith)) (comes (p - 1) p (omega arith) below (eqb-true (key (p - 1)).trip (key p).trip two.1) refl)))
+      let told = on_told times row p on in
+      let lt = told.0 in
+      any_below_hit (λ other. comes_before rows other (row p)) (length rows) (row (p - 1)) (inside (p - 1) (omega arith)) (comes (p - 1) p (omega arith) below told.2 refl)))
 
   -- the last of a trip
-  pub last_is : is_last rows (row p) ≡ not (goes_further times key p)
-  unfolding is_last goes_further
-  last_is = ap not (same_test (any_below (length rows) (λ other. comes_before rows (row p) other)) (nat_lt (p + 1) (length times) && ((key (p + 1)).trip == (key p).trip))
+  pub last_is : is_last rows (row p) ≡ not (continues_trip times row (p + 1))
+  unfolding is_last
+  last_is = ap not (same_test (any_below (length rows) (λ other. comes_before rows (row p) other)) (continues_trip times row (p + 1))
       (λ some.
       let found = any_below_tells (λ other. comes_before rows (row p) other) (length rows) some in
       let at = place found.0 found.1 in
@@ -167,16 +257,17 @@ module _ (times : List StopTimeRow) (key : ℕ → PlaceKey) (are : AreOrdered t
       let inner = at.1 in
       let here = two.0 in
       let next = are.together p (p + 1) at.0 (omega arith) (omega arith) inner (sym here) ∙ here in
-      and_from (nat_lt (p + 1) (length times)) ((key (p + 1)).trip == (key p).trip) (lt-ltb (p + 1) (length times) (omega arith)) (eq-eqb (key (p + 1)).trip (key p).trip next))
+      on_hit times row p (p + 1) refl (omega arith) (sym next))
       (λ on.
-      let two = and_parts (nat_lt (p + 1) (length times)) ((key (p + 1)).trip == (key p).trip) on in
-      let lt = ltb-true (p + 1) (length times) two.0 in
-      any_below_hit (λ other. comes_before rows (row p) other) (length rows) (row (p + 1)) (inside (p + 1) lt) (comes p (p + 1) (omega arith) lt refl (eqb-true (key (p + 1)).trip (key p).trip two.1))))
+      let told = on_told times row (p + 1) on in
+      let lt = told.1 in
+      let back : p + 1 - 1 ≡ p = omega arith in
+      let here : trip_at times (row p) ≡ trip_at times (row (p + 1)) = rw back at told.2 in
+      any_below_hit (λ other. comes_before rows (row p) other) (length rows) (row (p + 1)) (inside (p + 1) lt) (comes p (p + 1) (omega arith) lt refl (sym here))))
 
   -- a repeated place of a trip
-  pub repeated_is : is_repeated (same_place rows) (row p) ≡ repeats key p
-  unfolding repeats continues_trip
-  repeated_is = same_test (any_below (row p) (same_place rows (row p))) (nat_lt 0 p && ((key (p - 1)).trip == (key p).trip) && ((key (p - 1)).sequence == (key p).sequence))
+  pub repeated_is : is_repeated (same_place rows) (row p) ≡ continues_trip times row p && ((time_at times row (p - 1)).sequence == (time_at times row p).sequence)
+  repeated_is = same_test (any_below (row p) (same_place rows (row p))) (continues_trip times row p && ((time_at times row (p - 1)).sequence == (time_at times row p).sequence))
       (λ some.
       let found = any_below_tells (same_place rows (row p)) (row p) some in
       let in_file = within p below in
@@ -185,9 +276,9 @@ module _ (times : List StopTimeRow) (key : ℕ → PlaceKey) (are : AreOrdered t
       let same' : same_place rows (row p) (row at.0) ≡ true = rw at.2 found.2 in
       let ahead : row at.0 < row p = rw at.2 small in
       let two = same_told times text (row p) in_file one (row p) (row at.0) in_file (within at.0 at.1) refl same' in
-      let here = to_trip at.0 at.1 two.0 in
-      let level : (key at.0).sequence ≡ (key p).sequence = sequence_is at.0 at.1 ∙ sym two.1 ∙ sym (sequence_is p below) in
-      let lt = earlier at.0 p at.1 below here refl (inr (sym two.1, ahead)) in
+      let here = two.0 in
+      let level : (key at.0).sequence ≡ (key p).sequence = sym two.1 in
+      let lt = earlier at.0 p at.1 below here refl (inr (level, ahead)) in
       let last : IsHere (p - 1) × ((key (p - 1)).sequence ≡ (key p).sequence) = ⊎_elim
       (λ (is : at.0 ≡ p - 1). rw (← is) (here, level))
       (λ (apart : at.0 ≡ p - 1 → ⊥).
@@ -195,22 +286,21 @@ module _ (times : List StopTimeRow) (key : ℕ → PlaceKey) (are : AreOrdered t
       let ahead' = are.in_order at.0 (p - 1) (omega arith) (omega arith) (here ∙ sym next) in
       (next, level_between (key at.0) (key (p - 1)) (key p) ahead' (are.in_order (p - 1) p (omega arith) below next) here next level))
       (cases_eq at.0 (p - 1)) in
-      and_from (nat_lt 0 p && ((key (p - 1)).trip == (key p).trip)) ((key (p - 1)).sequence == (key p).sequence)
-      (and_from (nat_lt 0 p) ((key (p - 1)).trip == (key p).trip) (lt-ltb 0 p (omega arith)) (eq-eqb (key (p - 1)).trip (key p).trip last.0))
-      (eq-eqb (key (p - 1)).sequence (key p).sequence last.1))
-      (λ on.
-      let outer = and_parts (nat_lt 0 p && ((key (p - 1)).trip == (key p).trip)) ((key (p - 1)).sequence == (key p).sequence) on in
-      let two = and_parts (nat_lt 0 p) ((key (p - 1)).trip == (key p).trip) outer.0 in
-      let lt = ltb-true 0 p two.0 in
+      and_from (continues_trip times row p) ((time_at times row (p - 1)).sequence == (time_at times row p).sequence)
+      (on_hit times row (p - 1) p (omega arith) below last.0)
+      (eq-eqb (time_at times row (p - 1)).sequence (time_at times row p).sequence last.1))
+      (λ again.
+      let two = and_parts (continues_trip times row p) ((time_at times row (p - 1)).sequence == (time_at times row p).sequence) again in
+      let told = on_told times row p two.0 in
+      let lt = told.0 in
       let small : p - 1 < length times = omega arith in
-      let here = eqb-true (key (p - 1)).trip (key p).trip two.1 in
-      let level = eqb-true (key (p - 1)).sequence (key p).sequence outer.1 in
-      let ahead = row_less (key (p - 1)) (key p) (are.in_order (p - 1) p (omega arith) below here) here level in
-      let same = same_hit times text (row p) (within p below) one (row p) (row (p - 1)) (within p below) (within (p - 1) small) refl (of_trip (p - 1) small here) (sym (sequence_is p below) ∙ sym level ∙ sequence_is (p - 1) small) in
+      let level = eqb-true (time_at times row (p - 1)).sequence (time_at times row p).sequence two.1 in
+      let ahead = row_less (key (p - 1)) (key p) (are.in_order (p - 1) p (omega arith) below told.2) told.2 level in
+      let same = same_hit times text (row p) (within p below) one (row p) (row (p - 1)) (within p below) (within (p - 1) small) refl told.2 (sym level) in
       any_below_hit (same_place rows (row p)) (row p) (row (p - 1)) ahead same)
 
   -- a place is timed where its row is
-  timed_is : (k : ℕ) → k < length times → at_and rows (row k) has_time ≡ is_timed_place times key k
+  timed_is : (k : ℕ) → k < length times → at_and rows (row k) has_time ≡ is_set (time_at times row k)
   timed_is k lt = timed times text (row k) (within k lt)
 
   -- timed between a row and this one, and nearest to this one
@@ -220,9 +310,9 @@ module _ (times : List StopTimeRow) (key : ℕ → PlaceKey) (are : AreOrdered t
   abbrev nearest_test : ℕ → Bool
   nearest_test e = comes_before rows e (row p) && at_and rows e has_time && not (any_below (length rows) (between_test e))
 
-  -- no row is timed between the last timed place and this one
-  none_between : (q : ℕ) → q < p → IsLast (is_timed_place times key) p q → IsHere q → any_below (length rows) (between_test (row q)) ≡ false
-  none_between q lt last here = ⊎_elim
+  -- no row is timed between the nearest timed place and this one
+  none_between : (q : ℕ) → q < p → IsHere q → ((k : ℕ) → q < k → k < p → is_set (time_at times row k) ≡ false) → any_below (length rows) (between_test (row q)) ≡ false
+  none_between q lt here later = ⊎_elim
       (λ some.
       let found = any_below_tells (between_test (row q)) (length rows) some in
       let at = place found.0 found.1 in
@@ -231,46 +321,25 @@ module _ (times : List StopTimeRow) (key : ℕ → PlaceKey) (are : AreOrdered t
       let inner = and_parts (comes_before rows (row q) (row at.0)) (comes_before rows (row at.0) (row p)) outer.0 in
       let after = comes_last q at.0 (omega arith) at.1 here inner.0 in
       let ahead = comes_first at.0 p at.1 below refl inner.1 in
-      let no : true ≡ false = sym (sym (timed_is at.0 at.1) ∙ outer.1) ∙ last.later at.0 after.1 ahead.1 in
+      let no : true ≡ false = sym (sym (timed_is at.0 at.1) ∙ outer.1) ∙ later at.0 after.1 ahead.1 in
       absurd (cc))
       (λ none. none)
       (cases_Bool (any_below (length rows) (between_test (row q))))
 
-  -- the last timed place before this one is nearest, if it is of the trip
-  nearest_hit : (q : ℕ) → IsLast (is_timed_place times key) p q → IsHere q → nearest_test (row q) ≡ true
-  nearest_hit q last here =
-      let lt = last.within in
-      let before = comes q p lt below here refl in
-      let timed' = timed_is q (omega arith) ∙ last.passes in
-      rw (before, timed', none_between q lt last here) refl
-
-  -- and what is nearest is its row
-  nearest_told : (e : ℕ) → e < length rows → nearest_test e ≡ true → (q : ℕ) × (latest_timed times key p ≡ Some q) × IsHere q × (row q ≡ e)
-  unfolding latest_timed
-  nearest_told e small is =
-      let at = place e small in
-      let is' : nearest_test (row at.0) ≡ true = rw at.2 is in
-      let outer = and_parts (comes_before rows (row at.0) (row p) && at_and rows (row at.0) has_time) (not (any_below (length rows) (between_test (row at.0)))) is' in
-      let inner = and_parts (comes_before rows (row at.0) (row p)) (at_and rows (row at.0) has_time) outer.0 in
-      let two = comes_first at.0 p at.1 below refl inner.0 in
-      let timed' = sym (timed_is at.0 at.1) ∙ inner.1 in
-      let found = last_below_some (is_timed_place times key) p at.0 two.1 timed' in
-      let last = found.2 in
-      let lt = last.within in
-      ⊎_elim
-      (λ (same : at.0 ≡ found.0). (found.0, found.1, rw (← same) two.0, rw (← same) at.2))
-      (λ (apart : at.0 ≡ found.0 → ⊥). ⊎_elim
-      (λ (lt-ltb : at.0 < found.0).
-      let here = here_between at.0 found.0 (omega arith) (omega arith) two.0 in
-      let first = comes at.0 found.0 lt-ltb (omega arith) two.0 here in
-      let second = comes found.0 p lt below here refl in
-      let between' : between_test (row at.0) (row found.0) ≡ true = rw (first, second, timed_is found.0 (omega arith) ∙ last.passes) refl in
-      let some = any_below_hit (between_test (row at.0)) (length rows) (row found.0) (inside found.0 (omega arith)) between' in
-      let no : false ≡ true = rw some at outer.1 in
+  -- and no place
+  untimed_between : (q k : ℕ) → any_below (length rows) (between_test (row q)) ≡ false → IsHere q → q < k → k < p → is_set (time_at times row k) ≡ false
+  untimed_between q k none here from to = ⊎_elim
+      (λ (timed' : is_set (time_at times row k) ≡ true).
+      let inner : k < length times = omega arith in
+      let own = here_between q k (omega arith) (omega arith) here in
+      let first = comes q k from inner here own in
+      let second = comes k p to below own refl in
+      let between' : between_test (row q) (row k) ≡ true = rw (first, second, timed_is k inner ∙ timed') refl in
+      let some = any_below_hit (between_test (row q)) (length rows) (row k) (inside k inner) between' in
+      let no : true ≡ false = sym some ∙ none in
       absurd (cc))
-      (λ (ge : found.0 ≤ at.0). let no : true ≡ false = sym timed' ∙ last.later at.0 (omega arith) two.1 in absurd (cc))
-      (cases_lt at.0 found.0))
-      (cases_eq at.0 found.0)
+      (λ none. none)
+      (cases_Bool (is_set (time_at times row k)))
 
   -- a row's first and last time
   abbrev first_at : ℕ → Option ℕ
@@ -286,36 +355,43 @@ module _ (times : List StopTimeRow) (key : ℕ → PlaceKey) (are : AreOrdered t
   at_row : (r : ℕ) → r < length times → at_and rows r (λ y. is_earlier (first_at (row p)) (last_filled y)) ≡ is_earlier (first_at (row p)) (last_at r)
   at_row r lt = at_and-list_below (length times) (named_time times text) r (λ y. is_earlier (first_at (row p)) (last_filled y)) lt
 
-  falls_from : (latest : Option ℕ) (q r : ℕ) → latest ≡ Some q → IsHere q → row q ≡ r → is_earlier (first_at (row p)) (last_at r) ≡ true → falls_behind times key p latest ≡ true
-  unfolding falls_behind
-  falls_from latest q r e here is late =
-      let late' = subst (λ s. is_earlier (first_at (row p)) (last_at s) ≡ true) (sym is) late in
-      rw e (and_from ((key q).trip == (key p).trip) (is_earlier (first_at (row p)) (last_at (row q))) (eq-eqb (key q).trip (key p).trip here) late')
-
-  behind_is : any_below (length rows) behind_test ≡ falls_behind times key p (latest_timed times key p)
-  unfolding is_nearest_before falls_behind latest_timed
-  behind_is = same_test (any_below (length rows) behind_test) (falls_behind times key p (latest_timed times key p))
+  behind_is : any_below (length rows) behind_test ≡ is_earlier (first_at (row p)) (time_before times row p)
+  unfolding is_nearest_before
+  behind_is = same_test (any_below (length rows) behind_test) (is_earlier (first_at (row p)) (time_before times row p))
       (λ some.
       let found = any_below_tells behind_test (length rows) some in
-      let two = and_parts (nearest_test found.0) (at_and rows found.0 (λ y. is_earlier (first_at (row p)) (last_filled y))) found.2 in
-      let near = nearest_told found.0 found.1 two.0 in
-      let small = found.1 in
-      let late = sym (at_row found.0 (omega (arith, size))) ∙ two.1 in
-      falls_from (latest_timed times key p) near.0 found.0 near.1 near.2 near.3 late)
-      (λ behind. back (latest_timed times key p) refl behind)
+      let at = place found.0 found.1 in
+      let is : behind_test (row at.0) ≡ true = rw at.2 found.2 in
+      let two = and_parts (nearest_test (row at.0)) (at_and rows (row at.0) (λ y. is_earlier (first_at (row p)) (last_filled y))) is in
+      let outer = and_parts (comes_before rows (row at.0) (row p) && at_and rows (row at.0) has_time) (not (any_below (length rows) (between_test (row at.0)))) two.0 in
+      let inner = and_parts (comes_before rows (row at.0) (row p)) (at_and rows (row at.0) has_time) outer.0 in
+      let ahead = comes_first at.0 p at.1 below refl inner.0 in
+      let last = some_of (last_at (row at.0)) (sym (timed_last (time_at times row at.0)) ∙ sym (timed_is at.0 at.1) ∙ inner.1) in
+      let none = not_true (any_below (length rows) (between_test (row at.0))) outer.1 in
+      let before = before_hit times row are p last.0 at.0 below ahead.1 ahead.0 last.1 (λ k from to. untimed_between at.0 k none ahead.0 from to) in
+      let late : is_earlier (first_at (row p)) (Some last.0) ≡ true = subst (λ (time : Option ℕ). is_earlier (first_at (row p)) time ≡ true) last.1 (sym (at_row (row at.0) (within at.0 at.1)) ∙ two.1) in
+      subst (λ (time : Option ℕ). is_earlier (first_at (row p)) time ≡ true) (sym before) late)
+      (λ late. back (time_before times row p) refl late)
     where
-      back : (latest : Option ℕ) → latest_timed times key p ≡ latest → falls_behind times key p latest ≡ true → any_below (length rows) behind_test ≡ true
-      back None e wrong = absurd (cc)
-      back (Some q) e behind =
-          let last = last_below_tells (is_timed_place times key) p q e in
-          let lt = last.within in
-          let two = and_parts ((key q).trip == (key p).trip) (is_earlier (first_at (row p)) (last_at (row q))) behind in
-          let near = nearest_hit q last (eqb-true (key q).trip (key p).trip two.0) in
+      not_true : (b : Bool) → not b ≡ true → b ≡ false
+      not_true true e = absurd (cc)
+      not_true false e = refl
+
+      back : (before : Option ℕ) → time_before times row p ≡ before → is_earlier (first_at (row p)) before ≡ true → any_below (length rows) behind_test ≡ true
+      back None e late = let no : false ≡ true = sym (never (first_at (row p))) ∙ late in absurd (cc)
+      back (Some t) e late =
+          let near = before_told times row p t e in
+          let q = near.place in
+          let ahead = near.ahead in
           let small : q < length times = omega arith in
-          any_below_hit behind_test (length rows) (row q) (inside q small) (and_from (nearest_test (row q)) (at_and rows (row q) (λ y. is_earlier (first_at (row p)) (last_filled y))) near (at_row (row q) (within q small) ∙ two.1))
+          let comes' = comes q p ahead below near.here refl in
+          let timed' = timed_is q small ∙ timed_last (time_at times row q) ∙ ap is_some near.last in
+          let nearest : nearest_test (row q) ≡ true = rw (comes', timed', none_between q ahead near.here near.later) refl in
+          let late' : is_earlier (first_at (row p)) (last_at (row q)) ≡ true = subst (λ (time : Option ℕ). is_earlier (first_at (row p)) time ≡ true) (sym near.last) late in
+          any_below_hit behind_test (length rows) (row q) (inside q small) (and_from (nearest_test (row q)) (at_and rows (row q) (λ y. is_earlier (first_at (row p)) (last_filled y))) nearest (at_row (row q) (within q small) ∙ late'))
 
   -- times decrease at a place
-  pub decreases_is : do_times_decrease rows (row p) ≡ is_earlier (last_at (row p)) (first_at (row p)) || falls_behind times key p (latest_timed times key p)
+  pub decreases_is : do_times_decrease rows (row p) ≡ is_earlier (last_at (row p)) (first_at (row p)) || is_earlier (first_at (row p)) (time_before times row p)
   unfolding do_times_decrease
   decreases_is =
       at_and-list_below (length times) (named_time times text) (row p) (λ x. is_earlier (last_filled x) (first_filled x)
@@ -323,7 +399,7 @@ module _ (times : List StopTimeRow) (key : ℕ → PlaceKey) (are : AreOrdered t
       ∙ ap (λ (b : Bool). is_earlier (last_at (row p)) (first_at (row p)) || b) behind_is
 
   -- the end of a trip lacks its time
-  pub missing_is : is_end_time_missing rows (row p) ≡ not (is_timed_place times key p) && (not (continues_trip key p) || not (goes_further times key p))
+  pub missing_is : is_end_time_missing rows (row p) ≡ not (is_set (time_at times row p)) && (not (continues_trip times row p) || not (continues_trip times row (p + 1)))
   unfolding is_end_time_missing
   missing_is =
       ap (λ (b : Bool). b && (is_first rows (row p) || is_last rows (row p))) (at_and-list_below (length times) (named_time times text) (row p) (λ x. not (has_time x)) (within p below))
@@ -331,18 +407,19 @@ module _ (times : List StopTimeRow) (key : ℕ → PlaceKey) (are : AreOrdered t
       ∙ rw (first_is, last_is) refl
 
   -- all that is wrong at a place
-  pub faults_is : place_faults times key p ≡ faults_at rows (row p)
+  pub faults_is : place_faults times row p ≡ faults_at rows (row p)
   unfolding place_faults faults_at
   faults_is = rw (repeated_is, missing_is, decreases_is) refl
 
 -- what each place tells is what is wrong with each row
-pub faults_from : (times : List StopTimeRow) (key : ℕ → PlaceKey) (faults : List OrderFaults) → AreOrdered times key → AreAllOrNone (length times) faults → ((k : ℕ) → k < length times → get_or faults (key k).row no_faults ≡ place_faults times key k) → AreFaults times faults
-faults_from times key faults are count each =
+pub faults_from : (times : List StopTimeRow) (row : ℕ → ℕ) (to : ℕ) (before : Option ℕ) (faults : List OrderFaults) → AreOrdered times row → to ≡ length times → AreTold times row to before faults → AreFaults times faults
+faults_from times row to before faults are all told =
     record {
-      count = count;
-      value = λ text row lt one.
-          let at = are.placed row lt in
-          let one' : IsOneTrip times text (key at.0).row = rw at.2 one in
-          let same = each at.0 at.1 ∙ faults_is times key are text at.0 at.1 one' in
+      count = told.count;
+      value = λ text r lt one.
+          let at = are.placed r lt in
+          let lt' = at.1 in
+          let one' : IsOneTrip times text (row at.0) = rw at.2 one in
+          let same = told.told at.0 (omega arith) ∙ faults_is times row are text at.0 at.1 one' in
           rw at.2 at same;
     }

@@ -1,51 +1,38 @@
 -- Rows of the file whose trips stand together, one row more, and all of them.
-use Rattle.std.proofs.Common.{◌≡◌, refl, sym, ◌∙◌, ap, subst, ℕ, ◌+◌, ◌-◌, ◌<◌, ◌≤◌, inl, inr, ⊎_elim, Bool, true, false, List, [], length, get_or, slice_index_or, slice_set, get_or-set_other, get_or-set_same, arith, nat_lt, replicate}
+use Rattle.std.proofs.Common.{◌≡◌, refl, sym, ◌∙◌, ap, subst, ℕ, ◌+◌, ◌-◌, ◌<◌, ◌≤◌, inl, inr, ⊎_elim, Bool, true, false, List, length, get_or, slice_index_or, slice_set, get_or-set_other, get_or-set_same, arith, nat_lt, replicate}
 use Rattle.std.proofs.lemmas.List.{get_or_default, length-set, length-replicate, get_or-replicate, get_or_past}
 use Rattle.std.specs.Bool.{OnFalse, OnTrue}
-use Rattle.std.proofs.lemmas.Bool.{cases_Bool, cases_eq, cases_lt, and_parts, and_from, eqb-true, eq-eqb, lt-ltb, ltb-true, ltb-false}
+use Rattle.std.proofs.lemmas.Bool.{cases_eq, cases_lt, ltb-true, ltb-false}
 use Rattle.feed_rows.specs.declared.rows.StopTimeRow.{StopTimeRow}
-use Rattle.trip_order.specs.Order.{no_time, numbered_at, key_of}
-use Rattle.stop_order.specs.declared.times.OrderFaults.{OrderFaults}
-use Rattle.stop_order.specs.Numbered.{no_faults}
-use Rattle.stop_order.specs.Order.{AreOrdered, continues_trip, repeats}
-use Rattle.stop_order.specs.Together.{trip_at, StandTogether, AreMarked, AreScattered, AreTold}
+use Rattle.trip_order.specs.Order.{no_time, numbered_at}
+use Rattle.stop_order.specs.Order.{trip_at, AreOrdered, continues_trip}
+use Rattle.stop_order.specs.Together.{StandTogether, AreMarked, AreScattered}
+use Rattle.stop_order.proofs.OrderLaws.{on_hit, on_told}
 
 -- the trip of a row that is read
 pub trip_read : (times : List StopTimeRow) (row : ℕ) (other : StopTimeRow) → row < length times → (slice_index_or times row other).trip.0 ≡ trip_at times row
 trip_read times row other within = ap (λ (time : StopTimeRow). time.trip.0) (get_or_default times row other no_time within)
 
+-- the row at a place of the file
+abbrev pub in_file : ℕ → ℕ
+in_file place = place
+
 -- the order of the file is one by trips
-pub file_order : (times : List StopTimeRow) → StandTogether times (length times) → AreOrdered times (key_of times)
+pub file_order : (times : List StopTimeRow) → StandTogether times (length times) → AreOrdered times in_file
 file_order times stand =
     record {
-      own = λ place lt. (refl, lt);
+      own = λ place lt. lt;
       placed = λ row lt. (row, lt, refl);
       together = λ i k j low high lt same. stand.together i k j low high lt same;
       in_order = λ i j less lt same. inr (same, inl (stand.rising i j less lt same));
     }
 
 -- the row before is of this row's trip
-pub before_is : (times : List StopTimeRow) (row : ℕ) → continues_trip (key_of times) row ≡ true → (0 < row) × (trip_at times (row - 1) ≡ trip_at times row)
-unfolding continues_trip
-before_is times row on =
-    let two = and_parts _ _ on in
-    (ltb-true 0 row two.0, eqb-true (trip_at times (row - 1)) (trip_at times row) two.1)
-
--- no sequence of a trip repeats
-pub not_repeated : (times : List StopTimeRow) (row : ℕ) → StandTogether times (row + 1) → repeats (key_of times) row ≡ false
-unfolding repeats
-not_repeated times row stand = ⊎_elim
-    (λ again.
-    let two = and_parts _ _ again in
-    let on = before_is times row two.0 in
-    let less = stand.rising (row - 1) row (omega (arith, on.0)) (omega arith) on.1 in
-    let level = eqb-true (numbered_at times (row - 1)).sequence (numbered_at times row).sequence two.1 in
-    absurd (omega (arith, less, level)))
-    (λ none. none)
-    (cases_Bool (repeats (key_of times) row))
+pub before_is : (times : List StopTimeRow) (row : ℕ) → continues_trip times in_file row ≡ true → (0 < row) × (trip_at times (row - 1) ≡ trip_at times row)
+before_is times row on = let told = on_told times in_file row on in (told.0, told.2)
 
 -- a row that goes on with its trip
-pub marked_on : (times : List StopTimeRow) (row : ℕ) (begun : List Bool) → AreMarked times row begun → continues_trip (key_of times) row ≡ true → (numbered_at times (row - 1)).sequence < (numbered_at times row).sequence → AreMarked times (row + 1) begun
+pub marked_on : (times : List StopTimeRow) (row : ℕ) (begun : List Bool) → AreMarked times row begun → continues_trip times in_file row ≡ true → (numbered_at times (row - 1)).sequence < (numbered_at times row).sequence → AreMarked times (row + 1) begun
 marked_on times row begun are on more =
     let before = before_is times row on in
     let some = before.0 in
@@ -150,7 +137,7 @@ none_marked times begun is =
         (cases_lt i n)
 
 -- a row of the trip of the row before, whose sequence isn't greater
-pub scattered_on : (times : List StopTimeRow) (row : ℕ) → row < length times → continues_trip (key_of times) row ≡ true → (numbered_at times row).sequence ≤ (numbered_at times (row - 1)).sequence → AreScattered times
+pub scattered_on : (times : List StopTimeRow) (row : ℕ) → row < length times → continues_trip times in_file row ≡ true → (numbered_at times row).sequence ≤ (numbered_at times (row - 1)).sequence → AreScattered times
 scattered_on times row within on most =
     record {
       refutes = λ stand few.
@@ -166,34 +153,22 @@ scattered_past times row begun within are past =
     record { refutes = λ stand few. let below = few row within in let many = are.many in omega (arith, below, many, past) }
 
 -- a trip that comes back
-pub scattered_again : (times : List StopTimeRow) (row : ℕ) (begun : List Bool) → row < length times → AreMarked times row begun → continues_trip (key_of times) row ≡ false → get_or begun (trip_at times row) false ≡ true → AreScattered times
-unfolding continues_trip
+pub scattered_again : (times : List StopTimeRow) (row : ℕ) (begun : List Bool) → row < length times → AreMarked times row begun → continues_trip times in_file row ≡ false → get_or begun (trip_at times row) false ≡ true → AreScattered times
 scattered_again times row begun within are off again =
     record {
       refutes = λ stand few.
           let at = are.met (trip_at times row) again in
           let lt = at.1 in
           let same = stand.together at.0 (row - 1) row (omega (arith, lt)) (omega arith) within at.2 in
-          let later = lt-ltb 0 row (omega (arith, lt)) in
-          let level = eq-eqb (trip_at times (row - 1)) (trip_at times row) same in
-          let on : continues_trip (key_of times) row ≡ true = and_from _ _ later level in
+          let on = on_hit times in_file (row - 1) row (omega (arith, lt)) within same in
           absurd (cc);
     }
 
 -- a row that goes on with its trip, where its sequence is tested
-pub marked_if_more : (times : List StopTimeRow) (row : ℕ) (begun : List Bool) (more : Bool) → AreMarked times row begun → continues_trip (key_of times) row ≡ true → more ≡ nat_lt (numbered_at times (row - 1)).sequence (numbered_at times row).sequence → OnTrue more (AreMarked times (row + 1) begun)
+pub marked_if_more : (times : List StopTimeRow) (row : ℕ) (begun : List Bool) (more : Bool) → AreMarked times row begun → continues_trip times in_file row ≡ true → more ≡ nat_lt (numbered_at times (row - 1)).sequence (numbered_at times row).sequence → OnTrue more (AreMarked times (row + 1) begun)
 marked_if_more times row begun true are on is = marked_on times row begun are on (ltb-true _ _ (sym is))
 marked_if_more times row begun false are on is = tt
 
-pub scattered_if_not : (times : List StopTimeRow) (row : ℕ) (more : Bool) → row < length times → continues_trip (key_of times) row ≡ true → more ≡ nat_lt (numbered_at times (row - 1)).sequence (numbered_at times row).sequence → OnFalse more (AreScattered times)
+pub scattered_if_not : (times : List StopTimeRow) (row : ℕ) (more : Bool) → row < length times → continues_trip times in_file row ≡ true → more ≡ nat_lt (numbered_at times (row - 1)).sequence (numbered_at times row).sequence → OnFalse more (AreScattered times)
 scattered_if_not times row true within on is = tt
 scattered_if_not times row false within on is = scattered_on times row within on (ltb-false _ _ (sym is))
-
--- nothing is told before the first row
-pub none_told : (times : List StopTimeRow) (faults : List OrderFaults) → faults ≡ [] → AreTold times 0 faults
-none_told times faults none =
-    record {
-      count = inr (ap length none);
-      told = λ r lt. absurd (omega (arith, lt));
-      untold = λ r le. ap (λ list. get_or list r no_faults) none;
-    }

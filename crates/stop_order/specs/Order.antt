@@ -1,56 +1,49 @@
--- What neighbours in an order of stop times tell of a row. The order has a key at each place.
-use Rattle.std.specs.Prelude.{◌≡◌, ℕ, ◌+◌, ◌-◌, ◌<◌, ◌≤◌, ◌==◌, ◌&&◌, ◌||◌, not, nat_lt, Bool, List, length, Option}
-use Rattle.plain_laws.specs.Plain.{last_below, filled_and}
+-- What neighbours in an order of stop times tell of a row. The order has a row of the file at each place.
+use Rattle.std.specs.Prelude.{◌≡◌, ℕ, zero, suc, ◌+◌, ◌-◌, ◌<◌, ◌≤◌, ◌==◌, ◌&&◌, ◌||◌, not, nat_lt, if◌then◌else◌, Bool, List, length, get_or, Option, None}
+use Rattle.std.specs.Option.{option_or}
 use Rattle.feed_faults.specs.StopTimeRelations.{is_earlier}
 use Rattle.feed_rows.specs.declared.rows.StopTimeRow.{StopTimeRow}
-use Rattle.trip_order.specs.declared.keys.PlaceKey.{PlaceKey}
-use Rattle.trip_order.specs.Order.{numbered_at, IsKey, Precedes}
+use Rattle.trip_order.specs.Order.{numbered_at, key_of, Precedes}
 use Rattle.stop_order.specs.declared.times.OrderFaults.{OrderFaults}
-use Rattle.stop_order.specs.Numbered.{is_set, first_of_times, last_of_times}
+use Rattle.stop_order.specs.Numbered.{is_set, first_of_times, last_of_times, no_faults, AreAllOrNone}
+
+-- the number of a row's trip
+abbrev pub trip_at : List StopTimeRow → ℕ → ℕ
+trip_at times row = (numbered_at times row).trip.0
 
 -- each row has a place, and the rows of a trip stand together, by sequence and within a sequence by row
-pub record AreOrdered (times : List StopTimeRow) (key : ℕ → PlaceKey) : Type 0 where
-  pub own : (place : ℕ) → place < length times → IsKey times (key place)
-  pub placed : (row : ℕ) → row < length times → (place : ℕ) × (place < length times) × ((key place).row ≡ row)
-  pub together : (i k j : ℕ) → i ≤ k → k ≤ j → j < length times → (key i).trip ≡ (key j).trip → (key k).trip ≡ (key j).trip
-  pub in_order : (i j : ℕ) → i < j → j < length times → (key i).trip ≡ (key j).trip → Precedes (key i) (key j)
+pub record AreOrdered (times : List StopTimeRow) (row : ℕ → ℕ) : Type 0 where
+  pub own : (place : ℕ) → place < length times → row place < length times
+  pub placed : (r : ℕ) → r < length times → (place : ℕ) × (place < length times) × (row place ≡ r)
+  pub together : (i k j : ℕ) → i ≤ k → k ≤ j → j < length times → trip_at times (row i) ≡ trip_at times (row j) → trip_at times (row k) ≡ trip_at times (row j)
+  pub in_order : (i j : ℕ) → i < j → j < length times → trip_at times (row i) ≡ trip_at times (row j) → Precedes (key_of times (row i)) (key_of times (row j))
 
--- the row at a place
-abbrev pub stop_time_at : List StopTimeRow → (ℕ → PlaceKey) → ℕ → StopTimeRow
-stop_time_at times key place = numbered_at times (key place).row
+-- a place goes on with the trip of the one before it
+unfoldable pub continues_trip : List StopTimeRow → (ℕ → ℕ) → ℕ → Bool
+continues_trip times row place =
+    nat_lt 0 place && nat_lt place (length times) && (trip_at times (row (place - 1)) == trip_at times (row place))
 
--- the place before has the trip of this one
-unfoldable pub continues_trip : (ℕ → PlaceKey) → ℕ → Bool
-continues_trip key place = nat_lt 0 place && ((key (place - 1)).trip == (key place).trip)
-
--- and its sequence
-unfoldable pub repeats : (ℕ → PlaceKey) → ℕ → Bool
-repeats key place = continues_trip key place && ((key (place - 1)).sequence == (key place).sequence)
-
--- the place after has the trip of this one
-unfoldable pub goes_further : List StopTimeRow → (ℕ → PlaceKey) → ℕ → Bool
-goes_further times key place = nat_lt (place + 1) (length times) && ((key (place + 1)).trip == (key place).trip)
-
--- a place is timed
-abbrev pub is_timed_place : List StopTimeRow → (ℕ → PlaceKey) → ℕ → Bool
-is_timed_place times key place = is_set (stop_time_at times key place)
-
--- the last timed place before this one
-unfoldable pub latest_timed : List StopTimeRow → (ℕ → PlaceKey) → ℕ → Option ℕ
-latest_timed times key place = last_below place (is_timed_place times key)
-
--- the time of a place is less than that of the last timed place before it, which is of its trip
-unfoldable pub falls_behind : List StopTimeRow → (ℕ → PlaceKey) → ℕ → Option ℕ → Bool
-falls_behind times key place latest =
-    filled_and latest (λ q. ((key q).trip == (key place).trip)
-    && is_earlier (first_of_times (stop_time_at times key place)) (last_of_times (stop_time_at times key q)))
+-- the last time of the nearest timed place before this one in its trip
+unfoldable pub time_before : List StopTimeRow → (ℕ → ℕ) → ℕ → Option ℕ
+time_before times row zero = None
+time_before times row (suc k) =
+    if continues_trip times row (suc k) then option_or (last_of_times (numbered_at times (row k))) (time_before times row k) else None
 
 -- what is wrong at a place, as its neighbours tell it
-unfoldable pub place_faults : List StopTimeRow → (ℕ → PlaceKey) → ℕ → OrderFaults
-place_faults times key place =
+unfoldable pub place_faults : List StopTimeRow → (ℕ → ℕ) → ℕ → OrderFaults
+place_faults times row place =
+    let time = numbered_at times (row place) in
     record {
-      is_repeated = repeats key place;
-      is_end_time_missing = not (is_timed_place times key place) && (not (continues_trip key place) || not (goes_further times key place));
-      do_times_decrease = is_earlier (last_of_times (stop_time_at times key place)) (first_of_times (stop_time_at times key place))
-          || falls_behind times key place (latest_timed times key place);
+      is_repeated = continues_trip times row place && ((numbered_at times (row (place - 1))).sequence == time.sequence);
+      is_end_time_missing = not (is_set time) && (not (continues_trip times row place) || not (continues_trip times row (place + 1)));
+      do_times_decrease = is_earlier (last_of_times time) (first_of_times time)
+          || is_earlier (first_of_times time) (time_before times row place);
     }
+
+-- what is wrong at the places before one stands at their rows, and no fault at other rows; and the latest time is that before
+-- it, where it goes on with its trip
+pub record AreTold (times : List StopTimeRow) (row : ℕ → ℕ) (to : ℕ) (latest : Option ℕ) (faults : List OrderFaults) : Type 0 where
+  pub time : (if continues_trip times row to then latest else None) ≡ time_before times row to
+  pub count : AreAllOrNone (length times) faults
+  pub told : (place : ℕ) → place < to → get_or faults (row place) no_faults ≡ place_faults times row place
+  pub untold : (r : ℕ) → ((place : ℕ) → place < to → row place ≡ r → ⊥) → get_or faults r no_faults ≡ no_faults

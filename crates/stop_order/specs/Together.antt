@@ -1,14 +1,8 @@
 -- Rows of the file whose trips stand together.
 use Rattle.std.specs.Prelude.{◌≡◌, ℕ, ◌<◌, ◌≤◌, Bool, true, false, List, length, get_or}
 use Rattle.feed_rows.specs.declared.rows.StopTimeRow.{StopTimeRow}
-use Rattle.trip_order.specs.Order.{numbered_at, key_of}
-use Rattle.stop_order.specs.declared.times.OrderFaults.{OrderFaults}
-use Rattle.stop_order.specs.Numbered.{no_faults, AreAllOrNone}
-use Rattle.stop_order.specs.Order.{place_faults}
-
--- the number of a row's trip
-abbrev pub trip_at : List StopTimeRow → ℕ → ℕ
-trip_at times row = (numbered_at times row).trip.0
+use Rattle.trip_order.specs.Order.{numbered_at}
+use Rattle.stop_order.specs.Order.{trip_at}
 
 -- of the rows before one, those of a trip stand together, and their sequences rise
 pub record StandTogether (times : List StopTimeRow) (to : ℕ) : Type 0 where
@@ -25,9 +19,3 @@ pub record AreMarked (times : List StopTimeRow) (to : ℕ) (begun : List Bool) :
 -- the rows of some trip don't stand together by rising sequences, or some trip's number is past the rows
 pub record AreScattered (times : List StopTimeRow) : Type 0 where
   pub refutes : StandTogether times (length times) → ((row : ℕ) → row < length times → trip_at times row < length times) → ⊥
-
--- what is wrong with the rows before one is told, and nothing yet of this one and those after it
-pub record AreTold (times : List StopTimeRow) (to : ℕ) (faults : List OrderFaults) : Type 0 where
-  pub count : AreAllOrNone (length times) faults
-  pub told : (row : ℕ) → row < to → get_or faults row no_faults ≡ place_faults times (key_of times) row
-  pub untold : (row : ℕ) → to ≤ row → get_or faults row no_faults ≡ no_faults

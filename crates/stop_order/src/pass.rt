@@ -1,129 +1,67 @@
-//! The pass over stop times in the order of their keys, for files in which some trip's rows don't stand together in order.
-ghost use Rattle.std.specs.Prelude.{◌≡◌, ◌<◌, ◌+◌, ◌^◌, ℕ, List, get_or, length, IfOk, IfSome, Option};
-ghost use Rattle.trip_order.specs.Order.{AreSorted, key_at};
+//! One pass over stop times: in the order of the file, where the rows of each trip stand together in it by rising sequences,
+//! as they mostly do, and else in the order of sorted keys.
+ghost use Rattle.std.specs.Prelude.{◌≡◌, ◌<◌, ◌+◌, ◌^◌, ℕ, List, get_or, length, IfOk, IfNone, IfSome};
+ghost use Rattle.std.specs.Bool.{OnFalse, OnTrue};
 ghost use Rattle.stop_order.specs.Numbered.{named_times, AreAllOrNone, AreFaults, IsOneTrip, faults_at, no_faults};
-ghost use Rattle.stop_order.specs.Order.{stop_time_at, continues_trip, repeats, goes_further, falls_behind, latest_timed, place_faults};
+ghost use Rattle.stop_order.specs.Together.{AreMarked, AreScattered};
 
-use crate::times::{OrderFaults, is_earlier};
-use crate::together::faults_together;
+use crate::order::SortedTimes;
+use crate::times::{OrderFaults, goes_on, judge};
 use feed_rows::StopTimeRow;
 use std::alloc::{AllocError, Global};
-use trip_order::{PlaceKey, first_time, is_timed, last_time, sorted_keys};
+use trip_order::sorted_keys;
 
-// The stop time at a place of the order.
-#[tactic(auto, using(trip_order::specs::Order::row_within))]
-fn time_of(times: &[StopTimeRow], keys: &[PlaceKey], place: usize) -> StopTimeRow
-    requires sorted { AreSorted times.now keys.now }
-    requires within { place < length keys.now }
-    ensures { result ≡ stop_time_at times.now (key_at keys.now) place }
+// Whether a row goes on with its trip by a greater sequence, or begins a trip that isn't marked, and then marks it. There are
+// as many marks as rows: a file that numbers trips past them isn't the usual one.
+fn follows(begun: &mut Vec<bool>, times: &[StopTimeRow], row: usize) -> bool
+    requires within { row < length times.now }
+    requires before { AreMarked times.now row begun.old.items }
+    ensures on { OnTrue result (AreMarked times.now (row + 1) begun.new.items) }
+    ensures apart { OnFalse result (AreScattered times.now) }
 {
-    times[keys[place].row as usize]
-}
-
-// Whether the place before has the trip of this one.
-#[tactic(auto, unfolding(crate::specs::Order::continues_trip))]
-fn goes_on(keys: &[PlaceKey], place: usize) -> bool
-    requires { place < length keys.now }
-    ensures { result ≡ continues_trip (key_at keys.now) place }
-{
-    place > 0 && keys[place - 1].trip == keys[place].trip
-}
-
-// Whether it has its sequence, too.
-#[tactic(auto, unfolding(crate::specs::Order::repeats, crate::specs::Order::continues_trip))]
-fn repeats(keys: &[PlaceKey], place: usize) -> bool
-    requires { place < length keys.now }
-    ensures { result ≡ repeats (key_at keys.now) place }
-{
-    goes_on(keys, place) && keys[place - 1].sequence == keys[place].sequence
-}
-
-// Whether the place after has the trip of this one.
-#[tactic(auto, using(trip_order::specs::Order::length_sorted), unfolding(crate::specs::Order::goes_further))]
-fn goes_further(times: &[StopTimeRow], keys: &[PlaceKey], place: usize) -> bool
-    requires sorted { AreSorted times.now keys.now }
-    requires within { place < length keys.now }
-    ensures { result ≡ goes_further times.now (key_at keys.now) place }
-{
-    place + 1 < times.len() && keys[place + 1].trip == keys[place].trip
-}
-
-// Whether the time of a place is less than that of the last timed place before it, which is of its trip.
-#[tactic(auto, unfolding(crate::specs::Order::falls_behind))]
-fn falls_behind(
-    times: &[StopTimeRow],
-    keys: &[PlaceKey],
-    place: usize,
-    latest: Option<usize>,
-) -> bool
-    requires sorted { AreSorted times.now keys.now }
-    requires within { place < length keys.now }
-    requires latest { IfSome latest (λ q. q < length keys.now) }
-    ensures { result ≡ falls_behind times.now (key_at keys.now) place latest }
-{
-    let Some(before) = latest else {
+    if goes_on(&times, row) {
+        return times[row - 1].sequence < times[row].sequence;
+    }
+    let trip = times[row].trip.0 as usize;
+    if trip >= begun.len() || begun[trip] {
         return false;
-    };
-    let first = first_time(time_of(times, keys, place));
-    keys[before].trip == keys[place].trip
-        && is_earlier(first, last_time(time_of(times, keys, before)))
+    }
+    begun[trip] = true;
+    true
 }
 
-// What is wrong at a place.
-#[tactic(auto, using(crate::proofs::OrderLaws::latest_within), unfolding(crate::specs::Order::place_faults))]
-fn faults_of(
+// What is wrong with each row, an empty list where nothing is; none where the rows of some trip don't stand together by rising
+// sequences, or the number of a trip is past that of the rows.
+fn faults_together(
+    alloc: Global,
     times: &[StopTimeRow],
-    keys: &[PlaceKey],
-    place: usize,
-    latest: Option<usize>,
-) -> OrderFaults
-    requires sorted { AreSorted times.now keys.now }
-    requires within { place < length keys.now }
-    requires latest { latest ≡ latest_timed times.now (key_at keys.now) place }
-    ensures { result ≡ place_faults times.now (key_at keys.now) place }
+) -> Result<Option<Vec<OrderFaults>>, AllocError>
+    ensures together { IfOk result (λ found. IfSome found (λ faults. AreFaults times.now faults.items)) }
+    ensures scattered { IfOk result (λ found. IfNone found (AreScattered times.now)) }
 {
-    let time = time_of(times, keys, place);
-    OrderFaults {
-        is_repeated: repeats(keys, place),
-        is_end_time_missing: !is_timed(time)
-            && (!goes_on(keys, place) || !goes_further(times, keys, place)),
-        do_times_decrease: is_earlier(last_time(time), first_time(time))
-            || falls_behind(times, keys, place, latest),
+    let mut begun = vec![in alloc; false; times.len()]?;
+    let mut faults = Vec::new(alloc);
+    let mut latest = None;
+    for row in 0..times.len() {
+        if !follows(&mut begun, times, row) {
+            return Ok(None);
+        }
+        judge(&times, row, &mut latest, &mut faults)?;
     }
-}
-
-// The last timed place up to this one, which has this last one before it.
-#[tactic(auto, unfolding(crate::specs::Order::latest_timed))]
-fn latest_with(
-    times: &[StopTimeRow],
-    keys: &[PlaceKey],
-    place: usize,
-    latest: Option<usize>,
-) -> Option<usize>
-    requires sorted { AreSorted times.now keys.now }
-    requires within { place < length keys.now }
-    requires latest { latest ≡ latest_timed times.now (key_at keys.now) place }
-    ensures { result ≡ latest_timed times.now (key_at keys.now) (place + 1) }
-{
-    if is_timed(time_of(times, keys, place)) {
-        Some(place)
-    } else {
-        latest
-    }
+    Ok(Some(faults))
 }
 
 // What is wrong with each row, by sorted keys.
-#[tactic(auto, using(trip_order::specs::Order::row_within, trip_order::specs::Order::length_sorted))]
 fn faults_by_keys(alloc: Global, times: &[StopTimeRow]) -> Result<Vec<OrderFaults>, AllocError>
     requires { length times.now < 2 ^ 32 }
     ensures { IfOk result (λ faults. AreFaults times.now faults.items) }
 {
     let keys = sorted_keys(alloc, times)?;
-    let mut faults = vec![in alloc; OrderFaults::none(); times.len()]?;
+    let order = SortedTimes { times, keys: &keys };
+    let mut faults = Vec::new(alloc);
     let mut latest = None;
-    for place in 0..keys.len() {
-        faults[keys[place].row as usize] = faults_of(times, &keys, place, latest);
-        latest = latest_with(times, &keys, place, latest);
+    for place in 0..times.len() {
+        judge(&order, place, &mut latest, &mut faults)?;
     }
     Ok(faults)
 }

@@ -2,10 +2,10 @@ use Rattle.std.proofs.Common.{◌≡◌, ◌∙◌, ℕ, ◌-◌, ◌<◌, refl,
 use Rattle.std.proofs.lemmas.List.{get_or_default}
 use Rattle.std.proofs.lemmas.Grind.{common_steps}
 use Rattle.trip_order.specs.Order.{no_time}
-use Rattle.stop_order.specs.Together.{trip_at}
+use Rattle.stop_order.specs.Order.{trip_at}
 use Rattle.stop_order.proofs.TogetherLaws.{trip_read, before_is, marked_if_more, marked_anew, scattered_if_not, scattered_past, scattered_again}
-use Rattle.stop_order.proofs.together.follows.Goals as goal
-use Rattle.stop_order.proofs.together.follows.Goals.{then-trip-len-via-then-trip-len, then-trip-len-via-else-trip-len+then-index}
+use Rattle.stop_order.proofs.pass.follows.Goals as goal
+use Rattle.stop_order.proofs.pass.follows.Goals.{then-trip-len-via-then-trip-len, then-trip-len-via-else-trip-len+then-index}
 
 pub overflow_sub-result : goal.overflow_sub-result
 overflow_sub-result c =
