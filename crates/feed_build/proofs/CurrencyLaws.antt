@@ -3,7 +3,7 @@ use Rattle.std.proofs.Common.{◌≡◌, refl, ℕ, ◌<◌, List, [], ◌∷◌
 use Rattle.feed_rows.specs.declared.names.FileName.TheVariants as file
 use Rattle.feed_rows.specs.declared.names.ColumnName.TheVariants.{Currency}
 use Rattle.feed_faults.specs.Records.{row_count, field}
-use Rattle.feed_faults.specs.FileColumns.{currency}
+use Rattle.feed_soundness.proofs.RuleShapes.{currency}
 use Rattle.feed_faults.specs.FeedTables.{FeedTables, table_in}
 use Rattle.feed_soundness.specs.AcceptedTables.{AreFormed}
 use Rattle.feed_soundness.proofs.FieldLaws.{must_at}

@@ -1,5 +1,5 @@
 -- Networks of routes in files of their own.
-use Rattle.std.specs.Prelude.{ℕ, ◌&&◌, nat_lt, Bool, Option, None}
+use Rattle.std.specs.Prelude.{◌&&◌, nat_lt, Bool, Option, None}
 use Rattle.feed_rows.specs.declared.names.FileName.{FileName}
 use Rattle.feed_rows.specs.declared.names.FileName.TheVariants as file
 use Rattle.feed_rows.specs.declared.names.ColumnName.TheVariants.{NetworkId}

@@ -11,6 +11,7 @@ use Rattle.feed_rows.specs.declared.faults.FeedFault.{FeedFault}
 use Rattle.feed_faults.specs.declared.checks.Named.{Named}
 use Rattle.feed_faults.specs.declared.checks.Named.TheVariants.{Stop, Route, Trip, Service, Area, Network, RouteNetwork, TimeframeGroup, RiderCategory, FareMedia, FareProduct, LegGroup}
 use Rattle.feed_faults.specs.declared.checks.RowCheck.{RowCheck}
+use Rattle.feed_faults.specs.declared.checks.TheConstants.{STOPS, ROUTES, TRIPS, STOP_TIMES, CALENDAR, CALENDAR_DATES, FREQUENCIES, TRANSFERS, AREAS, STOP_AREAS, NETWORKS, ROUTE_NETWORKS, TIMEFRAMES, RIDER_CATEGORIES, FARE_MEDIA, FARE_PRODUCTS, FARE_LEG_RULES, FARE_TRANSFER_RULES}
 use Rattle.feed_faults.specs.declared.checks.RowCheck.TheVariants.{NewId, NewKey, Known, KnownParent, GoodParent, AtPlatform, TimedEnds, RisingTimes, OrderedDays, GoodTimeframe, OneCurrency, GoodCount, WholeLimit}
 use Rattle.plain_laws.specs.Plain.{when, first_in}
 use Rattle.feed_faults.specs.Records.{FileTable, field}
@@ -25,27 +26,24 @@ use Rattle.feed_faults.specs.FareRelations.{is_bad_frame, same_product, is_curre
 
 -- the checks of each file
 abbrev pub checks_of : FileName → List RowCheck
-checks_of file.Stops = NewId StopId ∷ KnownParent ∷ GoodParent ∷ []
-checks_of file.Routes = NewId RouteId ∷ []
-checks_of file.Trips = NewId TripId ∷ Known RouteId Route ∷ Known ServiceId Service ∷ []
-checks_of file.StopTimes = Known TripId Trip ∷ Known StopId Stop ∷ AtPlatform ∷ NewKey StopSequence ∷ TimedEnds ∷ RisingTimes ∷ []
-checks_of file.Calendar = NewId ServiceId ∷ OrderedDays ∷ []
-checks_of file.CalendarDates = NewKey Date ∷ []
-checks_of file.Frequencies = Known TripId Trip ∷ NewKey StartTime ∷ []
-checks_of file.Transfers = Known FromStopId Stop ∷ Known ToStopId Stop ∷ []
-checks_of file.Areas = NewId AreaId ∷ []
-checks_of file.StopAreas = Known AreaId Area ∷ Known StopId Stop ∷ []
-checks_of file.Networks = NewId NetworkId ∷ []
-checks_of file.RouteNetworks = NewId RouteId ∷ Known NetworkId Network ∷ Known RouteId Route ∷ []
-checks_of file.Timeframes = Known ServiceId Service ∷ GoodTimeframe ∷ []
-checks_of file.RiderCategories = NewId RiderCategoryId ∷ []
-checks_of file.FareMedia = NewId FareMediaId ∷ []
-checks_of file.FareProducts = Known RiderCategoryId RiderCategory ∷ Known FareMediaId FareMedia ∷ NewKey FareProductId ∷ OneCurrency ∷ []
-checks_of file.FareLegRules =
-    Known NetworkId RouteNetwork ∷ Known FromAreaId Area ∷ Known ToAreaId Area ∷ Known FromTimeframeGroupId TimeframeGroup
-    ∷ Known ToTimeframeGroupId TimeframeGroup ∷ Known FareProductId FareProduct ∷ []
-checks_of file.FareTransferRules =
-    GoodCount ∷ WholeLimit ∷ Known FromLegGroupId LegGroup ∷ Known ToLegGroupId LegGroup ∷ Known FareProductId FareProduct ∷ []
+checks_of file.Stops = STOPS
+checks_of file.Routes = ROUTES
+checks_of file.Trips = TRIPS
+checks_of file.StopTimes = STOP_TIMES
+checks_of file.Calendar = CALENDAR
+checks_of file.CalendarDates = CALENDAR_DATES
+checks_of file.Frequencies = FREQUENCIES
+checks_of file.Transfers = TRANSFERS
+checks_of file.Areas = AREAS
+checks_of file.StopAreas = STOP_AREAS
+checks_of file.Networks = NETWORKS
+checks_of file.RouteNetworks = ROUTE_NETWORKS
+checks_of file.Timeframes = TIMEFRAMES
+checks_of file.RiderCategories = RIDER_CATEGORIES
+checks_of file.FareMedia = FARE_MEDIA
+checks_of file.FareProducts = FARE_PRODUCTS
+checks_of file.FareLegRules = FARE_LEG_RULES
+checks_of file.FareTransferRules = FARE_TRANSFER_RULES
 
 -- the fault of a check that fails: the column under which it is told, and its kind
 abbrev pub column_of_check : RowCheck → ColumnName

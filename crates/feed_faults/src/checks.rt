@@ -64,21 +64,21 @@ pub enum RowCheck {
     WholeLimit,
 }
 
-static STOPS: [RowCheck; 3] = [
+const STOPS: [RowCheck; 3] = [
     RowCheck::NewId(ColumnName::StopId),
     RowCheck::KnownParent,
     RowCheck::GoodParent,
 ];
 
-static ROUTES: [RowCheck; 1] = [RowCheck::NewId(ColumnName::RouteId)];
+const ROUTES: [RowCheck; 1] = [RowCheck::NewId(ColumnName::RouteId)];
 
-static TRIPS: [RowCheck; 3] = [
+const TRIPS: [RowCheck; 3] = [
     RowCheck::NewId(ColumnName::TripId),
     RowCheck::Known(ColumnName::RouteId, Named::Route),
     RowCheck::Known(ColumnName::ServiceId, Named::Service),
 ];
 
-static STOP_TIMES: [RowCheck; 6] = [
+const STOP_TIMES: [RowCheck; 6] = [
     RowCheck::Known(ColumnName::TripId, Named::Trip),
     RowCheck::Known(ColumnName::StopId, Named::Stop),
     RowCheck::AtPlatform,
@@ -87,55 +87,55 @@ static STOP_TIMES: [RowCheck; 6] = [
     RowCheck::RisingTimes,
 ];
 
-static CALENDAR: [RowCheck; 2] = [
+const CALENDAR: [RowCheck; 2] = [
     RowCheck::NewId(ColumnName::ServiceId),
     RowCheck::OrderedDays,
 ];
 
-static CALENDAR_DATES: [RowCheck; 1] = [RowCheck::NewKey(ColumnName::Date)];
+const CALENDAR_DATES: [RowCheck; 1] = [RowCheck::NewKey(ColumnName::Date)];
 
-static FREQUENCIES: [RowCheck; 2] = [
+const FREQUENCIES: [RowCheck; 2] = [
     RowCheck::Known(ColumnName::TripId, Named::Trip),
     RowCheck::NewKey(ColumnName::StartTime),
 ];
 
-static TRANSFERS: [RowCheck; 2] = [
+const TRANSFERS: [RowCheck; 2] = [
     RowCheck::Known(ColumnName::FromStopId, Named::Stop),
     RowCheck::Known(ColumnName::ToStopId, Named::Stop),
 ];
 
-static AREAS: [RowCheck; 1] = [RowCheck::NewId(ColumnName::AreaId)];
+const AREAS: [RowCheck; 1] = [RowCheck::NewId(ColumnName::AreaId)];
 
-static STOP_AREAS: [RowCheck; 2] = [
+const STOP_AREAS: [RowCheck; 2] = [
     RowCheck::Known(ColumnName::AreaId, Named::Area),
     RowCheck::Known(ColumnName::StopId, Named::Stop),
 ];
 
-static NETWORKS: [RowCheck; 1] = [RowCheck::NewId(ColumnName::NetworkId)];
+const NETWORKS: [RowCheck; 1] = [RowCheck::NewId(ColumnName::NetworkId)];
 
-static ROUTE_NETWORKS: [RowCheck; 3] = [
+const ROUTE_NETWORKS: [RowCheck; 3] = [
     RowCheck::NewId(ColumnName::RouteId),
     RowCheck::Known(ColumnName::NetworkId, Named::Network),
     RowCheck::Known(ColumnName::RouteId, Named::Route),
 ];
 
-static TIMEFRAMES: [RowCheck; 2] = [
+const TIMEFRAMES: [RowCheck; 2] = [
     RowCheck::Known(ColumnName::ServiceId, Named::Service),
     RowCheck::GoodTimeframe,
 ];
 
-static RIDER_CATEGORIES: [RowCheck; 1] = [RowCheck::NewId(ColumnName::RiderCategoryId)];
+const RIDER_CATEGORIES: [RowCheck; 1] = [RowCheck::NewId(ColumnName::RiderCategoryId)];
 
-static FARE_MEDIA: [RowCheck; 1] = [RowCheck::NewId(ColumnName::FareMediaId)];
+const FARE_MEDIA: [RowCheck; 1] = [RowCheck::NewId(ColumnName::FareMediaId)];
 
-static FARE_PRODUCTS: [RowCheck; 4] = [
+const FARE_PRODUCTS: [RowCheck; 4] = [
     RowCheck::Known(ColumnName::RiderCategoryId, Named::RiderCategory),
     RowCheck::Known(ColumnName::FareMediaId, Named::FareMedia),
     RowCheck::NewKey(ColumnName::FareProductId),
     RowCheck::OneCurrency,
 ];
 
-static FARE_LEG_RULES: [RowCheck; 6] = [
+const FARE_LEG_RULES: [RowCheck; 6] = [
     RowCheck::Known(ColumnName::NetworkId, Named::RouteNetwork),
     RowCheck::Known(ColumnName::FromAreaId, Named::Area),
     RowCheck::Known(ColumnName::ToAreaId, Named::Area),
@@ -144,7 +144,7 @@ static FARE_LEG_RULES: [RowCheck; 6] = [
     RowCheck::Known(ColumnName::FareProductId, Named::FareProduct),
 ];
 
-static FARE_TRANSFER_RULES: [RowCheck; 5] = [
+const FARE_TRANSFER_RULES: [RowCheck; 5] = [
     RowCheck::GoodCount,
     RowCheck::WholeLimit,
     RowCheck::Known(ColumnName::FromLegGroupId, Named::LegGroup),

@@ -102,17 +102,17 @@ macro_rules! may {
     };
 }
 
-static STOPS: [ColumnRule; 3] = [
+const STOPS: [ColumnRule; 3] = [
     must!(StopId, ID),
     may!(LocationType, int!(0, 4)),
     may!(ParentStation, ID),
 ];
 
-static ROUTES: [ColumnRule; 2] = [must!(RouteId, ID), may!(NetworkId, ID)];
+const ROUTES: [ColumnRule; 2] = [must!(RouteId, ID), may!(NetworkId, ID)];
 
-static TRIPS: [ColumnRule; 3] = [must!(RouteId, ID), must!(ServiceId, ID), must!(TripId, ID)];
+const TRIPS: [ColumnRule; 3] = [must!(RouteId, ID), must!(ServiceId, ID), must!(TripId, ID)];
 
-static STOP_TIMES: [ColumnRule; 7] = [
+const STOP_TIMES: [ColumnRule; 7] = [
     must!(TripId, ID),
     must_or_flex!(StopId, ID),
     must!(StopSequence, int!(0, MOST_INT)),
@@ -122,7 +122,7 @@ static STOP_TIMES: [ColumnRule; 7] = [
     may!(DropOffType, int!(0, 3)),
 ];
 
-static CALENDAR: [ColumnRule; 10] = [
+const CALENDAR: [ColumnRule; 10] = [
     must!(ServiceId, ID),
     must!(Monday, int!(0, 1)),
     must!(Tuesday, int!(0, 1)),
@@ -135,13 +135,13 @@ static CALENDAR: [ColumnRule; 10] = [
     must!(EndDate, DATE),
 ];
 
-static CALENDAR_DATES: [ColumnRule; 3] = [
+const CALENDAR_DATES: [ColumnRule; 3] = [
     must!(ServiceId, ID),
     must!(Date, DATE),
     must!(ExceptionType, int!(1, 2)),
 ];
 
-static FREQUENCIES: [ColumnRule; 5] = [
+const FREQUENCIES: [ColumnRule; 5] = [
     must!(TripId, ID),
     must!(StartTime, ANY_TIME),
     must!(EndTime, ANY_TIME),
@@ -149,36 +149,36 @@ static FREQUENCIES: [ColumnRule; 5] = [
     may!(ExactTimes, int!(0, 1)),
 ];
 
-static TRANSFERS: [ColumnRule; 4] = [
+const TRANSFERS: [ColumnRule; 4] = [
     may!(TransferType, int!(0, 5)),
     must!(FromStopId, ID),
     must!(ToStopId, ID),
     may!(MinTransferTime, int!(0, MOST_INT)),
 ];
 
-static AREAS: [ColumnRule; 1] = [must!(AreaId, ID)];
+const AREAS: [ColumnRule; 1] = [must!(AreaId, ID)];
 
-static STOP_AREAS: [ColumnRule; 2] = [must!(AreaId, ID), must!(StopId, ID)];
+const STOP_AREAS: [ColumnRule; 2] = [must!(AreaId, ID), must!(StopId, ID)];
 
-static NETWORKS: [ColumnRule; 1] = [must!(NetworkId, ID)];
+const NETWORKS: [ColumnRule; 1] = [must!(NetworkId, ID)];
 
-static ROUTE_NETWORKS: [ColumnRule; 2] = [must!(NetworkId, ID), must!(RouteId, ID)];
+const ROUTE_NETWORKS: [ColumnRule; 2] = [must!(NetworkId, ID), must!(RouteId, ID)];
 
-static TIMEFRAMES: [ColumnRule; 4] = [
+const TIMEFRAMES: [ColumnRule; 4] = [
     must!(TimeframeGroupId, ID),
     may!(StartTime, DAY_TIME),
     may!(EndTime, DAY_TIME),
     must!(ServiceId, ID),
 ];
 
-static RIDER_CATEGORIES: [ColumnRule; 2] = [
+const RIDER_CATEGORIES: [ColumnRule; 2] = [
     must!(RiderCategoryId, ID),
     may!(IsDefaultFareCategory, int!(0, 1)),
 ];
 
-static FARE_MEDIA: [ColumnRule; 2] = [must!(FareMediaId, ID), may!(FareMediaType, int!(0, 4))];
+const FARE_MEDIA: [ColumnRule; 2] = [must!(FareMediaId, ID), may!(FareMediaType, int!(0, 4))];
 
-static FARE_PRODUCTS: [ColumnRule; 5] = [
+const FARE_PRODUCTS: [ColumnRule; 5] = [
     must!(FareProductId, ID),
     may!(RiderCategoryId, ID),
     may!(FareMediaId, ID),
@@ -186,7 +186,7 @@ static FARE_PRODUCTS: [ColumnRule; 5] = [
     must!(Amount, AMOUNT),
 ];
 
-static FARE_LEG_RULES: [ColumnRule; 8] = [
+const FARE_LEG_RULES: [ColumnRule; 8] = [
     may!(LegGroupId, ID),
     may!(NetworkId, ID),
     may!(FromAreaId, ID),
@@ -197,7 +197,7 @@ static FARE_LEG_RULES: [ColumnRule; 8] = [
     may!(RulePriority, int!(0, MOST_INT)),
 ];
 
-static FARE_TRANSFER_RULES: [ColumnRule; 7] = [
+const FARE_TRANSFER_RULES: [ColumnRule; 7] = [
     may!(FromLegGroupId, ID),
     may!(ToLegGroupId, ID),
     may!(TransferCount, COUNT),

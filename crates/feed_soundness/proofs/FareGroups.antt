@@ -17,7 +17,7 @@ use Rattle.feed_rows.specs.SoundFares.{AreSoundAreas, AreSoundStopAreas, AreSoun
 use Rattle.feed_faults.specs.declared.checks.RowCheck.TheVariants as check
 use Rattle.feed_faults.specs.Records.{FileTable, row_count, column_of, field, is_filled}
 use Rattle.feed_faults.specs.FieldGrammars.{most_int}
-use Rattle.feed_faults.specs.FileColumns.{int, day_time, amount, currency}
+use Rattle.feed_soundness.proofs.RuleShapes.{int, amount, currency}
 use Rattle.feed_faults.specs.FeedTables.{FeedTables, table_in}
 use Rattle.feed_faults.specs.FieldValues.{int_or_zero, frame_start, frame_end}
 use Rattle.feed_faults.specs.RowKeys.{is_repeated}
@@ -25,7 +25,7 @@ use Rattle.feed_faults.specs.FareRelations.{is_one_filled, do_frames_overlap, is
 use Rattle.feed_faults.specs.AcceptedFeed.{if_filled, row_number, name_number, service_names, network_names, frame_names, product_names, group_names, area_row, stop_area_row, timeframe_row, rider_row, medium_row, product_row, leg_rule_row, limit_of, transfer_rule_row, feed_currency, feed_decimals, rows_of_tables}
 use Rattle.feed_soundness.specs.AcceptedTables.{AreFormed, AreRelated}
 use Rattle.plain_laws.proofs.Laws.{length-list_below, All-list_below, AllPairs-list_below, bytes_eq-true, eq-bytes_eq}
-use Rattle.feed_soundness.proofs.FieldLaws.{FieldFits, must_at, may_at, few_rows}
+use Rattle.feed_soundness.proofs.FieldLaws.{must_at, may_at, few_rows}
 use Rattle.feed_soundness.proofs.ValueLaws.{int_good, int_small, int_of_nothing, time_small, count_good, count_filled, amount_good, IsCurrencyText, currency_good}
 use Rattle.feed_soundness.proofs.KeyLaws.{MayBeKnown, same_number, apart, never_both}
 use Rattle.feed_soundness.proofs.NameLaws.{same_name}

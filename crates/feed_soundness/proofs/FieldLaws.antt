@@ -10,7 +10,8 @@ use Rattle.plain_laws.specs.Plain.{list_below}
 use Rattle.feed_faults.specs.declared.columns.Grammar.{Grammar}
 use Rattle.feed_faults.specs.declared.columns.ColumnRule.{ColumnRule}
 use Rattle.feed_faults.specs.Records.{FileTable, row_count, field, is_filled}
-use Rattle.feed_faults.specs.FileColumns.{must, must_or_flex, may, fits, misfit}
+use Rattle.feed_faults.specs.FileColumns.{fits, misfit}
+use Rattle.feed_soundness.proofs.RuleShapes.{must, must_or_flex, may}
 use Rattle.feed_faults.specs.FormFaults.{empty_misfit, field_misfit, judged_columns}
 use Rattle.feed_soundness.specs.AcceptedTables.{IsFormed}
 use Rattle.plain_laws.proofs.Laws.{none_when, length-list_below}

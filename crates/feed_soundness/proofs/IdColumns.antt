@@ -9,7 +9,7 @@ use Rattle.feed_rows.specs.declared.names.ColumnName.TheVariants.{StopId, RouteI
 use Rattle.feed_rows.specs.SoundNames.{IsIdText}
 use Rattle.feed_faults.specs.declared.checks.RowCheck.TheVariants.{NewId, NewKey}
 use Rattle.feed_faults.specs.Records.{FileTable, row_count, field, is_filled}
-use Rattle.feed_faults.specs.FileColumns.{must, may, id}
+use Rattle.feed_soundness.proofs.RuleShapes.{must, may, id}
 use Rattle.feed_faults.specs.FormFaults.{judged_columns}
 use Rattle.feed_faults.specs.FeedTables.{FeedTables, table_in}
 use Rattle.feed_faults.specs.RowChecks.{checks_of, same_key}

@@ -1,3 +1,4 @@
+pub mod RuleShapes
 pub mod FormedFiles
 pub mod FieldLaws
 pub mod ValueLaws

@@ -15,7 +15,7 @@ use Rattle.feed_rows.specs.SoundTimetable.{IsCalendarDay, AreSoundStops, AreSoun
 use Rattle.feed_faults.specs.declared.checks.RowCheck.TheVariants as check
 use Rattle.feed_faults.specs.Records.{FileTable, row_count, field, is_filled}
 use Rattle.feed_faults.specs.FieldGrammars.{most_int}
-use Rattle.feed_faults.specs.FileColumns.{int, date, any_time}
+use Rattle.feed_soundness.proofs.RuleShapes.{int, date}
 use Rattle.feed_faults.specs.FormFaults.{is_passed_over}
 use Rattle.feed_faults.specs.FeedTables.{FeedTables, table_in}
 use Rattle.feed_faults.specs.FieldValues.{day_or_zero, stop_kind}
@@ -26,7 +26,7 @@ use Rattle.feed_faults.specs.StopTimeRelations.{is_at_platform}
 use Rattle.feed_faults.specs.AcceptedFeed.{row_number, service_names, network_names, network_of_route, accepted_parent, stop_row, route_row, trip_row, stop_time_row, service_row, exception_row, frequency_row, link_row, rows_of_tables}
 use Rattle.feed_soundness.specs.AcceptedTables.{AreFormed, AreRelated}
 use Rattle.plain_laws.proofs.Laws.{length-list_below, All-list_below, AllPairs-list_below, All-picks_below, length-picks_below, get_or-list_below, rest_fails, eq-bytes_eq, eq-int_same}
-use Rattle.feed_soundness.proofs.FieldLaws.{must_at, may_at, few_rows}
+use Rattle.feed_soundness.proofs.FieldLaws.{must_at, few_rows}
 use Rattle.feed_faults.proofs.TimeLaws.{time_good}
 use Rattle.feed_soundness.proofs.ValueLaws.{int_good, int_small, time_small, day_good}
 use Rattle.feed_soundness.proofs.KeyLaws.{IsKnown, known, same_number, never_both}

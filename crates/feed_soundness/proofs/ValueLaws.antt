@@ -1,6 +1,6 @@
 -- The values of fields that are of their grammars.
-use Rattle.std.proofs.Common.{◌≡◌, refl, subst, ℕ, suc, ◌+◌, ◌-◌, ◌^◌, ◌≤◌, ◌⊎◌, inl, inr, Bool, true, false, List, [], ◌∷◌, length, All, arith}
-use Rattle.std.specs.Prelude.{Option, Some, None, is_some, nat_le, not, ◌&&◌, ◌==◌, ◌≢◌, if◌then◌else◌, take, drop, slice_index, slice_range, ℤ, pos, negsuc, int_le, nat_abs, neg_ℤ, unwrap_or, option_and_then}
+use Rattle.std.proofs.Common.{◌≡◌, refl, subst, ℕ, suc, ◌^◌, ◌≤◌, ◌⊎◌, inl, inr, Bool, true, false, List, [], ◌∷◌, length, All, arith}
+use Rattle.std.specs.Prelude.{Option, Some, None, is_some, nat_le, not, ◌&&◌, ◌==◌, ◌≢◌, if◌then◌else◌, take, drop, slice_range, ℤ, pos, negsuc, int_le, nat_abs, neg_ℤ, unwrap_or, option_and_then}
 use Rattle.std.specs.List.{list_any, list_all}
 use Rattle.std.specs.Option.{ForSome}
 use Rattle.std.specs.Str.{all_ascii_digits}
@@ -12,7 +12,7 @@ use Rattle.std.proofs.lemmas.List.Elements.{All-nil, All-cons}
 use Rattle.std.proofs.lemmas.Option.{none-some, same_Some, cond_some}
 use Rattle.transit_base.specs.Dates.{is_date, is_dated, day_number}
 use Rattle.feed_laws.proofs.DateLaws.{is_dated-day_number}
-use Rattle.feed_rows.specs.Numerals.{number_value, when_at_most}
+use Rattle.feed_rows.specs.Numerals.{number_value}
 use Rattle.feed_rows.specs.TimeGrammar.{time_value}
 use Rattle.feed_faults.proofs.TimeLaws.{time_good}
 use Rattle.plain_laws.specs.Plain.{when, int_same}
