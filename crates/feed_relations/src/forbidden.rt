@@ -1,6 +1,6 @@
 //! Networks of routes in files of their own.
 ghost use Rattle.std.specs.Prelude.{◌≡◌};
-ghost use Rattle.feed_faults.specs.NetworkRelations.{has_own_networks, are_networks_forbidden, forbidden_fault};
+ghost use Rattle.feed_faults.specs.NetworkRelations.{has_own_networks, forbidden_fault};
 
 use crate::judged::JudgedFeed;
 use feed_rows::{ColumnName, FaultKind, FeedFault, FileName};
@@ -20,22 +20,15 @@ fn has_own_networks(routes: &NamedTable) -> bool
     false
 }
 
-// Whether a file of networks has a row beside a route with a network of its own.
+// The fault of a file before those of its rows: a file of networks has a row beside a route with a network of its own.
 #[tactic(auto, unfolding(feed_faults::specs::NetworkRelations::are_networks_forbidden))]
-fn are_networks_forbidden<C: CallTable>(feed: &JudgedFeed<C>, file: FileName) -> bool
-    ensures { result ≡ are_networks_forbidden feed.now file }
-{
-    feed.rows(file) > 0 && has_own_networks(feed.table(FileName::Routes))
-}
-
-// The fault of a file before those of its rows.
 pub fn forbidden_fault<C: CallTable>(feed: &JudgedFeed<C>, file: FileName) -> Option<FeedFault>
     ensures { result ≡ forbidden_fault feed.now file }
 {
     if file != FileName::Networks && file != FileName::RouteNetworks {
         return None;
     }
-    if !are_networks_forbidden(feed, file) {
+    if feed.rows(file) == 0 || !has_own_networks(feed.table(FileName::Routes)) {
         return None;
     }
     Some(file_fault(file, FaultKind::ForbiddenTogether))

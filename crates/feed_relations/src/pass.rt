@@ -41,23 +41,8 @@ fn fault_of_table<C: CallTable>(
     Ok(fault)
 }
 
-// The first fault of a file's rows.
-#[tactic(auto, using(feed_tables::proofs::NumberLaws::kept_unless))]
-fn fault_of_rows<C: CallTable>(
-    alloc: Global,
-    feed: &JudgedFeed<C>,
-    file: FileName,
-) -> Result<Option<FeedFault>, AllocError>
-    ensures { IfOk result (λ fault. fault ≡ first_below (row_count (table_in feed.now file)) (relation_fault_of_row feed.now file)) }
-{
-    if file == FileName::StopTimes {
-        return Ok(fault_of_calls(feed));
-    }
-    fault_of_table(alloc, feed, file)
-}
-
 // The first fault of a file among the others: that it is forbidden comes before its rows.
-#[tactic(auto, unfolding(feed_faults::specs::FirstFault::relation_fault))]
+#[tactic(auto, unfolding(feed_faults::specs::FirstFault::relation_fault), using(feed_tables::proofs::NumberLaws::kept_unless))]
 fn relation_fault<C: CallTable>(
     alloc: Global,
     feed: &JudgedFeed<C>,
@@ -68,23 +53,10 @@ fn relation_fault<C: CallTable>(
     if let Some(fault) = forbidden_fault(feed, file) {
         return Ok(Some(fault));
     }
-    fault_of_rows(alloc, feed, file)
-}
-
-// The first fault of the files, by what their rows are judged by.
-#[tactic(auto, unfolding(feed_faults::specs::FirstFault::first_relation_fault))]
-fn fault_of_files<C: CallTable>(
-    alloc: Global,
-    feed: &JudgedFeed<C>,
-) -> Result<Option<FeedFault>, AllocError>
-    ensures { IfOk result (λ fault. fault ≡ first_relation_fault feed.now) }
-{
-    for (i, file) in FileName::all().iter().enumerate() {
-        if let Some(fault) = relation_fault(alloc, feed, *file)? {
-            return Ok(Some(fault));
-        }
+    if file == FileName::StopTimes {
+        return Ok(fault_of_calls(feed));
     }
-    Ok(None)
+    fault_of_table(alloc, feed, file)
 }
 
 /// The first fault of the files among each other, in the order of the files and of their rows. None exactly where they have
@@ -92,6 +64,7 @@ fn fault_of_files<C: CallTable>(
 ///
 /// # Errors
 /// Want of memory.
+#[tactic(auto, unfolding(feed_faults::specs::FirstFault::first_relation_fault))]
 pub fn first_relation_fault<C: CallTable>(
     alloc: Global,
     tables: &Tables<C>,
@@ -104,5 +77,10 @@ pub fn first_relation_fault<C: CallTable>(
     ensures { IfOk result (λ fault. fault ≡ first_relation_fault tables.now) }
 {
     let feed = JudgedFeed::of(alloc, tables, ids, stop_times)?;
-    fault_of_files(alloc, &feed)
+    for (i, file) in FileName::all().iter().enumerate() {
+        if let Some(fault) = relation_fault(alloc, &feed, *file)? {
+            return Ok(Some(fault));
+        }
+    }
+    Ok(None)
 }

@@ -1,0 +1,15 @@
+use Rattle.std.proofs.Common.{◌≡◌, sym, ◌∙◌, ap, subst, List, ◌<◌, length, get_or, Some, arith}
+use Rattle.plain_laws.proofs.Laws.{first_in_found}
+use Rattle.feed_rows.specs.Names.{all_files}
+use Rattle.feed_rows.specs.declared.names.FileName.{FileName}
+use Rattle.feed_faults.specs.FeedTables.{FeedTables}
+use Rattle.feed_faults.specs.FirstFault.{relation_fault, first_relation_fault}
+use Rattle.feed_relations.proofs.pass.first_relation_fault.Goals as goal
+
+pub returns-in-Some : goal.returns-in-Some
+unfolding first_relation_fault
+returns-in-Some g c =
+    let same = λ (name : FileName). ap (λ (t : FeedTables). relation_fault t name) c.in_ok-feed.ensures in
+    sym (first_in_found all_files (relation_fault c.args.tables.now) c.loop-i.i _ c.in-Some.fault
+    (subst (λ (files : List FileName). c.loop-i.i < length files) c.all-file-items.ensures (omega (arith, c.loop-i-test.true))) c.loop-i.invariant
+    (subst (λ (files : List FileName). relation_fault c.args.tables.now (get_or files c.loop-i.i _) ≡ Some c.in-Some.fault) c.all-file-items.ensures (sym (same _) ∙ sym c.in_ok-fault.ensures ∙ c.in-Some.is)))
