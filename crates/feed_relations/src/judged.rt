@@ -5,6 +5,7 @@ ghost use Rattle.feed_rows.specs.declared.names.FileName.TheVariants as file;
 ghost use Rattle.feed_rows.specs.declared.names.ColumnName.TheVariants as column;
 ghost use Rattle.feed_faults.specs.Records.{row_count, field};
 ghost use Rattle.feed_faults.specs.RowChecks.{is_unknown_id};
+ghost use Rattle.feed_faults.specs.RowKeys.{is_unknown};
 ghost use Rattle.feed_faults.specs.declared.checks.Named.TheVariants.{Trip, Stop};
 ghost use Rattle.feed_faults.specs.FeedTables.{table_in};
 ghost use Rattle.feed_faults.specs.StopTimeRelations.{stop_times_of, is_at_platform};
@@ -144,6 +145,13 @@ impl<'t, C: CallTable> JudgedFeed<'t, C> {
         ensures { result.now ≡ indexed self.now column }
     {
         self.ids.get(column)
+    }
+
+    /// Whether an id is filled and no row has it in a column.
+    pub fn is_unknown(&self, column: IdColumn, id: &[u8]) -> bool
+        ensures { result ≡ is_unknown (indexed self.now column).table (indexed self.now column).name id.now }
+    {
+        self.index(column).is_unknown(id)
     }
 
     // A row of stop_times.txt. Its trip, or its stop, has the number after the last exactly where it isn't there.

@@ -10,7 +10,6 @@ ghost use Rattle.feed_faults.specs.ServiceRelations.{are_dates_reversed};
 ghost use Rattle.feed_faults.specs.FareRelations.{is_one_filled, is_currency_mixed, is_count_misplaced, is_limit_half};
 ghost use Rattle.feed_faults.specs.RowChecks.{is_judged, is_unknown_id, fails};
 ghost use Rattle.feed_faults.specs.declared.checks.RowCheck.TheVariants.{Known};
-ghost use Rattle.feed_tables.specs.IdColumns.{indexed};
 ghost use Rattle.feed_tables.specs.RowNumbers.{has_table};
 ghost use Rattle.feed_relations.specs.FittingChecks.{own_ids, Fits, IsByRow};
 
@@ -37,41 +36,28 @@ fn own_ids(file: FileName) -> IdColumn
     }
 }
 
-// Whether an id is filled and in neither of two columns.
-fn is_in_neither<C: CallTable>(
-    feed: &JudgedFeed<C>,
-    first: IdColumn,
-    second: IdColumn,
-    id: &[u8],
-) -> bool
-    ensures { result ≡ (is_unknown (indexed feed.now first).table (indexed feed.now first).name id.now && is_unknown (indexed feed.now second).table (indexed feed.now second).name id.now) }
-{
-    feed.index(first).is_unknown(id) && feed.index(second).is_unknown(id)
-}
-
 // Whether an id is filled and names nothing that is there.
 fn is_unknown_id<C: CallTable>(feed: &JudgedFeed<C>, named: Named, id: &[u8]) -> bool
     ensures { result ≡ is_unknown_id feed.now named id.now }
 {
-    let column = match named {
-        Named::Stop => IdColumn::Stop,
-        Named::Route => IdColumn::Route,
-        Named::Trip => IdColumn::Trip,
+    match named {
+        Named::Stop => feed.is_unknown(IdColumn::Stop, id),
+        Named::Route => feed.is_unknown(IdColumn::Route, id),
+        Named::Trip => feed.is_unknown(IdColumn::Trip, id),
         Named::Service => {
-            return is_in_neither(feed, IdColumn::Calendar, IdColumn::CalendarDate, id);
+            feed.is_unknown(IdColumn::Calendar, id) && feed.is_unknown(IdColumn::CalendarDate, id)
         }
-        Named::Area => IdColumn::Area,
-        Named::Network => IdColumn::Network,
+        Named::Area => feed.is_unknown(IdColumn::Area, id),
+        Named::Network => feed.is_unknown(IdColumn::Network, id),
         Named::RouteNetwork => {
-            return is_in_neither(feed, IdColumn::RouteNetwork, IdColumn::Network, id);
+            feed.is_unknown(IdColumn::RouteNetwork, id) && feed.is_unknown(IdColumn::Network, id)
         }
-        Named::TimeframeGroup => IdColumn::TimeframeGroup,
-        Named::RiderCategory => IdColumn::RiderCategory,
-        Named::FareMedia => IdColumn::FareMedia,
-        Named::FareProduct => IdColumn::FareProduct,
-        Named::LegGroup => IdColumn::LegGroup,
-    };
-    feed.index(column).is_unknown(id)
+        Named::TimeframeGroup => feed.is_unknown(IdColumn::TimeframeGroup, id),
+        Named::RiderCategory => feed.is_unknown(IdColumn::RiderCategory, id),
+        Named::FareMedia => feed.is_unknown(IdColumn::FareMedia, id),
+        Named::FareProduct => feed.is_unknown(IdColumn::FareProduct, id),
+        Named::LegGroup => feed.is_unknown(IdColumn::LegGroup, id),
+    }
 }
 
 // Whether the ids of a row are looked at.
@@ -131,9 +117,7 @@ fn is_parent_unknown<C: CallTable>(feed: &JudgedFeed<C>, row: u32) -> bool
 {
     let stops = feed.table(FileName::Stops);
     has_parent(feed.tables(), row)
-        && feed
-            .index(IdColumn::Stop)
-            .is_unknown(stops.field(row, ColumnName::ParentStation))
+        && feed.is_unknown(IdColumn::Stop, stops.field(row, ColumnName::ParentStation))
 }
 
 // Whether a parent is named that isn't good: only a platform has a parent, which is a station.
