@@ -154,30 +154,14 @@ impl<'t, C: CallTable> JudgedFeed<'t, C> {
         self.index(column).is_unknown(id)
     }
 
-    // A row of stop_times.txt. Its trip, or its stop, has the number after the last exactly where it isn't there.
-    fn call(&self, row: u32) -> StopTimeRow
+    /// A row of `stop_times.txt`. Its trip, or its stop, has the number after the last exactly where it isn't there.
+    pub fn call(&self, row: u32) -> StopTimeRow
         requires { row < row_count (table_in self.now file.StopTimes) }
         ensures row { result ≡ stop_time_row self.now row }
         ensures trip { (result.trip.0 == row_count (table_in self.now file.Trips)) ≡ is_unknown_id self.now Trip (field (table_in self.now file.StopTimes) row column.TripId) }
         ensures stop { (result.stop.0 == row_count (table_in self.now file.Stops)) ≡ is_unknown_id self.now Stop (field (table_in self.now file.StopTimes) row column.StopId) }
     {
         self.calls[row as usize]
-    }
-
-    /// Whether the trip of a row of `stop_times.txt` isn't there.
-    pub fn is_trip_unknown(&self, row: u32) -> bool
-        requires { row < row_count (table_in self.now file.StopTimes) }
-        ensures { result ≡ is_unknown_id self.now Trip (field (table_in self.now file.StopTimes) row column.TripId) }
-    {
-        self.call(row).trip.0 == self.table(FileName::Trips).rows()
-    }
-
-    /// Whether the stop of a row of `stop_times.txt` isn't there.
-    pub fn is_stop_unknown(&self, row: u32) -> bool
-        requires { row < row_count (table_in self.now file.StopTimes) }
-        ensures { result ≡ is_unknown_id self.now Stop (field (table_in self.now file.StopTimes) row column.StopId) }
-    {
-        self.call(row).stop.0 == self.table(FileName::Stops).rows()
     }
 
     /// Whether the stop of a row of `stop_times.txt` is there and a platform.
