@@ -3,20 +3,30 @@ use Rattle.std.proofs.Common.{◌≡◌, refl, ℕ, zero, suc, ◌+◌, ◌<◌,
 use Rattle.std.specs.Prelude.{slice_get}
 use Rattle.feed_rows.specs.declared.names.FileName.{FileName}
 use Rattle.feed_rows.specs.declared.names.FileName.TheVariants as file
+use Rattle.feed_rows.specs.declared.names.ColumnName.{ColumnName}
 use Rattle.feed_rows.specs.declared.names.ColumnName.TheVariants.{TripId, RiderCategoryId, FareMediaId}
-use Rattle.plain_laws.specs.Plain.{find_below, when}
+use Rattle.plain_laws.specs.Plain.{find_below, first_below, when}
 use Rattle.plain_laws.proofs.Laws.{at_item, none_below, none_when, find_below_tells}
 use Rattle.feed_faults.specs.declared.checks.Named.TheVariants.{Trip, RiderCategory, FareMedia}
 use Rattle.feed_faults.specs.declared.checks.RowCheck.{RowCheck}
-use Rattle.feed_faults.specs.declared.checks.RowCheck.TheVariants.{Known}
+use Rattle.feed_faults.specs.declared.checks.RowCheck.TheVariants.{Known, NewKey}
 use Rattle.feed_rows.specs.declared.faults.FeedFault.{FeedFault}
 use Rattle.feed_faults.specs.FeedTables.{FeedTables}
 use Rattle.feed_faults.specs.FaultPlaces.{field_fault}
 use Rattle.feed_faults.specs.RowChecks.{checks_of, fails, fault_of_check, column_of_check, kind_of_check}
 use Rattle.feed_tables.specs.RowNumbers.{has_table}
-use Rattle.feed_relations.specs.FittingChecks.{Fits, Knows, HasPassed}
+use Rattle.feed_relations.specs.FittingChecks.{Fits}
+use Rattle.feed_relations.specs.RowKeys.{IsKeyKnown}
 use Rattle.feed_relations.proofs.LeastLaws.{IsLeast, least_kept, least_found}
-use Rattle.feed_relations.proofs.KeyLaws.{exceptions_tell, frequencies_tell, products_tell}
+
+-- a row has passed the first n checks of its file
+abbrev HasPassed : FeedTables → FileName → ℕ → ℕ → Type 0
+HasPassed t name n row = first_below n (at_item (checks_of name) (fault_of_check t name row)) ≡ None
+
+-- what a check takes as known of a row
+abbrev Knows : FeedTables → FileName → RowCheck → ℕ → Type 0
+Knows t name (NewKey column) row = IsKeyKnown t name row
+Knows t name check row = Unit {0}
 
 -- a check before the first n didn't fail
 passed : (t : FeedTables) (name : FileName) (n row k : ℕ) (check : RowCheck) → HasPassed t name n row → k < n → slice_get (checks_of name) k ≡ Some check → fails t name check row ≡ false
@@ -50,9 +60,9 @@ module _ (t : FeedTables) where
   do_fit file.Trips kept = (refl, (λ row has. tt), (tt, (λ row has. tt), (tt, (λ row has. tt), tt)))
   do_fit file.StopTimes kept = absurd (cc)
   do_fit file.Calendar kept = (refl, (λ row has. tt), (refl, (λ row has. tt), tt))
-  do_fit file.CalendarDates kept = (exceptions_tell t, (λ row has. tt), tt)
+  do_fit file.CalendarDates kept = (tt, (λ row has. tt), tt)
   do_fit file.Frequencies kept =
-      (tt, (λ row has. tt), (frequencies_tell t, (λ row has. passed t file.Frequencies 1 row 0 (Known TripId Trip) has (omega arith) refl), tt))
+      (tt, (λ row has. tt), (tt, (λ row has. passed t file.Frequencies 1 row 0 (Known TripId Trip) has (omega arith) refl), tt))
   do_fit file.Transfers kept = (tt, (λ row has. tt), (tt, (λ row has. tt), tt))
   do_fit file.Areas kept = (refl, (λ row has. tt), tt)
   do_fit file.StopAreas kept = (tt, (λ row has. tt), (tt, (λ row has. tt), tt))
@@ -68,7 +78,7 @@ module _ (t : FeedTables) where
       tt,
       (λ row has. tt),
       (
-        products_tell t,
+        tt,
         (λ row has. (passed t file.FareProducts 2 row 0 (Known RiderCategoryId RiderCategory) has (omega arith) refl, passed t file.FareProducts 2 row 1 (Known FareMediaId FareMedia) has (omega arith) refl)),
         (tt, (λ row has. tt), tt),
       ),
@@ -82,10 +92,10 @@ module _ (t : FeedTables) where
   pub fits : (name : FileName) (k : ℕ) (d : RowCheck) → has_table name ≡ true → k < length (checks_of name) → Fits t name (get_or (checks_of name) k d)
   fits name k d kept lt = fit_at t name 0 (checks_of name) k d (do_fit name kept) lt
 
-  pub knows : (name : FileName) (k : ℕ) (d : RowCheck) (row : ℕ) → has_table name ≡ true → k < length (checks_of name) → HasPassed t name k row → Knows t name (get_or (checks_of name) k d) row
-  knows name k d row kept lt has =
+  pub knows : (name : FileName) (k : ℕ) (d : RowCheck) (row : ℕ) (column : ColumnName) → has_table name ≡ true → k < length (checks_of name) → HasPassed t name k row → get_or (checks_of name) k d ≡ NewKey column → IsKeyKnown t name row
+  knows name k d row column kept lt has is =
       let e : k ≡ 0 + k = omega arith in
-      know_at t name 0 (checks_of name) k d row (do_fit name kept) lt (subst (λ n. HasPassed t name n row) e has)
+      subst (λ check. Knows t name check row) is (know_at t name 0 (checks_of name) k d row (do_fit name kept) lt (subst (λ n. HasPassed t name n row) e has))
 
 -- the least row at which a check of a list fails, after one check more, which is one of the file's list
 module _ (t : FeedTables) (name : FileName) (checks : List RowCheck) (are : checks ≡ checks_of name) (n i below : ℕ) (found : Option FeedFault) (d : RowCheck) (lt : i < length checks) (least : IsLeast (checks_of name) (fault_of_check t name) i n below found) where

@@ -1,18 +1,18 @@
 -- Keys of numbers in place of texts: rows have one key exactly where they are the same.
-use Rattle.std.proofs.Common.{◌≡◌, refl, sym, ◌∙◌, ap, ℕ, suc, ◌+◌, ◌<◌, ◌≤◌, Bool, true, false, cond, List, [], ◌∷◌, arith}
-use Rattle.std.specs.Prelude.{◌==◌, ◌&&◌, ◌||◌, bytes_eq, ℤ, pos, Option, Some, None}
-use Rattle.std.specs.List.{list_any}
-use Rattle.std.specs.BTreeSet.{BTreeSet}
-use Rattle.std.specs.Ordering.{nat_cmp, int_cmp, int_eq, ordering_then}
+use Rattle.std.proofs.Common.{◌≡◌, refl, sym, ◌∙◌, ap, ℕ, ◌<◌, ◌≤◌, Bool, true, false, List, [], ◌∷◌, arith}
+use Rattle.std.specs.Prelude.{◌==◌, ◌&&◌, bytes_eq, pos, Option, Some, None}
+use Rattle.std.specs.Cmp.{IsTotalOrder}
+use Rattle.std.specs.Ordering.{nat_cmp, int_cmp, int_eq, ordering_then, eq_by_cmp}
+use Rattle.std.proofs.lemmas.Cmp.{then_total, on_total, nat_cmp_total, int_cmp_total}
 use Rattle.std.proofs.lemmas.Bool.{eqb-true, eq-eqb}
-use Rattle.std.proofs.lemmas.Bool.Decides.{Decides-int_eq}
+use Rattle.std.proofs.lemmas.Bool.Decides.{Decides-int_eq, nat_tests}
 use Rattle.std.proofs.lemmas.Slice.Eq.{bytes_eq-Decides}
 use Rattle.feed_rows.specs.declared.names.FileName.{FileName}
 use Rattle.feed_rows.specs.declared.names.FileName.TheVariants as file
 use Rattle.feed_rows.specs.declared.names.ColumnName.{ColumnName}
 use Rattle.feed_rows.specs.declared.names.ColumnName.TheVariants.{TripId, ServiceId, Date, FareProductId, RiderCategoryId, FareMediaId}
 use Rattle.plain_laws.specs.Plain.{find_below}
-use Rattle.plain_laws.proofs.Laws.{find_below_some, find_below-same, same_test, eqb_turn, int_eq-int_same, any_below-same, then_equal, number_equal}
+use Rattle.plain_laws.proofs.Laws.{find_below_some, find_below-same, same_test, int_eq-int_same, any_below-same, then_equal, number_equal}
 use Rattle.feed_faults.specs.declared.checks.RowCheck.TheVariants.{NewKey}
 use Rattle.feed_faults.specs.Records.{FileTable, row_count, field, is_filled}
 use Rattle.feed_faults.specs.FeedTables.{FeedTables, table_in}
@@ -22,8 +22,9 @@ use Rattle.feed_faults.specs.RowChecks.{same_key, fails}
 use Rattle.feed_faults.specs.ServiceRelations.{same_exception, same_start}
 use Rattle.feed_faults.specs.FareRelations.{same_product}
 use Rattle.feed_faults.specs.AcceptedFeed.{row_number}
+use Rattle.feed_tables.specs.RowNumbers.{has_table}
 use Rattle.feed_relations.specs.declared.keys.RowKey.{RowKey}
-use Rattle.feed_relations.specs.RowKeys.{row_key, same_row_key, is_key_repeated, AreSeen, IsKeyKnown, DoKeysTell}
+use Rattle.feed_relations.specs.RowKeys.{key, row_key, key_order, is_key_repeated, IsKeyKnown}
 use Rattle.feed_relations.proofs.TripNumberLaws.{row_tells}
 
 -- an empty text is the only one that isn't filled
@@ -74,10 +75,14 @@ own_known table name row lt =
 pub own_same : (table : FileTable) (name : ColumnName) (a b : ℕ) → a < row_count table → b < row_count table → (row_number table name (field table a name) == row_number table name (field table b name)) ≡ same_field table name a b
 own_same table name a b la lb = number_same table name (field table a name) (field table b name) (own_known table name a la) (own_known table name b lb)
 
-key_parts : (a b : RowKey) → same_row_key a b ≡ ((a.first == b.first) && (int_eq a.second b.second && (a.third == b.third)))
+key_parts : (a b : RowKey) → eq_by_cmp key_order a b ≡ ((a.0 == b.0) && (int_eq a.1 b.1 && (a.2 == b.2)))
 key_parts a b =
-    then_equal (nat_cmp a.first b.first) (ordering_then (int_cmp a.second b.second) (nat_cmp a.third b.third))
-    ∙ rw (then_equal (int_cmp a.second b.second) (nat_cmp a.third b.third), number_equal a.first b.first, number_equal a.third b.third) refl
+    then_equal (nat_cmp a.0 b.0) (ordering_then (int_cmp a.1 b.1) (nat_cmp a.2 b.2))
+    ∙ rw (then_equal (int_cmp a.1 b.1) (nat_cmp a.2 b.2), number_equal a.0 b.0, number_equal a.2 b.2) refl
+
+-- the order of keys is one
+pub key_total : IsTotalOrder key_order
+key_total = then_total (on_total (λ (k : RowKey). k.0) nat_cmp_total) (then_total (on_total (λ (k : RowKey). k.1) int_cmp_total) (on_total (λ (k : RowKey). k.2) nat_cmp_total))
 
 pos_same : (m n : ℕ) → int_eq (pos m) (pos n) ≡ (m == n)
 pos_same m n = same_test (int_eq (pos m) (pos n)) (m == n) (λ e. eq-eqb m n (let is = (Decides-int_eq (pos m) (pos n)).0 e in cc)) (λ e. (Decides-int_eq (pos m) (pos n)).1 (ap pos (eqb-true m n e)))
@@ -91,52 +96,49 @@ grouped : (a b c : Bool) → a && (b && c) ≡ a && b && c
 grouped true b c = refl
 grouped false b c = refl
 
+-- rows whose keys are known have one key of numbers exactly where they have one key
+abbrev DoKeysTell : FeedTables → FileName → Type 0
+DoKeysTell t name =
+    (a b : ℕ) → a < b → b < row_count (table_in t name) → IsKeyKnown t name a → IsKeyKnown t name b
+    → eq_by_cmp key_order (row_key t name b) (row_key t name a) ≡ same_key name (table_in t name) b a
+
+-- the numbers of two rows differ
+differ : (a b : ℕ) → a < b → eq_by_cmp key_order (key b (pos 0) 0) (key a (pos 0) 0) ≡ false
+differ a b lt = key_parts (key b (pos 0) 0) (key a (pos 0) 0) ∙ grind (arith, nat_tests)
+
 module _ (t : FeedTables) where
-  pub exceptions_tell : DoKeysTell t file.CalendarDates
+  exceptions_tell : DoKeysTell t file.CalendarDates
   unfolding same_exception
   exceptions_tell a b lt within ka kb =
       let table = table_in t file.CalendarDates in
       key_parts (row_key t file.CalendarDates b) (row_key t file.CalendarDates a)
       ∙ rw (own_same table ServiceId b a within (omega arith), int_eq-int_same (day_or_zero (field table b Date)) (day_or_zero (field table a Date))) (alone _ _)
 
-  pub frequencies_tell : DoKeysTell t file.Frequencies
+  frequencies_tell : DoKeysTell t file.Frequencies
   unfolding same_start
   frequencies_tell a b lt within ka kb =
       let table = table_in t file.Frequencies in
       key_parts (row_key t file.Frequencies b) (row_key t file.Frequencies a)
       ∙ rw (number_same (table_in t file.Trips) TripId (field table b TripId) (field table a TripId) kb ka, pos_same _ _) (alone _ _)
 
-  pub products_tell : DoKeysTell t file.FareProducts
+  products_tell : DoKeysTell t file.FareProducts
   unfolding same_product
   products_tell a b lt within ka kb =
       let table = table_in t file.FareProducts in
       key_parts (row_key t file.FareProducts b) (row_key t file.FareProducts a)
       ∙ rw (own_same table FareProductId b a within (omega arith), pos_same _ _, number_same (table_in t file.RiderCategories) RiderCategoryId (field table b RiderCategoryId) (field table a RiderCategoryId) kb.0 ka.0, number_same (table_in t file.FareMedia) FareMediaId (field table b FareMediaId) (field table a FareMediaId) kb.1 ka.1) (grouped (same_field table FareProductId b a) (same_field table RiderCategoryId b a) (same_field table FareMediaId b a))
 
+  keys_tell : (name : FileName) → has_table name ≡ true → DoKeysTell t name
+  keys_tell file.CalendarDates kept = exceptions_tell
+  keys_tell file.Frequencies kept = frequencies_tell
+  keys_tell file.FareProducts kept = products_tell
+  keys_tell file.StopTimes kept = absurd (cc)
+  keys_tell name kept = λ a b lt within ka kb. differ a b lt
+
   -- the first row whose key of numbers is repeated is the first whose key is
-  pub repeated_by_numbers : (name : FileName) (column : ColumnName) (below : ℕ) → below ≤ row_count (table_in t name) → DoKeysTell t name → ((row : ℕ) → row < below → IsKeyKnown t name row) → find_below below (is_key_repeated t name) ≡ find_below below (fails t name (NewKey column))
+  pub repeated_by_numbers : (name : FileName) (column : ColumnName) (below : ℕ) → has_table name ≡ true → below ≤ row_count (table_in t name) → ((row : ℕ) → row < below → IsKeyKnown t name row) → find_below below (is_key_repeated t name) ≡ find_below below (fails t name (NewKey column))
   unfolding is_key_repeated
-  repeated_by_numbers name column below le tell known =
+  repeated_by_numbers name column below kept le known =
       find_below-same (is_key_repeated t name) (fails t name (NewKey column)) below (λ row lt.
-      any_below-same (λ r. same_row_key (row_key t name row) (row_key t name r)) (same_key name (table_in t name) row) row (λ r small.
-      tell r row small (omega arith) (known r (omega arith)) (known row lt)))
-
--- the order in which keys are compared doesn't count
-int_turn : (a b : ℤ) → int_eq a b ≡ int_eq b a
-int_turn a b = same_test (int_eq a b) (int_eq b a) (λ e. (Decides-int_eq b a).1 (sym ((Decides-int_eq a b).0 e))) (λ e. (Decides-int_eq a b).1 (sym ((Decides-int_eq b a).0 e)))
-
-key_turn : (a b : RowKey) → same_row_key a b ≡ same_row_key b a
-key_turn a b = key_parts a b ∙ rw (eqb_turn a.first b.first, int_turn a.second b.second, eqb_turn a.third b.third) refl ∙ sym (key_parts b a)
-
-either : (a b : Bool) → cond a true b ≡ (b || a)
-either true true = refl
-either true false = refl
-either false true = refl
-either false false = refl
-
--- the keys that are seen with one more
-pub seen_more : (seen next : BTreeSet RowKey) (t : FeedTables) (name : FileName) (row : ℕ) → AreSeen seen t name row
-    → ((k : RowKey) → list_any (same_row_key k) next.keys ≡ cond (same_row_key (row_key t name row) k) true (list_any (same_row_key k) seen.keys)) → AreSeen next t name (row + 1)
-seen_more seen next t name row are put k =
-    let e : row + 1 ≡ suc row = omega arith in
-    rw e (put k ∙ either (same_row_key (row_key t name row) k) (list_any (same_row_key k) seen.keys) ∙ rw (are k, key_turn (row_key t name row) k) refl)
+      any_below-same (λ r. eq_by_cmp key_order (row_key t name row) (row_key t name r)) (same_key name (table_in t name) row) row (λ r small.
+      keys_tell name kept r row small (omega arith) (known r (omega arith)) (known row lt)))

@@ -1,4 +1,5 @@
 pub mod TripNumberLaws
+pub mod SeenLaws
 pub mod KeyLaws
 pub mod FrameLaws
 pub mod LeastLaws

@@ -5,7 +5,8 @@ ghost use Rattle.feed_faults.specs.Records.{row_count};
 ghost use Rattle.feed_faults.specs.FeedTables.{table_in};
 ghost use Rattle.feed_faults.specs.RowChecks.{fails};
 ghost use Rattle.feed_tables.specs.RowNumbers.{has_table};
-ghost use Rattle.feed_relations.specs.FittingChecks.{Fits, Knows, IsByRow};
+ghost use Rattle.feed_relations.specs.FittingChecks.{Fits, IsByRow};
+ghost use Rattle.feed_relations.specs.RowKeys.{IsKeyKnown};
 
 use crate::frames::first_bad_frame;
 use crate::judged::JudgedFeed;
@@ -49,7 +50,7 @@ pub fn first_failing<C: CallTable>(
     requires within { below ≤ row_count (table_in feed.now file) }
     requires kept { has_table file ≡ true }
     requires fits { Fits feed.now file check }
-    requires knows { (row : ℕ) → row < below → Knows feed.now file check row }
+    requires known { (row : ℕ) (column : _) → row < below → check ≡ RowCheck.NewKey column → IsKeyKnown feed.now file row }
     ensures { IfOk result (λ found. found ≡ find_below below (fails feed.now file check)) }
 {
     match check {

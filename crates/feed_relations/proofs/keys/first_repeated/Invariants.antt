@@ -1,7 +1,8 @@
 use Rattle.std.proofs.Common.{◌≡◌, None}
 use Rattle.plain_laws.specs.Plain.{find_below}
-use Rattle.feed_relations.specs.RowKeys.{is_key_repeated, AreSeen}
+use Rattle.feed_relations.specs.RowKeys.{row_key, key_order, is_key_repeated}
+use Rattle.feed_relations.proofs.SeenLaws.{AreSeen}
 use Rattle.feed_relations.proofs.keys.first_repeated.Given as goal
 
 abbrev pub invariant-loop-row : goal.invariant-loop-row
-invariant-loop-row g l = (find_below l.row (is_key_repeated l.feed l.file) ≡ None) × AreSeen l.seen l.feed l.file l.row
+invariant-loop-row g l = (find_below l.row (is_key_repeated l.feed l.file) ≡ None) × AreSeen key_order (row_key l.feed l.file) l.seen l.row

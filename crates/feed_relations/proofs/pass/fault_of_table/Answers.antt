@@ -13,9 +13,9 @@ pub first_failing-requires-clause-fits : goal.first_failing-requires-clause-fits
 first_failing-requires-clause-fits g c =
     rw c.checks_of-check-items.ensures (fits c.args.feed.now c.args.file c.loop-i.i _ c.requires (subst (λ (checks : List RowCheck). c.loop-i.i < length checks) c.checks_of-check-items.ensures c.loop-i-test.true))
 
-pub first_failing-requires-clause-knows : goal.first_failing-requires-clause-knows
-first_failing-requires-clause-knows g c =
-    rw c.checks_of-check-items.ensures (λ row lt. knows c.args.feed.now c.args.file c.loop-i.i _ row c.requires (subst (λ (checks : List RowCheck). c.loop-i.i < length checks) c.checks_of-check-items.ensures c.loop-i-test.true) (c.loop-i.invariant.none row lt))
+pub first_failing-requires-clause-known : goal.first_failing-requires-clause-known
+first_failing-requires-clause-known g c =
+    rw c.checks_of-check-items.ensures (λ row column lt. knows c.args.feed.now c.args.file c.loop-i.i _ row column c.requires (subst (λ (checks : List RowCheck). c.loop-i.i < length checks) c.checks_of-check-items.ensures c.loop-i-test.true) (c.loop-i.invariant.none row lt))
 
 pub check_fault-requires : goal.check_fault-requires
 check_fault-requires g c =
