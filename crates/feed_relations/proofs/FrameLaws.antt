@@ -1,5 +1,5 @@
 -- Timeframes that overlap: sorted, two neighbours do where any two do; and the first that overlaps an earlier one.
-use Rattle.std.proofs.Common.{◌≡◌, refl, sym, ◌∙◌, ap, ℕ, zero, suc, ◌+◌, ◌-◌, ◌<◌, ◌≤◌, ⊎_elim, Bool, true, false, List, length, take, All, Option, Some, None, IsPermutation, arith, nat_lt}
+use Rattle.std.proofs.Common.{◌≡◌, refl, sym, ◌∙◌, ap, ℕ, zero, suc, ◌+◌, ◌-◌, ◌<◌, ◌≤◌, ◌⊎◌, ⊎_elim, Bool, true, false, List, length, take, All, Option, Some, None, IsPermutation, arith, nat_lt}
 use Rattle.std.specs.Prelude.{◌==◌, ◌&&◌, ◌||◌, not, unwrap_or}
 use Rattle.std.specs.Option.{option_or}
 use Rattle.std.specs.List.{IsDistinct}
@@ -16,8 +16,20 @@ use Rattle.feed_faults.specs.FieldValues.{frame_start, frame_end}
 use Rattle.feed_faults.specs.RowKeys.{is_repeated}
 use Rattle.feed_faults.specs.FareRelations.{is_one_filled, do_frames_overlap, is_bad_frame}
 use Rattle.feed_relations.specs.declared.frames.Frame.{Frame}
-use Rattle.feed_relations.specs.Frames.{frame_of, is_malformed, IsOpen, do_overlap, no_frame, frame_at, overlaps_earlier, has_overlap, IsNotBefore, DoAscend, neighbours_overlap}
+use Rattle.feed_relations.specs.Frames.{frame_of, is_malformed, IsOpen, do_overlap, no_frame, frame_at, overlaps_earlier, has_overlap}
 use Rattle.feed_relations.proofs.KeyLaws.{own_same}
+
+-- b doesn't come before a: by group, then by service, then by start
+abbrev pub IsNotBefore : Frame → Frame → Type 0
+IsNotBefore a b = (a.group < b.group) ⊎ ((a.group ≡ b.group) × ((a.service < b.service) ⊎ ((a.service ≡ b.service) × (a.start ≤ b.start))))
+
+-- no timeframe comes before the one before it
+abbrev pub DoAscend : List Frame → Type 0
+DoAscend frames = (k : ℕ) → k + 1 < length frames → IsNotBefore (frame_at frames k) (frame_at frames (k + 1))
+
+-- two neighbours overlap
+abbrev pub neighbours_overlap : List Frame → ℕ → Bool
+neighbours_overlap frames k = do_overlap (frame_at frames k) (frame_at frames (k + 1))
 
 swap_last : (a b c d : Bool) → a && b && c && d ≡ a && b && d && c
 swap_last true true true true = refl

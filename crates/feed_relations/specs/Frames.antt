@@ -1,5 +1,5 @@
 -- Timeframes as numbers.
-use Rattle.std.specs.Prelude.{◌≡◌, ℕ, ◌+◌, ◌<◌, ◌==◌, ◌&&◌, ◌||◌, not, nat_lt, ◌⊎◌, ◌≤◌, Bool, List, length, get_or}
+use Rattle.std.specs.Prelude.{ℕ, ◌<◌, ◌==◌, ◌&&◌, ◌||◌, not, nat_lt, Bool, List, length, get_or}
 use Rattle.feed_rows.specs.declared.names.ColumnName.TheVariants.{ServiceId, TimeframeGroupId, StartTime, EndTime}
 use Rattle.plain_laws.specs.Plain.{any_below}
 use Rattle.feed_faults.specs.Records.{FileTable, field}
@@ -44,15 +44,3 @@ overlaps_earlier frames later = any_below later (λ earlier. do_overlap (frame_a
 -- some timeframe overlaps an earlier one
 unfoldable pub has_overlap : List Frame → Bool
 has_overlap frames = any_below (length frames) (overlaps_earlier frames)
-
--- b doesn't come before a: by group, then by service, then by start
-abbrev pub IsNotBefore : Frame → Frame → Type 0
-IsNotBefore a b = (a.group < b.group) ⊎ ((a.group ≡ b.group) × ((a.service < b.service) ⊎ ((a.service ≡ b.service) × (a.start ≤ b.start))))
-
--- no timeframe comes before the one before it
-abbrev pub DoAscend : List Frame → Type 0
-DoAscend frames = (k : ℕ) → k + 1 < length frames → IsNotBefore (frame_at frames k) (frame_at frames (k + 1))
-
--- two neighbours overlap
-abbrev pub neighbours_overlap : List Frame → ℕ → Bool
-neighbours_overlap frames k = do_overlap (frame_at frames k) (frame_at frames (k + 1))

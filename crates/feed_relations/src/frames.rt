@@ -1,14 +1,11 @@
 //! Timeframes.
-ghost use Rattle.std.specs.Prelude.{◌≡◌, ◌<◌, ◌≤◌, ◌+◌, ◌-◌, ◌^◌, true, All, length, None, Some, IfOk, IfSome};
-ghost use Rattle.std.specs.List.Sorted.{IsPermutation};
-ghost use Rattle.feed_rows.specs.declared.names.ColumnName.TheVariants as column;
+ghost use Rattle.std.specs.Prelude.{◌≡◌, ◌<◌, ◌≤◌, ◌^◌, All, length, IfOk, IfSome};
 ghost use Rattle.feed_rows.specs.declared.names.FileName.TheVariants as file;
-ghost use Rattle.plain_laws.specs.Plain.{find_below, any_below, list_below};
+ghost use Rattle.plain_laws.specs.Plain.{find_below, list_below};
 ghost use Rattle.feed_faults.specs.Records.{row_count};
 ghost use Rattle.feed_faults.specs.FeedTables.{table_in};
-ghost use Rattle.feed_faults.specs.FareRelations.{do_frames_overlap, is_bad_frame};
-ghost use Rattle.feed_faults.specs.RowKeys.{is_repeated};
-ghost use Rattle.feed_relations.specs.Frames.{frame_of, is_malformed, IsOpen, do_overlap, overlaps_earlier, has_overlap, DoAscend, neighbours_overlap};
+ghost use Rattle.feed_faults.specs.FareRelations.{is_bad_frame};
+ghost use Rattle.feed_relations.specs.Frames.{frame_of, is_malformed, IsOpen, do_overlap, overlaps_earlier, has_overlap};
 
 use crate::judged::JudgedFeed;
 use crate::rows::is_one_filled;
@@ -53,47 +50,28 @@ fn first_malformed<C: CallTable>(tables: &Tables<C>, below: u32) -> Option<u32>
     None
 }
 
-// The timeframe of a row.
-#[tactic(auto, unfolding(crate::specs::Frames::frame_of))]
-fn frame_of<C: CallTable>(
-    tables: &Tables<C>,
-    groups: &IdIndex,
-    services: &IdIndex,
-    row: u32,
-) -> Frame
-    requires groups { groups.now ≡ record { table = table_in tables.now file.Timeframes; name = column.TimeframeGroupId } }
-    requires services { services.now ≡ record { table = table_in tables.now file.Timeframes; name = column.ServiceId } }
-    requires within { row < row_count (table_in tables.now file.Timeframes) }
-    ensures { result ≡ frame_of (table_in tables.now file.Timeframes) row }
-{
-    let frames = tables.get(FileName::Timeframes);
-    Frame {
-        group: groups.number(frames.field(row, ColumnName::TimeframeGroupId)),
-        service: services.number(frames.field(row, ColumnName::ServiceId)),
-        start: frame_start(tables, row),
-        end: frame_end(tables, row),
-    }
-}
-
 // The timeframes of the rows below one.
+#[tactic(auto, unfolding(crate::specs::Frames::frame_of))]
 fn frames_below<C: CallTable>(
     alloc: Global,
-    tables: &Tables<C>,
-    groups: &IdIndex,
+    feed: &JudgedFeed<C>,
     below: u32,
 ) -> Result<Vec<Frame>, AllocError>
-    requires groups { groups.now ≡ record { table = table_in tables.now file.Timeframes; name = column.TimeframeGroupId } }
-    requires within { below ≤ row_count (table_in tables.now file.Timeframes) }
-    ensures { IfOk result (λ list. list.items ≡ list_below below (frame_of (table_in tables.now file.Timeframes))) }
+    requires { below ≤ row_count (table_in feed.now file.Timeframes) }
+    ensures { IfOk result (λ list. list.items ≡ list_below below (frame_of (table_in feed.now file.Timeframes))) }
 {
-    let services = IdIndex::of(
-        alloc,
-        tables.get(FileName::Timeframes),
-        ColumnName::ServiceId,
-    )?;
+    let tables = feed.tables();
+    let frames = tables.get(FileName::Timeframes);
+    let groups = feed.index(IdColumn::TimeframeGroup);
+    let services = IdIndex::of(alloc, frames, ColumnName::ServiceId)?;
     let mut list = Vec::with_capacity(alloc, below as usize)?;
     for row in 0..below {
-        list.push(frame_of(tables, groups, &services, row))?;
+        list.push(Frame {
+            group: groups.number(frames.field(row, ColumnName::TimeframeGroupId)),
+            service: services.number(frames.field(row, ColumnName::ServiceId)),
+            start: frame_start(tables, row),
+            end: frame_end(tables, row),
+        })?;
     }
     Ok(list)
 }
@@ -105,54 +83,32 @@ fn do_overlap(a: Frame, b: Frame) -> bool
     a.group == b.group && a.service == b.service && a.start < b.end && b.start < a.end
 }
 
-// The timeframes by group, by service and by start.
-fn sorted_frames(alloc: Global, frames: &[Frame]) -> Result<Vec<Frame>, AllocError>
-    ensures moved { IfOk result (λ sorted. IsPermutation frames.now sorted.items) }
-    ensures sorted { IfOk result (λ sorted. DoAscend sorted.items) }
-{
-    let mut sorted = frames.to_vec(alloc)?;
-    sorted.sort_unstable();
-    Ok(sorted)
-}
-
-// Whether the timeframe at a place overlaps the one after it.
-fn overlaps_next(frames: &[Frame], place: usize) -> bool
-    requires { place + 1 < length frames.now }
-    ensures { result ≡ neighbours_overlap frames.now place }
-{
-    do_overlap(frames[place], frames[place + 1])
-}
-
-// Whether two neighbours overlap.
-#[tactic(auto, using(plain_laws::proofs::Laws::any_below_hit, plain_laws::proofs::Laws::any_below_next))]
-fn do_neighbours_overlap(frames: &[Frame]) -> bool
-    ensures { result ≡ any_below (length frames.now - 1) (neighbours_overlap frames.now) }
-{
-    for place in 0..frames.len().saturating_sub(1) {
-        if overlaps_next(frames, place) {
-            return true;
-        }
-    }
-    false
-}
-
-// Whether some timeframe overlaps an earlier one: where they are sorted, two neighbours overlap.
+// Whether some timeframe overlaps an earlier one: where they are sorted by group, service and start, two neighbours overlap.
+#[tactic(auto, using(plain_laws::proofs::Laws::any_below_next))]
 fn has_overlap(alloc: Global, frames: &[Frame]) -> Result<bool, AllocError>
     requires { All IsOpen frames.now }
     ensures { IfOk result (λ has. has ≡ has_overlap frames.now) }
 {
-    let sorted = sorted_frames(alloc, frames)?;
-    Ok(do_neighbours_overlap(&sorted))
+    let mut sorted = frames.to_vec(alloc)?;
+    sorted.sort_unstable();
+    for place in 0..sorted.len().saturating_sub(1) {
+        if do_overlap(sorted[place], sorted[place + 1]) {
+            return Ok(true);
+        }
+    }
+    Ok(false)
 }
 
-// The first timeframe that overlaps an earlier one, where some does: the place before the shortest start of the list in which
-// some does, found by halving.
-fn overlap_between(alloc: Global, frames: &[Frame]) -> Result<u32, AllocError>
+// The first timeframe that overlaps an earlier one: the place before the shortest start of the list in which some does, found
+// by halving.
+fn first_overlap(alloc: Global, frames: &[Frame]) -> Result<Option<u32>, AllocError>
     requires open { All IsOpen frames.now }
     requires few { length frames.now < 2 ^ 32 }
-    requires some { has_overlap frames.now ≡ true }
-    ensures { IfOk result (λ place. find_below (length frames.now) (overlaps_earlier frames.now) ≡ Some place) }
+    ensures { IfOk result (λ found. found ≡ find_below (length frames.now) (overlaps_earlier frames.now)) }
 {
+    if !has_overlap(alloc, frames)? {
+        return Ok(None);
+    }
     let mut low = 0;
     let mut high = frames.len();
     while high - low > 1 {
@@ -163,38 +119,11 @@ fn overlap_between(alloc: Global, frames: &[Frame]) -> Result<u32, AllocError>
             low = middle;
         }
     }
-    Ok(low as u32)
+    Ok(Some(low as u32))
 }
 
-// The first timeframe that overlaps an earlier one.
-fn first_overlap(alloc: Global, frames: &[Frame]) -> Result<Option<u32>, AllocError>
-    requires open { All IsOpen frames.now }
-    requires few { length frames.now < 2 ^ 32 }
-    ensures { IfOk result (λ found. found ≡ find_below (length frames.now) (overlaps_earlier frames.now)) }
-{
-    if !has_overlap(alloc, frames)? {
-        return Ok(None);
-    }
-    Ok(Some(overlap_between(alloc, frames)?))
-}
-
-// The first row of timeframes.txt below one that overlaps an earlier one. No row below it is malformed.
-fn first_overlapping<C: CallTable>(
-    alloc: Global,
-    feed: &JudgedFeed<C>,
-    below: u32,
-) -> Result<Option<u32>, AllocError>
-    requires within { below ≤ row_count (table_in feed.now file.Timeframes) }
-    requires formed { find_below below (is_malformed (table_in feed.now file.Timeframes)) ≡ None }
-    ensures { IfOk result (λ found. found ≡ find_below below (is_repeated (do_frames_overlap (table_in feed.now file.Timeframes)))) }
-{
-    let groups = feed.index(IdColumn::TimeframeGroup);
-    let list = frames_below(alloc, feed.tables(), groups, below)?;
-    Ok(first_overlap(alloc, &list)?)
-}
-
-// The first row of timeframes.txt below one whose timeframe is bad.
-#[tactic(auto, using(crate::proofs::FrameLaws::formed_before, crate::proofs::FrameLaws::first_bad))]
+// The first row of timeframes.txt below one whose timeframe is bad: the first that overlaps an earlier one, among those before
+// the first malformed one, or else that.
 pub fn first_bad_frame<C: CallTable>(
     alloc: Global,
     feed: &JudgedFeed<C>,
@@ -204,6 +133,7 @@ pub fn first_bad_frame<C: CallTable>(
     ensures { IfOk result (λ found. found ≡ find_below below (is_bad_frame (table_in feed.now file.Timeframes))) }
 {
     let malformed = first_malformed(feed.tables(), below);
-    let overlapping = first_overlapping(alloc, feed, malformed.unwrap_or(below))?;
+    let frames = frames_below(alloc, feed, malformed.unwrap_or(below))?;
+    let overlapping = first_overlap(alloc, &frames)?;
     Ok(overlapping.or(malformed))
 }

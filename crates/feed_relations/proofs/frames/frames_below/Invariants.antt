@@ -6,4 +6,4 @@ use Rattle.feed_relations.specs.Frames.{frame_of}
 use Rattle.feed_relations.proofs.frames.frames_below.Given as goal
 
 abbrev pub invariant-loop-row : goal.invariant-loop-row
-invariant-loop-row g l = l.list.items ≡ list_below l.row (frame_of (table_in l.tables file.Timeframes))
+invariant-loop-row g l = l.list.items ≡ list_below l.row (frame_of (table_in l.fn.feed file.Timeframes))

@@ -1,7 +1,7 @@
 use Rattle.std.proofs.Common.{◌≡◌, ◌-◌, ◌<◌, ◌≤◌, false, true, length}
 use Rattle.plain_laws.specs.Plain.{any_below}
 use Rattle.feed_relations.specs.Frames.{overlaps_earlier}
-use Rattle.feed_relations.proofs.frames.overlap_between.Given as goal
+use Rattle.feed_relations.proofs.frames.first_overlap.Given as goal
 
 abbrev pub invariant-loop-high : goal.invariant-loop-high
 invariant-loop-high l =
