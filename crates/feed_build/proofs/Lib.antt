@@ -1,5 +1,5 @@
 pub mod NumberLaws
-pub mod ShortNames
+pub mod NameColumns
 pub mod CurrencyLaws
 pub mod FeedLaws
 pub mod IdLaws

@@ -1,15 +1,11 @@
 -- What the rows of a feed are made of.
-use Rattle.std.specs.Prelude.{◌≡◌, ℕ, List}
+use Rattle.std.specs.Prelude.{◌≡◌, ℕ, List, map}
 use Rattle.feed_faults.specs.FeedTables.{FeedTables}
-use Rattle.feed_faults.specs.AcceptedFeed.{service_names, network_names, frame_names, product_names, group_names}
 use Rattle.feed_soundness.specs.AcceptedTables.{AreFormed}
+use Rattle.feed_build.specs.NameNumbers.{name_kinds, names_of}
 
--- the files of the tables have no fault by themselves, and the rows by id and the names are those of the tables
-pub record IsSource (t ids : FeedTables) (services networks frames products groups : List (List ℕ)) : Type 0 where
+-- the files of the tables have no fault by themselves, and the rows by id and the names of each kind are those of the tables
+pub record IsSource (t ids : FeedTables) (names : List (List (List ℕ))) : Type 0 where
   pub formed : AreFormed t
   pub ids_are : ids ≡ t
-  pub services_are : services ≡ service_names t
-  pub networks_are : networks ≡ network_names t
-  pub frames_are : frames ≡ frame_names t
-  pub products_are : products ≡ product_names t
-  pub groups_are : groups ≡ group_names t
+  pub names_are : names ≡ map (names_of t) name_kinds

@@ -5,6 +5,7 @@ ghost use Rattle.feed_faults.specs.FeedTables.{table_in};
 ghost use Rattle.feed_faults.specs.AcceptedFeed.{area_row, stop_area_row, timeframe_row, rider_row, medium_row, product_row, leg_rule_row, transfer_rule_row, feed_currency, feed_decimals};
 ghost use Rattle.feed_soundness.specs.AcceptedTables.{AreFormed};
 
+use crate::name_kinds::NameKind;
 use crate::rows::FileRow;
 use crate::source::Source;
 use crate::values::{filled, is_code};
@@ -85,10 +86,10 @@ impl FileRow for TimeframeRow {
         let group = table.field(row, ColumnName::TimeframeGroupId);
         let service = table.field(row, ColumnName::ServiceId);
         Ok(TimeframeRow {
-            frame: FrameId(source.frames.number(group)),
+            frame: FrameId(source.name(NameKind::Frame, group)),
             start: natural(start).unwrap_or(0),
             end: natural(end).unwrap_or(DAY_SECONDS),
-            service: ServiceId(source.services.number(service)),
+            service: ServiceId(source.name(NameKind::Service, service)),
         })
     }
 }
@@ -157,7 +158,7 @@ impl FileRow for ProductRow {
         let rider = table.field(row, ColumnName::RiderCategoryId);
         let medium = table.field(row, ColumnName::FareMediaId);
         Ok(ProductRow {
-            product: ProductId(source.products.number(product)),
+            product: ProductId(source.name(NameKind::Product, product)),
             rider: filled(
                 rider,
                 RiderId(source.number(IdColumn::RiderCategory, rider)),
@@ -192,13 +193,16 @@ impl FileRow for LegRuleRow {
         let to_frame = table.field(row, ColumnName::ToTimeframeGroupId);
         let product = table.field(row, ColumnName::FareProductId);
         Ok(LegRuleRow {
-            group: filled(group, LegGroupId(source.groups.number(group))),
-            network: filled(network, NetworkId(source.networks.number(network))),
+            group: filled(group, LegGroupId(source.name(NameKind::Group, group))),
+            network: filled(network, NetworkId(source.name(NameKind::Network, network))),
             from_area: filled(from_area, AreaId(source.number(IdColumn::Area, from_area))),
             to_area: filled(to_area, AreaId(source.number(IdColumn::Area, to_area))),
-            from_frame: filled(from_frame, FrameId(source.frames.number(from_frame))),
-            to_frame: filled(to_frame, FrameId(source.frames.number(to_frame))),
-            product: ProductId(source.products.number(product)),
+            from_frame: filled(
+                from_frame,
+                FrameId(source.name(NameKind::Frame, from_frame)),
+            ),
+            to_frame: filled(to_frame, FrameId(source.name(NameKind::Frame, to_frame))),
+            product: ProductId(source.name(NameKind::Product, product)),
             priority: nat_of(priority),
         })
     }
@@ -230,12 +234,12 @@ impl FileRow for TransferRuleRow {
         };
         let product = table.field(row, ColumnName::FareProductId);
         Ok(TransferRuleRow {
-            from: filled(from, LegGroupId(source.groups.number(from))),
-            to: filled(to, LegGroupId(source.groups.number(to))),
+            from: filled(from, LegGroupId(source.name(NameKind::Group, from))),
+            to: filled(to, LegGroupId(source.name(NameKind::Group, to))),
             count: natural(count),
             limit: filled(table.field(row, ColumnName::DurationLimit), limit),
             kind: nat_of(kind) as u8,
-            product: filled(product, ProductId(source.products.number(product))),
+            product: filled(product, ProductId(source.name(NameKind::Product, product))),
         })
     }
 }

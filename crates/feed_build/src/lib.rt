@@ -7,6 +7,7 @@ mod call_rows;
 mod fares;
 mod feed;
 mod name_hash;
+mod name_kinds;
 mod numbering;
 mod parts;
 mod rows;

@@ -3,7 +3,8 @@ ghost use Rattle.std.specs.Hash.DefaultHasher.{initial, write};
 ghost use Rattle.std.specs.Hash as fed;
 ghost use Rattle.std.specs.Prelude.{fold};
 
-use feed_rows::{ColumnName, FileName};
+use crate::name_kinds::NameKind;
+use feed_rows::ColumnName;
 use feed_tables::{CallTable, NamedTable, Tables};
 use std::hash::{BuildHasher, DefaultHasher, Hasher};
 
@@ -22,55 +23,20 @@ fn write_column(hasher: &mut DefaultHasher, table: &NamedTable, column: ColumnNa
     }
 }
 
+// Reads the names of a kind into a seed.
+fn write_names<C: CallTable>(hasher: &mut DefaultHasher, tables: &Tables<C>, kind: NameKind) {
+    for (file, column) in kind.columns() {
+        write_column(hasher, tables.get(*file), *column);
+    }
+}
+
 impl NameHash {
     /// The hash for the names of these tables.
     pub fn of<C: CallTable>(tables: &Tables<C>) -> NameHash {
         let mut hasher = DefaultHasher::new();
-        write_column(
-            &mut hasher,
-            tables.get(FileName::Trips),
-            ColumnName::ServiceId,
-        );
-        write_column(
-            &mut hasher,
-            tables.get(FileName::Calendar),
-            ColumnName::ServiceId,
-        );
-        write_column(
-            &mut hasher,
-            tables.get(FileName::CalendarDates),
-            ColumnName::ServiceId,
-        );
-        write_column(
-            &mut hasher,
-            tables.get(FileName::Routes),
-            ColumnName::NetworkId,
-        );
-        write_column(
-            &mut hasher,
-            tables.get(FileName::Networks),
-            ColumnName::NetworkId,
-        );
-        write_column(
-            &mut hasher,
-            tables.get(FileName::Timeframes),
-            ColumnName::ServiceId,
-        );
-        write_column(
-            &mut hasher,
-            tables.get(FileName::Timeframes),
-            ColumnName::TimeframeGroupId,
-        );
-        write_column(
-            &mut hasher,
-            tables.get(FileName::FareProducts),
-            ColumnName::FareProductId,
-        );
-        write_column(
-            &mut hasher,
-            tables.get(FileName::FareLegRules),
-            ColumnName::LegGroupId,
-        );
+        for kind in NameKind::ALL {
+            write_names(&mut hasher, tables, kind);
+        }
         NameHash {
             seed: hasher.finish(),
         }

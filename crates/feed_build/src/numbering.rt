@@ -1,15 +1,14 @@
 //! Names numbered by their first appearance.
-ghost use Rattle.std.specs.Prelude.{◌≡◌, ◌+◌, ◌-◌, ◌<◌, ◌≤◌, ◌^◌, ℕ, List, [], true, length, IfOk, OnOk};
-ghost use Rattle.feed_rows.specs.Limits.{most_rows};
-ghost use Rattle.feed_faults.specs.FeedTables.{table_in};
+ghost use Rattle.std.specs.Prelude.{◌≡◌, ◌+◌, ◌-◌, ◌<◌, ◌≤◌, ◌^◌, length, IfOk, OnOk};
+ghost use Rattle.feed_faults.specs.Records.{row_count};
 ghost use Rattle.feed_soundness.specs.AcceptedTables.{AreFormed};
-ghost use Rattle.feed_tables.specs.RowNumbers.{has_table};
 ghost use Rattle.feed_faults.specs.AcceptedFeed.{name_number, with_name, with_column};
-ghost use Rattle.feed_build.specs.NameNumbers.{IsNumbering, IsShort, AreShort, names_in};
+ghost use Rattle.feed_build.specs.NameNumbers.{IsNumbering, IsShort, AreShort, names_in, names_of};
 
 use crate::name_hash::NameHash;
-use feed_rows::{ColumnName, FileName, Id, NameList};
-use feed_tables::{CallTable, Tables};
+use crate::name_kinds::NameKind;
+use feed_rows::{ColumnName, Id, NameList};
+use feed_tables::{CallTable, NamedTable, Tables};
 use feed_text::is_filled;
 use indexmap::IndexSet;
 use std::alloc::{AllocError, Global};
@@ -55,39 +54,40 @@ fn add_name<'t>(names: &mut IndexSet<&'t [u8], NameHash>, name: &'t [u8]) -> Res
 }
 
 impl<'t> Numbering<'t> {
-    /// No names.
-    pub fn empty(alloc: Global, hash: NameHash) -> Numbering<'t>
-        ensures { result ≡ [] }
-    {
-        Numbering {
-            names: IndexSet::with_hasher(alloc, hash),
-        }
-    }
-
-    /// These names and behind them the new ones of a file's column.
-    ///
-    /// # Errors
-    /// Want of memory.
-    #[tactic(auto, using(crate::proofs::ShortNames::few_rows))]
-    pub fn with_column<C: CallTable>(
-        self,
-        tables: &Tables<'t, C>,
-        file: FileName,
-        column: ColumnName,
-    ) -> Result<Numbering<'t>, AllocError>
-        requires formed { AreFormed tables.now }
-        requires kept { has_table file ≡ true }
-        requires short { AreShort (table_in tables.now file) column }
-        requires few { length self + most_rows < 2 ^ 32 }
-        ensures names { IfOk result (λ names. names ≡ with_column self.entry (table_in tables.now file) column) }
-        ensures grows { IfOk result (λ names. length names ≤ length self.entry + most_rows) }
+    // These names and behind them the new ones of a column.
+    fn with_column(self, table: &'t NamedTable, column: ColumnName) -> Result<Self, AllocError>
+        requires short { AreShort table.now column }
+        requires few { length self + row_count table.now < 2 ^ 32 }
+        ensures names { IfOk result (λ names. names ≡ with_column self.entry table.now column) }
+        ensures grows { IfOk result (λ names. length names ≤ length self.entry + row_count table.now) }
     {
         let Numbering { mut names } = self;
-        let table = tables.get(file);
         for row in 0..table.rows() {
             add_name(&mut names, table.field(row, column))?;
         }
         Ok(Numbering { names })
+    }
+
+    /// The names of a kind.
+    ///
+    /// # Errors
+    /// Want of memory.
+    pub fn of<C: CallTable>(
+        alloc: Global,
+        hash: NameHash,
+        tables: &Tables<'t, C>,
+        kind: NameKind,
+    ) -> Result<Numbering<'t>, AllocError>
+        requires { AreFormed tables.now }
+        ensures { IfOk result (λ names. names ≡ names_of tables.now kind) }
+    {
+        let mut names = Numbering {
+            names: IndexSet::with_hasher(alloc, hash),
+        };
+        for (file, column) in kind.columns() {
+            names = names.with_column(tables.get(*file), *column)?;
+        }
+        Ok(names)
     }
 
     /// The place of a name; the number of names where it isn't one of them.

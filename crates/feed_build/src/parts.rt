@@ -5,6 +5,7 @@ ghost use Rattle.feed_faults.specs.FeedTables.{table_in};
 ghost use Rattle.feed_faults.specs.AcceptedFeed.{typed_rows, stop_time_row};
 ghost use Rattle.feed_build.specs.FeedParts.{IsTimetableOf, AreFaresOf, AreNamesOf};
 
+use crate::name_kinds::NameKind;
 use crate::rows::typed_rows;
 use crate::source::Source;
 use crate::timetable::link_rows;
@@ -107,11 +108,11 @@ impl Names {
         ensures { IfOk result (AreNamesOf source.now) }
     {
         Ok(Names {
-            services: source.services.ids(source.alloc)?,
-            networks: source.networks.ids(source.alloc)?,
-            frames: source.frames.ids(source.alloc)?,
-            products: source.products.ids(source.alloc)?,
-            groups: source.groups.ids(source.alloc)?,
+            services: source.names(NameKind::Service).ids(source.alloc)?,
+            networks: source.names(NameKind::Network).ids(source.alloc)?,
+            frames: source.names(NameKind::Frame).ids(source.alloc)?,
+            products: source.names(NameKind::Product).ids(source.alloc)?,
+            groups: source.names(NameKind::Group).ids(source.alloc)?,
         })
     }
 }

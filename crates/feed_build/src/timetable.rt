@@ -8,6 +8,7 @@ ghost use Rattle.feed_faults.specs.FeedTables.{table_in};
 ghost use Rattle.feed_faults.specs.FieldValues.{stop_kind};
 ghost use Rattle.feed_faults.specs.AcceptedFeed.{accepted_parent, stop_row, network_of_route, route_row, trip_row, service_row, exception_row, frequency_row, link_row};
 
+use crate::name_kinds::NameKind;
 use crate::rows::FileRow;
 use crate::source::Source;
 use crate::values::{filled, is_code};
@@ -111,7 +112,7 @@ impl FileRow for RouteRow {
         let network = network_of_route(source, row);
         Ok(RouteRow {
             id: Id::copy_of(source.alloc, table.field(row, ColumnName::RouteId))?,
-            network: filled(network, NetworkId(source.networks.number(network))),
+            network: filled(network, NetworkId(source.name(NameKind::Network, network))),
         })
     }
 }
@@ -136,7 +137,7 @@ impl FileRow for TripRow {
         Ok(TripRow {
             id: Id::copy_of(source.alloc, table.field(row, ColumnName::TripId))?,
             route: RouteId(source.number(IdColumn::Route, route)),
-            service: ServiceId(source.services.number(service)),
+            service: ServiceId(source.name(NameKind::Service, service)),
         })
     }
 }
@@ -170,7 +171,7 @@ impl FileRow for ServiceRow {
         ] = source.tables().numbers::<10>(Self::FILE, row);
         let service = table.field(row, ColumnName::ServiceId);
         Ok(ServiceRow {
-            service: ServiceId(source.services.number(service)),
+            service: ServiceId(source.name(NameKind::Service, service)),
             days: [
                 is_code(monday, SERVICE_AVAILABLE),
                 is_code(tuesday, SERVICE_AVAILABLE),
@@ -204,7 +205,7 @@ impl FileRow for ExceptionRow {
         let &[_, date, kind] = source.tables().numbers::<3>(Self::FILE, row);
         let service = table.field(row, ColumnName::ServiceId);
         Ok(ExceptionRow {
-            service: ServiceId(source.services.number(service)),
+            service: ServiceId(source.name(NameKind::Service, service)),
             day: Day(date.unwrap_or(0)),
             added: is_code(kind, SERVICE_ADDED),
         })

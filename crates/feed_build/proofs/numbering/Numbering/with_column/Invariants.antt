@@ -4,7 +4,7 @@ use Rattle.feed_build.specs.NameNumbers.{IsNumbering, names_in}
 use Rattle.feed_build.proofs.numbering.Numbering.with_column.Given as goal
 
 abbrev pub invariant-loop-row : goal.invariant-loop-row
-invariant-loop-row g l =
+invariant-loop-row l =
     record {
       names : names_in l.names ≡ with_names l.fn.self l.table l.column l.row;
       numbering : IsNumbering (names_in l.names);
