@@ -3,4 +3,3 @@ pub mod CallRows
 pub mod CallsSoFar
 pub mod CallErrors
 pub mod Sources
-pub mod FeedParts

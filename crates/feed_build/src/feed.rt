@@ -4,68 +4,22 @@ ghost use Rattle.feed_rows.specs.declared.names.FileName.TheVariants as file;
 ghost use Rattle.feed_faults.specs.FeedTables.{table_in};
 ghost use Rattle.feed_faults.specs.AcceptedFeed.{typed_rows, rows_of_tables, stop_time_row};
 ghost use Rattle.feed_soundness.specs.AcceptedTables.{AreFormed, AreRelated};
-ghost use Rattle.feed_build.specs.FeedParts.{IsTimetableOf, AreFaresOf, AreNamesOf};
 
 use crate::fares::{feed_currency, feed_decimals};
-use crate::parts::{Fares, Names, Timetable};
+use crate::name_kinds::NameKind;
+use crate::rows::{rows_of_four, typed_rows};
 use crate::source::Source;
+use crate::timetable::link_rows;
 use feed_rows::{ColumnName, Feed, FileName, StopTimeRows};
 use feed_tables::{CallTable, Ids, Tables};
 use std::alloc::{AllocError, Global};
-
-// The feed of these parts.
-#[tactic(auto, unfolding(feed_faults::specs::AcceptedFeed::rows_of_tables))]
-fn joined<C: CallTable>(
-    tables: &Tables<C>,
-    timetable: Timetable,
-    fares: Fares,
-    names: Names,
-) -> Feed
-    requires formed { AreFormed tables.now }
-    requires related { AreRelated tables.now }
-    requires timetable { IsTimetableOf tables.now timetable }
-    requires fares { AreFaresOf tables.now fares }
-    requires names { AreNamesOf tables.now names }
-    ensures { result ≡ rows_of_tables tables.now }
-{
-    let has_priority = tables
-        .get(FileName::FareLegRules)
-        .has(ColumnName::RulePriority);
-    let currency = feed_currency(tables);
-    let decimals = feed_decimals(tables);
-    Feed {
-        stops: timetable.stops,
-        routes: timetable.routes,
-        trips: timetable.trips,
-        stop_times: timetable.stop_times,
-        services: timetable.services,
-        exceptions: timetable.exceptions,
-        frequencies: timetable.frequencies,
-        links: timetable.links,
-        areas: fares.areas,
-        stop_areas: fares.stop_areas,
-        timeframes: fares.timeframes,
-        riders: fares.riders,
-        media: fares.media,
-        products: fares.products,
-        leg_rules: fares.leg_rules,
-        transfer_rules: fares.transfer_rules,
-        service_names: names.services,
-        network_names: names.networks,
-        frame_names: names.frames,
-        product_names: names.products,
-        group_names: names.groups,
-        has_priority,
-        currency,
-        decimals,
-    }
-}
 
 /// The feed of tables in which both passes find no fault: the typed rows of each file, with row numbers in place of ids, and
 /// names numbered by first appearance. The rows of stop_times.txt are given.
 ///
 /// # Errors
 /// Want of memory.
+#[tactic(auto, unfolding(feed_faults::specs::AcceptedFeed::rows_of_tables))]
 pub fn feed_of_tables<C: CallTable>(
     alloc: Global,
     tables: &Tables<C>,
@@ -79,8 +33,34 @@ pub fn feed_of_tables<C: CallTable>(
     ensures { IfOk result (λ feed. feed ≡ rows_of_tables tables.now) }
 {
     let source = Source::of(alloc, tables, ids)?;
-    let timetable = Timetable::of(&source, stop_times)?;
-    let fares = Fares::of(&source)?;
-    let names = Names::of(&source)?;
-    Ok(joined(tables, timetable, fares, names))
+    let (stops, routes, trips, services) = rows_of_four(&source)?;
+    let (exceptions, frequencies, areas, stop_areas) = rows_of_four(&source)?;
+    let (timeframes, riders, media, products) = rows_of_four(&source)?;
+    let fare_leg_rules = tables.get(FileName::FareLegRules);
+    Ok(Feed {
+        stops,
+        routes,
+        trips,
+        stop_times,
+        services,
+        exceptions,
+        frequencies,
+        links: link_rows(&source)?,
+        areas,
+        stop_areas,
+        timeframes,
+        riders,
+        media,
+        products,
+        leg_rules: typed_rows(&source)?,
+        transfer_rules: typed_rows(&source)?,
+        service_names: source.names(NameKind::Service).ids(alloc)?,
+        network_names: source.names(NameKind::Network).ids(alloc)?,
+        frame_names: source.names(NameKind::Frame).ids(alloc)?,
+        product_names: source.names(NameKind::Product).ids(alloc)?,
+        group_names: source.names(NameKind::Group).ids(alloc)?,
+        has_priority: fare_leg_rules.has(ColumnName::RulePriority),
+        currency: feed_currency(tables),
+        decimals: feed_decimals(tables),
+    })
 }

@@ -9,7 +9,6 @@ mod feed;
 mod name_hash;
 mod name_kinds;
 mod numbering;
-mod parts;
 mod rows;
 mod source;
 mod stop_times;

@@ -53,3 +53,23 @@ pub fn typed_rows<R: FileRow, C: CallTable>(source: &Source<C>) -> Result<ItemLi
     }
     Ok(rows)
 }
+
+/// What all rows of four files give. Who makes many lists so holds them at fewer calls that may fail.
+///
+/// # Errors
+/// Want of memory.
+pub fn rows_of_four<P: FileRow, Q: FileRow, R: FileRow, S: FileRow, C: CallTable>(
+    source: &Source<C>,
+) -> Result<(ItemList<P>, ItemList<Q>, ItemList<R>, ItemList<S>), AllocError>
+    ensures first { IfOk result (λ rows. rows.0 ≡ typed_rows (table_in source.now P.FILE) (P.row_in source.now)) }
+    ensures second { IfOk result (λ rows. rows.1 ≡ typed_rows (table_in source.now Q.FILE) (Q.row_in source.now)) }
+    ensures third { IfOk result (λ rows. rows.2 ≡ typed_rows (table_in source.now R.FILE) (R.row_in source.now)) }
+    ensures fourth { IfOk result (λ rows. rows.3 ≡ typed_rows (table_in source.now S.FILE) (S.row_in source.now)) }
+{
+    Ok((
+        typed_rows(source)?,
+        typed_rows(source)?,
+        typed_rows(source)?,
+        typed_rows(source)?,
+    ))
+}
