@@ -1,5 +1,5 @@
 //! The rows of the files of fares.
-ghost use Rattle.std.specs.Prelude.{◌≡◌, refl};
+ghost use Rattle.std.specs.Prelude.{◌≡◌};
 ghost use Rattle.feed_rows.specs.declared.names.FileName.TheVariants as file;
 ghost use Rattle.feed_faults.specs.FeedTables.{table_in};
 ghost use Rattle.feed_faults.specs.AcceptedFeed.{area_row, stop_area_row, timeframe_row, rider_row, medium_row, product_row, leg_rule_row, transfer_rule_row, feed_currency, feed_decimals};
@@ -13,7 +13,7 @@ use feed_rows::{
     AreaRow, ColumnName, FileName, Id, LegRuleRow, Limit, MediumRow, ProductRow, RiderRow,
     StopAreaRow, TimeframeRow, TransferRuleRow,
 };
-use feed_tables::{CallTable, IdColumn, NamedTable, Tables};
+use feed_tables::{CallTable, IdColumn, Tables};
 use feed_text::{nat_of, natural};
 use std::alloc::AllocError;
 use transit_base::{
@@ -27,18 +27,13 @@ const DEFAULT_CATEGORY: u32 = 1;
 impl FileRow for AreaRow {
     ghost FILE = { file.Areas };
 
-    ghost kept = { refl };
-
     ghost row_in = { area_row };
 
     const FILE: FileName = FileName::Areas;
 
     #[tactic(auto, unfolding(feed_faults::specs::AcceptedFeed::area_row), using(crate::proofs::IdLaws::area_ids))]
-    fn at<C: CallTable>(
-        source: &Source<C>,
-        table: &NamedTable,
-        row: u32,
-    ) -> Result<AreaRow, AllocError> {
+    fn at<C: CallTable>(source: &Source<C>, row: u32) -> Result<AreaRow, AllocError> {
+        let table = source.tables().get(Self::FILE);
         Ok(AreaRow {
             id: Id::copy_of(source.alloc, table.field(row, ColumnName::AreaId))?,
         })
@@ -48,18 +43,13 @@ impl FileRow for AreaRow {
 impl FileRow for StopAreaRow {
     ghost FILE = { file.StopAreas };
 
-    ghost kept = { refl };
-
     ghost row_in = { stop_area_row };
 
     const FILE: FileName = FileName::StopAreas;
 
     #[tactic(auto, unfolding(feed_faults::specs::AcceptedFeed::stop_area_row))]
-    fn at<C: CallTable>(
-        source: &Source<C>,
-        table: &NamedTable,
-        row: u32,
-    ) -> Result<StopAreaRow, AllocError> {
+    fn at<C: CallTable>(source: &Source<C>, row: u32) -> Result<StopAreaRow, AllocError> {
+        let table = source.tables().get(Self::FILE);
         Ok(StopAreaRow {
             area: AreaId(source.number(IdColumn::Area, table.field(row, ColumnName::AreaId))),
             stop: StopId(source.number(IdColumn::Stop, table.field(row, ColumnName::StopId))),
@@ -70,18 +60,13 @@ impl FileRow for StopAreaRow {
 impl FileRow for TimeframeRow {
     ghost FILE = { file.Timeframes };
 
-    ghost kept = { refl };
-
     ghost row_in = { timeframe_row };
 
     const FILE: FileName = FileName::Timeframes;
 
     #[tactic(auto, unfolding(feed_faults::specs::AcceptedFeed::timeframe_row), using(crate::proofs::ValueLaws::values))]
-    fn at<C: CallTable>(
-        source: &Source<C>,
-        table: &NamedTable,
-        row: u32,
-    ) -> Result<TimeframeRow, AllocError> {
+    fn at<C: CallTable>(source: &Source<C>, row: u32) -> Result<TimeframeRow, AllocError> {
+        let table = source.tables().get(Self::FILE);
         let &[_, start, end, _] = source.tables().numbers::<4>(Self::FILE, row);
         let group = table.field(row, ColumnName::TimeframeGroupId);
         let service = table.field(row, ColumnName::ServiceId);
@@ -97,18 +82,13 @@ impl FileRow for TimeframeRow {
 impl FileRow for RiderRow {
     ghost FILE = { file.RiderCategories };
 
-    ghost kept = { refl };
-
     ghost row_in = { rider_row };
 
     const FILE: FileName = FileName::RiderCategories;
 
     #[tactic(auto, unfolding(feed_faults::specs::AcceptedFeed::rider_row), using(crate::proofs::IdLaws::rider_ids, crate::proofs::ValueLaws::values))]
-    fn at<C: CallTable>(
-        source: &Source<C>,
-        table: &NamedTable,
-        row: u32,
-    ) -> Result<RiderRow, AllocError> {
+    fn at<C: CallTable>(source: &Source<C>, row: u32) -> Result<RiderRow, AllocError> {
+        let table = source.tables().get(Self::FILE);
         let &[_, default] = source.tables().numbers::<2>(Self::FILE, row);
         Ok(RiderRow {
             id: Id::copy_of(source.alloc, table.field(row, ColumnName::RiderCategoryId))?,
@@ -120,18 +100,13 @@ impl FileRow for RiderRow {
 impl FileRow for MediumRow {
     ghost FILE = { file.FareMedia };
 
-    ghost kept = { refl };
-
     ghost row_in = { medium_row };
 
     const FILE: FileName = FileName::FareMedia;
 
     #[tactic(auto, unfolding(feed_faults::specs::AcceptedFeed::medium_row), using(crate::proofs::IdLaws::medium_ids))]
-    fn at<C: CallTable>(
-        source: &Source<C>,
-        table: &NamedTable,
-        row: u32,
-    ) -> Result<MediumRow, AllocError> {
+    fn at<C: CallTable>(source: &Source<C>, row: u32) -> Result<MediumRow, AllocError> {
+        let table = source.tables().get(Self::FILE);
         Ok(MediumRow {
             id: Id::copy_of(source.alloc, table.field(row, ColumnName::FareMediaId))?,
         })
@@ -141,18 +116,13 @@ impl FileRow for MediumRow {
 impl FileRow for ProductRow {
     ghost FILE = { file.FareProducts };
 
-    ghost kept = { refl };
-
     ghost row_in = { product_row };
 
     const FILE: FileName = FileName::FareProducts;
 
     #[tactic(auto, unfolding(feed_faults::specs::AcceptedFeed::product_row, feed_faults::specs::FieldValues::amount_or_zero))]
-    fn at<C: CallTable>(
-        source: &Source<C>,
-        table: &NamedTable,
-        row: u32,
-    ) -> Result<ProductRow, AllocError> {
+    fn at<C: CallTable>(source: &Source<C>, row: u32) -> Result<ProductRow, AllocError> {
+        let table = source.tables().get(Self::FILE);
         let &[_, _, _, _, amount] = source.tables().numbers::<5>(Self::FILE, row);
         let product = table.field(row, ColumnName::FareProductId);
         let rider = table.field(row, ColumnName::RiderCategoryId);
@@ -172,18 +142,13 @@ impl FileRow for ProductRow {
 impl FileRow for LegRuleRow {
     ghost FILE = { file.FareLegRules };
 
-    ghost kept = { refl };
-
     ghost row_in = { leg_rule_row };
 
     const FILE: FileName = FileName::FareLegRules;
 
     #[tactic(auto, unfolding(feed_faults::specs::AcceptedFeed::leg_rule_row), using(crate::proofs::ValueLaws::values))]
-    fn at<C: CallTable>(
-        source: &Source<C>,
-        table: &NamedTable,
-        row: u32,
-    ) -> Result<LegRuleRow, AllocError> {
+    fn at<C: CallTable>(source: &Source<C>, row: u32) -> Result<LegRuleRow, AllocError> {
+        let table = source.tables().get(Self::FILE);
         let &[_, _, _, _, _, _, _, priority] = source.tables().numbers::<8>(Self::FILE, row);
         let group = table.field(row, ColumnName::LegGroupId);
         let network = table.field(row, ColumnName::NetworkId);
@@ -211,18 +176,13 @@ impl FileRow for LegRuleRow {
 impl FileRow for TransferRuleRow {
     ghost FILE = { file.FareTransferRules };
 
-    ghost kept = { refl };
-
     ghost row_in = { transfer_rule_row };
 
     const FILE: FileName = FileName::FareTransferRules;
 
     #[tactic(auto, unfolding(feed_faults::specs::AcceptedFeed::transfer_rule_row, feed_faults::specs::AcceptedFeed::limit_of), using(crate::proofs::ValueLaws::values))]
-    fn at<C: CallTable>(
-        source: &Source<C>,
-        table: &NamedTable,
-        row: u32,
-    ) -> Result<TransferRuleRow, AllocError> {
+    fn at<C: CallTable>(source: &Source<C>, row: u32) -> Result<TransferRuleRow, AllocError> {
+        let table = source.tables().get(Self::FILE);
         let &[_, _, count, seconds, limit_kind, kind, _] = source
             .tables()
             .numbers::<7>(Self::FILE, row);

@@ -1,14 +1,13 @@
 //! The typed rows of a file.
-ghost use Rattle.std.specs.Prelude.{◌≡◌, ◌<◌, true, ℕ, IfOk};
+ghost use Rattle.std.specs.Prelude.{◌≡◌, ◌<◌, ℕ, IfOk};
 ghost use Rattle.feed_rows.specs.declared.names.FileName.{FileName};
 ghost use Rattle.feed_faults.specs.Records.{row_count};
 ghost use Rattle.feed_faults.specs.FeedTables.{FeedTables, table_in};
 ghost use Rattle.feed_faults.specs.AcceptedFeed.{typed_rows};
-ghost use Rattle.feed_tables.specs.RowNumbers.{has_table};
 
 use crate::source::Source;
 use feed_rows::FileName;
-use feed_tables::{CallTable, NamedTable};
+use feed_tables::CallTable;
 use plain_laws::ItemList;
 use std::alloc::AllocError;
 
@@ -17,25 +16,17 @@ pub trait FileRow: Drop {
     /// The file.
     ghost FILE: { FileName };
 
-    /// Its table is kept.
-    ghost kept: { has_table FILE ≡ true };
-
     /// What its rows give, by their numbers.
     ghost row_in: { FeedTables → ℕ → Self };
 
     const FILE: FileName;
 
-    /// What a row of the file's table gives.
+    /// What a row of the file gives.
     ///
     /// # Errors
     /// Want of memory.
-    fn at<C: CallTable>(
-        source: &Source<C>,
-        table: &NamedTable,
-        row: u32,
-    ) -> Result<Self, AllocError>
-        requires table { table.now ≡ table_in source.now FILE }
-        requires within { row < row_count table.now }
+    fn at<C: CallTable>(source: &Source<C>, row: u32) -> Result<Self, AllocError>
+        requires { row < row_count (table_in source.now FILE) }
         ensures { IfOk result (λ made. made ≡ row_in source.now row) };
 }
 
@@ -46,10 +37,9 @@ pub trait FileRow: Drop {
 pub fn typed_rows<R: FileRow, C: CallTable>(source: &Source<C>) -> Result<ItemList<R>, AllocError>
     ensures { IfOk result (λ rows. rows ≡ typed_rows (table_in source.now R.FILE) (R.row_in source.now)) }
 {
-    let table = source.tables().get(R::FILE);
     let mut rows = ItemList::empty(source.alloc);
-    for row in 0..table.rows() {
-        rows.push(R::at(source, table, row)?)?;
+    for row in 0..source.tables().rows(R::FILE) {
+        rows.push(R::at(source, row)?)?;
     }
     Ok(rows)
 }

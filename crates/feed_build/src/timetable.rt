@@ -1,5 +1,5 @@
 //! The rows of the files of the timetable.
-ghost use Rattle.std.specs.Prelude.{◌≡◌, ◌<◌, not, false, IfOk, refl};
+ghost use Rattle.std.specs.Prelude.{◌≡◌, ◌<◌, not, false, IfOk};
 ghost use Rattle.plain_laws.specs.Plain.{picks_below};
 ghost use Rattle.feed_rows.specs.declared.names.FileName.TheVariants as file;
 ghost use Rattle.feed_faults.specs.Records.{field, row_count};
@@ -16,7 +16,7 @@ use feed_rows::{
     ColumnName, ExceptionRow, FileName, FrequencyRow, Id, LinkRow, LinkRows, PLATFORM, RouteRow,
     ServiceRow, StopRow, TripRow,
 };
-use feed_tables::{CallTable, IdColumn, NamedTable};
+use feed_tables::{CallTable, IdColumn};
 use feed_text::{is_filled, is_passed_over, nat_of, natural};
 use std::alloc::AllocError;
 use transit_base::{Day, NetworkId, RouteId, ServiceId, StopId, TripId};
@@ -37,10 +37,8 @@ fn parent_of<C: CallTable>(source: &Source<C>, kind: u32, row: u32) -> Option<St
     requires kind { kind ≡ stop_kind (table_in source.now file.Stops) row }
     ensures { result ≡ accepted_parent (table_in source.now file.Stops) row }
 {
-    let parent = source
-        .tables()
-        .get(FileName::Stops)
-        .field(row, ColumnName::ParentStation);
+    let stops = source.tables().get(FileName::Stops);
+    let parent = stops.field(row, ColumnName::ParentStation);
     if kind == u32::from(PLATFORM) && is_filled(parent) {
         Some(StopId(source.number(IdColumn::Stop, parent)))
     } else {
@@ -51,18 +49,13 @@ fn parent_of<C: CallTable>(source: &Source<C>, kind: u32, row: u32) -> Option<St
 impl FileRow for StopRow {
     ghost FILE = { file.Stops };
 
-    ghost kept = { refl };
-
     ghost row_in = { stop_row };
 
     const FILE: FileName = FileName::Stops;
 
     #[tactic(auto, unfolding(feed_faults::specs::AcceptedFeed::stop_row), using(feed_soundness::proofs::IdColumns::stop_id, crate::proofs::ValueLaws::values))]
-    fn at<C: CallTable>(
-        source: &Source<C>,
-        table: &NamedTable,
-        row: u32,
-    ) -> Result<StopRow, AllocError> {
+    fn at<C: CallTable>(source: &Source<C>, row: u32) -> Result<StopRow, AllocError> {
+        let table = source.tables().get(Self::FILE);
         let &[_, kind, _] = source.tables().numbers::<3>(Self::FILE, row);
         let kind = nat_of(kind);
         Ok(StopRow {
@@ -97,18 +90,13 @@ fn network_of_route<'t, C: CallTable>(source: &Source<'t, C>, row: u32) -> &'t [
 impl FileRow for RouteRow {
     ghost FILE = { file.Routes };
 
-    ghost kept = { refl };
-
     ghost row_in = { route_row };
 
     const FILE: FileName = FileName::Routes;
 
     #[tactic(auto, unfolding(feed_faults::specs::AcceptedFeed::route_row), using(feed_soundness::proofs::IdColumns::route_id))]
-    fn at<C: CallTable>(
-        source: &Source<C>,
-        table: &NamedTable,
-        row: u32,
-    ) -> Result<RouteRow, AllocError> {
+    fn at<C: CallTable>(source: &Source<C>, row: u32) -> Result<RouteRow, AllocError> {
+        let table = source.tables().get(Self::FILE);
         let network = network_of_route(source, row);
         Ok(RouteRow {
             id: Id::copy_of(source.alloc, table.field(row, ColumnName::RouteId))?,
@@ -120,18 +108,13 @@ impl FileRow for RouteRow {
 impl FileRow for TripRow {
     ghost FILE = { file.Trips };
 
-    ghost kept = { refl };
-
     ghost row_in = { trip_row };
 
     const FILE: FileName = FileName::Trips;
 
     #[tactic(auto, unfolding(feed_faults::specs::AcceptedFeed::trip_row), using(feed_soundness::proofs::IdColumns::trip_id))]
-    fn at<C: CallTable>(
-        source: &Source<C>,
-        table: &NamedTable,
-        row: u32,
-    ) -> Result<TripRow, AllocError> {
+    fn at<C: CallTable>(source: &Source<C>, row: u32) -> Result<TripRow, AllocError> {
+        let table = source.tables().get(Self::FILE);
         let route = table.field(row, ColumnName::RouteId);
         let service = table.field(row, ColumnName::ServiceId);
         Ok(TripRow {
@@ -145,18 +128,13 @@ impl FileRow for TripRow {
 impl FileRow for ServiceRow {
     ghost FILE = { file.Calendar };
 
-    ghost kept = { refl };
-
     ghost row_in = { service_row };
 
     const FILE: FileName = FileName::Calendar;
 
     #[tactic(auto, unfolding(feed_faults::specs::AcceptedFeed::service_row, feed_faults::specs::FieldValues::int_or_zero, feed_faults::specs::FieldValues::day_or_zero))]
-    fn at<C: CallTable>(
-        source: &Source<C>,
-        table: &NamedTable,
-        row: u32,
-    ) -> Result<ServiceRow, AllocError> {
+    fn at<C: CallTable>(source: &Source<C>, row: u32) -> Result<ServiceRow, AllocError> {
+        let table = source.tables().get(Self::FILE);
         let &[
             _,
             monday,
@@ -190,18 +168,13 @@ impl FileRow for ServiceRow {
 impl FileRow for ExceptionRow {
     ghost FILE = { file.CalendarDates };
 
-    ghost kept = { refl };
-
     ghost row_in = { exception_row };
 
     const FILE: FileName = FileName::CalendarDates;
 
     #[tactic(auto, unfolding(feed_faults::specs::AcceptedFeed::exception_row, feed_faults::specs::FieldValues::int_or_zero, feed_faults::specs::FieldValues::day_or_zero))]
-    fn at<C: CallTable>(
-        source: &Source<C>,
-        table: &NamedTable,
-        row: u32,
-    ) -> Result<ExceptionRow, AllocError> {
+    fn at<C: CallTable>(source: &Source<C>, row: u32) -> Result<ExceptionRow, AllocError> {
+        let table = source.tables().get(Self::FILE);
         let &[_, date, kind] = source.tables().numbers::<3>(Self::FILE, row);
         let service = table.field(row, ColumnName::ServiceId);
         Ok(ExceptionRow {
@@ -215,18 +188,13 @@ impl FileRow for ExceptionRow {
 impl FileRow for FrequencyRow {
     ghost FILE = { file.Frequencies };
 
-    ghost kept = { refl };
-
     ghost row_in = { frequency_row };
 
     const FILE: FileName = FileName::Frequencies;
 
     #[tactic(auto, unfolding(feed_faults::specs::AcceptedFeed::frequency_row), using(crate::proofs::ValueLaws::values))]
-    fn at<C: CallTable>(
-        source: &Source<C>,
-        table: &NamedTable,
-        row: u32,
-    ) -> Result<FrequencyRow, AllocError> {
+    fn at<C: CallTable>(source: &Source<C>, row: u32) -> Result<FrequencyRow, AllocError> {
+        let table = source.tables().get(Self::FILE);
         let &[_, start, end, headway, _] = source.tables().numbers::<5>(Self::FILE, row);
         let trip = table.field(row, ColumnName::TripId);
         Ok(FrequencyRow {
