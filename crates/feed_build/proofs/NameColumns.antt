@@ -17,7 +17,8 @@ use Rattle.feed_build.specs.declared.name_kinds.NameKind.{NameKind}
 use Rattle.feed_build.specs.declared.name_kinds.NameKind.TheVariants.{Service, Network, Frame, Product, Group}
 
 -- a file that is formed has few rows
-pub few_rows : (t : FeedTables) → AreFormed t → (name : FileName) (table : FileTable) → table ≡ table_in t name → row_count table ≤ most_rows
+pub few_rows : (t : FeedTables) → AreFormed t → (name : FileName) (table : FileTable)
+    → table ≡ table_in t name → row_count table ≤ most_rows
 few_rows t formed name table is = rw is (formed name).few
 
 -- a column of names
@@ -33,16 +34,19 @@ trip_services : IsNameColumn (file.Trips, ServiceId)
 trip_services = record { kept = refl; short = λ t formed row lt filled. (id.service_of_trip t formed row lt).1 }
 
 calendar_services : IsNameColumn (file.Calendar, ServiceId)
-calendar_services = record { kept = refl; short = λ t formed row lt filled. (id.service_of_calendar t formed row lt).1 }
+calendar_services =
+    record { kept = refl; short = λ t formed row lt filled. (id.service_of_calendar t formed row lt).1 }
 
 exception_services : IsNameColumn (file.CalendarDates, ServiceId)
-exception_services = record { kept = refl; short = λ t formed row lt filled. (id.service_of_exception t formed row lt).1 }
+exception_services =
+    record { kept = refl; short = λ t formed row lt filled. (id.service_of_exception t formed row lt).1 }
 
 frame_services : IsNameColumn (file.Timeframes, ServiceId)
 frame_services = record { kept = refl; short = λ t formed row lt filled. (id.service_of_frame t formed row lt).1 }
 
 route_networks : IsNameColumn (file.Routes, NetworkId)
-route_networks = record { kept = refl; short = λ t formed row lt filled. (id.own_network_of_route t formed row lt filled).1 }
+route_networks =
+    record { kept = refl; short = λ t formed row lt filled. (id.own_network_of_route t formed row lt filled).1 }
 
 networks : IsNameColumn (file.Networks, NetworkId)
 networks = record { kept = refl; short = λ t formed row lt filled. (id.network_id t formed row lt).1 }
@@ -63,7 +67,8 @@ are_columns Frame = (frame_groups, tt)
 are_columns Product = (products, tt)
 are_columns Group = (leg_groups, tt)
 
-among : (columns : List (FileName × ColumnName)) → AreNameColumns columns → (k : ℕ) (d : FileName × ColumnName) → k < length columns → IsNameColumn (get_or columns k d)
+among : (columns : List (FileName × ColumnName)) → AreNameColumns columns
+    → (k : ℕ) (d : FileName × ColumnName) → k < length columns → IsNameColumn (get_or columns k d)
 among [] are k d lt = absurd (omega (arith, lt))
 among (column ∷ columns) are zero d lt = are.0
 among (column ∷ columns) are (suc k) d lt = among columns are.1 k d (omega (arith, lt))

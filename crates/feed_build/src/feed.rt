@@ -19,7 +19,6 @@ use std::alloc::{AllocError, Global};
 ///
 /// # Errors
 /// Want of memory.
-#[tactic(auto, unfolding(feed_faults::specs::AcceptedFeed::rows_of_tables))]
 pub fn feed_of_tables<C: CallTable>(
     alloc: Global,
     tables: &Tables<C>,

@@ -8,9 +8,13 @@ use feed_rows::{ColumnName, FileName};
 #[derive(Clone, Copy)]
 pub enum NameKind {
     Service,
+    /// Of fare networks.
     Network,
+    /// Of timeframe groups.
     Frame,
+    /// Of fare products.
     Product,
+    /// Of leg groups.
     Group,
 }
 

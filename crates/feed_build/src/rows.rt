@@ -44,7 +44,7 @@ pub fn typed_rows<R: FileRow, C: CallTable>(source: &Source<C>) -> Result<ItemLi
     Ok(rows)
 }
 
-/// What all rows of four files give. Who makes many lists so holds them at fewer calls that may fail.
+/// What all rows of four files give. A caller with many lists so has few calls that may fail while it holds them.
 ///
 /// # Errors
 /// Want of memory.

@@ -6,7 +6,8 @@ use Rattle.feed_build.proofs.numbering.Numbering.of.Goals as goal
 
 pub with_column-requires-clause-short : goal.with_column-requires-clause-short
 with_column-requires-clause-short g c =
-    rw c.get.ensures ((is_column c.args.kind _ c.columns-file-items.ensures c.loop-file.file-index _ c.loop-file-test.true).short c.args.tables.now c.requires)
+    let column = is_column c.args.kind _ c.columns-file-items.ensures c.loop-file.file-index _ c.loop-file-test.true in
+    rw c.get.ensures (column.short c.args.tables.now c.requires)
 
 pub with_column-requires-clause-few : goal.with_column-requires-clause-few
 with_column-requires-clause-few g c =
@@ -16,8 +17,10 @@ with_column-requires-clause-few g c =
 
 pub loop-file-preserved : goal.loop-file-preserved
 loop-file-preserved g c = record {
-  names = rw (c.in_ok-names.ensures.names, c.get.ensures, c.loop-file.invariant.names)
-      (sym (fold_more (add_names c.args.tables.now) [] c.columns-file-items.result.now c.loop-file.file-index _ c.loop-file-test.true));
+  names =
+      let columns = c.columns-file-items.result.now in
+      rw (c.in_ok-names.ensures.names, c.get.ensures, c.loop-file.invariant.names)
+      (sym (fold_more (add_names c.args.tables.now) [] columns c.loop-file.file-index _ c.loop-file-test.true));
   few =
       let rows = few_rows c.args.tables.now c.requires _ _ c.get.ensures in
       omega (arith, rows, c.in_ok-names.ensures.grows, c.loop-file.invariant.few);
@@ -26,5 +29,6 @@ loop-file-preserved g c = record {
 pub returns : goal.returns
 returns g c =
     c.loop-file.invariant.names
-    ∙ ap (names_by c.args.tables.now) (take_all c.loop-file.file-index c.columns-file-items.result.now c.loop-file-test.false)
+    ∙ ap (names_by c.args.tables.now)
+    (take_all c.loop-file.file-index c.columns-file-items.result.now c.loop-file-test.false)
     ∙ names_are c.args.kind _ c.columns-file-items.ensures c.args.tables.now

@@ -5,4 +5,5 @@ use Rattle.feed_build.proofs.source.Source.of.Goals as goal
 
 pub loop-kind-preserved : goal.loop-kind-preserved
 loop-kind-preserved g c =
-    rw (c.in_ok-push.ensures.items, c.loop-kind.invariant, c.in_ok-of.ensures) (sym (map_more (names_of c.args.tables.now) name_kinds c.loop-kind.kind-index _ c.loop-kind-test.true))
+    rw (c.in_ok-push.ensures.items, c.loop-kind.invariant, c.in_ok-of.ensures)
+    (sym (map_more (names_of c.args.tables.now) name_kinds c.loop-kind.kind-index _ c.loop-kind-test.true))
