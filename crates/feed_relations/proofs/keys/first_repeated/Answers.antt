@@ -15,10 +15,9 @@ returns-then-not-branch g c =
 
 pub loop-row-preserved : goal.loop-row-preserved
 unfolding is_key_repeated
-loop-row-preserved g c =
-    (
-      find_below_next (is_key_repeated c.args.feed.now c.args.file) c.loop-row.row c.loop-row.invariant.0
+loop-row-preserved g c = (
+  find_below_next (is_key_repeated c.args.feed.now c.args.file) c.loop-row.row c.loop-row.invariant.0
       (repeated key_order (row_key c.args.feed.now c.args.file) c.loop-row.seen c.loop-row.row c.loop-row.invariant.1 c.row_key.result c.row_key.ensures c.in_ok-insert.field-0 c.in_ok-insert.ensures.added
       ∙ ap not c.if-not-branch.false),
-      seen_more key_order (row_key c.args.feed.now c.args.file) c.loop-row.seen c.loop-row.row c.loop-row.invariant.1 c.row_key.result c.row_key.ensures c.insert.new.self key_total c.in_ok-insert.ensures.updates,
-    )
+  seen_more key_order (row_key c.args.feed.now c.args.file) c.loop-row.seen c.loop-row.row c.loop-row.invariant.1 c.row_key.result c.row_key.ensures c.insert.new.self key_total c.in_ok-insert.ensures.updates,
+)

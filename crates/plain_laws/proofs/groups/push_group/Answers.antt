@@ -21,10 +21,10 @@ loop-place-preserved g c =
     let own : (get_or members place d).group ≡ c.args.group = c.loop-place.invariant.own d c.loop-place-test.true in
     let inside : place < length c.args.chains.now.nexts.items = omega (arith, c.loop-place-test.true, c.requires.chains.long) in
     let at : c.index-in-loop-place.result.now ≡ get_or c.args.chains.now.nexts.items place 0 =
-        c.index-in-loop-place.ensures ∙ get_or_default c.args.chains.now.nexts.items place c.index-in-loop-place.result.now 0 inside in
+    c.index-in-loop-place.ensures ∙ get_or_default c.args.chains.now.nexts.items place c.index-in-loop-place.result.now 0 inside in
     let linked = c.requires.chains.next place d (omega arith) c.loop-place-test.true (omega (arith, own, c.requires.below)) in
     let next : IsNextOf members c.args.group (place + 1) c.index-in-loop-place.result.now =
-        subst (IsNextOf members c.args.group (place + 1)) (sym at) (subst (λ i. IsNextOf members i (place + 1) (get_or c.args.chains.now.nexts.items place 0)) own linked) in
+    subst (IsNextOf members c.args.group (place + 1)) (sym at) (subst (λ i. IsNextOf members i (place + 1) (get_or c.args.chains.now.nexts.items place 0)) own linked) in
     record {
       items = c.in_ok-push.ensures.items
           ∙ ap (λ xs. xs ++ (get_or members place d).item ∷ []) c.loop-place.invariant.items
