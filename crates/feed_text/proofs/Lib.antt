@@ -1,7 +1,6 @@
 pub mod DigitLaws
 pub mod DateLaws
 pub mod AmountLaws
-pub mod BlankLaws
 pub mod FieldLaws
 pub mod AccessLaws
 pub mod RecordLaws

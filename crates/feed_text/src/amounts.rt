@@ -51,22 +51,8 @@ fn scale_of(decimals: u8) -> u64
     }
 }
 
-// The number of one to three digits.
-#[tactic(auto, using(crate::proofs::AmountLaws::three_digits))]
-fn short_number_of(digits: &[u8]) -> u32
-    requires digits { list_all is_ascii_digit digits.now ≡ true }
-    requires some { 1 ≤ length digits.now }
-    requires few { length digits.now ≤ 3 }
-    ensures value { result ≡ digits_value 10 digits.now }
-    ensures bound { result ≤ 999 }
-{
-    let Some(number) = small_number_of(digits, 999) else {
-        unreachable!();
-    };
-    number
-}
-
 // The digits behind a point that count, as minor units.
+#[tactic(auto, using(crate::proofs::AmountLaws::three_digits))]
 fn counted_units_of(digits: &[u8], decimals: u8) -> u32
     requires digits { list_all is_ascii_digit digits.now ≡ true }
     requires few { length digits.now ≤ decimals }
@@ -77,7 +63,10 @@ fn counted_units_of(digits: &[u8], decimals: u8) -> u32
     if digits.is_empty() {
         return 0;
     }
-    short_number_of(digits) * scale_of(decimals - digits.len() as u8) as u32
+    let Some(number) = small_number_of(digits, 999) else {
+        unreachable!();
+    };
+    number * scale_of(decimals - digits.len() as u8) as u32
 }
 
 // The digits behind a point, as minor units: those past the decimals are zeros, and missing ones count as zeros.
@@ -100,34 +89,23 @@ fn fraction_of(digits: &[u8], decimals: u8) -> Option<u32>
     Some(counted_units_of(&digits[..places], decimals))
 }
 
-// Whole units and minor units together, where they are at most 10^12 minor units.
-#[tactic(auto, using(crate::proofs::AmountLaws::too_many_units))]
-fn units_of(whole: &[u8], fraction: u32, decimals: u8) -> Option<u64>
-    requires decimals { decimals ≤ 3 }
-    requires fraction { fraction ≤ 999_000 }
-    ensures value { result ≡ when_at_most 1_000_000_000_000 (minor_units decimals (number_value whole.now) (Some fraction)) }
+// An amount without sign in minor units, where it is at most 10^12.
+#[tactic(auto, unfolding(feed_faults::specs::FieldGrammars::unsigned_amount), using(crate::proofs::AmountLaws::no_fraction, crate::proofs::AmountLaws::too_many_units))]
+fn unsigned_amount_of(text: &[u8], decimals: u8) -> Option<u64>
+    requires { decimals ≤ 3 }
+    ensures value { result ≡ when_at_most 1_000_000_000_000 (unsigned_amount decimals text.now) }
     ensures bound { IfSome result (λ v. v ≤ 1_000_000_000_000) }
 {
+    let (whole, fraction) = match point_of(text) {
+        Some(place) => (&text[..place], fraction_of(&text[place + 1..], decimals)?),
+        None => (text, 0),
+    };
     let number = number_of(whole)?;
     let units = u128::from(number) * u128::from(scale_of(decimals)) + u128::from(fraction);
     if units > 1_000_000_000_000 {
         return None;
     }
     Some(units as u64)
-}
-
-// An amount without sign in minor units, where it is at most 10^12.
-#[tactic(auto, unfolding(feed_faults::specs::FieldGrammars::unsigned_amount), using(crate::proofs::AmountLaws::no_fraction))]
-fn unsigned_amount_of(text: &[u8], decimals: u8) -> Option<u64>
-    requires { decimals ≤ 3 }
-    ensures value { result ≡ when_at_most 1_000_000_000_000 (unsigned_amount decimals text.now) }
-    ensures bound { IfSome result (λ v. v ≤ 1_000_000_000_000) }
-{
-    let Some(place) = point_of(text) else {
-        return units_of(text, 0, decimals);
-    };
-    let fraction = fraction_of(&text[place + 1..], decimals)?;
-    units_of(&text[..place], fraction, decimals)
 }
 
 /// An amount in minor units of a currency with so many decimals, which are at most 3: an optional minus sign, one or more

@@ -9,16 +9,6 @@ ghost use Rattle.feed_faults.specs.FieldGrammars.{date_value};
 use crate::numbers::small_number_of;
 use transit_base::{Day, day_of};
 
-// The day of a date that exists.
-fn dated_day(year: u32, month: u32, day: u32) -> Option<Day>
-    requires year { year ≤ 9999 }
-    requires month { month ≤ 12 }
-    requires day { day ≤ 31 }
-    ensures { option_map (λ d. d.0) result ≡ when (is_date year month day) (day_number year month day) }
-{
-    day_of(year as u16, month as u8, day as u8)
-}
-
 /// The day of the date whose year, month and day of the month these texts write in digits. None exactly where a text is
 /// no number, or the years 0001 to 9999 have no such date.
 #[tactic(auto, using(crate::proofs::DateLaws::day_bounded))]
@@ -28,15 +18,7 @@ pub fn day_of_parts(year: &[u8], month: &[u8], day: &[u8]) -> Option<Day>
     let year = small_number_of(year, 9999)?;
     let month = small_number_of(month, 12)?;
     let day = small_number_of(day, 31)?;
-    dated_day(year, month, day)
-}
-
-// The day of eight bytes, by their first four, the next two and the last two.
-fn day_of_eight(text: &[u8]) -> Option<Day>
-    requires { length text.now ≡ 8 }
-    ensures { option_map (λ d. d.0) result ≡ day_value (number_value (take 4 text.now)) (number_value (slice_range text.now 4 6)) (number_value (drop 6 text.now)) }
-{
-    day_of_parts(&text[..4], &text[4..6], &text[6..])
+    day_of(year as u16, month as u8, day as u8)
 }
 
 /// The day of a date: eight digits YYYYMMDD. None exactly where the text is no date of the years 0001 to 9999.
@@ -47,5 +29,5 @@ pub fn date_of(text: &[u8]) -> Option<Day>
     if text.len() != 8 {
         return None;
     }
-    day_of_eight(text)
+    day_of_parts(&text[..4], &text[4..6], &text[6..])
 }

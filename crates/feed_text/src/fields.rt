@@ -43,15 +43,6 @@ pub fn is_filled(text: &[u8]) -> bool
     }
 }
 
-// The amount that a text tells in the currency of this code.
-fn amount_in(currency: &[u8], text: &[u8]) -> Option<i64>
-    ensures { result ≡ amount_in currency.now text.now }
-{
-    let decimals = currency_of(currency)?;
-    let amount = amount_of(text, decimals)?;
-    Some(amount.0)
-}
-
 // What a text of the grammar tells.
 #[inline(always)]
 fn number_by<F: Fields>(grammar: Grammar, fields: &F, text: &[u8]) -> Option<i64>
@@ -64,7 +55,10 @@ fn number_by<F: Fields>(grammar: Grammar, fields: &F, text: &[u8]) -> Option<i64
         Grammar::Time { most } => time_of(text, most).map(i64::from),
         Grammar::Date => date_of(text).map(|day| day.0),
         Grammar::Currency => currency_of(text).map(i64::from),
-        Grammar::Amount => amount_in(fields.field(ColumnName::Currency), text),
+        Grammar::Amount => {
+            let decimals = currency_of(fields.field(ColumnName::Currency))?;
+            amount_of(text, decimals).map(|amount| amount.0)
+        }
     }
 }
 
@@ -98,16 +92,8 @@ fn misfit(grammar: Grammar) -> FaultKind
     }
 }
 
-// Whether a stop time names a place of GTFS-Flex.
-#[tactic(auto, unfolding(feed_faults::specs::FormFaults::names_flex_place))]
-fn names_flex_place<F: Fields>(fields: &F) -> bool
-    ensures { result ≡ names_flex_place (F.at fields.now) }
-{
-    is_filled(fields.field(ColumnName::LocationGroupId))
-        || is_filled(fields.field(ColumnName::LocationId))
-}
-
 // What is wrong with an empty field.
+#[tactic(auto, unfolding(feed_faults::specs::FormFaults::names_flex_place))]
 fn empty_misfit<F: Fields>(fields: &F, empty: EmptyField) -> Option<FaultKind>
     ensures { result ≡ empty_misfit (F.at fields.now) empty }
 {
@@ -115,27 +101,15 @@ fn empty_misfit<F: Fields>(fields: &F, empty: EmptyField) -> Option<FaultKind>
         EmptyField::Fine => None,
         EmptyField::Fault => Some(FaultKind::EmptyRequired),
         EmptyField::FaultOrFlex => {
-            if names_flex_place(fields) {
+            if is_filled(fields.field(ColumnName::LocationGroupId))
+                || is_filled(fields.field(ColumnName::LocationId))
+            {
                 Some(FaultKind::FlexRow)
             } else {
                 Some(FaultKind::EmptyRequired)
             }
         }
     }
-}
-
-// What a filled text tells, or what is wrong with it.
-#[inline(always)]
-fn read_text<F: Fields>(fields: &F, grammar: Grammar, text: &[u8]) -> Result<Option<i64>, FaultKind>
-    ensures fault { IfErr result (λ kind. (fits grammar (F.at fields.now column.Currency) text.now ≡ false) × (kind ≡ misfit grammar)) }
-    ensures sound { OnOk result (fits grammar (F.at fields.now column.Currency) text.now ≡ true) }
-    ensures number { IfOk result (λ number. number ≡ number_by grammar (F.at fields.now column.Currency) text.now) }
-{
-    let number = number_by(grammar, fields, text);
-    if !fits(grammar, number, text) {
-        return Err(misfit(grammar));
-    }
-    Ok(number)
 }
 
 // What the text of a row's field in a column tells, or what is wrong with it.
@@ -152,7 +126,11 @@ fn read_field<F: Fields>(
     ensures number { IfOk result (λ number. number ≡ field_number (F.at fields.now) rule) }
 {
     if is_filled(text) {
-        return read_text(fields, rule.grammar, text);
+        let number = number_by(rule.grammar, fields, text);
+        if !fits(rule.grammar, number, text) {
+            return Err(misfit(rule.grammar));
+        }
+        return Ok(number);
     }
     match empty_misfit(fields, rule.empty) {
         Some(kind) => Err(kind),

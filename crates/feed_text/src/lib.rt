@@ -2,7 +2,6 @@
 #![tactic(auto)]
 
 mod amounts;
-mod blanks;
 mod dates;
 mod errors;
 mod faults;

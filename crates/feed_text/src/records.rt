@@ -1,13 +1,39 @@
 //! The records of a text, one after another.
-ghost use Rattle.std.specs.Prelude.{◌≡◌, ◌<◌, [], List, ℕ, Option, length, get_or, IfOk, IfErr};
-ghost use Rattle.feed_faults.specs.Records.{FileTable};
+ghost use Rattle.std.specs.Prelude.{◌≡◌, ◌<◌, [], List, ℕ, Option, length, get_or, reverse, IfOk, IfErr};
+ghost use Rattle.feed_faults.specs.Records.{FileTable, is_blank, cut_start, cut};
 ghost use Rattle.csv.specs.Reading.{reader_source};
 ghost use Rattle.feed_text.specs.Reader.{StandsBehind, GoesOn, Explains, last_record};
 
-use crate::blanks::cut_of;
 use csv::{ErrorKind, Reader, ReaderBuilder, StringRecord};
 use std::alloc::Global;
 use std::io::Read;
+
+// Whether a byte is a space or a tab.
+#[inline(always)]
+fn is_blank(byte: u8) -> bool
+    ensures { result ≡ is_blank byte }
+{
+    byte == b' ' || byte == b'\t'
+}
+
+// The text without the blanks at both ends. Few texts have any, so that mostly two bytes are read.
+#[inline(always)]
+#[tactic(auto, unfolding(feed_faults::specs::Records::cut))]
+fn cut_of(mut text: &[u8]) -> &[u8]
+    ensures { result.now ≡ cut text.now }
+{
+    'start: while let [first, rest @ ..] = text
+        && is_blank(*first)
+    {
+        text = rest;
+    }
+    'end: while let [rest @ .., last] = text
+        && is_blank(*last)
+    {
+        text = rest;
+    }
+    text
+}
 
 /// Why no record was read.
 #[derive(Clone, Copy, Debug, PartialEq, Eq)]

@@ -11,6 +11,7 @@ use std::snapshot::Snapshot;
 
 /// The table of the records that were seen, of which nothing is kept: it is there for contracts alone, which see it as the
 /// table.
+#[derive(Drop)]
 pub struct SeenTable {
     // A snapshot takes no bytes.
     records: Vec<Snapshot<StringRecord>>,
@@ -25,13 +26,6 @@ impl Model for SeenTable {
     ghost Value = { FileTable };
 
     ghost view = { λ seen. map (λ r. cut_record (fields_of r.value)) seen.records.items };
-}
-
-// Written out, so that what holds one needn't look into it to let go of it.
-impl Drop for SeenTable {
-    fn drop(self) {
-        let SeenTable { records: _ } = self;
-    }
 }
 
 impl SeenTable {

@@ -17,17 +17,11 @@ use std::io::Read;
 use std::marker::Model;
 
 /// A file as a table: its header and its data rows, which are numbered from 0, each field without the blanks at its ends.
+#[derive(Drop)]
 pub struct Table {
     // The bytes of all fields, field by field, and where each row ends among the fields.
     fields: Groups<u8>,
     rows: Vec<u32>,
-}
-
-// Written out, so that what holds one needn't look into it to let go of it.
-impl Drop for Table {
-    fn drop(self) {
-        let Table { fields: _, rows: _ } = self;
-    }
 }
 
 impl Model for Table {
@@ -42,16 +36,6 @@ impl Model for Table {
     ghost invariant = { λ t. Rise 0 t.rows.items (length t.fields) × (length t.rows.items ≤ 2 ^ 32) };
 }
 
-// Puts the fields of the last record behind those that are kept.
-fn push_fields<R: Read>(fields: &mut Groups<u8>, records: &Records<R>) -> Result<(), AllocError>
-    ensures { OnOk result (fields.new ≡ fields.old ++ last_record records.now) }
-{
-    for place in 0..records.len() {
-        fields.push(records.field(place))?;
-    }
-    Ok(())
-}
-
 // Puts a record behind those that are kept.
 fn push_record<R: Read>(
     fields: &mut Groups<u8>,
@@ -63,35 +47,10 @@ fn push_record<R: Read>(
     ensures parts { OnOk result (parts 0 rows.new.items fields.new ≡ parts 0 rows.old.items fields.old ++ last_record records.now ∷ []) }
     ensures count { OnOk result (length rows.new.items ≡ length rows.old.items + 1) }
 {
-    push_fields(fields, records)?;
-    push_end(rows, fields.count())
-}
-
-// Keeps the records of a file's bytes, up to the first that is one too many. Answers whether none is too many.
-fn keep_records(
-    alloc: Global,
-    text: &[u8],
-    fields: &mut Groups<u8>,
-    rows: &mut Vec<u32>,
-    max_rows: u32,
-) -> Result<bool, AllocError>
-    requires no_fields { fields.old ≡ [] }
-    requires no_rows { rows.old.items ≡ [] }
-    ensures rise { OnOk result (Rise 0 rows.new.items (length fields.new)) }
-    ensures few { IfOk result (λ all. all ≡ true → length rows.new.items ≤ 2 ^ 32) }
-    ensures table { IfOk result (λ all. when all (parts 0 rows.new.items fields.new) ≡ when (nat_le (row_count (table_of_bytes text.now)) max_rows) (table_of_bytes text.now)) }
-{
-    let mut records = Records::of(alloc, text);
-    // The header, the rows, and one record more, which is one too many.
-    for _ in 0..u64::from(max_rows) + 2 {
-        match records.next() {
-            Ok(true) => push_record(fields, rows, &records)?,
-            Ok(false) => return Ok(true),
-            // A read over bytes in memory fails for want of memory alone.
-            Err(_) => return Err(AllocError),
-        }
+    for place in 0..records.len() {
+        fields.push(records.field(place))?;
     }
-    Ok(false)
+    push_end(rows, fields.count())
 }
 
 // The table of a file's bytes, where it has at most so many data rows.
@@ -102,13 +61,19 @@ pub(crate) fn table_within(
 ) -> Result<Option<Table>, AllocError>
     ensures { IfOk result (λ table. table ≡ when (nat_le (row_count (table_of_bytes text.now)) max_rows) (table_of_bytes text.now)) }
 {
+    let mut records = Records::of(alloc, text);
     let mut fields = Groups::empty(alloc);
     let mut rows = Vec::new(alloc);
-    if keep_records(alloc, text, &mut fields, &mut rows, max_rows)? {
-        Ok(Some(Table { fields, rows }))
-    } else {
-        Ok(None)
+    // The header, the rows, and one record more, which is one too many.
+    for _ in 0..u64::from(max_rows) + 2 {
+        match records.next() {
+            Ok(true) => push_record(&mut fields, &mut rows, &records)?,
+            Ok(false) => return Ok(Some(Table { fields, rows })),
+            // A read over bytes in memory fails for want of memory alone.
+            Err(_) => return Err(AllocError),
+        }
     }
+    Ok(None)
 }
 
 /// Whether a file's bytes have a record. No more than two are read.
@@ -256,31 +221,20 @@ impl Table {
         false
     }
 
-    // Whether an earlier column of the header has this name.
-    fn is_named_before(&self, column: u32, name: ColumnName) -> bool
-        requires { column < length (header self.now) }
-        ensures { result ≡ any_below column (λ earlier. bytes_eq (get_or (header self.now) earlier []) (column_text name)) }
-    {
-        let mut found = false;
-        for earlier in 0..column {
-            if self.is_named(earlier, name) {
-                found = true;
-            }
-        }
-        found
-    }
-
     // Whether a column stands twice in the header.
-    #[tactic(auto, unfolding(feed_faults::specs::FormFaults::is_twice))]
+    #[tactic(auto, using(plain_laws::proofs::Laws::any_below_next, plain_laws::proofs::Laws::any_below_hit), unfolding(feed_faults::specs::FormFaults::is_twice))]
     pub(crate) fn is_twice(&self, name: ColumnName) -> bool
         ensures { result ≡ is_twice self.now name }
     {
         let mut found = false;
-        for later in 0..self.columns() {
-            if self.is_named(later, name) && self.is_named_before(later, name) {
+        for column in 0..self.columns() {
+            if self.is_named(column, name) {
+                if found {
+                    return true;
+                }
                 found = true;
             }
         }
-        found
+        false
     }
 }

@@ -1,7 +1,7 @@
 use Rattle.std.proofs.Common.{◌≡◌, length, Some}
 use Rattle.plain_laws.specs.Plain.{parts, Rise}
 use Rattle.feed_text.specs.Reader.{StandsBehind}
-use Rattle.feed_text.proofs.table.keep_records.Given as goal
+use Rattle.feed_text.proofs.table.table_within.Given as goal
 
 abbrev pub invariant-loop : goal.invariant-loop
 invariant-loop l = record {
