@@ -34,3 +34,12 @@ too_many needed most file table e =
     over : {X : Type 0} (n most : ℕ) (x : X) (b : Bool) → nat_le n most ≡ b → None ≡ when b x → most < n
     over n most x true t e = absurd (cc)
     over n most x false t e = grind (arith, nat_tests, t)
+
+-- and one with few enough
+pub few_enough : (most : ℕ) (kept table : FileTable) → Some kept ≡ when (nat_le (row_count table) most) table
+    → (kept ≡ table) × (nat_lt most (row_count table) ≡ false)
+few_enough most kept table e = fitting (nat_le (row_count table) most) refl e
+  where
+    fitting : (b : Bool) → nat_le (row_count table) most ≡ b → Some kept ≡ when b table → (kept ≡ table) × (nat_lt most (row_count table) ≡ false)
+    fitting true fits e = (cc, grind (arith, nat_tests, fits))
+    fitting false fits e = absurd (cc)

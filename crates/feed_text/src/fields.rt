@@ -92,29 +92,9 @@ fn misfit(grammar: Grammar) -> FaultKind
     }
 }
 
-// What is wrong with an empty field.
-#[tactic(auto, unfolding(feed_faults::specs::FormFaults::names_flex_place))]
-fn empty_misfit<F: Fields>(fields: &F, empty: EmptyField) -> Option<FaultKind>
-    ensures { result ≡ empty_misfit (F.at fields.now) empty }
-{
-    match empty {
-        EmptyField::Fine => None,
-        EmptyField::Fault => Some(FaultKind::EmptyRequired),
-        EmptyField::FaultOrFlex => {
-            if is_filled(fields.field(ColumnName::LocationGroupId))
-                || is_filled(fields.field(ColumnName::LocationId))
-            {
-                Some(FaultKind::FlexRow)
-            } else {
-                Some(FaultKind::EmptyRequired)
-            }
-        }
-    }
-}
-
 // What the text of a row's field in a column tells, or what is wrong with it.
 #[inline(always)]
-#[tactic(auto, unfolding(feed_faults::specs::FormFaults::field_misfit), using(crate::proofs::NumberLaws::nothing_told))]
+#[tactic(auto, unfolding(feed_faults::specs::FormFaults::field_misfit, feed_faults::specs::FormFaults::names_flex_place), using(crate::proofs::NumberLaws::nothing_told))]
 fn read_field<F: Fields>(
     fields: &F,
     rule: ColumnRule,
@@ -132,9 +112,12 @@ fn read_field<F: Fields>(
         }
         return Ok(number);
     }
-    match empty_misfit(fields, rule.empty) {
-        Some(kind) => Err(kind),
-        None => Ok(None),
+    match rule.empty {
+        EmptyField::Fine => Ok(None),
+        EmptyField::FaultOrFlex
+            if is_filled(fields.field(ColumnName::LocationGroupId))
+                || is_filled(fields.field(ColumnName::LocationId)) => { Err(FaultKind::FlexRow) }
+        EmptyField::Fault | EmptyField::FaultOrFlex => Err(FaultKind::EmptyRequired),
     }
 }
 

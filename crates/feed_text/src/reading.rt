@@ -52,22 +52,12 @@ fn doubled_column(file: FileName, table: &Table, rule: ColumnRule) -> Option<Fee
     None
 }
 
-// Whether a column must be there.
-fn is_needed_column(empty: EmptyField) -> bool
-    ensures { result ≡ is_needed_column empty }
-{
-    match empty {
-        EmptyField::Fine => false,
-        EmptyField::Fault | EmptyField::FaultOrFlex => true,
-    }
-}
-
 // The fault of a column that must be there and isn't.
 #[tactic(auto, unfolding(feed_faults::specs::FormFaults::missing_column))]
 fn missing_column(file: FileName, table: &Table, rule: ColumnRule) -> Option<FeedFault>
     ensures { result ≡ missing_column file table.now rule }
 {
-    if is_needed_column(rule.empty) && table.column(rule.name).is_none() {
+    if rule.empty != EmptyField::Fine && table.column(rule.name).is_none() {
         return Some(column_fault(file, rule.name, FaultKind::MissingColumn));
     }
     None
@@ -112,23 +102,6 @@ pub fn header_fault(file: FileName, table: &Table) -> Option<FeedFault>
     first_missing(file, table)
 }
 
-// The first fault of a table before its rows.
-#[tactic(auto, unfolding(feed_faults::specs::FormFaults::form_fault_of_table))]
-fn table_fault(file: FileName, table: &Table, max_rows: u32) -> Option<FeedFault>
-    ensures { result ≡ form_fault_of_table (is_always_needed file) max_rows file table.now }
-{
-    if table.records() == 0 {
-        if is_always_needed(file) {
-            return Some(file_fault(file, FaultKind::MissingFile));
-        }
-        return None;
-    }
-    if table.rows() > max_rows {
-        return Some(file_fault(file, FaultKind::TooManyRows));
-    }
-    header_fault(file, table)
-}
-
 /// Whether the bytes are UTF-8.
 pub fn is_text(bytes: &[u8]) -> bool
     ensures { result ≡ is_utf8 bytes.now }
@@ -142,7 +115,7 @@ impl Table {
     ///
     /// `Fault` is the first of NotUtf8, MissingFile (for a file that every feed needs), TooManyRows (more than `max_rows`
     /// data rows), DoubledColumn and MissingColumn. What is wrong with rows and fields isn't looked at.
-    #[tactic(auto, unfolding(feed_faults::specs::FormFaults::form_fault_of_bytes), using(crate::proofs::HeaderLaws::too_many))]
+    #[tactic(auto, unfolding(feed_faults::specs::FormFaults::form_fault_of_bytes, feed_faults::specs::FormFaults::form_fault_of_table), using(crate::proofs::HeaderLaws::too_many, crate::proofs::HeaderLaws::few_enough))]
     pub fn read(
         alloc: Global,
         bytes: &[u8],
@@ -160,7 +133,13 @@ impl Table {
         let Some(table) = table_within(alloc, bytes, max_rows)? else {
             return Err(TextError::Fault(file_fault(file, FaultKind::TooManyRows)));
         };
-        if let Some(fault) = table_fault(file, &table, max_rows) {
+        if table.is_empty() {
+            if is_always_needed(file) {
+                return Err(TextError::Fault(file_fault(file, FaultKind::MissingFile)));
+            }
+            return Ok(table);
+        }
+        if let Some(fault) = header_fault(file, &table) {
             return Err(TextError::Fault(fault));
         }
         Ok(table)

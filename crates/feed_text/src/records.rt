@@ -8,28 +8,16 @@ use csv::{ErrorKind, Reader, ReaderBuilder, StringRecord};
 use std::alloc::Global;
 use std::io::Read;
 
-// Whether a byte is a space or a tab.
-#[inline(always)]
-fn is_blank(byte: u8) -> bool
-    ensures { result ≡ is_blank byte }
-{
-    byte == b' ' || byte == b'\t'
-}
-
 // The text without the blanks at both ends. Few texts have any, so that mostly two bytes are read.
 #[inline(always)]
 #[tactic(auto, unfolding(feed_faults::specs::Records::cut))]
 fn cut_of(mut text: &[u8]) -> &[u8]
     ensures { result.now ≡ cut text.now }
 {
-    'start: while let [first, rest @ ..] = text
-        && is_blank(*first)
-    {
+    'start: while let [b' ' | b'\t', rest @ ..] = text {
         text = rest;
     }
-    'end: while let [rest @ .., last] = text
-        && is_blank(*last)
-    {
+    'end: while let [rest @ .., b' ' | b'\t'] = text {
         text = rest;
     }
     text
