@@ -3,7 +3,10 @@ use Rattle.std.proofs.Common.{◌≡◌, ℕ, ◌+◌, ◌-◌, ◌<◌, ◌≤�
 use Rattle.std.proofs.lemmas.List.{get_or-take, get_or-drop, get_or_past}
 use Rattle.plain_laws.specs.Plain.{parts, Rise, start_of}
 use Rattle.plain_laws.proofs.Laws.{part_at, rise_at}
-use Rattle.feed_text.specs.TableFields.{field_in}
+
+-- the field of a row and a column, counted with the header; empty where the row is short
+abbrev pub field_in : List (List (List ℕ)) → ℕ → ℕ → List ℕ
+field_in table row column = get_or (get_or table row []) column []
 
 module _ (rows : List ℕ) (fields : List (List ℕ)) (row : ℕ) (lt : row < length rows) where
   -- a field that is there

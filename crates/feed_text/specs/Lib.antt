@@ -1,4 +1,3 @@
-pub mod TableFields
 pub mod Reader
 pub mod TextErrors
 pub mod FieldNumbers

@@ -1,10 +1,10 @@
 //! Amounts of money, as fields write them.
-ghost use Rattle.std.specs.Prelude.{◌≡◌, true, ◌==◌, ◌≤◌, ◌<◌, ◌+◌, ◌*◌, ◌^◌, ◌-◌, Some, IfSome, length, take, option_map};
+ghost use Rattle.std.specs.Prelude.{◌≡◌, true, ◌==◌, ◌≤◌, ◌<◌, ◌*◌, ◌^◌, ◌-◌, IfSome, length, option_map};
 ghost use Rattle.std.specs.List.{list_all};
 ghost use Rattle.std.specs.Str.Parse.{digits_value};
 ghost use Rattle.std.specs.Char.{is_ascii_digit};
-ghost use Rattle.feed_rows.specs.Numerals.{number_value, when_at_most};
-ghost use Rattle.feed_faults.specs.FieldGrammars.{point_place, fraction_value, minor_units, unsigned_amount, amount_value};
+ghost use Rattle.feed_rows.specs.Numerals.{when_at_most};
+ghost use Rattle.feed_faults.specs.FieldGrammars.{point_place, fraction_value, unsigned_amount, amount_value};
 
 use crate::numbers::{number_of, small_number_of};
 use transit_base::Money;

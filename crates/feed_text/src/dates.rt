@@ -1,9 +1,7 @@
 //! Dates, as fields write them.
-ghost use Rattle.std.specs.Prelude.{◌≡◌, ◌≤◌, option_map, length, take, drop, slice_range};
-ghost use Rattle.transit_base.specs.Dates.{is_date, day_number};
+ghost use Rattle.std.specs.Prelude.{◌≡◌, option_map};
 ghost use Rattle.feed_rows.specs.Numerals.{number_value};
 ghost use Rattle.feed_rows.specs.WordValues.{day_value};
-ghost use Rattle.plain_laws.specs.Plain.{when};
 ghost use Rattle.feed_faults.specs.FieldGrammars.{date_value};
 
 use crate::numbers::small_number_of;

@@ -2,9 +2,8 @@
 ghost use Rattle.std.specs.Prelude.{◌≡◌, ◌<◌, ◌^◌, ℕ, List, true, false, IfOk, IfErr, OnOk, None, Some};
 ghost use Rattle.std.specs.Option.{ForSome};
 ghost use Rattle.feed_rows.specs.declared.names.ColumnName.TheVariants as column;
-ghost use Rattle.feed_faults.specs.FieldGrammars.{amount_in};
 ghost use Rattle.feed_faults.specs.FileColumns.{fits, misfit};
-ghost use Rattle.feed_faults.specs.FormFaults.{names_flex_place, empty_misfit, field_misfit, is_passed_over, judged_columns, fault_of_field, fault_of_fields};
+ghost use Rattle.feed_faults.specs.FormFaults.{field_misfit, is_passed_over, judged_columns, fault_of_field, fault_of_fields};
 ghost use Rattle.feed_faults.specs.AcceptedFeed.{finite_count};
 ghost use Rattle.feed_faults.specs.FieldValues.{nat_of};
 ghost use Rattle.feed_faults.specs.Records.{is_filled};

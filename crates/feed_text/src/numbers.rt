@@ -1,8 +1,8 @@
 //! Integers and times, as fields write them.
-ghost use Rattle.std.specs.Prelude.{◌≡◌, ◌+◌, ◌-◌, ◌*◌, ◌^◌, ◌≤◌, ◌<◌, IfSome, Some, None, pos, neg_ℤ};
+ghost use Rattle.std.specs.Prelude.{◌≡◌, ◌+◌, ◌-◌, ◌*◌, ◌^◌, ◌≤◌, ◌<◌, IfSome, Some};
 ghost use Rattle.feed_rows.specs.Numerals.{number_value, when_at_most};
 ghost use Rattle.feed_rows.specs.TimeGrammar.{time_value};
-ghost use Rattle.feed_faults.specs.FieldGrammars.{signed_value, if_between, int_value, count_value};
+ghost use Rattle.feed_faults.specs.FieldGrammars.{int_value, count_value};
 
 // The number with one more digit, where it stays below 2^64.
 #[inline(always)]
@@ -70,17 +70,6 @@ pub fn time_of(text: &[u8], most: u32) -> Option<u32>
     Some(value)
 }
 
-// An optional minus sign and one or more digits, where the digits' number is below 2^64.
-#[inline(always)]
-fn signed_number_of(text: &[u8]) -> Option<i128>
-    ensures { result ≡ if_between (neg_ℤ (pos (2 ^ 64 - 1))) (pos (2 ^ 64 - 1)) (signed_value number_value text.now) }
-{
-    if !text.is_empty() && text[0] == b'-' {
-        return Some(-i128::from(number_of(&text[1..])?));
-    }
-    Some(i128::from(number_of(text)?))
-}
-
 /// The value of an integer: an optional minus sign and one or more digits, leading zeros among them. None exactly where the
 /// text is no integer from `least` to `most`.
 #[inline(always)]
@@ -88,7 +77,11 @@ fn signed_number_of(text: &[u8]) -> Option<i128>
 pub fn int_of(text: &[u8], least: i64, most: i64) -> Option<i64>
     ensures { result ≡ int_value least most text.now }
 {
-    let value = signed_number_of(text)?;
+    let value = if !text.is_empty() && text[0] == b'-' {
+        -i128::from(number_of(&text[1..])?)
+    } else {
+        i128::from(number_of(text)?)
+    };
     if value < i128::from(least) || value > i128::from(most) {
         return None;
     }

@@ -4,7 +4,7 @@ ghost use Rattle.std.specs.Str.{is_utf8};
 ghost use Rattle.plain_laws.specs.Plain.{first_in};
 ghost use Rattle.feed_rows.specs.HeldFiles.{most_bytes};
 ghost use Rattle.feed_faults.specs.Records.{table_of_bytes};
-ghost use Rattle.feed_faults.specs.FormFaults.{doubled_column, missing_column, is_needed_column, header_fault, form_fault_of_table, form_fault_of_bytes, is_always_needed};
+ghost use Rattle.feed_faults.specs.FormFaults.{doubled_column, missing_column, header_fault, form_fault_of_bytes, is_always_needed};
 ghost use Rattle.feed_faults.specs.FileColumns.{columns_of};
 ghost use Rattle.feed_text.specs.TextErrors.{IsErrorOf};
 

@@ -1,6 +1,6 @@
 //! The records of a text, one after another.
-ghost use Rattle.std.specs.Prelude.{◌≡◌, ◌<◌, [], List, ℕ, Option, length, get_or, reverse, IfOk, IfErr};
-ghost use Rattle.feed_faults.specs.Records.{FileTable, is_blank, cut_start, cut};
+ghost use Rattle.std.specs.Prelude.{◌≡◌, ◌<◌, [], List, ℕ, Option, length, get_or, IfOk, IfErr};
+ghost use Rattle.feed_faults.specs.Records.{FileTable, cut};
 ghost use Rattle.csv.specs.Reading.{reader_source};
 ghost use Rattle.feed_text.specs.Reader.{StandsBehind, GoesOn, Explains, last_record};
 

@@ -1,10 +1,9 @@
 //! A file as a table, kept flat.
-ghost use Rattle.std.specs.Prelude.{◌≡◌, ◌≤◌, ◌<◌, ◌+◌, ◌-◌, ◌^◌, ◌++◌, ◌∷◌, [], true, List, ℕ, length, map, get_or, slice_index, IfOk, OnOk, IfSome, Some, bytes_eq, nat_le, nat_lt, not};
-ghost use Rattle.plain_laws.specs.Plain.{when, any_below};
+ghost use Rattle.std.specs.Prelude.{◌≡◌, ◌≤◌, ◌<◌, ◌+◌, ◌-◌, ◌^◌, ◌++◌, ◌∷◌, [], List, ℕ, length, map, get_or, slice_index, IfOk, OnOk, IfSome, Some, bytes_eq, nat_le, nat_lt, not};
+ghost use Rattle.plain_laws.specs.Plain.{when};
 ghost use Rattle.feed_rows.specs.Names.{column_text};
 ghost use Rattle.feed_faults.specs.Records.{FileTable, table_of_bytes, cut, header, row_count, data_row, column_of, field, is_filled, is_long};
 ghost use Rattle.feed_faults.specs.FormFaults.{is_twice};
-ghost use Rattle.feed_text.specs.TableFields.{field_in};
 ghost use Rattle.feed_text.specs.Reader.{last_record};
 ghost use Rattle.plain_laws.specs.Plain.{parts, Rise};
 
@@ -142,7 +141,7 @@ impl Table {
     // The field of a record, empty where the record is short; the header has the place 0.
     fn field_at(&self, place: usize, column: usize) -> &[u8]
         requires { place < length self.now }
-        ensures { result.now ≡ field_in self.now place column }
+        ensures { result.now ≡ get_or (get_or self.now place []) column [] }
     {
         let (start, end) = part_of(&self.rows, place, self.fields.count());
         if column >= end - start {

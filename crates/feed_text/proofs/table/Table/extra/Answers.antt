@@ -3,7 +3,7 @@ use Rattle.std.specs.Prelude.{nat_le}
 use Rattle.std.proofs.lemmas.Bool.Decides.{nat_tests}
 use Rattle.plain_laws.proofs.Laws.{any_below_hit}
 use Rattle.feed_faults.specs.Records.{header, is_filled, is_long}
-use Rattle.feed_text.specs.TableFields.{field_in}
+use Rattle.feed_text.proofs.AccessLaws.{field_in}
 use Rattle.feed_text.proofs.HeaderLaws.{none_before}
 use Rattle.feed_text.proofs.table.Table.extra.Goals as goal
 
