@@ -55,6 +55,14 @@ tens (suc (suc zero)) le = omega arith
 tens (suc (suc (suc zero))) le = omega arith
 tens (suc (suc (suc (suc d)))) le = absurd (omega (arith, le))
 
+-- at most a thousand minor units make a whole one
+pub few_units : (d : ℕ) → d ≤ 3 → 10 ^ d ≤ 1000
+few_units zero le = omega arith
+few_units (suc zero) le = omega arith
+few_units (suc (suc zero)) le = omega arith
+few_units (suc (suc (suc zero))) le = omega arith
+few_units (suc (suc (suc (suc d)))) le = absurd (omega (arith, le))
+
 -- a number of whole units past 2^64 is too great an amount
 pub too_many_units : (d f : ℕ) (n : Option ℕ) → d ≤ 3 → None ≡ when_at_most (2 ^ 64 - 1) n
     → None ≡ when_at_most 1000000000000 (minor_units d n (Some f))

@@ -37,22 +37,8 @@ fn are_zeros(text: &[u8]) -> bool
     text.iter().all(|b| *b == b'0')
 }
 
-// How many minor units make a whole one.
-fn scale_of(decimals: u8) -> u64
-    requires { decimals ≤ 3 }
-    ensures value { result ≡ 10 ^ decimals }
-    ensures bound { result ≤ 1000 }
-{
-    match decimals {
-        0 => 1,
-        1 => 10,
-        2 => 100,
-        _ => 1000,
-    }
-}
-
 // The digits behind a point that count, as minor units.
-#[tactic(auto, using(crate::proofs::AmountLaws::three_digits))]
+#[tactic(auto, using(crate::proofs::AmountLaws::three_digits, crate::proofs::AmountLaws::few_units))]
 fn counted_units_of(digits: &[u8], decimals: u8) -> u32
     requires digits { list_all is_ascii_digit digits.now ≡ true }
     requires few { length digits.now ≤ decimals }
@@ -66,7 +52,7 @@ fn counted_units_of(digits: &[u8], decimals: u8) -> u32
     let Some(number) = small_number_of(digits, 999) else {
         unreachable!();
     };
-    number * scale_of(decimals - digits.len() as u8) as u32
+    number * 10u32.pow(u32::from(decimals) - digits.len() as u32)
 }
 
 // The digits behind a point, as minor units: those past the decimals are zeros, and missing ones count as zeros.
@@ -90,7 +76,7 @@ fn fraction_of(digits: &[u8], decimals: u8) -> Option<u32>
 }
 
 // An amount without sign in minor units, where it is at most 10^12.
-#[tactic(auto, unfolding(feed_faults::specs::FieldGrammars::unsigned_amount), using(crate::proofs::AmountLaws::no_fraction, crate::proofs::AmountLaws::too_many_units))]
+#[tactic(auto, unfolding(feed_faults::specs::FieldGrammars::unsigned_amount), using(crate::proofs::AmountLaws::no_fraction, crate::proofs::AmountLaws::too_many_units, crate::proofs::AmountLaws::few_units))]
 fn unsigned_amount_of(text: &[u8], decimals: u8) -> Option<u64>
     requires { decimals ≤ 3 }
     ensures value { result ≡ when_at_most 1_000_000_000_000 (unsigned_amount decimals text.now) }
@@ -101,7 +87,7 @@ fn unsigned_amount_of(text: &[u8], decimals: u8) -> Option<u64>
         None => (text, 0),
     };
     let number = number_of(whole)?;
-    let units = u128::from(number) * u128::from(scale_of(decimals)) + u128::from(fraction);
+    let units = u128::from(number) * 10u128.pow(u32::from(decimals)) + u128::from(fraction);
     if units > 1_000_000_000_000 {
         return None;
     }

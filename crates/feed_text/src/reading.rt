@@ -11,7 +11,7 @@ ghost use Rattle.feed_text.specs.TextErrors.{IsErrorOf};
 use crate::errors::TextError;
 use crate::faults::{column_fault, file_fault};
 use crate::table::{Table, table_within};
-use feed_faults::{ColumnRule, EmptyField, columns_of};
+use feed_faults::{EmptyField, columns_of};
 use feed_rows::{FaultKind, FeedFault, FileName};
 use std::alloc::Global;
 
@@ -41,51 +41,29 @@ pub fn is_always_needed(file: FileName) -> bool
     }
 }
 
-// The fault of a listed column that stands twice.
-#[tactic(auto, unfolding(feed_faults::specs::FormFaults::doubled_column))]
-fn doubled_column(file: FileName, table: &Table, rule: ColumnRule) -> Option<FeedFault>
-    ensures { result ≡ doubled_column file table.now rule }
-{
-    if table.is_twice(rule.name) {
-        return Some(column_fault(file, rule.name, FaultKind::DoubledColumn));
-    }
-    None
-}
-
-// The fault of a column that must be there and isn't.
-#[tactic(auto, unfolding(feed_faults::specs::FormFaults::missing_column))]
-fn missing_column(file: FileName, table: &Table, rule: ColumnRule) -> Option<FeedFault>
-    ensures { result ≡ missing_column file table.now rule }
-{
-    if rule.empty != EmptyField::Fine && table.column(rule.name).is_none() {
-        return Some(column_fault(file, rule.name, FaultKind::MissingColumn));
-    }
-    None
-}
-
 // The fault of the first listed column that stands twice.
-#[tactic(auto, using(plain_laws::proofs::Laws::firsts))]
+#[tactic(auto, unfolding(feed_faults::specs::FormFaults::doubled_column), using(plain_laws::proofs::Laws::firsts))]
 fn first_doubled(file: FileName, table: &Table) -> Option<FeedFault>
     ensures { result ≡ first_in (columns_of file) (doubled_column file table.now) }
 {
     let rules = columns_of(file);
     for (i, rule) in rules.iter().enumerate() {
-        if let Some(fault) = doubled_column(file, table, *rule) {
-            return Some(fault);
+        if table.is_twice(rule.name) {
+            return Some(column_fault(file, rule.name, FaultKind::DoubledColumn));
         }
     }
     None
 }
 
 // The fault of the first listed column that must be there and isn't.
-#[tactic(auto, using(plain_laws::proofs::Laws::firsts))]
+#[tactic(auto, unfolding(feed_faults::specs::FormFaults::missing_column), using(plain_laws::proofs::Laws::firsts))]
 fn first_missing(file: FileName, table: &Table) -> Option<FeedFault>
     ensures { result ≡ first_in (columns_of file) (missing_column file table.now) }
 {
     let rules = columns_of(file);
     for (i, rule) in rules.iter().enumerate() {
-        if let Some(fault) = missing_column(file, table, *rule) {
-            return Some(fault);
+        if rule.empty != EmptyField::Fine && table.column(rule.name).is_none() {
+            return Some(column_fault(file, rule.name, FaultKind::MissingColumn));
         }
     }
     None
