@@ -19,7 +19,7 @@ use Rattle.feed_faults.specs.declared.columns.EmptyField.TheVariants as empty
 use Rattle.feed_faults.specs.declared.columns.ColumnRule.{ColumnRule}
 use Rattle.feed_faults.specs.Records.{FileTable, Fields, table_of_bytes, header, row_count, column_of, field, is_filled, is_long}
 use Rattle.feed_faults.specs.FieldGrammars.{int_value}
-use Rattle.feed_faults.specs.FileColumns.{columns_of, fits, misfit}
+use Rattle.feed_faults.specs.FileColumns.{is_always_needed, columns_of, fits, misfit}
 use Rattle.feed_faults.specs.FaultPlaces.{file_fault, column_fault, row_fault, field_fault}
 
 -- a column stands twice in a header
@@ -120,16 +120,6 @@ abbrev pub has_record : HeldFile → Bool
 has_record HeldFile.Missing = false
 has_record HeldFile.TooLarge = true
 has_record (HeldFile.Bytes bytes) = nat_lt 0 (length (table_of_bytes bytes))
-
--- a feed needs the file, whatever else it holds (Dataset Files; the fare files are of the profile)
-abbrev pub is_always_needed : FileName → Bool
-is_always_needed file.Stops = true
-is_always_needed file.Routes = true
-is_always_needed file.Trips = true
-is_always_needed file.StopTimes = true
-is_always_needed file.FareProducts = true
-is_always_needed file.FareLegRules = true
-is_always_needed file = false
 
 -- a feed needs the file: calendar.txt where calendar_dates.txt has no record (Dataset Files)
 abbrev pub is_needed : (FileName → HeldFile) → FileName → Bool

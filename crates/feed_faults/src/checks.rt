@@ -1,47 +1,77 @@
-//! What is checked of the rows of each file among the rows of all files, in the order in which it is judged.
+//! What is checked of rows among the rows of all files.
 ghost use Rattle.std.specs.Prelude.{◌≡◌};
-ghost use Rattle.feed_faults.specs.RowChecks.{checks_of};
+ghost use Rattle.feed_faults.specs.RowChecks.{id_place};
 
-use feed_rows::{ColumnName, FileName};
+use feed_rows::{ColumnName, FaultKind, FileName};
 
-/// What an id names.
+/// A column of ids that rows of other files name, or by which rows are found.
 #[derive(Clone, Copy)]
-pub enum Named {
-    /// A row of `stops.txt`.
+pub enum IdColumn {
+    /// `stop_id` of `stops.txt`
     Stop,
-    /// A row of `routes.txt`.
-    Route,
-    /// A row of `trips.txt`.
+    /// `trip_id` of `trips.txt`
     Trip,
-    /// A service, which has a row in `calendar.txt` or in `calendar_dates.txt`.
-    Service,
-    /// A row of `areas.txt`.
-    Area,
-    /// A row of `networks.txt`.
-    Network,
-    /// A network that a route has, or that has a row in `networks.txt`.
+    /// `route_id` of `routes.txt`
+    Route,
+    /// `network_id` of `routes.txt`
     RouteNetwork,
-    /// A group of `timeframes.txt`.
+    /// `service_id` of `calendar.txt`
+    Calendar,
+    /// `service_id` of `calendar_dates.txt`
+    CalendarDate,
+    /// `area_id` of `areas.txt`
+    Area,
+    /// `network_id` of `networks.txt`
+    Network,
+    /// `route_id` of `route_networks.txt`
+    NetworkRoute,
+    /// `timeframe_group_id` of `timeframes.txt`
     TimeframeGroup,
-    /// A row of `rider_categories.txt`.
+    /// `rider_category_id` of `rider_categories.txt`
     RiderCategory,
-    /// A row of `fare_media.txt`.
+    /// `fare_media_id` of `fare_media.txt`
     FareMedia,
-    /// A product of `fare_products.txt`.
+    /// `fare_product_id` of `fare_products.txt`
     FareProduct,
-    /// A leg group of `fare_leg_rules.txt`.
+    /// `leg_group_id` of `fare_leg_rules.txt`
     LegGroup,
+}
+
+impl IdColumn {
+    /// The file and the name of the column.
+    pub fn place(self) -> (FileName, ColumnName)
+        ensures { result ≡ id_place self }
+    {
+        match self {
+            IdColumn::Stop => (FileName::Stops, ColumnName::StopId),
+            IdColumn::Trip => (FileName::Trips, ColumnName::TripId),
+            IdColumn::Route => (FileName::Routes, ColumnName::RouteId),
+            IdColumn::RouteNetwork => (FileName::Routes, ColumnName::NetworkId),
+            IdColumn::Calendar => (FileName::Calendar, ColumnName::ServiceId),
+            IdColumn::CalendarDate => (FileName::CalendarDates, ColumnName::ServiceId),
+            IdColumn::Area => (FileName::Areas, ColumnName::AreaId),
+            IdColumn::Network => (FileName::Networks, ColumnName::NetworkId),
+            IdColumn::NetworkRoute => (FileName::RouteNetworks, ColumnName::RouteId),
+            IdColumn::TimeframeGroup => (FileName::Timeframes, ColumnName::TimeframeGroupId),
+            IdColumn::RiderCategory => (FileName::RiderCategories, ColumnName::RiderCategoryId),
+            IdColumn::FareMedia => (FileName::FareMedia, ColumnName::FareMediaId),
+            IdColumn::FareProduct => (FileName::FareProducts, ColumnName::FareProductId),
+            IdColumn::LegGroup => (FileName::FareLegRules, ColumnName::LegGroupId),
+        }
+    }
 }
 
 /// What is checked of a row among the rows of all files.
 #[derive(Clone, Copy)]
 pub enum RowCheck {
-    /// No earlier row has its id, which stands in this column.
-    NewId(ColumnName),
-    /// No earlier row has its key, which stands in several columns, this one among them.
-    NewKey(ColumnName),
-    /// Its id in this column, where the field is filled, names something that is there.
-    Known(ColumnName, Named),
+    /// No earlier row of its file has its id, which stands in this column.
+    NewId(IdColumn),
+    /// No earlier row has its key, which stands in several columns.
+    NewKey,
+    /// Its id, where the field is filled, stands in this column.
+    Known(IdColumn),
+    /// Its id, where the field is filled, stands in one of these two columns.
+    KnownInOne(IdColumn, IdColumn),
     /// The parent of a platform or a station is there.
     KnownParent,
     /// Only a platform has a parent, which is a station.
@@ -64,116 +94,11 @@ pub enum RowCheck {
     WholeLimit,
 }
 
-const STOPS: [RowCheck; 3] = [
-    RowCheck::NewId(ColumnName::StopId),
-    RowCheck::KnownParent,
-    RowCheck::GoodParent,
-];
-
-const ROUTES: [RowCheck; 1] = [RowCheck::NewId(ColumnName::RouteId)];
-
-const TRIPS: [RowCheck; 3] = [
-    RowCheck::NewId(ColumnName::TripId),
-    RowCheck::Known(ColumnName::RouteId, Named::Route),
-    RowCheck::Known(ColumnName::ServiceId, Named::Service),
-];
-
-const STOP_TIMES: [RowCheck; 6] = [
-    RowCheck::Known(ColumnName::TripId, Named::Trip),
-    RowCheck::Known(ColumnName::StopId, Named::Stop),
-    RowCheck::AtPlatform,
-    RowCheck::NewKey(ColumnName::StopSequence),
-    RowCheck::TimedEnds,
-    RowCheck::RisingTimes,
-];
-
-const CALENDAR: [RowCheck; 2] = [
-    RowCheck::NewId(ColumnName::ServiceId),
-    RowCheck::OrderedDays,
-];
-
-const CALENDAR_DATES: [RowCheck; 1] = [RowCheck::NewKey(ColumnName::Date)];
-
-const FREQUENCIES: [RowCheck; 2] = [
-    RowCheck::Known(ColumnName::TripId, Named::Trip),
-    RowCheck::NewKey(ColumnName::StartTime),
-];
-
-const TRANSFERS: [RowCheck; 2] = [
-    RowCheck::Known(ColumnName::FromStopId, Named::Stop),
-    RowCheck::Known(ColumnName::ToStopId, Named::Stop),
-];
-
-const AREAS: [RowCheck; 1] = [RowCheck::NewId(ColumnName::AreaId)];
-
-const STOP_AREAS: [RowCheck; 2] = [
-    RowCheck::Known(ColumnName::AreaId, Named::Area),
-    RowCheck::Known(ColumnName::StopId, Named::Stop),
-];
-
-const NETWORKS: [RowCheck; 1] = [RowCheck::NewId(ColumnName::NetworkId)];
-
-const ROUTE_NETWORKS: [RowCheck; 3] = [
-    RowCheck::NewId(ColumnName::RouteId),
-    RowCheck::Known(ColumnName::NetworkId, Named::Network),
-    RowCheck::Known(ColumnName::RouteId, Named::Route),
-];
-
-const TIMEFRAMES: [RowCheck; 2] = [
-    RowCheck::Known(ColumnName::ServiceId, Named::Service),
-    RowCheck::GoodTimeframe,
-];
-
-const RIDER_CATEGORIES: [RowCheck; 1] = [RowCheck::NewId(ColumnName::RiderCategoryId)];
-
-const FARE_MEDIA: [RowCheck; 1] = [RowCheck::NewId(ColumnName::FareMediaId)];
-
-const FARE_PRODUCTS: [RowCheck; 4] = [
-    RowCheck::Known(ColumnName::RiderCategoryId, Named::RiderCategory),
-    RowCheck::Known(ColumnName::FareMediaId, Named::FareMedia),
-    RowCheck::NewKey(ColumnName::FareProductId),
-    RowCheck::OneCurrency,
-];
-
-const FARE_LEG_RULES: [RowCheck; 6] = [
-    RowCheck::Known(ColumnName::NetworkId, Named::RouteNetwork),
-    RowCheck::Known(ColumnName::FromAreaId, Named::Area),
-    RowCheck::Known(ColumnName::ToAreaId, Named::Area),
-    RowCheck::Known(ColumnName::FromTimeframeGroupId, Named::TimeframeGroup),
-    RowCheck::Known(ColumnName::ToTimeframeGroupId, Named::TimeframeGroup),
-    RowCheck::Known(ColumnName::FareProductId, Named::FareProduct),
-];
-
-const FARE_TRANSFER_RULES: [RowCheck; 5] = [
-    RowCheck::GoodCount,
-    RowCheck::WholeLimit,
-    RowCheck::Known(ColumnName::FromLegGroupId, Named::LegGroup),
-    RowCheck::Known(ColumnName::ToLegGroupId, Named::LegGroup),
-    RowCheck::Known(ColumnName::FareProductId, Named::FareProduct),
-];
-
-/// The checks of a file's rows, in the order in which they are judged.
-pub fn checks_of(file: FileName) -> &'static [RowCheck]
-    ensures { result.now ≡ checks_of file }
-{
-    match file {
-        FileName::Stops => &STOPS,
-        FileName::Routes => &ROUTES,
-        FileName::Trips => &TRIPS,
-        FileName::StopTimes => &STOP_TIMES,
-        FileName::Calendar => &CALENDAR,
-        FileName::CalendarDates => &CALENDAR_DATES,
-        FileName::Frequencies => &FREQUENCIES,
-        FileName::Transfers => &TRANSFERS,
-        FileName::Areas => &AREAS,
-        FileName::StopAreas => &STOP_AREAS,
-        FileName::Networks => &NETWORKS,
-        FileName::RouteNetworks => &ROUTE_NETWORKS,
-        FileName::Timeframes => &TIMEFRAMES,
-        FileName::RiderCategories => &RIDER_CATEGORIES,
-        FileName::FareMedia => &FARE_MEDIA,
-        FileName::FareProducts => &FARE_PRODUCTS,
-        FileName::FareLegRules => &FARE_LEG_RULES,
-        FileName::FareTransferRules => &FARE_TRANSFER_RULES,
-    }
+/// What is checked of a row, and how it is told that it fails.
+#[derive(Clone, Copy)]
+pub struct RowRule {
+    pub check: RowCheck,
+    /// The column under which it is told; that of the id, where it is an id that is checked.
+    pub column: ColumnName,
+    pub kind: FaultKind,
 }

@@ -1,8 +1,10 @@
-//! What the files of a feed say, and what is wrong with them: the definitions, and the columns of each file as data.
+//! What the files of a feed say, and what is wrong with them: the definitions, and what each file is judged by as data.
 #![tactic(auto)]
 
 mod checks;
 mod columns;
+mod files;
 
-pub use checks::{Named, RowCheck, checks_of};
-pub use columns::{ColumnRule, EmptyField, Grammar, columns_of};
+pub use checks::{IdColumn, RowCheck, RowRule};
+pub use columns::{ColumnRule, EmptyField, Grammar};
+pub use files::{FileRule, rule_of};

@@ -14,7 +14,7 @@ use Rattle.feed_rows.specs.declared.names.ColumnName.TheVariants as column
 use Rattle.plain_laws.specs.Plain.{when}
 use Rattle.feed_rows.specs.SoundNames.{IsIdText}
 use Rattle.feed_rows.specs.SoundFares.{AreSoundAreas, AreSoundStopAreas, AreSoundTimeframes, AreSoundRiders, AreSoundMedia, AreSoundProducts, AreSoundLegRules, AreSoundTransferRules, IsSoundCurrency}
-use Rattle.feed_faults.specs.declared.checks.RowCheck.TheVariants as check
+use Rattle.feed_faults.specs.declared.checks.IdColumn.TheVariants as ids
 use Rattle.feed_faults.specs.Records.{FileTable, row_count, column_of, field, is_filled}
 use Rattle.feed_faults.specs.FieldGrammars.{most_int}
 use Rattle.feed_soundness.proofs.RuleShapes.{int, amount, currency}
@@ -47,7 +47,7 @@ module _ (t : FeedTables) (formed : AreFormed t) (related : AreRelated t) where
       record {
         few = few_rows row (formed file.Areas);
         ids = All-list_below (λ a. IsIdText a.id) rows row (λ i lt. (must_id t formed file.Areas i 0 column.AreaId lt refl).3);
-        no_doubles = AllPairs-list_below (λ a b. a.id ≢ b.id) rows row (new_ids t related file.Areas column.AreaId refl);
+        no_doubles = AllPairs-list_below (λ a b. a.id ≢ b.id) rows row (new_ids t related ids.Area _ _ refl);
       }
 
   -- stop_areas.txt
@@ -75,7 +75,7 @@ module _ (t : FeedTables) (formed : AreFormed t) (related : AreRelated t) where
         ids = All-list_below (λ r. IsIdText r.id) rows row
             (λ i lt. (must_id t formed file.RiderCategories i 0 column.RiderCategoryId lt refl).3);
         no_doubles =
-            AllPairs-list_below (λ r s. r.id ≢ s.id) rows row (new_ids t related file.RiderCategories column.RiderCategoryId refl);
+            AllPairs-list_below (λ r s. r.id ≢ s.id) rows row (new_ids t related ids.RiderCategory _ _ refl);
       }
 
   -- fare_media.txt
@@ -88,7 +88,7 @@ module _ (t : FeedTables) (formed : AreFormed t) (related : AreRelated t) where
         few = few_rows row (formed file.FareMedia);
         ids = All-list_below (λ m. IsIdText m.id) rows row
             (λ i lt. (must_id t formed file.FareMedia i 0 column.FareMediaId lt refl).3);
-        no_doubles = AllPairs-list_below (λ m n. m.id ≢ n.id) rows row (new_ids t related file.FareMedia column.FareMediaId refl);
+        no_doubles = AllPairs-list_below (λ m n. m.id ≢ n.id) rows row (new_ids t related ids.FareMedia _ _ refl);
       }
 
 -- one of two times that overlap neither way ends by the start of the other
@@ -130,7 +130,7 @@ module _ (t : FeedTables) (formed : AreFormed t) (related : AreRelated t) where
       let groups = same_name _ _ _ (names.frame_group_named t formed i first) (names.frame_group_named t formed j within) group in
       let services = same_name _ _ _ (names.frame_service_named t formed i first) (names.frame_service_named t formed j within) service in
       let both = and_from _ _ (eq-bytes_eq _ _ (sym groups)) (eq-bytes_eq _ _ (sym services)) in
-      let new = (frame_good frames j (related file.Timeframes j 1 check.GoodTimeframe within refl)).1 in
+      let new = (frame_good frames j (related file.Timeframes j 1 _ within refl)).1 in
       times_apart _ _ _ _ _ (apart (do_frames_overlap frames) i j new lt) both
 
   -- timeframes.txt
@@ -147,7 +147,7 @@ module _ (t : FeedTables) (formed : AreFormed t) (related : AreRelated t) where
         services = All-list_below (λ f. f.service.0 < length (service_names t)) rows row
             (λ i lt. (names.frame_service_named t formed i lt).within);
         ordered = All-list_below (λ f. f.start < f.end) rows row
-            (λ i lt. (frame_good frames i (related file.Timeframes i 1 check.GoodTimeframe lt refl)).0);
+            (λ i lt. (frame_good frames i (related file.Timeframes i 1 _ lt refl)).0);
         ends = All-list_below (λ f. f.end ≤ day_seconds) rows row
             (λ i lt. end_small frames i);
         apart =
@@ -181,7 +181,7 @@ module _ (t : FeedTables) (formed : AreFormed t) (related : AreRelated t) where
       let media = same_reference make_medium (λ m. m.0) (λ n. refl) _ column.FareMediaId _ _
       (product_medium_known t related i first) (product_medium_known t related j within) medium in
       never_both (and_from _ _ (and_from _ _ (eq-bytes_eq _ _ (sym products)) (eq-bytes_eq _ _ (sym riders))) (eq-bytes_eq _ _ (sym media)))
-      (new_keys t related file.FareProducts 2 column.FareProductId refl i j lt within)
+      (new_keys t related file.FareProducts 2 _ _ refl i j lt within)
 
   -- fare_products.txt
   pub products_sound : AreSoundProducts (rows_of_tables t)
@@ -319,7 +319,7 @@ module _ (t : FeedTables) (formed : AreFormed t) (related : AreRelated t) (row :
   unfolding transfer_rule_row is_count_misplaced
   counted n e =
       let filled = count_filled _ n e in
-      let same = count_between_same _ _ _ (related file.FareTransferRules row 0 check.GoodCount lt refl) filled in
+      let same = count_between_same _ _ _ (related file.FareTransferRules row 0 _ lt refl) filled in
       let group : List ℕ → Option LegGroupId = λ text. if_filled text (record { 0 = name_number (group_names t) text }) in
       ap group same
 
@@ -329,7 +329,7 @@ module _ (t : FeedTables) (formed : AreFormed t) (related : AreRelated t) (row :
       let rules = table_in t file.FareTransferRules in
       let is = cond_some (is_filled (field rules row column.DurationLimit)) _ limit e in
       let seconds = int_good 1 most_int _ (may_at file.FareTransferRules rules row 3 column.DurationLimit (int 1 most_int) (formed file.FareTransferRules) lt refl is.0) in
-      let typed = both_filled _ (is_filled (field rules row column.DurationLimitType)) (related file.FareTransferRules row 1 check.WholeLimit lt refl) is.0 in
+      let typed = both_filled _ (is_filled (field rules row column.DurationLimitType)) (related file.FareTransferRules row 1 _ lt refl) is.0 in
       let kind = int_good 0 3 _ (may_at file.FareTransferRules rules row 4 column.DurationLimitType (int 0 3) (formed file.FareTransferRules) lt refl typed) in
       rw (← is.1) (seconds.low, seconds.high, kind.high)
 

@@ -6,13 +6,16 @@ use Rattle.feed_rows.specs.declared.names.FileName.{FileName}
 use Rattle.feed_rows.specs.declared.names.FileName.TheVariants as file
 use Rattle.feed_rows.specs.declared.names.ColumnName.{ColumnName}
 use Rattle.feed_rows.specs.declared.names.ColumnName.TheVariants.{StopId, RouteId, ServiceId, TripId, NetworkId, TimeframeGroupId, FareProductId, LegGroupId}
+use Rattle.feed_rows.specs.declared.faults.FaultKind.{FaultKind}
 use Rattle.feed_rows.specs.SoundNames.{IsIdText}
+use Rattle.feed_faults.specs.declared.checks.IdColumn.{IdColumn}
 use Rattle.feed_faults.specs.declared.checks.RowCheck.TheVariants.{NewId, NewKey}
 use Rattle.feed_faults.specs.Records.{FileTable, row_count, field, is_filled}
 use Rattle.feed_soundness.proofs.RuleShapes.{must, may, id}
 use Rattle.feed_faults.specs.FormFaults.{judged_columns}
 use Rattle.feed_faults.specs.FeedTables.{FeedTables, table_in}
-use Rattle.feed_faults.specs.RowChecks.{checks_of, same_key}
+use Rattle.feed_faults.specs.FileColumns.{checks_of}
+use Rattle.feed_faults.specs.RowChecks.{id_place, same_key}
 use Rattle.feed_soundness.specs.AcceptedTables.{AreFormed, AreRelated}
 use Rattle.feed_soundness.proofs.FieldLaws.{IsGood, must_at, flex_at, may_at}
 use Rattle.feed_soundness.proofs.KeyLaws.{ids_apart, apart}
@@ -93,15 +96,16 @@ module _ (t : FeedTables) (formed : AreFormed t) (row : ℕ) where
   group_of_leg_rule lt = may_id t formed file.FareLegRules row 0 LegGroupId lt refl
 
 -- no two rows of a file have one id
-pub new_ids : (t : FeedTables) → AreRelated t → (name : FileName) (column : ColumnName)
-    → slice_get (checks_of name) 0 ≡ Some (NewId column)
-    → (i j : ℕ) → i < j → j < row_count (table_in t name) → field (table_in t name) i column ≢ field (table_in t name) j column
-new_ids t related name column at i j lt within =
-    ids_apart (table_in t name) column i j (related name j 0 (NewId column) within at) lt
+pub new_ids : (t : FeedTables) → AreRelated t → (ids : IdColumn) (column : ColumnName) (kind : FaultKind)
+    → slice_get (checks_of (id_place ids).0) 0 ≡ Some (record { check = NewId ids; column = column; kind = kind })
+    → (i j : ℕ) → i < j → j < row_count (table_in t (id_place ids).0)
+    → field (table_in t (id_place ids).0) i (id_place ids).1 ≢ field (table_in t (id_place ids).0) j (id_place ids).1
+new_ids t related ids column kind at i j lt within =
+    ids_apart (table_in t (id_place ids).0) (id_place ids).1 i j (related (id_place ids).0 j 0 _ within at) lt
 
 -- no two rows of a file have one key
-pub new_keys : (t : FeedTables) → AreRelated t → (name : FileName) (k : ℕ) (column : ColumnName)
-    → slice_get (checks_of name) k ≡ Some (NewKey column)
+pub new_keys : (t : FeedTables) → AreRelated t → (name : FileName) (k : ℕ) (column : ColumnName) (kind : FaultKind)
+    → slice_get (checks_of name) k ≡ Some (record { check = NewKey; column = column; kind = kind })
     → (i j : ℕ) → i < j → j < row_count (table_in t name) → same_key name (table_in t name) j i ≡ false
-new_keys t related name k column at i j lt within =
-    apart (same_key name (table_in t name)) i j (related name j k (NewKey column) within at) lt
+new_keys t related name k column kind at i j lt within =
+    apart (same_key name (table_in t name)) i j (related name j k _ within at) lt

@@ -7,7 +7,6 @@ use Rattle.feed_rows.specs.declared.names.FileName.TheVariants as file
 use Rattle.feed_rows.specs.declared.names.ColumnName.TheVariants as column
 use Rattle.feed_rows.specs.Calls.{first_time, last_time}
 use Rattle.feed_rows.specs.SoundTimetable.{EndsBy, IsFirstCall, IsLastCall, AreOrderedCalls}
-use Rattle.feed_faults.specs.declared.checks.RowCheck.TheVariants as check
 use Rattle.feed_faults.specs.Records.{FileTable, row_count}
 use Rattle.feed_faults.specs.FeedTables.{FeedTables, table_in}
 use Rattle.feed_faults.specs.StopTimeRelations.{stop_time_of, stop_times_of, is_first, is_last, do_times_decrease}
@@ -24,7 +23,7 @@ stop_times t = table_in t file.StopTimes
 
 module _ (t : FeedTables) (formed : AreFormed t) (related : AreRelated t) where
   rising : (row : ℕ) → row < row_count (stop_times t) → do_times_decrease (stop_times_of (stop_times t)) row ≡ false
-  rising row lt = related file.StopTimes row 5 check.RisingTimes lt refl
+  rising row lt = related file.StopTimes row 5 _ lt refl
 
   -- rows of one trip by its number are of one trip by its id, and the other way round
   same_trip : (i j : ℕ) → i < row_count (stop_times t) → j < row_count (stop_times t)
@@ -44,7 +43,7 @@ module _ (t : FeedTables) (formed : AreFormed t) (related : AreRelated t) where
   sequences_apart i j lt within trips sequences =
       let first : i < row_count (stop_times t) = omega arith in
       never_both (same_place_told (stop_times t) j i within first ∙ and_from _ _ (eq-bytes_eq _ _ (sym trips)) (eq-eqb _ _ (sym sequences)))
-      (new_keys t related file.StopTimes 3 column.StopSequence refl i j lt within)
+      (new_keys t related file.StopTimes 3 _ _ refl i j lt within)
 
   calls_apart : (i j : ℕ) → i < j → j < row_count (stop_times t) → (stop_time_row t i).trip.0 ≡ (stop_time_row t j).trip.0
       → (stop_time_row t i).sequence ≡ (stop_time_row t j).sequence → ⊥
@@ -60,7 +59,7 @@ module _ (t : FeedTables) (formed : AreFormed t) (related : AreRelated t) where
       let told = list_below-each (λ other. other.trip.0 ≡ (stop_time_row t i).trip.0 → (stop_time_row t i).sequence ≤ other.sequence) (row_count table) (stop_time_row t) is in
       let first = first_row table i lt (λ k within same. told k within (same_trip_number k i same))
       (λ k less same sequences. sequences_apart k i less lt same sequences) in
-      (end_times table i lt (related file.StopTimes i 4 check.TimedEnds lt refl)
+      (end_times table i lt (related file.StopTimes i 4 _ lt refl)
       (or_left (is_first (stop_times_of table) i) (is_last (stop_times_of table) i) first)).0
 
   last_told : (i : ℕ) → i < row_count (stop_times t) → IsLastCall (rows_of_tables t) (stop_time_row t i)
@@ -71,7 +70,7 @@ module _ (t : FeedTables) (formed : AreFormed t) (related : AreRelated t) where
       let told = list_below-each (λ other. other.trip.0 ≡ (stop_time_row t i).trip.0 → other.sequence ≤ (stop_time_row t i).sequence) (row_count table) (stop_time_row t) is in
       let last = last_row table i lt (λ k within same. told k within (same_trip_number k i same))
       (λ k less within same sequences. sequences_apart i k less within (sym same) (sym sequences)) in
-      (end_times table i lt (related file.StopTimes i 4 check.TimedEnds lt refl)
+      (end_times table i lt (related file.StopTimes i 4 _ lt refl)
       (or_right (is_first (stop_times_of table) i) (is_last (stop_times_of table) i) last)).1
 
   -- no time falls in a row, nor from a row to a later one of its trip

@@ -6,8 +6,6 @@ use Rattle.feed_rows.specs.declared.names.FileName.{FileName}
 use Rattle.feed_rows.specs.declared.names.FileName.TheVariants as file
 use Rattle.feed_rows.specs.declared.names.ColumnName.{ColumnName}
 use Rattle.feed_rows.specs.declared.names.ColumnName.TheVariants.{AreaId, FareMediaId, FareProductId, FromAreaId, FromLegGroupId, FromStopId, FromTimeframeGroupId, NetworkId, RiderCategoryId, RouteId, StopId, ToAreaId, ToLegGroupId, ToStopId, ToTimeframeGroupId, TripId}
-use Rattle.feed_faults.specs.declared.checks.Named.TheVariants.{Area, FareMedia, FareProduct, LegGroup, Network, RiderCategory, Route, RouteNetwork, Stop, TimeframeGroup, Trip}
-use Rattle.feed_faults.specs.declared.checks.RowCheck.TheVariants.{Known}
 use Rattle.feed_faults.specs.Records.{row_count, field, is_filled}
 use Rattle.feed_faults.specs.FormFaults.{is_passed_over}
 use Rattle.feed_faults.specs.FeedTables.{FeedTables, table_in}
@@ -31,59 +29,59 @@ AreKnownIfFilled t name column other key =
 module _ (t : FeedTables) (formed : AreFormed t) (related : AreRelated t) where
   pub trip_route_known : AreKnown t file.Trips RouteId file.Routes RouteId
   trip_route_known row lt =
-      known _ _ _ (must_id t formed file.Trips row 0 RouteId lt refl).2 (related file.Trips row 1 (Known RouteId Route) lt refl)
+      known _ _ _ (must_id t formed file.Trips row 0 RouteId lt refl).2 (related file.Trips row 1 _ lt refl)
 
   pub call_trip_known : AreKnown t file.StopTimes TripId file.Trips TripId
-  call_trip_known row lt = known _ _ _ (trip_of_call t formed row lt).2 (related file.StopTimes row 0 (Known TripId Trip) lt refl)
+  call_trip_known row lt = known _ _ _ (trip_of_call t formed row lt).2 (related file.StopTimes row 0 _ lt refl)
 
   pub call_stop_known : AreKnown t file.StopTimes StopId file.Stops StopId
-  call_stop_known row lt = known _ _ _ (stop_of_call t formed row lt).2 (related file.StopTimes row 1 (Known StopId Stop) lt refl)
+  call_stop_known row lt = known _ _ _ (stop_of_call t formed row lt).2 (related file.StopTimes row 1 _ lt refl)
 
   pub frequency_trip_known : AreKnown t file.Frequencies TripId file.Trips TripId
   frequency_trip_known row lt =
-      known _ _ _ (must_id t formed file.Frequencies row 0 TripId lt refl).2 (related file.Frequencies row 0 (Known TripId Trip) lt refl)
+      known _ _ _ (must_id t formed file.Frequencies row 0 TripId lt refl).2 (related file.Frequencies row 0 _ lt refl)
 
   pub area_known : AreKnown t file.StopAreas AreaId file.Areas AreaId
   area_known row lt =
-      known _ _ _ (must_id t formed file.StopAreas row 0 AreaId lt refl).2 (related file.StopAreas row 0 (Known AreaId Area) lt refl)
+      known _ _ _ (must_id t formed file.StopAreas row 0 AreaId lt refl).2 (related file.StopAreas row 0 _ lt refl)
 
   pub area_stop_known : AreKnown t file.StopAreas StopId file.Stops StopId
   area_stop_known row lt =
-      known _ _ _ (must_id t formed file.StopAreas row 1 StopId lt refl).2 (related file.StopAreas row 1 (Known StopId Stop) lt refl)
+      known _ _ _ (must_id t formed file.StopAreas row 1 StopId lt refl).2 (related file.StopAreas row 1 _ lt refl)
 
   -- of a row of transfers.txt that isn't passed over
   pub transfer_from_known : (row : ℕ) → row < row_count (table_in t file.Transfers) → is_passed_over (field (table_in t file.Transfers) row) ≡ false
       → IsKnown (table_in t file.Stops) StopId (field (table_in t file.Transfers) row FromStopId)
   transfer_from_known row lt taken =
       known _ _ _ (must_id t formed file.Transfers row 1 FromStopId lt (rw taken refl)).2
-      (rw taken at (related file.Transfers row 0 (Known FromStopId Stop) lt refl))
+      (rw taken at (related file.Transfers row 0 _ lt refl))
 
   pub transfer_to_known : (row : ℕ) → row < row_count (table_in t file.Transfers) → is_passed_over (field (table_in t file.Transfers) row) ≡ false
       → IsKnown (table_in t file.Stops) StopId (field (table_in t file.Transfers) row ToStopId)
   transfer_to_known row lt taken =
       known _ _ _ (must_id t formed file.Transfers row 2 ToStopId lt (rw taken refl)).2
-      (rw taken at (related file.Transfers row 1 (Known ToStopId Stop) lt refl))
+      (rw taken at (related file.Transfers row 1 _ lt refl))
 
 module _ (t : FeedTables) (related : AreRelated t) where
   pub product_rider_known : AreKnownIfFilled t file.FareProducts RiderCategoryId file.RiderCategories RiderCategoryId
   product_rider_known row lt filled =
-      known _ _ _ filled (related file.FareProducts row 0 (Known RiderCategoryId RiderCategory) lt refl)
+      known _ _ _ filled (related file.FareProducts row 0 _ lt refl)
 
   pub product_medium_known : AreKnownIfFilled t file.FareProducts FareMediaId file.FareMedia FareMediaId
-  product_medium_known row lt filled = known _ _ _ filled (related file.FareProducts row 1 (Known FareMediaId FareMedia) lt refl)
+  product_medium_known row lt filled = known _ _ _ filled (related file.FareProducts row 1 _ lt refl)
 
   pub leg_rule_from_area_known : AreKnownIfFilled t file.FareLegRules FromAreaId file.Areas AreaId
-  leg_rule_from_area_known row lt filled = known _ _ _ filled (related file.FareLegRules row 1 (Known FromAreaId Area) lt refl)
+  leg_rule_from_area_known row lt filled = known _ _ _ filled (related file.FareLegRules row 1 _ lt refl)
 
   pub leg_rule_to_area_known : AreKnownIfFilled t file.FareLegRules ToAreaId file.Areas AreaId
-  leg_rule_to_area_known row lt filled = known _ _ _ filled (related file.FareLegRules row 2 (Known ToAreaId Area) lt refl)
+  leg_rule_to_area_known row lt filled = known _ _ _ filled (related file.FareLegRules row 2 _ lt refl)
 
 -- what the fare rules name, where the field is filled
 module _ (t : FeedTables) (related : AreRelated t) where
   pub leg_rule_network_named : AreNamedIfFilled t file.FareLegRules NetworkId (network_names t)
   unfolding network_names
   leg_rule_network_named row lt filled =
-      step (and_cases _ _ (related file.FareLegRules row 0 (Known NetworkId RouteNetwork) lt refl))
+      step (and_cases _ _ (related file.FareLegRules row 0 _ lt refl))
     where
       step : (is_unknown (table_in t file.Routes) NetworkId (field (table_in t file.FareLegRules) row NetworkId) ≡ false)
           ⊎ (is_unknown (table_in t file.Networks) NetworkId (field (table_in t file.FareLegRules) row NetworkId) ≡ false)
@@ -94,32 +92,32 @@ module _ (t : FeedTables) (related : AreRelated t) where
   pub leg_rule_from_frame_named : AreNamedIfFilled t file.FareLegRules FromTimeframeGroupId (frame_names t)
   unfolding frame_names
   leg_rule_from_frame_named row lt filled =
-      named_in _ _ _ _ filled (related file.FareLegRules row 3 (Known FromTimeframeGroupId TimeframeGroup) lt refl)
+      named_in _ _ _ _ filled (related file.FareLegRules row 3 _ lt refl)
 
   pub leg_rule_to_frame_named : AreNamedIfFilled t file.FareLegRules ToTimeframeGroupId (frame_names t)
   unfolding frame_names
   leg_rule_to_frame_named row lt filled =
-      named_in _ _ _ _ filled (related file.FareLegRules row 4 (Known ToTimeframeGroupId TimeframeGroup) lt refl)
+      named_in _ _ _ _ filled (related file.FareLegRules row 4 _ lt refl)
 
   pub leg_rule_product_named : AreNamedIfFilled t file.FareLegRules FareProductId (product_names t)
   unfolding product_names
   leg_rule_product_named row lt filled =
-      named_in _ _ _ _ filled (related file.FareLegRules row 5 (Known FareProductId FareProduct) lt refl)
+      named_in _ _ _ _ filled (related file.FareLegRules row 5 _ lt refl)
 
   pub rule_from_group_named : AreNamedIfFilled t file.FareTransferRules FromLegGroupId (group_names t)
   unfolding group_names
   rule_from_group_named row lt filled =
-      named_in _ _ _ _ filled (related file.FareTransferRules row 2 (Known FromLegGroupId LegGroup) lt refl)
+      named_in _ _ _ _ filled (related file.FareTransferRules row 2 _ lt refl)
 
   pub rule_to_group_named : AreNamedIfFilled t file.FareTransferRules ToLegGroupId (group_names t)
   unfolding group_names
   rule_to_group_named row lt filled =
-      named_in _ _ _ _ filled (related file.FareTransferRules row 3 (Known ToLegGroupId LegGroup) lt refl)
+      named_in _ _ _ _ filled (related file.FareTransferRules row 3 _ lt refl)
 
   pub rule_product_named : AreNamedIfFilled t file.FareTransferRules FareProductId (product_names t)
   unfolding product_names
   rule_product_named row lt filled =
-      named_in _ _ _ _ filled (related file.FareTransferRules row 4 (Known FareProductId FareProduct) lt refl)
+      named_in _ _ _ _ filled (related file.FareTransferRules row 4 _ lt refl)
 
 -- the network of a route is one of the names
 pub route_network_named : (t : FeedTables) → AreFormed t → AreRelated t → (row : ℕ) → row < row_count (table_in t file.Routes)
@@ -137,4 +135,4 @@ route_network_named t formed related row lt filled =
     step false own (Some r) place =
         let within = row_within _ _ _ r place in
         let here = (must_id t formed file.RouteNetworks r 0 NetworkId within refl).2 in
-        rw (own, place) (named_in _ _ _ _ here (related file.RouteNetworks r 1 (Known NetworkId Network) within refl))
+        rw (own, place) (named_in _ _ _ _ here (related file.RouteNetworks r 1 _ within refl))

@@ -6,7 +6,8 @@ use Rattle.plain_laws.specs.Plain.{first_below}
 use Rattle.feed_faults.specs.Records.{row_count}
 use Rattle.feed_faults.specs.FeedTables.{FeedTables, table_in}
 use Rattle.feed_faults.specs.NetworkRelations.{forbidden_fault}
-use Rattle.feed_faults.specs.RowChecks.{checks_of, fails, fault_of_check, relation_fault_of_row}
+use Rattle.feed_faults.specs.FileColumns.{checks_of}
+use Rattle.feed_faults.specs.RowChecks.{fails, fault_of_check, relation_fault_of_row}
 use Rattle.feed_faults.specs.FirstFault.{relation_fault, first_relation_fault}
 use Rattle.feed_soundness.specs.AcceptedTables.{AreRelated}
 use Rattle.plain_laws.proofs.Laws.{none_either, none_below, none_in, none_when}

@@ -12,7 +12,7 @@ use Rattle.feed_rows.specs.declared.names.ColumnName.TheVariants as column
 use Rattle.plain_laws.specs.Plain.{ForItem}
 use Rattle.feed_rows.specs.SoundNames.{IsIdText}
 use Rattle.feed_rows.specs.SoundTimetable.{IsCalendarDay, AreSoundStops, AreSoundRoutes, AreSoundTrips, AreSoundStopTimes, AreSoundServices, AreSoundExceptions, AreSoundFrequencies, AreSoundLinks}
-use Rattle.feed_faults.specs.declared.checks.RowCheck.TheVariants as check
+use Rattle.feed_faults.specs.declared.checks.IdColumn.TheVariants as ids
 use Rattle.feed_faults.specs.Records.{FileTable, row_count, field, is_filled}
 use Rattle.feed_faults.specs.FieldGrammars.{most_int}
 use Rattle.feed_soundness.proofs.RuleShapes.{int, date}
@@ -77,7 +77,7 @@ module _ (t : FeedTables) (formed : AreFormed t) (related : AreRelated t) where
   -- stops.txt
   stop_parent : (row : ℕ) → row < row_count (table_in t file.Stops)
       → ForSome (accepted_parent (table_in t file.Stops) row) (IsParent (table_in t file.Stops) row)
-  stop_parent row lt = parent_told _ _ (related file.Stops row 1 check.KnownParent lt refl) (related file.Stops row 2 check.GoodParent lt refl)
+  stop_parent row lt = parent_told _ _ (related file.Stops row 1 _ lt refl) (related file.Stops row 2 _ lt refl)
 
   pub stops_sound : AreSoundStops (rows_of_tables t)
   unfolding rows_of_tables stop_row
@@ -87,7 +87,7 @@ module _ (t : FeedTables) (formed : AreFormed t) (related : AreRelated t) where
       record {
         few = few_rows row (formed file.Stops);
         ids = All-list_below (λ s. IsIdText s.id) rows row (λ i lt. (stop_id t formed i lt).3);
-        no_doubles = AllPairs-list_below (λ s u. s.id ≢ u.id) rows row (new_ids t related file.Stops column.StopId refl);
+        no_doubles = AllPairs-list_below (λ s u. s.id ≢ u.id) rows row (new_ids t related ids.Stop _ _ refl);
         kinds = All-list_below (λ s. s.kind ≤ 4) rows row
             (λ i lt. int_small 0 4 _);
         parents = All-list_below (λ s. ForSome s.parent (λ p. p.0 < length (rows_of_tables t).stops)) rows row
@@ -113,7 +113,7 @@ module _ (t : FeedTables) (formed : AreFormed t) (related : AreRelated t) where
       record {
         few = few_rows row (formed file.Routes);
         ids = All-list_below (λ r. IsIdText r.id) rows row (λ i lt. (route_id t formed i lt).3);
-        no_doubles = AllPairs-list_below (λ r s. r.id ≢ s.id) rows row (new_ids t related file.Routes column.RouteId refl);
+        no_doubles = AllPairs-list_below (λ r s. r.id ≢ s.id) rows row (new_ids t related ids.Route _ _ refl);
         networks = All-list_below (λ r. ForSome r.network (λ n. n.0 < length (network_names t))) rows row route_network_told;
       }
 
@@ -126,7 +126,7 @@ module _ (t : FeedTables) (formed : AreFormed t) (related : AreRelated t) where
       record {
         few = few_rows row (formed file.Trips);
         ids = All-list_below (λ u. IsIdText u.id) rows row (λ i lt. (trip_id t formed i lt).3);
-        no_doubles = AllPairs-list_below (λ u v. u.id ≢ v.id) rows row (new_ids t related file.Trips column.TripId refl);
+        no_doubles = AllPairs-list_below (λ u v. u.id ≢ v.id) rows row (new_ids t related ids.Trip _ _ refl);
         routes = All-list_below (λ u. u.route.0 < length (rows_of_tables t).routes) rows row
             (λ i lt. rw length-list_below (trip_route_known t formed related i lt).within);
         services = All-list_below (λ u. u.service.0 < length (service_names t)) rows row
@@ -138,7 +138,7 @@ module _ (t : FeedTables) (formed : AreFormed t) (related : AreRelated t) where
       → stop_kind (table_in t file.Stops) (row_number (table_in t file.Stops) column.StopId (field (table_in t file.StopTimes) row column.StopId)) ≡ 0
   unfolding is_at_platform
   call_platform row lt =
-      let platform = not-false (is_at_platform (table_in t file.Stops) (table_in t file.StopTimes) row) (related file.StopTimes row 2 check.AtPlatform lt refl) in
+      let platform = not-false (is_at_platform (table_in t file.Stops) (table_in t file.StopTimes) row) (related file.StopTimes row 2 _ lt refl) in
       let place = call_stop_known t formed related row lt in
       eqb-true _ 0 (rw place.found at platform)
 
@@ -165,7 +165,7 @@ module _ (t : FeedTables) (formed : AreFormed t) (related : AreRelated t) where
   service_dates : (row : ℕ) → row < row_count (table_in t file.Calendar)
       → day_or_zero (field (table_in t file.Calendar) row column.StartDate) ≤ℤ day_or_zero (field (table_in t file.Calendar) row column.EndDate)
   unfolding are_dates_reversed
-  service_dates row lt = not_reversed _ _ (related file.Calendar row 1 check.OrderedDays lt refl)
+  service_dates row lt = not_reversed _ _ (related file.Calendar row 1 _ lt refl)
 
   pub services_sound : AreSoundServices (rows_of_tables t)
   unfolding rows_of_tables service_row
@@ -177,7 +177,7 @@ module _ (t : FeedTables) (formed : AreFormed t) (related : AreRelated t) where
         names = All-list_below (λ s. s.service.0 < length (service_names t)) rows row
             (λ i lt. (names.calendar_service_named t formed i lt).within);
         no_doubles = AllPairs-list_below (λ s u. s.service.0 ≢ u.service.0) rows row
-            (λ i j lt within same. new_ids t related file.Calendar column.ServiceId refl i j lt within
+            (λ i j lt within same. new_ids t related ids.Calendar _ _ refl i j lt within
             (same_name _ _ _ (names.calendar_service_named t formed i (omega arith)) (names.calendar_service_named t formed j within) same));
         weekdays = All-list_below (λ s. length s.days ≡ 7) rows row (λ i lt. refl);
         firsts = All-list_below (λ s. IsCalendarDay s.first) rows row
@@ -194,7 +194,7 @@ module _ (t : FeedTables) (formed : AreFormed t) (related : AreRelated t) where
   exceptions_apart i j lt within same days =
       let id = same_name _ _ _ (names.exception_service_named t formed i (omega arith)) (names.exception_service_named t formed j within) same in
       never_both (and_from _ _ (eq-bytes_eq _ _ (sym id)) (eq-int_same _ _ (sym days)))
-      (new_keys t related file.CalendarDates 0 column.Date refl i j lt within)
+      (new_keys t related file.CalendarDates 0 _ _ refl i j lt within)
 
   pub exceptions_sound : AreSoundExceptions (rows_of_tables t)
   unfolding rows_of_tables exception_row
@@ -217,7 +217,7 @@ module _ (t : FeedTables) (formed : AreFormed t) (related : AreRelated t) where
   frequencies_apart i j lt within same starts =
       let id = same_number _ _ _ _ (frequency_trip_known t formed related i (omega arith)) (frequency_trip_known t formed related j within) same in
       never_both (and_from _ _ (eq-bytes_eq _ _ (sym id)) (eq-eqb _ _ (sym starts)))
-      (new_keys t related file.Frequencies 1 column.StartTime refl i j lt within)
+      (new_keys t related file.Frequencies 1 _ _ refl i j lt within)
 
   pub frequencies_sound : AreSoundFrequencies (rows_of_tables t)
   unfolding rows_of_tables frequency_row

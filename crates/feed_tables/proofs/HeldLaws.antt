@@ -13,7 +13,8 @@ use Rattle.feed_faults.specs.FaultPlaces.{file_fault}
 use Rattle.feed_rows.specs.HeldFiles.{HeldFile}
 use Rattle.feed_faults.specs.FeedTables.{table_of}
 use Rattle.feed_tables.specs.RowNumbers.{held_fault_before_rows}
-use Rattle.feed_faults.specs.FormFaults.{header_fault, form_fault_of_held, form_fault_of_rows, form_fault_of_bytes, form_fault_of_table, is_always_needed}
+use Rattle.feed_faults.specs.FileColumns.{is_always_needed}
+use Rattle.feed_faults.specs.FormFaults.{header_fault, form_fault_of_held, form_fault_of_rows, form_fault_of_bytes, form_fault_of_table}
 use Rattle.feed_text.specs.declared.errors.TextError.{TextError}
 use Rattle.feed_text.specs.declared.errors.TextError.TheVariants as error
 use Rattle.feed_text.specs.TextErrors.{IsErrorOf}

@@ -4,7 +4,8 @@ use Rattle.std.specs.Prelude.{not, ◌≢◌}
 use Rattle.feed_rows.specs.declared.names.FileName.{FileName}
 use Rattle.feed_rows.specs.declared.names.FileName.TheVariants as file
 use Rattle.feed_rows.specs.Names.{place}
-use Rattle.feed_faults.specs.FormFaults.{has_record, is_always_needed, form_fault, form_fault_of_held}
+use Rattle.feed_faults.specs.FileColumns.{is_always_needed}
+use Rattle.feed_faults.specs.FormFaults.{has_record, form_fault, form_fault_of_held}
 use Rattle.feed_faults.specs.FeedTables.{table_of}
 use Rattle.folder_io.specs.declared.files.FileBytes.{FileBytes}
 use Rattle.folder_io.specs.KeptFiles.{file_in, held_of, held_in}

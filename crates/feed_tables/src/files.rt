@@ -4,15 +4,17 @@ ghost use Rattle.feed_rows.specs.Limits.{most_rows};
 ghost use Rattle.feed_rows.specs.HeldFiles.{HeldFile, most_bytes};
 ghost use Rattle.feed_faults.specs.Records.{row_count, table_of_bytes};
 ghost use Rattle.feed_faults.specs.FeedTables.{table_of};
-ghost use Rattle.feed_faults.specs.FormFaults.{has_record, is_always_needed, is_needed, form_fault, form_fault_of_bytes};
+ghost use Rattle.feed_faults.specs.FileColumns.{is_always_needed};
+ghost use Rattle.feed_faults.specs.FormFaults.{has_record, is_needed, form_fault, form_fault_of_bytes};
 ghost use Rattle.feed_text.specs.TextErrors.{IsErrorOf};
 ghost use Rattle.feed_tables.specs.RowNumbers.{held_fault_before_rows, read_of};
 ghost use Rattle.folder_io.specs.KeptFiles.{held_of, held_in, IsWithin, AreWithin};
 
 use crate::named::NamedTable;
 use crate::read_table::ReadTable;
+use feed_faults::rule_of;
 use feed_rows::{FaultKind, FileName};
-use feed_text::{Table, TextError, file_fault, has_record, is_always_needed};
+use feed_text::{Table, TextError, file_fault, has_record};
 use folder_io::{FileBytes, Files};
 use std::alloc::{AllocError, Global};
 
@@ -38,7 +40,7 @@ fn is_needed(alloc: Global, files: &Files, file: FileName) -> Result<bool, Alloc
     if file == FileName::Calendar {
         return Ok(!file_has_record(alloc, files.get(FileName::CalendarDates))?);
     }
-    Ok(is_always_needed(file))
+    Ok(rule_of(file).is_needed)
 }
 
 // The table of what is held of a file, judged before its rows.

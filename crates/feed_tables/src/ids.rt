@@ -1,93 +1,33 @@
 //! The rows of a feed by the ids that others name.
 ghost use Rattle.std.specs.Prelude.{◌≡◌, List, map, IfOk};
 ghost use Rattle.feed_faults.specs.Records.{FileTable};
-ghost use Rattle.feed_tables.specs.IdColumns.{file_of, name_of, indexed, call_ids};
+ghost use Rattle.feed_tables.specs.IdColumns.{indexed, call_ids};
 ghost use Rattle.feed_tables.specs.KeptTables.{tables_with};
 ghost use Rattle.feed_tables.specs.RowNumbers.{TableOf, first_files};
 
 use crate::index::IdIndex;
 use crate::read_table::ReadTable;
 use crate::tables::{CallTable, Tables};
-use feed_rows::{ColumnName, FileName};
+use feed_faults::IdColumn;
+use feed_rows::ColumnName;
 use std::alloc::{AllocError, Global};
 use std::marker::Model;
 
-/// A column of ids that rows of other files name, or by which rows are found.
-#[derive(Clone, Copy)]
-pub enum IdColumn {
-    /// `stop_id` of `stops.txt`
-    Stop,
-    /// `trip_id` of `trips.txt`
-    Trip,
-    /// `route_id` of `routes.txt`
-    Route,
-    /// `network_id` of `routes.txt`
-    RouteNetwork,
-    /// `service_id` of `calendar.txt`
-    Calendar,
-    /// `service_id` of `calendar_dates.txt`
-    CalendarDate,
-    /// `area_id` of `areas.txt`
-    Area,
-    /// `network_id` of `networks.txt`
-    Network,
-    /// `route_id` of `route_networks.txt`
-    NetworkRoute,
-    /// `timeframe_group_id` of `timeframes.txt`
-    TimeframeGroup,
-    /// `rider_category_id` of `rider_categories.txt`
-    RiderCategory,
-    /// `fare_media_id` of `fare_media.txt`
-    FareMedia,
-    /// `fare_product_id` of `fare_products.txt`
-    FareProduct,
-    /// `leg_group_id` of `fare_leg_rules.txt`
-    LegGroup,
-}
-
-impl IdColumn {
-    // The columns behind those that stop times name, in the order in which they are declared.
-    const OTHERS: [IdColumn; 12] = [
-        IdColumn::Route,
-        IdColumn::RouteNetwork,
-        IdColumn::Calendar,
-        IdColumn::CalendarDate,
-        IdColumn::Area,
-        IdColumn::Network,
-        IdColumn::NetworkRoute,
-        IdColumn::TimeframeGroup,
-        IdColumn::RiderCategory,
-        IdColumn::FareMedia,
-        IdColumn::FareProduct,
-        IdColumn::LegGroup,
-    ];
-
-    // The file and the name of each column, in the order in which they are declared.
-    const COLUMNS: [(FileName, ColumnName); 14] = [
-        (FileName::Stops, ColumnName::StopId),
-        (FileName::Trips, ColumnName::TripId),
-        (FileName::Routes, ColumnName::RouteId),
-        (FileName::Routes, ColumnName::NetworkId),
-        (FileName::Calendar, ColumnName::ServiceId),
-        (FileName::CalendarDates, ColumnName::ServiceId),
-        (FileName::Areas, ColumnName::AreaId),
-        (FileName::Networks, ColumnName::NetworkId),
-        (FileName::RouteNetworks, ColumnName::RouteId),
-        (FileName::Timeframes, ColumnName::TimeframeGroupId),
-        (FileName::RiderCategories, ColumnName::RiderCategoryId),
-        (FileName::FareMedia, ColumnName::FareMediaId),
-        (FileName::FareProducts, ColumnName::FareProductId),
-        (FileName::FareLegRules, ColumnName::LegGroupId),
-    ];
-
-    // The file and the name of the column.
-    fn place(self) -> (FileName, ColumnName)
-        ensures file { result.0 ≡ file_of self }
-        ensures name { result.1 ≡ name_of self }
-    {
-        IdColumn::COLUMNS[self as usize]
-    }
-}
+// The columns behind those that stop times name, in the order in which they are declared.
+const OTHERS: [IdColumn; 12] = [
+    IdColumn::Route,
+    IdColumn::RouteNetwork,
+    IdColumn::Calendar,
+    IdColumn::CalendarDate,
+    IdColumn::Area,
+    IdColumn::Network,
+    IdColumn::NetworkRoute,
+    IdColumn::TimeframeGroup,
+    IdColumn::RiderCategory,
+    IdColumn::FareMedia,
+    IdColumn::FareProduct,
+    IdColumn::LegGroup,
+];
 
 /// The rows of stops.txt and of trips.txt by the ids that stop times name.
 #[derive(Drop)]
@@ -117,7 +57,7 @@ impl<'t> CallIds<'t> {
 pub struct Ids<'t, C: CallTable> {
     tables: &'t Tables<'t, C>,
     calls: &'t CallIds<'t>,
-    // In the order of `IdColumn::OTHERS`.
+    // In the order of `OTHERS`.
     others: Vec<IdIndex<'t>>,
 }
 
@@ -145,8 +85,8 @@ impl<'t, C: CallTable> Ids<'t, C> {
         requires { calls.now ≡ call_ids tables.now }
         ensures { IfOk result (λ ids. ids ≡ tables.now) }
     {
-        let mut others = Vec::with_capacity(alloc, IdColumn::OTHERS.len())?;
-        for (i, column) in IdColumn::OTHERS.iter().enumerate() {
+        let mut others = Vec::with_capacity(alloc, OTHERS.len())?;
+        for (i, column) in OTHERS.iter().enumerate() {
             let (file, name) = column.place();
             others.push(IdIndex::of(alloc, tables.get(file), name)?)?;
         }

@@ -17,7 +17,7 @@ mod slots;
 mod tables;
 
 pub use files::MOST_ROWS;
-pub use ids::{CallIds, IdColumn, Ids};
+pub use ids::{CallIds, Ids};
 pub use index::IdIndex;
 pub use kinds::{frame_end, frame_start, stop_kind};
 pub use named::{NamedTable, TableRow};

@@ -15,7 +15,7 @@ use crate::dates::date_of;
 use crate::faults::field_fault;
 use crate::ids::{currency_of, id_ok};
 use crate::numbers::{count_of, int_of, time_of};
-use feed_faults::{ColumnRule, EmptyField, Grammar, columns_of};
+use feed_faults::{ColumnRule, EmptyField, Grammar, rule_of};
 use feed_rows::{ColumnName, FaultKind, FeedFault, FileName};
 use std::alloc::AllocError;
 
@@ -176,9 +176,9 @@ fn judged_columns<F: Fields>(file: FileName, fields: &F) -> &'static [ColumnRule
     ensures { result.now ≡ judged_columns file (F.at fields.now) }
 {
     if file == FileName::Transfers && is_passed_over(fields) {
-        return &columns_of(FileName::Transfers)[..1];
+        return &rule_of(FileName::Transfers).columns[..1];
     }
-    columns_of(file)
+    rule_of(file).columns
 }
 
 /// Replaces what `numbers` holds by what the fields of a row of the file tell: of each column that is judged, in their

@@ -22,7 +22,7 @@ pub use fields::{
 };
 pub use ids::{currency_of, id_ok};
 pub use numbers::{count_of, int_of, time_of};
-pub use reading::{header_fault, is_always_needed, is_text};
+pub use reading::{header_fault, is_text};
 pub use records::{RecordError, Records};
 pub use seen::SeenTable;
 pub use table::{Table, has_record};

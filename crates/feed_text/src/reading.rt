@@ -4,49 +4,23 @@ ghost use Rattle.std.specs.Str.{is_utf8};
 ghost use Rattle.plain_laws.specs.Plain.{first_in};
 ghost use Rattle.feed_rows.specs.HeldFiles.{most_bytes};
 ghost use Rattle.feed_faults.specs.Records.{table_of_bytes};
-ghost use Rattle.feed_faults.specs.FormFaults.{doubled_column, missing_column, header_fault, form_fault_of_bytes, is_always_needed};
-ghost use Rattle.feed_faults.specs.FileColumns.{columns_of};
+ghost use Rattle.feed_faults.specs.FormFaults.{doubled_column, missing_column, header_fault, form_fault_of_bytes};
+ghost use Rattle.feed_faults.specs.FileColumns.{is_always_needed, columns_of};
 ghost use Rattle.feed_text.specs.TextErrors.{IsErrorOf};
 
 use crate::errors::TextError;
 use crate::faults::{column_fault, file_fault};
 use crate::table::{Table, table_within};
-use feed_faults::{EmptyField, columns_of};
+use feed_faults::{EmptyField, rule_of};
 use feed_rows::{FaultKind, FeedFault, FileName};
 use std::alloc::Global;
-
-/// Whether a feed needs the file, whatever else it holds.
-pub fn is_always_needed(file: FileName) -> bool
-    ensures { result ≡ is_always_needed file }
-{
-    match file {
-        FileName::Stops
-        | FileName::Routes
-        | FileName::Trips
-        | FileName::StopTimes
-        | FileName::FareProducts
-        | FileName::FareLegRules => true,
-        FileName::Calendar
-        | FileName::CalendarDates
-        | FileName::Frequencies
-        | FileName::Transfers
-        | FileName::Areas
-        | FileName::StopAreas
-        | FileName::Networks
-        | FileName::RouteNetworks
-        | FileName::Timeframes
-        | FileName::RiderCategories
-        | FileName::FareMedia
-        | FileName::FareTransferRules => false,
-    }
-}
 
 // The fault of the first listed column that stands twice.
 #[tactic(auto, unfolding(feed_faults::specs::FormFaults::doubled_column), using(plain_laws::proofs::Laws::firsts))]
 fn first_doubled(file: FileName, table: &Table) -> Option<FeedFault>
     ensures { result ≡ first_in (columns_of file) (doubled_column file table.now) }
 {
-    let rules = columns_of(file);
+    let rules = rule_of(file).columns;
     for (i, rule) in rules.iter().enumerate() {
         if table.is_twice(rule.name) {
             return Some(column_fault(file, rule.name, FaultKind::DoubledColumn));
@@ -60,7 +34,7 @@ fn first_doubled(file: FileName, table: &Table) -> Option<FeedFault>
 fn first_missing(file: FileName, table: &Table) -> Option<FeedFault>
     ensures { result ≡ first_in (columns_of file) (missing_column file table.now) }
 {
-    let rules = columns_of(file);
+    let rules = rule_of(file).columns;
     for (i, rule) in rules.iter().enumerate() {
         if rule.empty != EmptyField::Fine && table.column(rule.name).is_none() {
             return Some(column_fault(file, rule.name, FaultKind::MissingColumn));
@@ -112,7 +86,7 @@ impl Table {
             return Err(TextError::Fault(file_fault(file, FaultKind::TooManyRows)));
         };
         if table.is_empty() {
-            if is_always_needed(file) {
+            if rule_of(file).is_needed {
                 return Err(TextError::Fault(file_fault(file, FaultKind::MissingFile)));
             }
             return Ok(table);
