@@ -4,3 +4,4 @@ pub mod KeyLaws
 pub mod FrameLaws
 pub mod LeastLaws
 pub mod FittingLaws
+pub mod RangeLaws

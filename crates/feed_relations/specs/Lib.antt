@@ -1,4 +1,3 @@
 pub mod JudgedBy
 pub mod RowKeys
-pub mod Frames
 pub mod FittingChecks

@@ -3,7 +3,6 @@
 
 mod calls;
 mod checks;
-mod forbidden;
 mod frames;
 mod judged;
 mod keys;

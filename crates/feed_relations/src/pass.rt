@@ -4,6 +4,7 @@ ghost use Rattle.plain_laws.specs.Plain.{first_below};
 ghost use Rattle.feed_rows.specs.declared.names.FileName.TheVariants as file;
 ghost use Rattle.feed_faults.specs.Records.{row_count};
 ghost use Rattle.feed_faults.specs.FeedTables.{table_in};
+ghost use Rattle.feed_faults.specs.NetworkRelations.{are_networks_forbidden};
 ghost use Rattle.feed_faults.specs.RowChecks.{relation_fault_of_row};
 ghost use Rattle.feed_faults.specs.FirstFault.{relation_fault, first_relation_fault};
 ghost use Rattle.feed_faults.specs.AcceptedFeed.{typed_rows, stop_time_row};
@@ -12,12 +13,12 @@ ghost use Rattle.feed_relations.specs.JudgedBy.{AreCallsNamed};
 
 use crate::calls::fault_of_calls;
 use crate::checks::first_failing;
-use crate::forbidden::forbidden_fault;
 use crate::judged::JudgedFeed;
 use crate::places::check_fault;
 use feed_faults::checks_of;
-use feed_rows::{FeedFault, FileName, StopTimeRow};
+use feed_rows::{ColumnName, FaultKind, FeedFault, FileName, StopTimeRow};
 use feed_tables::{CallTable, Ids, Tables};
+use feed_text::{file_fault, is_filled};
 use std::alloc::{AllocError, Global};
 
 // The first fault of the rows of a table: the least row at which a check fails, and at that row the earliest of its checks. Each
@@ -41,6 +42,16 @@ fn fault_of_table<C: CallTable>(
     Ok(fault)
 }
 
+// Whether a file has a row beside a route with a network of its own.
+#[tactic(auto, unfolding(feed_faults::specs::NetworkRelations::are_networks_forbidden))]
+fn are_networks_forbidden<C: CallTable>(feed: &JudgedFeed<C>, file: FileName) -> bool
+    ensures { result ≡ are_networks_forbidden feed.now file }
+{
+    let routes = feed.table(FileName::Routes);
+    feed.rows(file) > 0
+        && (0..routes.rows()).any(|row| is_filled(routes.field(row, ColumnName::NetworkId)))
+}
+
 // The first fault of a file among the others: that it is forbidden comes before its rows.
 #[tactic(auto, unfolding(feed_faults::specs::FirstFault::relation_fault), using(feed_tables::proofs::NumberLaws::kept_unless))]
 fn relation_fault<C: CallTable>(
@@ -50,8 +61,9 @@ fn relation_fault<C: CallTable>(
 ) -> Result<Option<FeedFault>, AllocError>
     ensures { IfOk result (λ fault. fault ≡ relation_fault feed.now file) }
 {
-    if let Some(fault) = forbidden_fault(feed, file) {
-        return Ok(Some(fault));
+    let is_of_networks = file == FileName::Networks || file == FileName::RouteNetworks;
+    if is_of_networks && are_networks_forbidden(feed, file) {
+        return Ok(Some(file_fault(file, FaultKind::ForbiddenTogether)));
     }
     if file == FileName::StopTimes {
         return Ok(fault_of_calls(feed));

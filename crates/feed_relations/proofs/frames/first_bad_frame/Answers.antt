@@ -1,36 +1,49 @@
-use Rattle.std.proofs.Common.{◌≡◌, ◌∙◌, ap, List, length, ◌≤◌, arith, rules}
-use Rattle.std.specs.Prelude.{unwrap_or}
+use Rattle.std.proofs.Common.{◌≡◌, ◌∙◌, ◌<◌, sym, true, false, nat_lt, arith, rules}
+use Rattle.std.specs.Prelude.{not}
+use Rattle.std.specs.Option.{MatchOption}
+use Rattle.std.proofs.lemmas.Grind.{common_steps}
+use Rattle.std.proofs.lemmas.Bool.Decides.{nat_tests}
+use Rattle.feed_rows.specs.declared.names.ColumnName.TheVariants.{StartTime, EndTime}
 use Rattle.feed_rows.specs.declared.names.FileName.TheVariants as file
-use Rattle.plain_laws.specs.Plain.{find_below, list_below}
-use Rattle.plain_laws.proofs.Laws.{length-list_below}
-use Rattle.feed_faults.specs.Records.{row_count}
-use Rattle.feed_faults.specs.FeedTables.{FeedTables, table_in}
+use Rattle.plain_laws.proofs.Laws.{find_below_found, find_below_next}
+use Rattle.feed_faults.specs.Records.{row_count, field}
+use Rattle.feed_faults.specs.FeedTables.{table_in}
+use Rattle.feed_faults.specs.FieldValues.{frame_start, frame_end}
+use Rattle.feed_faults.specs.FareRelations.{is_one_filled, is_bad_frame, do_frames_overlap}
+use Rattle.feed_faults.specs.RowKeys.{is_repeated}
 use Rattle.feed_relations.specs.declared.frames.Frame.{Frame}
-use Rattle.feed_relations.specs.Frames.{frame_of, is_malformed, overlaps_earlier}
-use Rattle.feed_relations.proofs.FrameLaws.{are_open, of_rows, formed_before, first_bad}
+use Rattle.feed_relations.proofs.FrameLaws.{frame_of, frame_order, frame_total, reaches, by_range, by_ways}
+use Rattle.feed_relations.proofs.SeenLaws.{seen_more}
 use Rattle.feed_relations.proofs.frames.first_bad_frame.Goals as goal
 
-pub first_overlap-requires-clause-open : goal.first_overlap-requires-clause-open
-first_overlap-requires-clause-open g c =
+pub returns-then-is_half : goal.returns-then-is_half
+returns-then-is_half g c =
     let table = table_in c.args.feed.now file.Timeframes in
-    let malformed = c.first_malformed-malformed.ensures.value ∙ ap (λ (t : FeedTables). find_below c.args.below (is_malformed (table_in t file.Timeframes))) c.tables.ensures in
-    let frames_are = c.deref.ensures.value ∙ c.in_ok-frames.ensures ∙ ap (λ n. list_below n (frame_of table)) c.unwrap_or.ensures in
-    let n = unwrap_or c.first_malformed-malformed.result c.args.below in
-    rw frames_are (are_open table n (formed_before table c.args.below c.first_malformed-malformed.result malformed))
+    let frame : Frame = record { group = c.number.result; service = c.number-in-loop-row.result; start = c.frame_start.result; end = c.frame_end.result } in
+    let is : frame ≡ frame_of table c.loop-row.row = search rules in
+    let said : MatchOption c.next_back.result (c.is_some_and-is_overlapping.result ≡ false) (λ k. c.is_some_and-is_overlapping.result ≡ reaches frame k.now) = search rules in
+    let within : c.loop-row.row < row_count table = omega (arith, c.loop-row-test.true, c.requires) in
+    let over : c.is_some_and-is_overlapping.result ≡ is_repeated (do_frames_overlap table) c.loop-row.row =
+    by_range table c.loop-row.row within c.loop-row.invariant.0 c.loop-row.seen c.loop-row.invariant.1 frame c.range.result _ c.next_back.result c.is_some_and-is_overlapping.result is (c.range.ensures.in_range tt) c.next_back.ensures.steps said in
+    let one : c.is_one_filled-is_half.result ≡ is_one_filled (field table c.loop-row.row StartTime) (field table c.loop-row.row EndTime) = search rules in
+    let late : not (nat_lt c.frame_start.result c.frame_end.result) ≡ not (nat_lt (frame_start table c.loop-row.row) (frame_end table c.loop-row.row)) = search rules in
+    let ways = by_ways table c.loop-row.row c.is_one_filled-is_half.result (not (nat_lt c.frame_start.result c.frame_end.result)) c.is_some_and-is_overlapping.result one late over in
+    let here : is_bad_frame table c.loop-row.row ≡ true = ways ∙ grind (arith, common_steps, nat_tests, c.then-is_half.either) in
+    sym (find_below_found (is_bad_frame table) c.args.below c.loop-row.row c.loop-row-test.true c.loop-row.invariant.0 here)
 
-pub first_overlap-requires-clause-few : goal.first_overlap-requires-clause-few
-first_overlap-requires-clause-few g c =
+pub loop-row-preserved : goal.loop-row-preserved
+loop-row-preserved g c =
     let table = table_in c.args.feed.now file.Timeframes in
-    let long = ap length (c.deref.ensures.value ∙ c.in_ok-frames.ensures) ∙ length-list_below c.unwrap_or.result (frame_of table) in
-    omega arith
-
-pub returns : goal.returns
-returns g c =
-    let table = table_in c.args.feed.now file.Timeframes in
-    let malformed = c.first_malformed-malformed.ensures.value ∙ ap (λ (t : FeedTables). find_below c.args.below (is_malformed (table_in t file.Timeframes))) c.tables.ensures in
-    let frames_are = c.deref.ensures.value ∙ c.in_ok-frames.ensures ∙ ap (λ n. list_below n (frame_of table)) c.unwrap_or.ensures in
-    let n = unwrap_or c.first_malformed-malformed.result c.args.below in
-    let le : n ≤ row_count table = search rules in
-    c.or.ensures
-    ∙ first_bad table c.args.below c.first_malformed-malformed.result c.in_ok-overlapping.overlapping malformed
-    (c.in_ok-overlapping.ensures ∙ ap (λ (frames : List Frame). find_below (length frames) (overlaps_earlier frames)) frames_are ∙ of_rows table n le)
+    let frame : Frame = record { group = c.number.result; service = c.number-in-loop-row.result; start = c.frame_start.result; end = c.frame_end.result } in
+    let is : frame ≡ frame_of table c.loop-row.row = search rules in
+    let said : MatchOption c.next_back.result (c.is_some_and-is_overlapping.result ≡ false) (λ k. c.is_some_and-is_overlapping.result ≡ reaches frame k.now) = search rules in
+    let within : c.loop-row.row < row_count table = omega (arith, c.loop-row-test.true, c.requires) in
+    let over : c.is_some_and-is_overlapping.result ≡ is_repeated (do_frames_overlap table) c.loop-row.row =
+    by_range table c.loop-row.row within c.loop-row.invariant.0 c.loop-row.seen c.loop-row.invariant.1 frame c.range.result _ c.next_back.result c.is_some_and-is_overlapping.result is (c.range.ensures.in_range tt) c.next_back.ensures.steps said in
+    let one : c.is_one_filled-is_half.result ≡ is_one_filled (field table c.loop-row.row StartTime) (field table c.loop-row.row EndTime) = search rules in
+    let late : not (nat_lt c.frame_start.result c.frame_end.result) ≡ not (nat_lt (frame_start table c.loop-row.row) (frame_end table c.loop-row.row)) = search rules in
+    let ways = by_ways table c.loop-row.row c.is_one_filled-is_half.result (not (nat_lt c.frame_start.result c.frame_end.result)) c.is_some_and-is_overlapping.result one late over in
+    let here : is_bad_frame table c.loop-row.row ≡ false = ways ∙ grind (arith, common_steps, c.if-is_half.false, c.if-frame.false, c.if-is_overlapping.false) in (
+      find_below_next (is_bad_frame table) c.loop-row.row c.loop-row.invariant.0 here,
+      seen_more frame_order (frame_of table) c.loop-row.seen c.loop-row.row c.loop-row.invariant.1 frame is c.insert.new.self frame_total c.in_ok-insert.ensures.updates,
+    )

@@ -1,0 +1,31 @@
+-- What passes a test among the numbers below one, as `any` and `find` over a range tell it.
+use Rattle.std.proofs.Common.{◌≡◌, refl, sym, ◌∙◌, ℕ, zero, suc, ◌+◌, ◌≤◌, ◌<◌, Bool, true, false, Option, Some, None, arith}
+use Rattle.std.specs.Prelude.{◌||◌}
+use Rattle.std.specs.List.{list_any, range_with_len}
+use Rattle.std.specs.Option.{MatchOption}
+use Rattle.plain_laws.specs.Plain.{any_below, find_below}
+use Rattle.plain_laws.proofs.Laws.{find_below_none, find_below_hit}
+
+grouped : (a b c : Bool) → ((a || b) || c) ≡ (a || (b || c))
+grouped true b c = refl
+grouped false b c = refl
+
+or_none : (a : Bool) → a ≡ (a || false)
+or_none true = refl
+or_none false = refl
+
+from_on : (test : ℕ → Bool) (a n : ℕ) → any_below (a + n) test ≡ (any_below a test || list_any test (range_with_len a n))
+from_on test a zero = let e : a + 0 ≡ a = omega arith in rw e (or_none (any_below a test))
+from_on test a (suc n) =
+    let e : a + suc n ≡ (a + 1) + n = omega arith in
+    let next : a + 1 ≡ suc a = omega arith in
+    rw e (from_on test (a + 1) n ∙ rw next (grouped (any_below a test) (test a) (list_any test (range_with_len (suc a) n))))
+
+-- some number of a range passes
+pub any_of_range : (test : ℕ → Bool) (n : ℕ) → list_any test (range_with_len 0 n) ≡ any_below n test
+any_of_range test n = let e : 0 + n ≡ n = omega arith in sym (rw e at (from_on test 0 n))
+
+-- the first number of a range that passes
+pub find_of_range : (test : ℕ → Bool) (n : ℕ) (found : Option ℕ) → MatchOption found ((k : ℕ) → 0 ≤ k → k < n → test k ≡ false) (λ i. (0 ≤ i) × (i < n) × (test i ≡ true) × ((k : ℕ) → 0 ≤ k → k < i → test k ≡ false)) → found ≡ find_below n test
+find_of_range test n None none = sym (find_below_none test n (λ k lt. none k (omega arith) lt))
+find_of_range test n (Some i) is = sym (find_below_hit test n i (record { within = is.1; passes = is.2; earlier = λ k lt. is.3 k (omega arith) lt }))
