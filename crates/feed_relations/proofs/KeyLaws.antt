@@ -18,7 +18,7 @@ use Rattle.feed_faults.specs.Records.{FileTable, row_count, field, is_filled}
 use Rattle.feed_faults.specs.FeedTables.{FeedTables, table_in}
 use Rattle.feed_faults.specs.FieldValues.{day_or_zero}
 use Rattle.feed_faults.specs.RowKeys.{row_of, is_unknown, same_field}
-use Rattle.feed_faults.specs.RowChecks.{same_key, fails}
+use Rattle.feed_faults.specs.RowChecks.{same_key, check_fails}
 use Rattle.feed_faults.specs.ServiceRelations.{same_exception, same_start}
 use Rattle.feed_faults.specs.FareRelations.{same_product}
 use Rattle.feed_faults.specs.AcceptedFeed.{row_number}
@@ -136,9 +136,9 @@ module _ (t : FeedTables) where
   keys_tell name kept = λ a b lt within ka kb. differ a b lt
 
   -- the first row whose key of numbers is repeated is the first whose key is
-  pub repeated_by_numbers : (name : FileName) (column : ColumnName) (below : ℕ) → has_table name ≡ true → below ≤ row_count (table_in t name) → ((row : ℕ) → row < below → IsKeyKnown t name row) → find_below below (is_key_repeated t name) ≡ find_below below (fails t name (NewKey column))
+  pub repeated_by_numbers : (name : FileName) (column : ColumnName) (below : ℕ) → has_table name ≡ true → below ≤ row_count (table_in t name) → ((row : ℕ) → row < below → IsKeyKnown t name row) → find_below below (is_key_repeated t name) ≡ find_below below (λ row. check_fails t name column row NewKey)
   unfolding is_key_repeated
   repeated_by_numbers name column below kept le known =
-      find_below-same (is_key_repeated t name) (fails t name (NewKey column)) below (λ row lt.
+      find_below-same (is_key_repeated t name) (λ row. check_fails t name column row NewKey) below (λ row lt.
       any_below-same (λ r. eq_by_cmp key_order (row_key t name row) (row_key t name r)) (same_key name (table_in t name) row) row (λ r small.
       keys_tell name kept r row small (omega arith) (known r (omega arith)) (known row lt)))

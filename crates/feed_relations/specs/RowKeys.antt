@@ -8,12 +8,12 @@ use Rattle.feed_rows.specs.declared.names.FileName.TheVariants as file
 use Rattle.feed_rows.specs.declared.names.ColumnName.{ColumnName}
 use Rattle.feed_rows.specs.declared.names.ColumnName.TheVariants.{TripId, ServiceId, Date, StartTime, RiderCategoryId, FareMediaId, FareProductId}
 use Rattle.plain_laws.specs.Plain.{any_below}
-use Rattle.feed_faults.specs.declared.checks.Named.TheVariants.{Trip, RiderCategory, FareMedia}
+use Rattle.feed_faults.specs.declared.checks.IdColumn.TheVariants.{Trip, RiderCategory, FareMedia}
 use Rattle.feed_faults.specs.Records.{field}
 use Rattle.feed_faults.specs.FeedTables.{FeedTables, table_in}
 use Rattle.feed_faults.specs.FieldValues.{time_or, day_or_zero}
 use Rattle.feed_faults.specs.AcceptedFeed.{row_number}
-use Rattle.feed_faults.specs.RowChecks.{is_unknown_id}
+use Rattle.feed_faults.specs.RowChecks.{is_unknown_in}
 use Rattle.feed_relations.specs.declared.keys.RowKey.{RowKey}
 
 -- the number of the row of a file that a row of another, or of the same, names in a column
@@ -47,8 +47,8 @@ is_key_repeated t name row = any_below row (λ r. eq_by_cmp key_order (row_key t
 
 -- what a row's key names in other files is there
 abbrev pub IsKeyKnown : FeedTables → FileName → ℕ → Type 0
-IsKeyKnown t file.Frequencies row = is_unknown_id t Trip (field (table_in t file.Frequencies) row TripId) ≡ false
+IsKeyKnown t file.Frequencies row = is_unknown_in t Trip (field (table_in t file.Frequencies) row TripId) ≡ false
 IsKeyKnown t file.FareProducts row =
-    (is_unknown_id t RiderCategory (field (table_in t file.FareProducts) row RiderCategoryId) ≡ false)
-    × (is_unknown_id t FareMedia (field (table_in t file.FareProducts) row FareMediaId) ≡ false)
+    (is_unknown_in t RiderCategory (field (table_in t file.FareProducts) row RiderCategoryId) ≡ false)
+    × (is_unknown_in t FareMedia (field (table_in t file.FareProducts) row FareMediaId) ≡ false)
 IsKeyKnown t name row = Unit {0}

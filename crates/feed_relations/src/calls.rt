@@ -3,40 +3,57 @@ ghost use Rattle.std.specs.Prelude.{◌≡◌, ◌<◌, option_map};
 ghost use Rattle.plain_laws.specs.Plain.{first_below};
 ghost use Rattle.feed_rows.specs.declared.names.FileName.TheVariants as file;
 ghost use Rattle.feed_faults.specs.Records.{row_count};
+ghost use Rattle.feed_faults.specs.FileColumns.{checks_of};
 ghost use Rattle.feed_faults.specs.FaultPlaces.{field_fault};
 ghost use Rattle.feed_faults.specs.FeedTables.{table_in};
-ghost use Rattle.feed_faults.specs.RowChecks.{column_of_check, kind_of_check, relation_fault_of_row};
+ghost use Rattle.feed_faults.specs.RowChecks.{relation_fault_of_row};
 
 use crate::judged::JudgedFeed;
-use crate::places::check_fault;
-use feed_faults::{Named, RowCheck};
-use feed_rows::{ColumnName, FeedFault, FileName};
+use feed_faults::{RowRule, rule_of};
+use feed_rows::{FeedFault, FileName};
 use feed_tables::CallTable;
+use feed_text::field_fault;
 
 // The first check of a row of stop_times.txt that fails: its place in its trip is looked at only where the trip is there.
 #[tactic(auto, unfolding(feed_faults::specs::RowChecks::relation_fault_of_row, stop_order::specs::Numbered::faults_at))]
-fn failing_check<C: CallTable>(feed: &JudgedFeed<C>, row: u32) -> Option<RowCheck>
-    requires { row < row_count (table_in feed.now file.StopTimes) }
-    ensures { option_map (λ check. field_fault file.StopTimes row (column_of_check check) (kind_of_check check)) result ≡ relation_fault_of_row feed.now file.StopTimes row }
+fn failing_check<C: CallTable>(
+    feed: &JudgedFeed<C>,
+    checks: &[RowRule; 6],
+    row: u32,
+) -> Option<RowRule>
+    requires checks { checks.now ≡ checks_of file.StopTimes }
+    requires within { row < row_count (table_in feed.now file.StopTimes) }
+    ensures { option_map (λ rule. field_fault file.StopTimes row rule.column rule.kind) result ≡ relation_fault_of_row feed.now file.StopTimes row }
 {
+    let &[
+        trip_known,
+        stop_known,
+        at_platform,
+        new_key,
+        timed_ends,
+        rising_times,
+    ] = checks;
     let call = feed.call(row);
     if call.trip.0 == feed.table(FileName::Trips).rows() {
-        return Some(RowCheck::Known(ColumnName::TripId, Named::Trip));
+        return Some(trip_known);
     }
     if call.stop.0 == feed.table(FileName::Stops).rows() {
-        return Some(RowCheck::Known(ColumnName::StopId, Named::Stop));
+        return Some(stop_known);
     }
     if !feed.is_at_platform(row) {
-        return Some(RowCheck::AtPlatform);
+        return Some(at_platform);
     }
     let order = feed.order(row);
     if order.is_repeated {
-        return Some(RowCheck::NewKey(ColumnName::StopSequence));
+        return Some(new_key);
     }
     if order.is_end_time_missing {
-        return Some(RowCheck::TimedEnds);
+        return Some(timed_ends);
     }
-    order.do_times_decrease.then_some(RowCheck::RisingTimes)
+    if order.do_times_decrease {
+        return Some(rising_times);
+    }
+    None
 }
 
 // The first fault of the rows of stop_times.txt.
@@ -44,9 +61,12 @@ fn failing_check<C: CallTable>(feed: &JudgedFeed<C>, row: u32) -> Option<RowChec
 pub fn fault_of_calls<C: CallTable>(feed: &JudgedFeed<C>) -> Option<FeedFault>
     ensures { result ≡ first_below (row_count (table_in feed.now file.StopTimes)) (relation_fault_of_row feed.now file.StopTimes) }
 {
+    let Some(checks) = rule_of(FileName::StopTimes).checks.as_array() else {
+        unreachable!();
+    };
     for row in 0..feed.rows(FileName::StopTimes) {
-        if let Some(check) = failing_check(feed, row) {
-            return Some(check_fault(FileName::StopTimes, row, check));
+        if let Some(rule) = failing_check(feed, checks, row) {
+            return Some(field_fault(FileName::StopTimes, row, rule.column, rule.kind));
         }
     }
     None

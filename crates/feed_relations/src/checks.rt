@@ -12,7 +12,7 @@ use crate::frames::first_bad_frame;
 use crate::judged::JudgedFeed;
 use crate::keys::first_repeated;
 use crate::rows::row_fails;
-use feed_faults::RowCheck;
+use feed_faults::{RowCheck, RowRule};
 use feed_rows::FileName;
 use feed_tables::CallTable;
 use std::alloc::{AllocError, Global};
@@ -22,17 +22,17 @@ use std::alloc::{AllocError, Global};
 fn first_failing_row<C: CallTable>(
     feed: &JudgedFeed<C>,
     file: FileName,
-    check: RowCheck,
+    rule: RowRule,
     below: u32,
 ) -> Option<u32>
     requires within { below ≤ row_count (table_in feed.now file) }
     requires kept { has_table file ≡ true }
-    requires fits { Fits feed.now file check }
-    requires by_row { IsByRow check }
-    ensures { result ≡ find_below below (fails feed.now file check) }
+    requires fits { Fits file rule.check }
+    requires by_row { IsByRow rule.check }
+    ensures { result ≡ find_below below (fails feed.now file rule) }
 {
     for row in 0..below {
-        if row_fails(feed, file, check, row) {
+        if row_fails(feed, file, rule, row) {
             return Some(row);
         }
     }
@@ -44,18 +44,18 @@ pub fn first_failing<C: CallTable>(
     alloc: Global,
     feed: &JudgedFeed<C>,
     file: FileName,
-    check: RowCheck,
+    rule: RowRule,
     below: u32,
 ) -> Result<Option<u32>, AllocError>
     requires within { below ≤ row_count (table_in feed.now file) }
     requires kept { has_table file ≡ true }
-    requires fits { Fits feed.now file check }
-    requires known { (row : ℕ) (column : _) → row < below → check ≡ RowCheck.NewKey column → IsKeyKnown feed.now file row }
-    ensures { IfOk result (λ found. found ≡ find_below below (fails feed.now file check)) }
+    requires fits { Fits file rule.check }
+    requires known { (row : ℕ) → row < below → rule.check ≡ RowCheck.NewKey → IsKeyKnown feed.now file row }
+    ensures { IfOk result (λ found. found ≡ find_below below (fails feed.now file rule)) }
 {
-    match check {
-        RowCheck::NewKey(_) => Ok(first_repeated(alloc, feed, file, below)?),
+    match rule.check {
+        RowCheck::NewKey => Ok(first_repeated(alloc, feed, file, below)?),
         RowCheck::GoodTimeframe => first_bad_frame(alloc, feed, below),
-        _ => Ok(first_failing_row(feed, file, check, below)),
+        _ => Ok(first_failing_row(feed, file, rule, below)),
     }
 }

@@ -8,8 +8,9 @@ ghost use Rattle.feed_faults.specs.FareRelations.{is_bad_frame};
 
 use crate::judged::JudgedFeed;
 use crate::rows::is_one_filled;
+use feed_faults::IdColumn;
 use feed_rows::{ColumnName, FileName};
-use feed_tables::{CallTable, IdColumn, IdIndex, frame_end, frame_start};
+use feed_tables::{CallTable, IdIndex, frame_end, frame_start};
 use std::alloc::{AllocError, Global};
 use std::collections::BTreeSet;
 

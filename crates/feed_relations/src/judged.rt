@@ -4,9 +4,9 @@ ghost use Rattle.feed_rows.specs.Codes.{platform_type};
 ghost use Rattle.feed_rows.specs.declared.names.FileName.TheVariants as file;
 ghost use Rattle.feed_rows.specs.declared.names.ColumnName.TheVariants as column;
 ghost use Rattle.feed_faults.specs.Records.{row_count, field};
-ghost use Rattle.feed_faults.specs.RowChecks.{is_unknown_id};
+ghost use Rattle.feed_faults.specs.RowChecks.{is_unknown_in};
 ghost use Rattle.feed_faults.specs.RowKeys.{is_unknown};
-ghost use Rattle.feed_faults.specs.declared.checks.Named.TheVariants.{Trip, Stop};
+ghost use Rattle.feed_faults.specs.declared.checks.IdColumn.TheVariants.{Trip, Stop};
 ghost use Rattle.feed_faults.specs.FeedTables.{table_in};
 ghost use Rattle.feed_faults.specs.StopTimeRelations.{stop_times_of, is_at_platform};
 ghost use Rattle.feed_faults.specs.AcceptedFeed.{typed_rows, stop_time_row};
@@ -16,8 +16,9 @@ ghost use Rattle.feed_tables.specs.RowNumbers.{has_table};
 ghost use Rattle.stop_order.specs.Numbered.{no_faults, faults_at};
 ghost use Rattle.feed_relations.specs.JudgedBy.{AreCallsNamed, AreJudged, IsTripKnown, are_platforms};
 
+use feed_faults::IdColumn;
 use feed_rows::{FileName, PLATFORM, StopTimeRow};
-use feed_tables::{CallTable, IdColumn, IdIndex, Ids, NamedTable, Tables, stop_kind};
+use feed_tables::{CallTable, IdIndex, Ids, NamedTable, Tables, stop_kind};
 use std::alloc::{AllocError, Global};
 use std::marker::Model;
 use stop_order::{OrderFaults, order_faults};
@@ -158,8 +159,8 @@ impl<'t, C: CallTable> JudgedFeed<'t, C> {
     pub fn call(&self, row: u32) -> StopTimeRow
         requires { row < row_count (table_in self.now file.StopTimes) }
         ensures row { result ≡ stop_time_row self.now row }
-        ensures trip { (result.trip.0 == row_count (table_in self.now file.Trips)) ≡ is_unknown_id self.now Trip (field (table_in self.now file.StopTimes) row column.TripId) }
-        ensures stop { (result.stop.0 == row_count (table_in self.now file.Stops)) ≡ is_unknown_id self.now Stop (field (table_in self.now file.StopTimes) row column.StopId) }
+        ensures trip { (result.trip.0 == row_count (table_in self.now file.Trips)) ≡ is_unknown_in self.now Trip (field (table_in self.now file.StopTimes) row column.TripId) }
+        ensures stop { (result.stop.0 == row_count (table_in self.now file.Stops)) ≡ is_unknown_in self.now Stop (field (table_in self.now file.StopTimes) row column.StopId) }
     {
         self.calls[row as usize]
     }

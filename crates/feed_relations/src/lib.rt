@@ -7,7 +7,6 @@ mod frames;
 mod judged;
 mod keys;
 mod pass;
-mod places;
 mod rows;
 
 pub use pass::first_relation_fault;

@@ -14,11 +14,10 @@ ghost use Rattle.feed_relations.specs.JudgedBy.{AreCallsNamed};
 use crate::calls::fault_of_calls;
 use crate::checks::first_failing;
 use crate::judged::JudgedFeed;
-use crate::places::check_fault;
-use feed_faults::checks_of;
+use feed_faults::rule_of;
 use feed_rows::{ColumnName, FaultKind, FeedFault, FileName, StopTimeRow};
 use feed_tables::{CallTable, Ids, Tables};
-use feed_text::{file_fault, is_filled};
+use feed_text::{field_fault, file_fault, is_filled};
 use std::alloc::{AllocError, Global};
 
 // The first fault of the rows of a table: the least row at which a check fails, and at that row the earliest of its checks. Each
@@ -33,10 +32,10 @@ fn fault_of_table<C: CallTable>(
 {
     let mut below = feed.rows(file);
     let mut fault = None;
-    for (i, check) in checks_of(file).iter().enumerate() {
-        if let Some(row) = first_failing(alloc, feed, file, *check, below)? {
+    for (i, rule) in rule_of(file).checks.iter().enumerate() {
+        if let Some(row) = first_failing(alloc, feed, file, *rule, below)? {
             below = row;
-            fault = Some(check_fault(file, row, *check));
+            fault = Some(field_fault(file, row, rule.column, rule.kind));
         }
     }
     Ok(fault)

@@ -1,64 +1,20 @@
 //! What fails at a row.
 ghost use Rattle.std.specs.Prelude.{◌≡◌, ◌<◌, ◌&&◌, true, not};
-ghost use Rattle.feed_rows.specs.declared.names.ColumnName.TheVariants as column;
 ghost use Rattle.feed_rows.specs.declared.names.FileName.TheVariants as file;
-ghost use Rattle.feed_faults.specs.Records.{row_count, field};
+ghost use Rattle.feed_faults.specs.Records.{row_count};
 ghost use Rattle.feed_faults.specs.FeedTables.{table_in};
-ghost use Rattle.feed_faults.specs.RowKeys.{is_unknown};
 ghost use Rattle.feed_faults.specs.StopRelations.{has_parent, is_at_station, is_parent_good};
 ghost use Rattle.feed_faults.specs.ServiceRelations.{are_dates_reversed};
 ghost use Rattle.feed_faults.specs.FareRelations.{is_one_filled, is_currency_mixed, is_count_misplaced, is_limit_half};
-ghost use Rattle.feed_faults.specs.RowChecks.{is_judged, is_unknown_id, fails};
-ghost use Rattle.feed_faults.specs.declared.checks.RowCheck.TheVariants.{Known};
+ghost use Rattle.feed_faults.specs.RowChecks.{is_judged, fails};
 ghost use Rattle.feed_tables.specs.RowNumbers.{has_table};
-ghost use Rattle.feed_relations.specs.FittingChecks.{own_ids, Fits, IsByRow};
+ghost use Rattle.feed_relations.specs.FittingChecks.{Fits, IsByRow};
 
 use crate::judged::JudgedFeed;
-use feed_faults::{Named, RowCheck};
+use feed_faults::{IdColumn, RowCheck, RowRule};
 use feed_rows::{ColumnName, FileName, PLATFORM, STATION};
-use feed_tables::{CallTable, IdColumn, NamedTable, Tables, stop_kind};
+use feed_tables::{CallTable, NamedTable, Tables, stop_kind};
 use feed_text::{is_filled, is_passed_over};
-
-// The ids of a file's own rows, where a check tells them apart.
-fn own_ids(file: FileName) -> IdColumn
-    ensures { result ≡ own_ids file }
-{
-    match file {
-        FileName::Stops => IdColumn::Stop,
-        FileName::Routes => IdColumn::Route,
-        FileName::Trips => IdColumn::Trip,
-        FileName::Calendar => IdColumn::Calendar,
-        FileName::Areas => IdColumn::Area,
-        FileName::Networks => IdColumn::Network,
-        FileName::RouteNetworks => IdColumn::NetworkRoute,
-        FileName::RiderCategories => IdColumn::RiderCategory,
-        _ => IdColumn::FareMedia,
-    }
-}
-
-// Whether an id is filled and names nothing that is there.
-fn is_unknown_id<C: CallTable>(feed: &JudgedFeed<C>, named: Named, id: &[u8]) -> bool
-    ensures { result ≡ is_unknown_id feed.now named id.now }
-{
-    match named {
-        Named::Stop => feed.is_unknown(IdColumn::Stop, id),
-        Named::Route => feed.is_unknown(IdColumn::Route, id),
-        Named::Trip => feed.is_unknown(IdColumn::Trip, id),
-        Named::Service => {
-            feed.is_unknown(IdColumn::Calendar, id) && feed.is_unknown(IdColumn::CalendarDate, id)
-        }
-        Named::Area => feed.is_unknown(IdColumn::Area, id),
-        Named::Network => feed.is_unknown(IdColumn::Network, id),
-        Named::RouteNetwork => {
-            feed.is_unknown(IdColumn::RouteNetwork, id) && feed.is_unknown(IdColumn::Network, id)
-        }
-        Named::TimeframeGroup => feed.is_unknown(IdColumn::TimeframeGroup, id),
-        Named::RiderCategory => feed.is_unknown(IdColumn::RiderCategory, id),
-        Named::FareMedia => feed.is_unknown(IdColumn::FareMedia, id),
-        Named::FareProduct => feed.is_unknown(IdColumn::FareProduct, id),
-        Named::LegGroup => feed.is_unknown(IdColumn::LegGroup, id),
-    }
-}
 
 // Whether the ids of a row are looked at.
 fn is_judged(file: FileName, table: &NamedTable, row: u32) -> bool
@@ -66,22 +22,6 @@ fn is_judged(file: FileName, table: &NamedTable, row: u32) -> bool
     ensures { result ≡ is_judged file table.now row }
 {
     file != FileName::Transfers || !is_passed_over(&table.row(row))
-}
-
-// Whether the id of a row in a column names nothing that is there.
-fn is_reference_unknown<C: CallTable>(
-    feed: &JudgedFeed<C>,
-    file: FileName,
-    name: ColumnName,
-    named: Named,
-    row: u32,
-) -> bool
-    requires kept { has_table file ≡ true }
-    requires within { row < row_count (table_in feed.now file) }
-    ensures { result ≡ fails feed.now file (Known name named) row }
-{
-    let table = feed.table(file);
-    is_judged(file, table, row) && is_unknown_id(feed, named, table.field(row, name))
 }
 
 // Whether a platform or a station names a parent.
@@ -108,16 +48,6 @@ fn is_at_station<C: CallTable>(feed: &JudgedFeed<C>, row: u32) -> bool
         Some(parent) => stop_kind(feed.tables(), parent) == u32::from(STATION),
         None => false,
     }
-}
-
-// Whether the parent that a platform or a station names isn't there.
-fn is_parent_unknown<C: CallTable>(feed: &JudgedFeed<C>, row: u32) -> bool
-    requires { row < row_count (table_in feed.now file.Stops) }
-    ensures { result ≡ (has_parent (table_in feed.now file.Stops) row && is_unknown (table_in feed.now file.Stops) column.StopId (field (table_in feed.now file.Stops) row column.ParentStation)) }
-{
-    let stops = feed.table(FileName::Stops);
-    has_parent(feed.tables(), row)
-        && feed.is_unknown(IdColumn::Stop, stops.field(row, ColumnName::ParentStation))
 }
 
 // Whether a parent is named that isn't good: only a platform has a parent, which is a station.
@@ -188,25 +118,34 @@ fn is_limit_half(rules: &NamedTable, row: u32) -> bool
 pub fn row_fails<C: CallTable>(
     feed: &JudgedFeed<C>,
     file: FileName,
-    check: RowCheck,
+    rule: RowRule,
     row: u32,
 ) -> bool
     requires within { row < row_count (table_in feed.now file) }
     requires kept { has_table file ≡ true }
-    requires fits { Fits feed.now file check }
-    requires by_row { IsByRow check }
-    ensures { result ≡ fails feed.now file check row }
+    requires fits { Fits file rule.check }
+    requires by_row { IsByRow rule.check }
+    ensures { result ≡ fails feed.now file rule row }
 {
-    match check {
-        RowCheck::NewId(_) => feed.index(own_ids(file)).is_doubled(row),
-        RowCheck::Known(name, named) => is_reference_unknown(feed, file, name, named, row),
-        RowCheck::KnownParent => is_parent_unknown(feed, row),
+    let table = feed.table(file);
+    let told = table.field(row, rule.column);
+    match rule.check {
+        RowCheck::NewId(ids) => feed.index(ids).is_doubled(row),
+        RowCheck::Known(ids) => is_judged(file, table, row) && feed.is_unknown(ids, told),
+        RowCheck::KnownInOne(ids, others) => {
+            is_judged(file, table, row)
+                && feed.is_unknown(ids, told)
+                && feed.is_unknown(others, told)
+        }
+        RowCheck::KnownParent => {
+            has_parent(feed.tables(), row) && feed.is_unknown(IdColumn::Stop, told)
+        }
         RowCheck::GoodParent => is_parent_bad(feed, row),
         RowCheck::OrderedDays => are_dates_reversed(feed, row),
-        RowCheck::OneCurrency => is_currency_mixed(feed.table(file), row),
-        RowCheck::GoodCount => is_count_misplaced(feed.table(file), row),
-        RowCheck::WholeLimit => is_limit_half(feed.table(file), row),
-        RowCheck::NewKey(_)
+        RowCheck::OneCurrency => is_currency_mixed(table, row),
+        RowCheck::GoodCount => is_count_misplaced(table, row),
+        RowCheck::WholeLimit => is_limit_half(table, row),
+        RowCheck::NewKey
         | RowCheck::GoodTimeframe
         | RowCheck::AtPlatform
         | RowCheck::TimedEnds

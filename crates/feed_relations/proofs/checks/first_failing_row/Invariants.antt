@@ -4,4 +4,4 @@ use Rattle.feed_faults.specs.RowChecks.{fails}
 use Rattle.feed_relations.proofs.checks.first_failing_row.Given as goal
 
 abbrev pub invariant-loop-row : goal.invariant-loop-row
-invariant-loop-row g l = find_below l.row (fails l.feed l.file l.check) ≡ None
+invariant-loop-row g l = find_below l.row (fails l.feed l.file l.rule) ≡ None

@@ -1,6 +1,7 @@
 use Rattle.feed_faults.specs.Records.{row_count}
 use Rattle.feed_faults.specs.FeedTables.{table_in}
-use Rattle.feed_faults.specs.RowChecks.{checks_of, fault_of_check}
+use Rattle.feed_faults.specs.FileColumns.{checks_of}
+use Rattle.feed_faults.specs.RowChecks.{fault_of_check}
 use Rattle.feed_relations.proofs.LeastLaws.{IsLeast}
 use Rattle.feed_relations.proofs.pass.fault_of_table.Given as goal
 
