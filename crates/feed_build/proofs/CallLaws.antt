@@ -71,12 +71,9 @@ faults_more head rs r =
     ∙ sym (option_or-assoc (header_fault file.StopTimes (head ∷ [])) (first_below (length rs) (λ k. call_fault head k (get_or rs k []))) (call_fault head (length rs) r))
 
 module _ (ids : CallIds) (head : List (List ℕ)) (rs : List (List (List ℕ))) (r : List (List ℕ)) (before now : CallRows) (has : HasCalls ids head rs before)
-    (same_ids : now.ids ≡ before.ids) (same_trips : now.trips ≡ before.trips) (same_header : now.header ≡ before.header) (seen : now.table ≡ before.table ++ r ∷ []) where
+    (same_ids : now.ids ≡ before.ids) (same_header : now.header ≡ before.header) (seen : now.table ≡ before.table ++ r ∷ []) where
   still_ids : now.ids.now ≡ ids
   still_ids = rw same_ids has.ids_are
-
-  still_trips : now.trips ≡ now.ids.now.trips
-  still_trips = rw (same_ids, same_trips) has.trips_are
 
   still_header : header now.header ≡ head
   still_header = rw same_header has.header_is
@@ -88,7 +85,6 @@ module _ (ids : CallIds) (head : List (List ℕ)) (rs : List (List (List ℕ))) 
   pub keeps_fault : is_some before.fault ≡ true → now.fault ≡ before.fault → HasCalls ids head (rs ++ r ∷ []) now
   keeps_fault some same = record {
     ids_are = still_ids;
-    trips_are = still_trips;
     header_is = still_header;
     table_is = more_seen;
     fault_is = rw (same, faults_more head rs r, ← has.fault_is, or_some before.fault (call_fault head (length rs) r) some) refl;
@@ -99,7 +95,6 @@ module _ (ids : CallIds) (head : List (List ℕ)) (rs : List (List (List ℕ))) 
   pub finds_fault : (fault : FeedFault) → is_some before.fault ≡ false → call_fault head (length rs) r ≡ Some fault → now.fault ≡ Some fault → HasCalls ids head (rs ++ r ∷ []) now
   finds_fault fault none own is = record {
     ids_are = still_ids;
-    trips_are = still_trips;
     header_is = still_header;
     table_is = more_seen;
     fault_is = rw (is, faults_more head rs r, ← has.fault_is, or_none before.fault (call_fault head (length rs) r) (no_some before.fault none)) (sym own);
@@ -110,7 +105,6 @@ module _ (ids : CallIds) (head : List (List ℕ)) (rs : List (List (List ℕ))) 
   pub adds_row : is_some before.fault ≡ false → call_fault head (length rs) r ≡ None → now.fault ≡ before.fault → now.rows ≡ before.rows ++ call_row ids (fields_behind head r) ∷ [] → HasCalls ids head (rs ++ r ∷ []) now
   adds_row none own same rows = record {
     ids_are = still_ids;
-    trips_are = still_trips;
     header_is = still_header;
     table_is = more_seen;
     fault_is = rw (same, faults_more head rs r, ← has.fault_is, no_some before.fault none) (sym own);

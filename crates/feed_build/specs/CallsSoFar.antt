@@ -15,7 +15,6 @@ use Rattle.feed_build.specs.declared.stop_times.CallError.TheVariants.{Fault, Re
 -- these are the rows of records behind a header, or their first fault
 pub record HasCalls (ids : CallIds) (head : List (List ℕ)) (rows : List (List (List ℕ))) (calls : CallRows) : Type 0 where
   pub ids_are : calls.ids.now ≡ ids
-  pub trips_are : calls.trips ≡ calls.ids.now.trips
   pub header_is : header calls.header ≡ head
   pub table_is : calls.table ≡ head ∷ rows
   pub fault_is : calls.fault ≡ option_or (header_fault file.StopTimes (head ∷ [])) (first_below (length rows) (λ k. call_fault head k (get_or rows k [])))

@@ -11,7 +11,7 @@ use crate::call_fields::read_call_fields;
 use crate::stop_times::{CallError, StopTimes};
 use crate::values::is_code;
 use feed_rows::{CallTime, ColumnName, FeedFault, FileName, StopTimeRow, StopTimeRows};
-use feed_tables::{CallIds, LastSought, NamedTable, RecordRow};
+use feed_tables::{CallIds, NamedTable, RecordRow};
 use feed_text::{Fields, Records, SeenTable, Table, header_fault, nat_of, natural};
 use std::alloc::{AllocError, Global};
 use std::io::Read;
@@ -24,7 +24,8 @@ const NOT_AVAILABLE: u32 = 1;
 pub struct CallRows<'i, 't> {
     ids: &'i CallIds<'t>,
     header: NamedTable,
-    trips: LastSought<'i, 't>,
+    // Where the trip of the row before was looked for.
+    last_trip: usize,
     rows: StopTimeRows,
     table: SeenTable,
     // The first fault of the header and of the rows.
@@ -37,7 +38,7 @@ impl<'i, 't> Drop for CallRows<'i, 't> {
         let CallRows {
             ids: _,
             header: _,
-            trips: _,
+            last_trip: _,
             rows: _,
             table: _,
             fault: _,
@@ -49,27 +50,26 @@ impl<'i, 't> Drop for CallRows<'i, 't> {
 #[tactic(auto, unfolding(crate::specs::CallRows::call_row), using(crate::proofs::ValueLaws::values))]
 fn read_call<R: Read>(
     ids: &CallIds,
-    trips: &mut LastSought,
+    last_trip: &mut usize,
     row: u32,
     fields: &RecordRow<R>,
 ) -> Result<StopTimeRow, FeedFault>
     requires few { row < row_limit }
-    requires trips { trips.old ≡ ids.now.trips }
     ensures fault { IfErr result (λ fault. call_fault (header fields.now.header) row fields.now.fields ≡ Some fault) }
     ensures sound { OnOk result (call_fault (header fields.now.header) row fields.now.fields ≡ None) }
     ensures row { IfOk result (λ call. call ≡ call_row ids.now (fields_behind (header fields.now.header) fields.now.fields)) }
-    ensures same { trips.new ≡ trips.old }
 {
     let trip_id = fields.field(ColumnName::TripId);
     let stop_id = fields.field(ColumnName::StopId);
     // Both are looked up in two steps, so that the other fields are read while memory is waited for.
-    let trip = trips.seek(trip_id);
-    let stop = ids.stops.seek(stop_id);
+    let trip = ids.trips.start_at(*last_trip, trip_id);
+    *last_trip = trip.slot;
+    let stop = ids.stops.start(stop_id);
     let numbers = read_call_fields(row, fields, trip_id, stop_id)?;
     let [_, _, sequence, arrival, departure, pickup, drop_off] = numbers;
     Ok(StopTimeRow {
-        trip: TripId(trip.number()),
-        stop: StopId(stop.number()),
+        trip: TripId(ids.trips.number_from(trip, trip_id)),
+        stop: StopId(ids.stops.number_from(stop, stop_id)),
         sequence: nat_of(sequence),
         arrival: CallTime::of(natural(arrival)),
         departure: CallTime::of(natural(departure)),
@@ -97,7 +97,7 @@ impl<'i, 't> CallRows<'i, 't> {
         Ok(CallRows {
             ids,
             header: NamedTable::of(alloc, header)?,
-            trips: LastSought::of(&ids.trips),
+            last_trip: 0,
             rows: StopTimeRows::empty(alloc),
             table,
             fault,
@@ -110,16 +110,14 @@ impl<'i, 't> CallRows<'i, 't> {
     /// Want of memory.
     pub fn take<R: Read>(&mut self, row: u32, records: &Records<R>) -> Result<(), AllocError>
         requires few { row < row_limit }
-        requires trips { self.old.trips ≡ self.old.ids.now.trips }
-        ensures trips { self.new.trips ≡ self.new.ids.now.trips }
-        ensures calls { OnOk result ((ids : CallIds) (head : List (List ℕ)) (rows : List (List (List ℕ))) → row ≡ length rows → HasCalls ids head rows self.old → HasCalls ids head (rows ++ last_record records.now ∷ []) self.new) }
+        ensures { OnOk result ((ids : CallIds) (head : List (List ℕ)) (rows : List (List (List ℕ))) → row ≡ length rows → HasCalls ids head rows self.old → HasCalls ids head (rows ++ last_record records.now ∷ []) self.new) }
     {
         self.table.see(records)?;
         if self.fault.is_some() {
             return Ok(());
         }
         let record = RecordRow::of(&self.header, records);
-        match read_call(self.ids, &mut self.trips, row, &record) {
+        match read_call(self.ids, &mut self.last_trip, row, &record) {
             Ok(call) => self.rows.push(call)?,
             Err(fault) => self.fault = Some(fault),
         }
@@ -134,7 +132,7 @@ impl<'i, 't> CallRows<'i, 't> {
         let CallRows {
             ids: _,
             header: _,
-            trips: _,
+            last_trip: _,
             rows,
             table,
             fault,

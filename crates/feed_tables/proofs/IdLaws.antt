@@ -1,287 +1,333 @@
--- The rows of a table by their ids: the earliest row with an id is found where a row has it, and else none.
-use Rattle.std.proofs.Common.{All, ◌≡◌, refl, sym, ◌∙◌, ap, subst, ℕ, ◌+◌, ◌<◌, ◌≤◌, ◌⊎◌, inl, inr, ⊎_elim, Bool, true, false, ◌==◌, ◌||◌, List, [], ◌∷◌, ◌++◌, length, get_or, AllPairs, IsPermutation, bytes_eq, arith, Option, Some, None, nat_lt}
-use Rattle.std.specs.Prelude.{IfSome}
-use Rattle.std.specs.Bool.{then_some}
-use Rattle.std.specs.List.{list_any}
-use Rattle.std.specs.List.Sorted.{IsSortedByKey, IsPartitionedBy}
+-- The ids of a column, each once: how they are listed, and that what is found of them is the earliest row with an id.
+use Rattle.std.proofs.Common.{All, AllPairs, ◌≡◌, refl, sym, ◌∙◌, ap, subst, ℕ, zero, suc, ◌+◌, ◌<◌, ◌≤◌, ◌⊎◌, inl, inr, ⊎_elim, Bool, true, false, ◌==◌, ◌&&◌, List, [], ◌∷◌, ◌++◌, length, get_or, IsPermutation, bytes_eq, ◌*◌, min, arith, Option, Some, None, Err, nat_lt}
+use Rattle.std.specs.Prelude.{IfSome, Any}
+use Rattle.std.specs.List.{Contains, dedup, dedup_from}
+use Rattle.std.specs.List.Sorted.{IsSortedByKey, IsStrictlySortedBy, IsSortedBy, IsBinarySearchResult, IsNonDecreasingBy, IsPartitionPoint}
+use Rattle.std.specs.Cmp.{IsTotalOrder}
 use Rattle.std.specs.Cmp.Lexicographic.{slice_cmp}
-use Rattle.std.specs.Ordering.{nat_cmp, ordering_then, ordering_reverse, is_lt, is_eq}
+use Rattle.std.specs.Ordering.{nat_cmp, ordering_then, ordering_reverse, ordering_index, is_lt, is_eq}
 use Rattle.std.specs.declared.cmp.Ordering.{Ordering}
 use Rattle.std.specs.declared.cmp.Ordering.TheVariants.{Less, Equal, Greater}
-use Rattle.std.proofs.lemmas.Bool.{cases_eq, cases_lt, cases_Bool, eqb-true, eq-eqb, lt-ltb}
+use Rattle.std.proofs.lemmas.Bool.{cases_eq, cases_lt, cases_Bool, lt-ltb}
 use Rattle.std.proofs.lemmas.Bool.Decides.{nat_tests}
 use Rattle.std.proofs.lemmas.Cmp.{nat_cmp_total, nat_list_cmp_total, tied_itself, on_total, then_total}
 use Rattle.std.proofs.lemmas.Map.Text.{is_eq-slice_cmp}
+use Rattle.std.proofs.lemmas.Map.Keys.{Less-from_sorted}
 use Rattle.std.proofs.lemmas.Slice.Eq.{bytes_eq-Decides}
-use Rattle.std.proofs.lemmas.List.{get_or_default}
-use Rattle.std.proofs.lemmas.List.Elements.{All-push, All-contains}
-use Rattle.std.proofs.lemmas.List.Folds.{list_any-append}
-use Rattle.std.proofs.lemmas.List.Sorted.{All-permutation, list_any-IsPermutation, sorted_far, ranks_by}
+use Rattle.std.proofs.lemmas.List.{get_or_default, length-append}
+use Rattle.std.proofs.lemmas.List.Elements.{All-push, All-contains, Contains-append_left, Contains-push, Contains-get_or}
+use Rattle.std.proofs.lemmas.List.Kept.{IsStrictlySortedBy-dedup, Contains-from_dedup}
+use Rattle.std.proofs.lemmas.List.Sorted.{All-permutation, Contains-permutation, length_permutation, sorted_far, ranks_by, searchable_from_sorted}
 use Rattle.feed_rows.specs.declared.names.ColumnName.{ColumnName}
 use Rattle.plain_laws.specs.Plain.{any_below, find_below}
-use Rattle.plain_laws.proofs.Laws.{IsFirst, find_below_hit, find_below_none, find_below_some, find_below_tells, NonePass, any_below_hit, any_below_tells, list_any_tells, same_test}
+use Rattle.plain_laws.proofs.Laws.{IsFirst, find_below_hit, find_below_none, find_below_some, find_below_tells, any_below_hit, any_below_tells, same_test}
 use Rattle.feed_faults.specs.Records.{FileTable, row_count, field}
 use Rattle.feed_faults.specs.RowKeys.{row_of, is_doubled}
+use Rattle.feed_text.specs.RowLimits.{row_limit}
 use Rattle.feed_tables.specs.declared.id_rows.IdRow.{IdRow}
-use Rattle.feed_tables.proofs.PrefixLaws.{prefix_of_rises}
-use Rattle.feed_tables.specs.OrderedRows.{prefix_of, IsPrefixed, AreIdRows, IsNotAfter, AreOrderedRows, IsPlaceOf}
+use Rattle.feed_tables.specs.IdRows.{start_below, IsKeyOf, AreIdRows, id_order}
 
--- no row is listed at first
-pub none_listed : (table : FileTable) (name : ColumnName) → AreIdRows table name 0 []
-none_listed table name = record { right = λ k d lt. absurd (omega arith); prefixed = λ k d lt. absurd (omega arith); within = λ k d lt. absurd (omega arith); all = λ i lt. absurd (omega arith) }
+-- the first rows of the table, each with its id and the key of that
+pub record AreFirstRows (table : FileTable) (name : ColumnName) (n : ℕ) (rows : List IdRow) : Type 0 where
+  pub keyed : All (λ (entry : IdRow). IsKeyOf entry.key entry.id.now) rows
+  pub right : All (λ (entry : IdRow). entry.id.now ≡ field table entry.row name) rows
+  pub within : All (λ (entry : IdRow). entry.row < row_count table) rows
+  pub all : (row : ℕ) → row < n → Any (λ (entry : IdRow). entry.row ≡ row) rows
+  pub count : length rows ≡ n
 
--- one more row is listed
-pub listed_more : (table : FileTable) (name : ColumnName) (n : ℕ) (rows : List IdRow) (entry : IdRow) → AreIdRows table name n rows → n < row_count table → entry.row ≡ n → entry.id.now ≡ field table n name → IsPrefixed entry → AreIdRows table name (n + 1) (rows ++ entry ∷ [])
-listed_more table name n rows entry listed lt here same prefixed =
-    record {
-      right = All-push (λ (x : IdRow). x.id.now ≡ field table x.row name) rows entry listed.right (rw here same);
-      prefixed = All-push IsPrefixed rows entry listed.prefixed prefixed;
-      within = All-push (λ (x : IdRow). x.row < row_count table) rows entry listed.within (rw here lt);
-      all = λ i below. list_any-append (λ (x : IdRow). x.row == i) rows (entry ∷ []) ∙ each i (cases_eq i n) below;
-    }
+-- one more row
+pub row_more : (table : FileTable) (name : ColumnName) (n : ℕ) (rows : List IdRow) (entry : IdRow) → AreFirstRows table name n rows
+    → n < row_count table → entry.row ≡ n → entry.id.now ≡ field table n name → IsKeyOf entry.key entry.id.now
+    → AreFirstRows table name (n + 1) (rows ++ entry ∷ [])
+row_more table name n rows entry before lt here same key = record {
+  keyed = All-push (λ (x : IdRow). IsKeyOf x.key x.id.now) rows entry before.keyed key;
+  right = All-push (λ (x : IdRow). x.id.now ≡ field table x.row name) rows entry before.right (rw here same);
+  within = All-push (λ (x : IdRow). x.row < row_count table) rows entry before.within (rw here lt);
+  all = λ row below. each row below (cases_eq row n);
+  count = let long = length-append rows (entry ∷ []) in let size = before.count in omega (arith, long, size);
+}
   where
-    last : (a b : Bool) → b ≡ true → (a || (b || false)) ≡ true
-    last true b e = refl
-    last false true e = refl
-    last false false e = e
+    each : (row : ℕ) → row < n + 1 → (row ≡ n) ⊎ (row ≡ n → ⊥) → Any (λ (x : IdRow). x.row ≡ row) (rows ++ entry ∷ [])
+    each row below (inl at) = let c = Contains-push rows entry in (c.0, entry, c.1, c.2, here ∙ sym at)
+    each row below (inr other) =
+        let old = before.all row (omega arith) in
+        let c = Contains-append_left rows (entry ∷ []) old.1 (old.0, old.2, old.3) in
+        (c.0, old.1, c.1, c.2, old.4)
 
-    each : (i : ℕ) → (i ≡ n) ⊎ (i ≡ n → ⊥) → i < n + 1 → (list_any (λ (x : IdRow). x.row == i) rows || ((entry.row == i) || false)) ≡ true
-    each i (inl at) below = last (list_any (λ (x : IdRow). x.row == i) rows) (entry.row == i) (eq-eqb entry.row i (here ∙ sym at))
-    each i (inr apart) below = rw (listed.all i (omega arith)) refl
+-- ids that are the same
+abbrev pub same : IdRow → IdRow → Bool
+same a b = (a.key == b.key) && bytes_eq a.id.now b.id.now
 
--- by what the rows are sorted
-abbrev pub order_key : IdRow → ℕ × List ℕ × ℕ
-order_key entry = (entry.prefix, entry.id.now, entry.row)
-
--- of two rows that are so sorted, the later doesn't stand before the earlier
-in_order : (a b : IdRow) → IsPrefixed a → IsPrefixed b
-    → is_lt (ordering_then (ordering_then (nat_cmp b.prefix a.prefix) (slice_cmp nat_cmp b.id.now a.id.now)) (nat_cmp b.row a.row)) ≡ false → IsNotAfter a b
-in_order a b first second up = step (nat_cmp b.prefix a.prefix) refl (slice_cmp nat_cmp b.id.now a.id.now) refl
+same_tells : (a b : IdRow) → same a b ≡ true → a.id.now ≡ b.id.now
+same_tells a b e = step (a.key == b.key) e
   where
-    greater : nat_cmp b.prefix a.prefix ≡ Greater → a.prefix < b.prefix
-    greater e = grind (arith, nat_tests, e)
+    step : (s : Bool) → (s && bytes_eq a.id.now b.id.now) ≡ true → a.id.now ≡ b.id.now
+    step true e = (bytes_eq-Decides a.id.now b.id.now).0 e
+    step false e = absurd (cc)
 
-    step : (o : Ordering) → nat_cmp b.prefix a.prefix ≡ o → (p : Ordering) → slice_cmp nat_cmp b.id.now a.id.now ≡ p → is_lt (ordering_then (slice_cmp nat_cmp b.id.now a.id.now) (nat_cmp b.row a.row)) ≡ false
-    step Less e p f = absurd (let no : true ≡ false = rw e at up in cc)
-    step Equal e p f = rw e at up
-    step Greater e Less f =
-        let rise = prefix_of_rises b.id.now a.id.now second.bytes f in
-        let low = greater e in
-        let one = first.number in
-        let other = second.number in
-        absurd (omega arith)
-    step Greater e Equal f =
-        let same : b.id.now ≡ a.id.now = (bytes_eq-Decides b.id.now a.id.now).0 (sym (is_eq-slice_cmp b.id.now a.id.now) ∙ ap is_eq f) in
-        let level : b.prefix ≡ a.prefix = second.number ∙ ap prefix_of same ∙ sym first.number in
-        let low = greater e in
-        absurd (omega arith)
-    step Greater e Greater f = rw f refl
-
--- sorted rows are in order
-pub ordered_from_sort : (table : FileTable) (name : ColumnName) (rows sorted : List IdRow) → AreIdRows table name (row_count table) rows → IsPermutation rows sorted → IsSortedByKey order_key (λ x y. ordering_then (ordering_then (nat_cmp x.0 y.0) (slice_cmp nat_cmp x.1 y.1)) (nat_cmp x.2 y.2)) sorted → AreOrderedRows table name sorted
-ordered_from_sort table name rows sorted listed moved up =
-    record {
-      rows_are =
-          record {
-            right = All-permutation (λ (x : IdRow). x.id.now ≡ field table x.row name) rows sorted moved listed.right;
-            prefixed = All-permutation IsPrefixed rows sorted moved listed.prefixed;
-            within = All-permutation (λ (x : IdRow). x.row < row_count table) rows sorted moved listed.within;
-            all = λ i lt. sym (list_any-IsPermutation (λ (x : IdRow). x.row == i) rows sorted moved) ∙ listed.all i lt;
-          };
-      sorted = λ i j d lt within.
-          in_order (get_or sorted i d) (get_or sorted j d) (prefixed i d (omega arith)) (prefixed j d within)
-          (sorted_far (λ (a b : IdRow). is_lt (ordering_then (ordering_then (nat_cmp a.prefix b.prefix) (slice_cmp nat_cmp a.id.now b.id.now)) (nat_cmp a.row b.row))) (ranks_by (then_total (then_total (on_total (λ (x : ℕ × List ℕ × ℕ). x.0) nat_cmp_total) (on_total (λ (x : ℕ × List ℕ × ℕ). x.1) nat_list_cmp_total)) (on_total (λ (x : ℕ × List ℕ × ℕ). x.2) nat_cmp_total)) order_key) sorted up i j d (omega arith) within);
-    }
+ties : (a b : IdRow) → same a b ≡ is_eq (id_order a b)
+ties a b = both (nat_cmp a.key b.key) (a.key == b.key) (slice_cmp nat_cmp a.id.now b.id.now) (bytes_eq a.id.now b.id.now) numbers (sym (is_eq-slice_cmp a.id.now b.id.now))
   where
-    prefixed : All IsPrefixed sorted
-    prefixed = All-permutation IsPrefixed rows sorted moved listed.prefixed
+    numbers : (a.key == b.key) ≡ is_eq (nat_cmp a.key b.key)
+    numbers = grind (arith, nat_tests)
 
--- rows in order are so by their ids alone
-pub ids_rise : (rows : List IdRow) → AllPairs IsNotAfter rows → (i j : ℕ) (d : IdRow) → i < j → j < length rows → is_lt (slice_cmp nat_cmp (get_or rows j d).id.now (get_or rows i d).id.now) ≡ false
-ids_rise rows up i j d lt within = told (slice_cmp nat_cmp (get_or rows j d).id.now (get_or rows i d).id.now) (nat_cmp (get_or rows j d).row (get_or rows i d).row) (up i j d lt within)
+    both : (o : Ordering) (s : Bool) (p : Ordering) (t : Bool) → s ≡ is_eq o → t ≡ is_eq p → (s && t) ≡ is_eq (ordering_then o p)
+    both Less s p t e f = rw e refl
+    both Equal s p t e f = rw e f
+    both Greater s p t e f = rw e refl
+
+order_total : IsTotalOrder id_order
+order_total = then_total (on_total (λ (x : IdRow). x.key) nat_cmp_total) (on_total (λ (x : IdRow). x.id.now) nat_list_cmp_total)
+
+-- of two rows with one id the later doesn't stand before
+abbrev Rises : IdRow → IdRow → Type 0
+Rises a b = a.id.now ≡ b.id.now → a.row ≤ b.row
+
+-- a row with the same id that isn't later
+abbrev Stands : IdRow → IdRow → Type 0
+Stands z y = (y.id.now ≡ z.id.now) × (y.row ≤ z.row)
+
+uncons : (x : IdRow) (xs : List IdRow) (z : IdRow) → Contains (x ∷ xs) z → (x ≡ z) ⊎ Contains xs z
+uncons x xs z (zero, lt, is) = inl is
+uncons x xs z (suc k, lt, is) = inr (k, omega (arith, lt), is)
+
+-- so for each row one is kept that has its id and isn't later
+kept : (x : IdRow) (xs : List IdRow) → All (Rises x) xs → AllPairs Rises xs → (z : IdRow) → Contains (x ∷ xs) z → Any (Stands z) (dedup_from same x xs)
+kept x [] up pairs z c = step (uncons x [] z c)
   where
-    told : (a b : Ordering) → is_lt (ordering_then a b) ≡ false → is_lt a ≡ false
-    told Less b e = e
-    told Equal b e = refl
-    told Greater b e = refl
-
-is_less : (o : Ordering) → is_lt o ≡ true → o ≡ Less
-is_less Less e = refl
-is_less Equal e = absurd (let no : false ≡ true = e in cc)
-is_less Greater e = absurd (let no : false ≡ true = e in cc)
-
--- an id before one that is less than this one is less too
-pub less_before : (x y id : List ℕ) → is_lt (slice_cmp nat_cmp y x) ≡ false → is_lt (slice_cmp nat_cmp y id) ≡ true → is_lt (slice_cmp nat_cmp x id) ≡ true
-less_before x y id up lt = step (slice_cmp nat_cmp y x) refl
+    step : (x ≡ z) ⊎ Contains [] z → Any (Stands z) (x ∷ [])
+    step (inl is) = (0, x, omega arith, refl, (ap (λ (t : IdRow). t.id.now) is, let row : x.row ≡ z.row = ap (λ (t : IdRow). t.row) is in omega (arith, row)))
+    step (inr none) = absurd (let lt = none.1 in omega (arith, lt))
+kept x (y ∷ ys) up pairs z c = step (λ w. kept x ys up_rest tails w) (kept y ys heads tails z) (same y x) refl (uncons x (y ∷ ys) z c)
   where
-    back : slice_cmp nat_cmp x y ≡ ordering_reverse (slice_cmp nat_cmp y x)
-    back = nat_list_cmp_total.antisymm x y
+    up_rest : All (Rises x) ys
+    up_rest k d lt = up (suc k) d (omega (arith, lt))
 
-    step : (o : Ordering) → slice_cmp nat_cmp y x ≡ o → is_lt (slice_cmp nat_cmp x id) ≡ true
-    step Less e = absurd (let no : true ≡ false = sym (ap is_lt e) ∙ up in cc)
-    step Equal e = ap is_lt (nat_list_cmp_total.congr x y id (back ∙ ap ordering_reverse e)) ∙ lt
-    step Greater e = ap is_lt (nat_list_cmp_total.trans x y id (back ∙ ap ordering_reverse e) (is_less (slice_cmp nat_cmp y id) lt))
+    heads : All (Rises y) ys
+    heads k d lt = pairs 0 (suc k) d (omega arith) (omega (arith, lt))
 
--- so a binary search finds where the ids that are less end
-pub ids_parted : (rows : List IdRow) (id : List ℕ) → AllPairs IsNotAfter rows → IsPartitionedBy (λ (entry : IdRow). is_lt (slice_cmp nat_cmp entry.id.now id)) rows
-ids_parted rows id up i j d le within lt = step (cases_eq i j)
+    tails : AllPairs Rises ys
+    tails i j d below lt = pairs (suc i) (suc j) d (omega (arith, below)) (omega (arith, lt))
+
+    Before : Type 0
+    Before = (w : IdRow) → Contains (x ∷ ys) w → Any (Stands w) (dedup_from same x ys)
+
+    under : Before → same y x ≡ true → (x ≡ z) ⊎ Contains (y ∷ ys) z → Any (Stands z) (dedup_from same x ys)
+    under before e (inl is) = before z (0, omega arith, is)
+    under before e (inr c) = ⊎_elim
+        (λ (is : y ≡ z).
+        let first = before x (0, omega arith, refl) in
+        let one : x.id.now ≡ y.id.now = sym (same_tells y x e) in
+        let low : x.row ≤ y.row = up 0 y (omega arith) one in
+        let row : y.row ≡ z.row = ap (λ (t : IdRow). t.row) is in
+        let kept_low = first.4.1 in
+        (first.0, first.1, first.2, first.3, (first.4.0 ∙ one ∙ ap (λ (t : IdRow). t.id.now) is, omega (arith, low, row, kept_low))))
+        (λ (rest : Contains ys z). before z (suc rest.0, let lt = rest.1 in omega (arith, lt), rest.2))
+        (uncons y ys z c)
+
+    over : (Contains (y ∷ ys) z → Any (Stands z) (dedup_from same y ys)) → (x ≡ z) ⊎ Contains (y ∷ ys) z → Any (Stands z) (x ∷ dedup_from same y ys)
+    over behind (inl is) = (0, x, omega arith, refl, (ap (λ (t : IdRow). t.id.now) is, let row : x.row ≡ z.row = ap (λ (t : IdRow). t.row) is in omega (arith, row)))
+    over behind (inr c) = let rest = behind c in (suc rest.0, rest.1, let lt = rest.2 in omega (arith, lt), rest.3, rest.4)
+
+    step : Before → (Contains (y ∷ ys) z → Any (Stands z) (dedup_from same y ys)) → (b : Bool) → same y x ≡ b → (x ≡ z) ⊎ Contains (y ∷ ys) z
+        → Any (Stands z) (dedup_from same x (y ∷ ys))
+    step before behind true e found = rw e (under before e found)
+    step before behind false e found = rw e (over behind found)
+
+kept_all : (xs : List IdRow) → AllPairs Rises xs → (z : IdRow) → Contains xs z → Any (Stands z) (dedup same xs)
+kept_all [] pairs z c = absurd (let lt = c.1 in omega (arith, lt))
+kept_all (x ∷ xs) pairs z c =
+    kept x xs (λ k d lt. pairs 0 (suc k) d (omega arith) (omega (arith, lt))) (λ i j d below lt. pairs (suc i) (suc j) d (omega (arith, below)) (omega (arith, lt))) z c
+
+-- ids with one key and the same bytes stand in one place
+tied : (a b : IdRow) → IsKeyOf a.key a.id.now → IsKeyOf b.key b.id.now → a.id.now ≡ b.id.now → id_order a b ≡ Equal
+tied a b first second one =
+    let keys : a.key ≡ b.key = first.number ∙ ap (λ id. start_below 7 id * 256 + min (length id) 255) one ∙ sym second.number in
+    rw (keys, one, tied_itself nat_cmp_total b.key) (tied_itself nat_list_cmp_total b.id.now)
+
+one_place : (rows : List IdRow) → IsStrictlySortedBy id_order rows → All (λ (entry : IdRow). IsKeyOf entry.key entry.id.now) rows
+    → (a b : IdRow) → (i : ℕ) → i < length rows → get_or rows i a ≡ a → (j : ℕ) → j < length rows → get_or rows j b ≡ b → a.id.now ≡ b.id.now → a ≡ b
+one_place rows up keyed a b i i_lt a_is j j_lt b_is one = step (cases_lt i j) (cases_lt j i)
   where
-    step : (i ≡ j) ⊎ (i ≡ j → ⊥) → is_lt (slice_cmp nat_cmp (get_or rows i d).id.now id) ≡ true
-    step (inl same) = rw same lt
-    step (inr apart) = less_before (get_or rows i d).id.now (get_or rows j d).id.now id (ids_rise rows up i j d (omega arith) within) lt
+    a_key : IsKeyOf a.key a.id.now
+    a_key = subst (λ (x : IdRow). IsKeyOf x.key x.id.now) a_is (keyed i a i_lt)
 
--- a listed row with this id
-record HasId (rows : List IdRow) (id : List ℕ) (row : ℕ) : Type 0 where
-  at : ℕ
-  entry : IdRow
-  within : at < length rows
-  is : get_or rows at entry ≡ entry
-  row_is : entry.row ≡ row
-  id_is : entry.id.now ≡ id
+    b_key : IsKeyOf b.key b.id.now
+    b_key = subst (λ (x : IdRow). IsKeyOf x.key x.id.now) b_is (keyed j b j_lt)
 
--- each row of the table with an id is listed with it
-has_id : (table : FileTable) (name : ColumnName) (rows : List IdRow) (id : List ℕ) (row : ℕ) → AreIdRows table name (row_count table) rows → row < row_count table → bytes_eq id (field table row name) ≡ true → HasId rows id row
-has_id table name rows id row listed lt e =
-    let found = list_any_tells (λ (x : IdRow). x.row == row) rows (listed.all row lt) in
-    let entry = found.0 in
-    let at = found.1 in
-    let here : entry.row ≡ row = eqb-true entry.row row found.2 in
-    let own : entry.id.now ≡ field table entry.row name = All-contains (λ (x : IdRow). x.id.now ≡ field table x.row name) rows entry listed.right at in
-    let asked : id ≡ field table row name = (bytes_eq-Decides id (field table row name)).0 e in
-    record { at = at.0; entry = entry; within = at.1; is = at.2; row_is = here; id_is = own ∙ ap (λ r. field table r name) here ∙ sym asked }
+    wrong : Less ≡ Equal → ⊥
+    wrong e = let no : true ≡ false = ap is_lt e in cc
 
--- it doesn't stand before the place of the id
-not_before : (rows : List IdRow) (id : List ℕ) (row place : ℕ) → IsPlaceOf rows id place → (h : HasId rows id row) → place ≤ h.at
-not_before rows id row place is_place h = step (cases_lt h.at place)
-  where
-    step : (h.at < place) ⊎ (place ≤ h.at) → place ≤ h.at
-    step (inr past) = past
-    step (inl before) =
-        let less : is_lt (slice_cmp nat_cmp (get_or rows h.at h.entry).id.now id) ≡ true = is_place.before h.at h.entry before in
-        let itself : slice_cmp nat_cmp (get_or rows h.at h.entry).id.now id ≡ Equal = rw (h.is, h.id_is) (tied_itself nat_list_cmp_total id) in
-        absurd (let no : true ≡ false = sym less ∙ ap is_lt itself in cc)
+    step : (i < j) ⊎ (j ≤ i) → (j < i) ⊎ (i ≤ j) → a ≡ b
+    step (inl lt) _ =
+        let less = Less-from_sorted id_order rows i j a up lt j_lt in
+        absurd (wrong (sym (rw (a_is, get_or_default rows j a b j_lt ∙ b_is) at less) ∙ tied a b a_key b_key one))
+    step (inr le) (inl lt) =
+        let less = Less-from_sorted id_order rows j i b up lt i_lt in
+        absurd (wrong (sym (rw (b_is, get_or_default rows i b a i_lt ∙ a_is) at less) ∙ tied b a b_key a_key (sym one)))
+    step (inr le) (inr ge) = let at : i ≡ j = omega (arith, le, ge) in sym a_is ∙ ap (λ k. get_or rows k a) at ∙ get_or_default rows j a b j_lt ∙ b_is
 
--- of two rows with one id, the one that stands before is the earlier
-earlier_row : (a b : IdRow) → IsNotAfter a b → a.id.now ≡ b.id.now → a.row ≤ b.row
-earlier_row a b up same = step (cases_lt b.row a.row)
-  where
-    tie : slice_cmp nat_cmp b.id.now a.id.now ≡ Equal
-    tie = rw same (tied_itself nat_list_cmp_total b.id.now)
+-- sorted, and with each id once, they are the ids of the column
+module _ (table : FileTable) (name : ColumnName) (rows sorted : List IdRow) (first : AreFirstRows table name (row_count table) rows) (moved : IsPermutation rows sorted)
+    (up : IsSortedByKey {K = ℕ × List ℕ × ℕ} (λ (entry : IdRow). (entry.key, entry.id.now, entry.row)) (λ x y. ordering_then (ordering_then (nat_cmp x.0 y.0) (slice_cmp nat_cmp x.1 y.1)) (nat_cmp x.2 y.2)) sorted) where
+  keyed : All (λ (entry : IdRow). IsKeyOf entry.key entry.id.now) sorted
+  keyed = All-permutation (λ (x : IdRow). IsKeyOf x.key x.id.now) rows sorted moved first.keyed
 
-    rows_up : is_lt (nat_cmp b.row a.row) ≡ false
-    rows_up = sym (ap (λ o. is_lt (ordering_then o (nat_cmp b.row a.row))) tie) ∙ up
+  right : All (λ (entry : IdRow). entry.id.now ≡ field table entry.row name) sorted
+  right = All-permutation (λ (x : IdRow). x.id.now ≡ field table x.row name) rows sorted moved first.right
 
-    step : (b.row < a.row) ⊎ (a.row ≤ b.row) → a.row ≤ b.row
-    step (inr le) = le
-    step (inl lt) = absurd (let no : ⊥ = grind (arith, nat_tests, rows_up) in no)
+  within : All (λ (entry : IdRow). entry.row < row_count table) sorted
+  within = All-permutation (λ (x : IdRow). x.row < row_count table) rows sorted moved first.within
 
--- the row at the place is the earliest with the id that it has
-pub row_of_hit : (table : FileTable) (name : ColumnName) (rows : List IdRow) (id : List ℕ) (place : ℕ) (d : IdRow) → AreOrderedRows table name rows → IsPlaceOf rows id place → place < length rows → (get_or rows place d).id.now ≡ id → row_of table name id ≡ Some (get_or rows place d).row
+  far : (i j : ℕ) (d : IdRow) → i < j → j < length sorted → is_lt (ordering_then (id_order (get_or sorted j d) (get_or sorted i d)) (nat_cmp (get_or sorted j d).row (get_or sorted i d).row)) ≡ false
+  far i j d lt inside =
+      sorted_far (λ (a b : IdRow). is_lt (ordering_then (id_order a b) (nat_cmp a.row b.row)))
+      (ranks_by (then_total order_total (on_total (λ (x : IdRow). x.row) nat_cmp_total)) (λ (x : IdRow). x)) sorted up i j d (omega arith) inside
+
+  rising : AllPairs Rises sorted
+  rising i j d lt inside one = step (far i j d lt inside)
+    where
+      a : IdRow
+      a = get_or sorted i d
+
+      b : IdRow
+      b = get_or sorted j d
+
+      step : is_lt (ordering_then (id_order b a) (nat_cmp b.row a.row)) ≡ false → a.row ≤ b.row
+      step e = let rows : is_lt (nat_cmp b.row a.row) ≡ false = rw (tied b a (keyed j d inside) (keyed i d (omega arith)) (sym one)) at e in ⊎_elim (λ (lt : b.row < a.row). absurd (let no : ⊥ = grind (arith, nat_tests, rows) in no)) (λ le. le) (cases_lt b.row a.row)
+
+  in_order : IsSortedBy (λ (a b : IdRow). is_lt (id_order a b)) sorted
+  in_order k d low lt = told (id_order (get_or sorted (k + 1) d) (get_or sorted k d)) (nat_cmp (get_or sorted (k + 1) d).row (get_or sorted k d).row) (far k (k + 1) d (omega arith) lt)
+    where
+      told : (o p : Ordering) → is_lt (ordering_then o p) ≡ false → is_lt o ≡ false
+      told Less p e = e
+      told Equal p e = refl
+      told Greater p e = refl
+
+  abbrev pub ids : List IdRow
+  ids = dedup same sorted
+
+  strict : IsStrictlySortedBy id_order ids
+  strict = IsStrictlySortedBy-dedup order_total ties sorted in_order
+
+  each : (P : IdRow → Type 0) → All P sorted → All P ids
+  each P all k d lt = All-contains P sorted (get_or ids k d) all (Contains-from_dedup same sorted (get_or ids k d) (Contains-get_or ids k d lt))
+
+  -- each row has an id that is kept, with a row that isn't later
+  of_row : (row : ℕ) → row < row_count table → Any (λ (y : IdRow). (y.id.now ≡ field table row name) × (y.row ≤ row)) ids
+  of_row row lt =
+      let there = first.all row lt in
+      let moved_there = Contains-permutation rows sorted there.1 moved (there.0, there.2, there.3) in
+      let own : there.1.id.now ≡ field table row name = All-contains (λ (x : IdRow). x.id.now ≡ field table x.row name) sorted there.1 right moved_there ∙ ap (λ r. field table r name) there.4 in
+      let stands = kept_all sorted rising there.1 moved_there in
+      let low = stands.4.1 in
+      let at = there.4 in
+      (stands.0, stands.1, stands.2, stands.3, (stands.4.0 ∙ own, omega (arith, low, at)))
+
+  earliest : All (λ (entry : IdRow). row_of table name entry.id.now ≡ Some entry.row) ids
+  unfolding row_of
+  earliest k d lt = find_below_hit test (row_count table) entry.row (record { within = each (λ (x : IdRow). x.row < row_count table) within k d lt; passes = passes; earlier = earlier })
+    where
+      entry : IdRow
+      entry = get_or ids k d
+
+      test : ℕ → Bool
+      test row = bytes_eq entry.id.now (field table row name)
+
+      passes : test entry.row ≡ true
+      passes = (bytes_eq-Decides entry.id.now (field table entry.row name)).1 (each (λ (x : IdRow). x.id.now ≡ field table x.row name) right k d lt)
+
+      not_before : (row : ℕ) → row < entry.row → test row ≡ true → ⊥
+      not_before row below e =
+          let inside : entry.row < row_count table = each (λ (x : IdRow). x.row < row_count table) within k d lt in
+          let other = of_row row (omega (arith, below, inside)) in
+          let same_id : other.1.id.now ≡ entry.id.now = other.4.0 ∙ sym ((bytes_eq-Decides entry.id.now (field table row name)).0 e) in
+          let one = one_place ids strict (each (λ (x : IdRow). IsKeyOf x.key x.id.now) keyed) other.1 entry other.0 other.2 other.3 k lt (get_or_default ids k entry d lt) same_id in
+          let row_one : other.1.row ≡ entry.row = ap (λ (x : IdRow). x.row) one in
+          let low = other.4.1 in
+          absurd (omega (arith, row_one, low, below))
+
+      earlier : (row : ℕ) → row < entry.row → test row ≡ false
+      earlier row below = ⊎_elim (λ e. absurd (not_before row below e)) (λ e. e) (cases_Bool (test row))
+
+  pub are_id_rows : (kept_rows : List IdRow) → kept_rows ≡ ids → length kept_rows ≤ length sorted → row_count table ≤ row_limit → AreIdRows table name kept_rows
+  are_id_rows kept_rows is fewer few = record {
+    sorted = rw is strict;
+    keyed = rw is (each (λ (x : IdRow). IsKeyOf x.key x.id.now) keyed);
+    earliest = rw is earliest;
+    all = λ row lt. rw is (let there = of_row row lt in (there.0, there.1, there.2, there.3, there.4.0));
+    few = let size = length_permutation rows sorted moved in let count = first.count in omega (arith, fewer, size, count, few);
+  }
+
+-- an id that stands in a row is that row's field
+pub field_there : (table : FileTable) (name : ColumnName) (id : List ℕ) (row : ℕ) → row_of table name id ≡ Some row → id ≡ field table row name
 unfolding row_of
-row_of_hit table name rows id place d ordered is_place lt same =
-    find_below_hit test (row_count table) entry.row (record { within = ordered.rows_are.within place d lt; passes = passes; earlier = earlier })
-  where
-    entry : IdRow
-    entry = get_or rows place d
-
-    test : ℕ → Bool
-    test row = bytes_eq id (field table row name)
-
-    passes : test entry.row ≡ true
-    passes = (bytes_eq-Decides id (field table entry.row name)).1 (sym same ∙ ordered.rows_are.right place d lt)
-
-    not_later : (k : ℕ) → HasId rows id k → entry.row ≤ k
-    not_later k h = step (cases_eq place h.at)
-      where
-        step : (place ≡ h.at) ⊎ (place ≡ h.at → ⊥) → entry.row ≤ k
-        step (inl at) =
-            let one : entry ≡ h.entry = get_or_default rows place d h.entry lt ∙ ap (λ i. get_or rows i h.entry) at ∙ h.is in
-            let row : entry.row ≡ k = ap (λ (x : IdRow). x.row) one ∙ h.row_is in
-            omega arith
-        step (inr apart) =
-            let past = not_before rows id k place is_place h in
-            let one : get_or rows place h.entry ≡ entry = get_or_default rows place h.entry d lt in
-            let up : IsNotAfter entry h.entry = subst (λ (x : IdRow). IsNotAfter x h.entry) one (subst (IsNotAfter (get_or rows place h.entry)) h.is (ordered.sorted place h.at h.entry (omega arith) h.within)) in
-            let le = earlier_row entry h.entry up (same ∙ sym h.id_is) in
-            let row = h.row_is in
-            omega arith
-
-    earlier : (k : ℕ) → k < entry.row → test k ≡ false
-    earlier k below = step (cases_Bool (test k))
-      where
-        step : (test k ≡ true) ⊎ (test k ≡ false) → test k ≡ false
-        step (inr other) = other
-        step (inl too) =
-            let within = ordered.rows_are.within place d lt in
-            let le = not_later k (has_id table name rows id k ordered.rows_are (omega arith) too) in
-            absurd (omega arith)
-
--- two ids of which neither is less are one
-pub one_id : (x y : List ℕ) → is_lt (slice_cmp nat_cmp x y) ≡ false → is_lt (slice_cmp nat_cmp y x) ≡ false → x ≡ y
-one_id x y not_less not_more = step (slice_cmp nat_cmp x y) refl
-  where
-    back : slice_cmp nat_cmp y x ≡ ordering_reverse (slice_cmp nat_cmp x y)
-    back = nat_list_cmp_total.antisymm y x
-
-    step : (o : Ordering) → slice_cmp nat_cmp x y ≡ o → x ≡ y
-    step Less e = absurd (let no : true ≡ false = sym (ap is_lt e) ∙ not_less in cc)
-    step Equal e = (bytes_eq-Decides x y).0 (sym (is_eq-slice_cmp x y) ∙ ap is_eq e)
-    step Greater e = absurd (let no : true ≡ false = sym (ap is_lt (back ∙ ap ordering_reverse e)) ∙ not_more in cc)
-
--- where the row at the place has another id, or there is none, no row has the id
-pub row_of_none : (table : FileTable) (name : ColumnName) (rows : List IdRow) (id : List ℕ) (place : ℕ) → AreOrderedRows table name rows → IsPlaceOf rows id place → ((d : IdRow) → place < length rows → (get_or rows place d).id.now ≡ id → ⊥) → row_of table name id ≡ None
-unfolding row_of
-row_of_none table name rows id place ordered is_place apart = find_below_none test (row_count table) each
-  where
-    test : ℕ → Bool
-    test row = bytes_eq id (field table row name)
-
-    wrong : (k : ℕ) → HasId rows id k → ⊥
-    wrong k h = step (cases_eq place h.at)
-      where
-        past : place ≤ h.at
-        past = not_before rows id k place is_place h
-
-        lt : place < length rows
-        lt = let within = h.within in let low = past in omega arith
-
-        not_less : is_lt (slice_cmp nat_cmp (get_or rows place h.entry).id.now id) ≡ false
-        not_less = is_place.from place h.entry (omega arith) lt
-
-        step : (place ≡ h.at) ⊎ (place ≡ h.at → ⊥) → ⊥
-        step (inl at) = apart h.entry lt (ap (λ i. (get_or rows i h.entry).id.now) at ∙ ap (λ (x : IdRow). x.id.now) h.is ∙ h.id_is)
-        step (inr other) =
-            let low = past in
-            let up : is_lt (slice_cmp nat_cmp (get_or rows h.at h.entry).id.now (get_or rows place h.entry).id.now) ≡ false = ids_rise rows ordered.sorted place h.at h.entry (omega arith) h.within in
-            let its : (get_or rows h.at h.entry).id.now ≡ id = ap (λ (x : IdRow). x.id.now) h.is ∙ h.id_is in
-            apart h.entry lt (one_id (get_or rows place h.entry).id.now id not_less (subst (λ (text : List ℕ). is_lt (slice_cmp nat_cmp text (get_or rows place h.entry).id.now) ≡ false) its up))
-
-    each : NonePass test (row_count table)
-    each k below = step (cases_Bool (test k))
-      where
-        step : (test k ≡ true) ⊎ (test k ≡ false) → test k ≡ false
-        step (inr other) = other
-        step (inl too) = absurd (wrong k (has_id table name rows id k ordered.rows_are below too))
-
--- so what is found of an id is the row at its place, where that has the id
-module _ (table : FileTable) (name : ColumnName) (rows : List IdRow) (id : List ℕ) (place : ℕ) (ordered : AreOrderedRows table name rows) (is_place : IsPlaceOf rows id place) where
-  pub row_of_past : length rows ≤ place → None ≡ row_of table name id
-  row_of_past past = sym (row_of_none table name rows id place ordered is_place (λ d lt same. absurd (omega arith)))
-
-  pub row_of_at : (entry : IdRow) → place < length rows → entry ≡ get_or rows place entry → (hit : Bool) → hit ≡ bytes_eq entry.id.now id → then_some hit entry.row ≡ row_of table name id
-  row_of_at entry lt is true e =
-      let own : (get_or rows place entry).id.now ≡ id = ap (λ (x : IdRow). x.id.now) (sym is) ∙ (bytes_eq-Decides entry.id.now id).0 (sym e) in
-      ap (λ (x : IdRow). Some x.row) is ∙ sym (row_of_hit table name rows id place entry ordered is_place lt own)
-  row_of_at entry lt is false e =
-      sym (row_of_none table name rows id place ordered is_place (λ d within same.
-      let other : entry.id.now ≡ id = ap (λ (x : IdRow). x.id.now) (is ∙ get_or_default rows place entry d lt) ∙ same in
-      let no : false ≡ true = e ∙ (bytes_eq-Decides entry.id.now id).1 other in cc))
+field_there table name id row e =
+    (bytes_eq-Decides id (field table row name)).0 (find_below_tells (λ r. bytes_eq id (field table r name)) (row_count table) row e).passes
 
 -- what is found is a row of the table
 pub row_of_within : (table : FileTable) (name : ColumnName) (id : List ℕ) (found : Option ℕ) → found ≡ row_of table name id → IfSome found (λ row. row < row_count table)
 unfolding row_of
 row_of_within table name id None e = tt
 row_of_within table name id (Some row) e = (find_below_tells (λ r. bytes_eq id (field table r name)) (row_count table) row (sym e)).within
+
+-- how an id with its key stands to one that is sought
+abbrev pub order_to : ℕ → List ℕ → IdRow → Ordering
+order_to key id entry = ordering_then (nat_cmp entry.key key) (slice_cmp nat_cmp entry.id.now id)
+
+-- what a binary search among the ids tells
+module _ (table : FileTable) (name : ColumnName) (rows : List IdRow) (are : AreIdRows table name rows) (key : ℕ) (id : List ℕ) (is : IsKeyOf key id) where
+  pub found_row : (place : ℕ) (d : IdRow) → place < length rows → order_to key id (get_or rows place d) ≡ Equal → row_of table name id ≡ Some (get_or rows place d).row
+  found_row place d lt e = subst (λ text. row_of table name text ≡ Some (get_or rows place d).row) same_text (are.earliest place d lt)
+    where
+      second : (o p : Ordering) → ordering_then o p ≡ Equal → p ≡ Equal
+      second Less p e = absurd (let no : true ≡ false = ap is_lt e in cc)
+      second Equal p e = e
+      second Greater p e = absurd (let no : false ≡ true = ap is_eq e in cc)
+
+      same_text : (get_or rows place d).id.now ≡ id
+      same_text = (bytes_eq-Decides (get_or rows place d).id.now id).0
+          (sym (is_eq-slice_cmp (get_or rows place d).id.now id) ∙ ap is_eq (second (nat_cmp (get_or rows place d).key key) (slice_cmp nat_cmp (get_or rows place d).id.now id) e))
+
+  rises : IsNonDecreasingBy (λ (entry : IdRow). ordering_index (order_to key id entry)) rows
+  rises = searchable_from_sorted (then_total (on_total (λ (x : ℕ × List ℕ). x.0) nat_cmp_total) (on_total (λ (x : ℕ × List ℕ). x.1) nat_list_cmp_total)) (λ (entry : IdRow). (entry.key, entry.id.now)) rows (key, id) up
+    where
+      up : IsSortedBy (λ (a b : IdRow). is_lt (id_order a b)) rows
+      up k d low lt =
+          let less = Less-from_sorted id_order rows k (k + 1) d are.sorted (omega arith) lt in
+          ap is_lt (order_total.antisymm (get_or rows (k + 1) d) (get_or rows k d) ∙ ap ordering_reverse less)
+
+  pub no_row : (place : ℕ) → IsBinarySearchResult (order_to key id) rows (Err place) → None ≡ row_of table name id
+  unfolding row_of
+  no_row place told = sym (find_below_none test (row_count table) each)
+    where
+      test : ℕ → Bool
+      test row = bytes_eq id (field table row name)
+
+      wrong : (row : ℕ) → row < row_count table → test row ≡ true → ⊥
+      wrong row lt e = step (cases_lt there.0 place)
+        where
+          there : Any (λ (entry : IdRow). entry.id.now ≡ field table row name) rows
+          there = are.all row lt
+
+          same_text : there.1.id.now ≡ id
+          same_text = there.4 ∙ sym ((bytes_eq-Decides id (field table row name)).0 e)
+
+          equal : order_to key id there.1 ≡ Equal
+          equal =
+              let own : IsKeyOf there.1.key there.1.id.now = All-contains (λ (x : IdRow). IsKeyOf x.key x.id.now) rows there.1 are.keyed (there.0, there.2, there.3) in
+              let keys : there.1.key ≡ key = own.number ∙ ap (λ text. start_below 7 text * 256 + min (length text) 255) same_text ∙ sym is.number in
+              rw (keys, same_text, tied_itself nat_cmp_total key) (tied_itself nat_list_cmp_total id)
+
+          parted : IsPartitionPoint (λ entry. order_to key id entry ≡ Less) (λ entry. order_to key id entry ≡ Greater) rows place
+          parted = told rises
+
+          step : (there.0 < place) ⊎ (place ≤ there.0) → ⊥
+          step (inl lt) = let less = subst (λ (x : IdRow). order_to key id x ≡ Less) there.3 (parted.0 there.0 there.1 (omega arith) lt) in let no : true ≡ false = ap is_lt (sym less ∙ equal) in cc
+          step (inr le) = let more = subst (λ (x : IdRow). order_to key id x ≡ Greater) there.3 (parted.1 there.0 there.1 le there.2) in let no : false ≡ true = ap is_eq (sym more ∙ equal) in cc
+
+      each : (row : ℕ) → row < row_count table → test row ≡ false
+      each row lt = ⊎_elim (λ e. absurd (wrong row lt e)) (λ e. e) (cases_Bool (test row))
 
 -- the first is before this one
 abbrev pub is_before : Option ℕ → ℕ → Bool

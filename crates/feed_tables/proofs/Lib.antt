@@ -1,4 +1,3 @@
-pub mod PrefixLaws
 pub mod KeyLaws
 pub mod IdLaws
 pub mod SlotLaws

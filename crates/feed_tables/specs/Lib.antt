@@ -2,9 +2,6 @@ pub mod RowNumbers
 pub mod KeptTables
 pub mod Columns
 pub mod IndexedColumns
-pub mod SoughtIds
 pub mod IdColumns
-pub mod OrderedRows
-pub mod IdKeys
-pub mod Slots
+pub mod IdRows
 pub mod LeftFiles

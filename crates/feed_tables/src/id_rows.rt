@@ -1,100 +1,54 @@
-//! The rows of a table in the order of their ids.
-ghost use Rattle.std.specs.Prelude.{◌≡◌, ◌<◌, length, All, AllPairs, IfOk, bytes_eq};
-ghost use Rattle.std.specs.Bool.{OnFalse, OnTrue};
-ghost use Rattle.std.specs.Cmp.Lexicographic.{slice_cmp};
-ghost use Rattle.std.specs.Ordering.{nat_cmp, is_lt};
-ghost use Rattle.feed_faults.specs.Records.{row_count};
-ghost use Rattle.feed_tables.specs.OrderedRows.{IsPrefixed, AreIdRows, AreOrderedRows, IsNotAfter, IsPlaceOf, IsFirst, HasIdBefore, is_id_before};
+//! The ids of a column: the key of each, a number by which short ids are told apart with none of their bytes read, and
+//! the earliest row with it.
+ghost use Rattle.std.specs.Prelude.{IfOk};
+ghost use Rattle.feed_tables.specs.IdRows.{IsKeyOf, AreIdRows};
 
-use crate::id_keys::prefix_of;
 use crate::named::NamedTable;
 use feed_rows::ColumnName;
 use std::alloc::{AllocError, Global};
 
-// A row, its id, and the number that the id begins with, by which most ids are told apart.
+/// An id's key: the number that its first seven bytes make, and its length.
+#[inline(always)]
+pub fn key_of(id: &[u8]) -> u64
+    ensures { IsKeyOf result id.now }
+{
+    let mut start = 0u64;
+    for place in 0..7usize {
+        let byte = if place < id.len() { id[place] } else { 0 };
+        start = start * 256 + u64::from(byte);
+    }
+    start * 256 + id.len().min(255) as u64
+}
+
+/// An id, its key, and the earliest row with it.
 #[derive(Clone, Copy)]
 pub struct IdRow<'t> {
-    pub prefix: u64,
+    pub key: u64,
     pub id: &'t [u8],
     pub row: u32,
 }
 
-// The rows in the order of the table, each with its id.
-fn id_rows<'t>(
+/// The ids of a column, each once, in the order of their keys and, where these are the same, of their bytes.
+///
+/// # Errors
+/// Want of memory.
+pub fn id_rows<'t>(
     alloc: Global,
     table: &'t NamedTable,
     name: ColumnName,
 ) -> Result<Vec<IdRow<'t>>, AllocError>
-    ensures { IfOk result (λ rows. AreIdRows table.now name (row_count table.now) rows.items) }
+    ensures { IfOk result (λ rows. AreIdRows table.now name rows.items) }
 {
     let mut rows = Vec::with_capacity(alloc, table.rows() as usize)?;
     for row in 0..table.rows() {
         let id = table.field(row, name);
         rows.push(IdRow {
-            prefix: prefix_of(id),
+            key: key_of(id),
             id,
             row,
         })?;
     }
+    rows.sort_unstable_by_key(|entry| (entry.key, entry.id, entry.row));
+    rows.dedup_by_key(|entry| (entry.key, entry.id));
     Ok(rows)
-}
-
-/// The rows in the order of their ids; those of one id stay in the order of the table.
-pub fn ordered_rows<'t>(
-    alloc: Global,
-    table: &'t NamedTable,
-    name: ColumnName,
-) -> Result<Vec<IdRow<'t>>, AllocError>
-    ensures { IfOk result (λ rows. AreOrderedRows table.now name rows.items) }
-{
-    let mut rows = id_rows(alloc, table, name)?;
-    rows.sort_unstable_by_key(|entry| (entry.prefix, entry.id, entry.row));
-    Ok(rows)
-}
-
-// Whether the id of a row stands before one that begins with this number.
-fn is_before(entry: &IdRow, prefix: u64, id: &[u8]) -> bool
-    ensures { result ≡ is_id_before entry.now prefix id.now }
-{
-    if entry.prefix == prefix {
-        return entry.id.cmp(id).is_lt();
-    }
-    entry.prefix < prefix
-}
-
-/// The place of the first row whose id isn't less than this one.
-pub fn place_of(rows: &[IdRow], id: &[u8]) -> usize
-    requires sorted { AllPairs IsNotAfter rows.now }
-    requires prefixed { All IsPrefixed rows.now }
-    ensures { IsPlaceOf rows.now id.now result }
-{
-    let prefix = prefix_of(id);
-    rows.partition_point(|entry| is_before(entry, prefix, id))
-}
-
-// Whether two rows have one id. Most are told apart by the numbers that their ids begin with, and no byte is read.
-#[tactic(auto, using(crate::proofs::PrefixLaws::other_start))]
-fn have_one_id(entry: &IdRow, other: &IdRow) -> bool
-    requires entry { IsPrefixed entry.now }
-    requires other { IsPrefixed other.now }
-    ensures { result ≡ bytes_eq entry.now.id.now other.now.id.now }
-{
-    if entry.prefix != other.prefix {
-        return false;
-    }
-    entry.id == other.id
-}
-
-/// Whether no earlier row has the id of the row at a place: the one before it has another, if there is one.
-pub fn is_first(rows: &[IdRow], place: usize) -> bool
-    requires sorted { AllPairs IsNotAfter rows.now }
-    requires prefixed { All IsPrefixed rows.now }
-    requires within { place < length rows.now }
-    ensures first { OnTrue result (IsFirst rows.now place) }
-    ensures later { OnFalse result (HasIdBefore rows.now place) }
-{
-    if place == 0 {
-        return true;
-    }
-    !have_one_id(&rows[place - 1], &rows[place])
 }

@@ -3,12 +3,10 @@ ghost use Rattle.std.specs.Prelude.{◌≡◌, ◌<◌, IfOk, IfSome};
 ghost use Rattle.feed_faults.specs.Records.{row_count};
 ghost use Rattle.feed_faults.specs.RowKeys.{row_of, is_unknown, is_doubled};
 ghost use Rattle.feed_faults.specs.AcceptedFeed.{row_number};
-ghost use Rattle.feed_tables.specs.IdKeys.{IsKeyOf};
+ghost use Rattle.feed_tables.specs.IdRows.{IsKeyOf};
 
-use crate::id_keys::key_of;
-use crate::id_rows::{IdRow, ordered_rows, place_of};
+use crate::id_rows::{IdRow, id_rows, key_of};
 use crate::named::NamedTable;
-use crate::seek::Seek;
 use crate::slots::{Slots, slots_of};
 use feed_rows::ColumnName;
 use std::alloc::{AllocError, Global};
@@ -19,7 +17,7 @@ use std::marker::Model;
 pub struct IdIndex<'t> {
     table: &'t NamedTable,
     name: ColumnName,
-    // All rows, in the order of their ids.
+    // All ids, in order.
     rows: Vec<IdRow<'t>>,
     // Where an id is looked for before the rows are searched.
     slots: Slots,
@@ -27,13 +25,21 @@ pub struct IdIndex<'t> {
 
 impl<'t> Model for IdIndex<'t> {
     ghost use Rattle.feed_tables.specs.IndexedColumns.{IndexedColumn};
-    ghost use Rattle.feed_tables.specs.Slots.{IsIndex};
+    ghost use Rattle.feed_tables.specs.IdRows.{AreIdRows, AreSlots};
 
     ghost Value = { IndexedColumn };
 
     ghost view = { λ i. record { table = i.table.now; name = i.name } };
 
-    ghost invariant = { λ i. IsIndex i.table.now i.name i.rows.items i.slots };
+    ghost invariant = { λ i. AreIdRows i.table.now i.name i.rows.items × AreSlots i.rows.items i.slots };
+}
+
+/// A look-up that was begun: where the id is looked for first, and its key. Nothing is read there yet, so that a caller can
+/// do other work while memory is waited for.
+#[derive(Clone, Copy)]
+pub struct IdStart {
+    pub slot: usize,
+    pub key: u64,
 }
 
 impl<'t> IdIndex<'t> {
@@ -48,7 +54,7 @@ impl<'t> IdIndex<'t> {
     ) -> Result<IdIndex<'t>, AllocError>
         ensures { IfOk result (λ index. index ≡ record { table = table.now; name = name }) }
     {
-        let rows = ordered_rows(alloc, table, name)?;
+        let rows = id_rows(alloc, table, name)?;
         let slots = slots_of(alloc, &rows)?;
         Ok(IdIndex {
             table,
@@ -58,20 +64,27 @@ impl<'t> IdIndex<'t> {
         })
     }
 
-    // The earliest row with this id, by a binary search. Few ids come here: those that no row has, and those without a slot.
+    // The earliest row with this id, by a binary search. Few ids come here: those that no row has, and those without a
+    // slot.
     #[cold]
     #[inline(never)]
-    fn searched_row(&self, id: &[u8]) -> Option<u32>
+    fn searched_row(&self, key: u64, id: &[u8]) -> Option<u32>
+        requires { IsKeyOf key id.now }
         ensures { result ≡ row_of self.now.table self.now.name id.now }
     {
-        let entry = self.rows.get(place_of(&self.rows, id))?;
-        (entry.id == id).then_some(entry.row)
+        match self
+            .rows
+            .binary_search_by_key(&(key, id), |entry| (entry.key, entry.id))
+        {
+            Ok(place) => Some(self.rows[place].row),
+            Err(_) => None,
+        }
     }
 
-    // The row in a slot, where it has this id, which has this key. One of at most seven bytes is told by its key alone, so
-    // that none of the table's text is read.
+    // The row in a slot, where it has this id, which has this key. One of at most seven bytes is told by its key alone,
+    // so that none of the table's text is read.
     #[inline(always)]
-    pub(crate) fn row_in(&self, slot: usize, key: u64, id: &[u8]) -> Option<u32>
+    fn row_in(&self, slot: usize, key: u64, id: &[u8]) -> Option<u32>
         requires { IsKeyOf key id.now }
         ensures { IfSome result (λ row. row_of self.now.table self.now.name id.now ≡ Some row) }
     {
@@ -85,40 +98,51 @@ impl<'t> IdIndex<'t> {
         None
     }
 
-    // The earliest row with this id: that in the slot, where it has the id, or else by a binary search.
+    /// Begins to look for the earliest row with an id: in the id's own slot.
     #[inline(always)]
-    pub(crate) fn row_by(&self, slot: usize, key: u64, id: &[u8]) -> Option<u32>
-        requires { IsKeyOf key id.now }
+    pub fn start(&self, id: &[u8]) -> IdStart
+        ensures { IsKeyOf result.key id.now }
+    {
+        let key = key_of(id);
+        let slot = self.slots.slot_of(key, id);
+        IdStart { slot, key }
+    }
+
+    /// The same, but in the slot where an id was looked for last, where that has this one too: as when an id is mostly
+    /// looked for several times in a row.
+    #[inline(always)]
+    pub fn start_at(&self, last: usize, id: &[u8]) -> IdStart
+        ensures { IsKeyOf result.key id.now }
+    {
+        let key = key_of(id);
+        let slot = if self.row_in(last, key, id).is_some() {
+            last
+        } else {
+            self.slots.slot_of(key, id)
+        };
+        IdStart { slot, key }
+    }
+
+    // The earliest row with the id of a look-up that was begun.
+    #[inline(always)]
+    fn row_from(&self, start: IdStart, id: &[u8]) -> Option<u32>
+        requires { IsKeyOf start.key id.now }
         ensures row { result ≡ row_of self.now.table self.now.name id.now }
         ensures within { IfSome result (λ row. row < row_count self.now.table) }
     {
-        match self.row_in(slot, key, id) {
+        match self.row_in(start.slot, start.key, id) {
             Some(row) => Some(row),
-            None => self.searched_row(id),
+            None => self.searched_row(start.key, id),
         }
     }
 
-    // The slot of an id with this key.
+    /// The number of the earliest row with the id of a look-up that was begun; that after the last row where no row has it.
     #[inline(always)]
-    pub(crate) fn slot_of(&self, key: u64, id: &[u8]) -> usize {
-        self.slots.slot_of(key, id)
-    }
-
-    // How many rows there are.
-    #[inline(always)]
-    pub(crate) fn count(&self) -> u32
-        ensures { result ≡ row_count self.now.table }
+    pub fn number_from(&self, start: IdStart, id: &[u8]) -> u32
+        requires { IsKeyOf start.key id.now }
+        ensures { result ≡ row_number self.now.table self.now.name id.now }
     {
-        self.table.rows()
-    }
-
-    /// Begins to look for the earliest row with an id.
-    #[inline(always)]
-    pub fn seek<'i, 'r>(&'i self, id: &'r [u8]) -> Seek<'i, 't, 'r>
-        ensures { result ≡ record { column = self.now; id = id.now } }
-    {
-        let key = key_of(id);
-        Seek::at(self, self.slot_of(key, id), key, id)
+        self.row_from(start, id).unwrap_or(self.table.rows())
     }
 
     /// The earliest row with this id.
@@ -126,14 +150,14 @@ impl<'t> IdIndex<'t> {
         ensures row { result ≡ row_of self.now.table self.now.name id.now }
         ensures within { IfSome result (λ row. row < row_count self.now.table) }
     {
-        self.seek(id).row()
+        self.row_from(self.start(id), id)
     }
 
     /// The number of the earliest row with this id; that after the last row where no row has it.
     pub fn number(&self, id: &[u8]) -> u32
         ensures { result ≡ row_number self.now.table self.now.name id.now }
     {
-        self.seek(id).number()
+        self.number_from(self.start(id), id)
     }
 
     /// Whether an id is filled and no row has it: an empty reference is no fault.

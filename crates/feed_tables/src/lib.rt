@@ -2,7 +2,6 @@
 #![tactic(auto)]
 
 mod files;
-mod id_keys;
 mod id_rows;
 mod ids;
 mod index;
@@ -12,17 +11,15 @@ mod read_table;
 mod reading;
 mod record_row;
 mod rows;
-mod seek;
 mod slots;
 mod tables;
 
 pub use files::MOST_ROWS;
 pub use ids::{CallIds, Ids};
-pub use index::IdIndex;
+pub use index::{IdIndex, IdStart};
 pub use kinds::{frame_end, frame_start, stop_kind};
 pub use named::{NamedTable, TableRow};
 pub use read_table::ReadTable;
 pub use reading::read_tables;
 pub use record_row::RecordRow;
-pub use seek::{LastSought, Seek};
 pub use tables::{CallTable, Tables};

@@ -1,12 +1,12 @@
-//! Where an id is looked for first: one slot of a table that is hashed. The ids are parted into buckets of a few, and each
-//! bucket has a pilot, a number that is mixed into the hashes of its ids and chosen so that each has a slot of its own. So
-//! one slot alone is read, and the table is so full that what is read at random takes little memory.
-ghost use Rattle.std.specs.Prelude.{◌≡◌, ◌≤◌, ◌<◌, All, AllPairs, length, IfOk};
-ghost use Rattle.feed_tables.specs.OrderedRows.{IsNotAfter, IsPrefixed};
-ghost use Rattle.feed_tables.specs.Slots.{AreBuckets, AreSlots};
+//! Where an id is looked for first: one slot of a table that is hashed. The ids are parted into buckets of a few, and
+//! each bucket has a pilot, a number that is mixed into the hashes of its ids and chosen so that each has a slot of its
+//! own. So one slot alone is read, and the table is so full that what is read at random takes little memory.
+ghost use Rattle.std.specs.Prelude.{◌≡◌, ◌≤◌, ◌<◌, length, IfOk};
+ghost use Rattle.feed_text.specs.RowLimits.{row_limit};
+ghost use Rattle.feed_tables.specs.IdRows.{AreSlots};
 
-use crate::id_keys::key_by;
-use crate::id_rows::{IdRow, is_first};
+use crate::id_rows::IdRow;
+use plain_laws::{Grouped, Groups};
 use std::alloc::{AllocError, Global};
 
 // The row of a slot without an id: more than any table has.
@@ -57,108 +57,14 @@ fn slot_by(hash: u64, pilot: u8, slots: usize) -> usize
     mixed(hash, u64::from(pilot)) as usize & (slots - 1)
 }
 
-// How many slots so many rows have: a power of two of which a quarter or more stays free.
-fn slots_for(rows: usize) -> usize
-    ensures { 1 ≤ result }
-{
-    let mut slots = 1usize;
-    for _ in 0..32 {
-        if slots / 4 * 3 < rows {
-            slots = slots.saturating_mul(2);
-        }
-    }
-    slots
-}
-
-// A row that is the first with its id: its place among the rows, and the hash of its id.
+// An id by its place among the rows, and its hash.
 #[derive(Clone, Copy)]
 struct Member {
     place: usize,
     hash: u64,
 }
 
-// The hash of the id of a row.
-fn hash_at(rows: &[IdRow], place: usize) -> u64
-    requires prefixed { All IsPrefixed rows.now }
-    requires within { place < length rows.now }
-{
-    let entry = rows[place];
-    hash_of(key_by(entry.prefix, entry.id), entry.id)
-}
-
-// The places of rows by the buckets of their ids, linked to one another.
-#[derive(Drop)]
-struct Buckets {
-    // By bucket: how many places it has, and the last one.
-    sizes: Vec<u32>,
-    lasts: Vec<u32>,
-    // By place: the one before it in its bucket, and the hash of its id.
-    links: Vec<u32>,
-    hashes: Vec<u64>,
-}
-
-// The rows that are the first with their ids, by so many buckets.
-fn buckets_of(alloc: Global, rows: &[IdRow], count: usize) -> Result<Buckets, AllocError>
-    requires sorted { AllPairs IsNotAfter rows.now }
-    requires prefixed { All IsPrefixed rows.now }
-    requires some { 1 ≤ count }
-    ensures { IfOk result (AreBuckets rows.now count) }
-{
-    let mut sizes = vec![in alloc; 0u32; count]?;
-    let mut lasts = vec![in alloc; FREE; count]?;
-    let mut links = vec![in alloc; FREE; rows.len()]?;
-    let mut hashes = vec![in alloc; 0u64; rows.len()]?;
-    for place in 0..rows.len() {
-        let Ok(link) = u32::try_from(place) else {
-            break;
-        };
-        if is_first(rows, place) {
-            hashes[place] = hash_at(rows, place);
-            let bucket = bucket_of(hashes[place], count);
-            links[place] = lasts[bucket];
-            lasts[bucket] = link;
-            sizes[bucket] = sizes[bucket].saturating_add(1);
-        }
-    }
-    Ok(Buckets {
-        sizes,
-        lasts,
-        links,
-        hashes,
-    })
-}
-
-// Replaces what `members` holds by the rows of a bucket.
-fn gather(buckets: &Buckets, bucket: usize, members: &mut Vec<Member>) -> Result<(), AllocError>
-    requires linked { length buckets.now.links.items ≡ length buckets.now.hashes.items }
-    requires sized { bucket < length buckets.now.sizes.items }
-    requires within { bucket < length buckets.now.lasts.items }
-{
-    members.clear();
-    let mut place = buckets.lasts[bucket] as usize;
-    for _ in 0..buckets.sizes[bucket] {
-        if place < buckets.links.len() {
-            let hash = buckets.hashes[place];
-            members.push(Member { place, hash })?;
-            place = buckets.links[place] as usize;
-        }
-    }
-    Ok(())
-}
-
 impl Slots {
-    // Slots for these rows, all free.
-    fn free(alloc: Global, rows: &[IdRow]) -> Result<Slots, AllocError>
-        ensures { IfOk result (AreSlots rows.now) }
-    {
-        let count = slots_for(rows.len());
-        Ok(Slots {
-            pilots: vec![in alloc; 0u8; (count / 4).max(1)]?,
-            keys: vec![in alloc; 0u64; count]?,
-            rows: vec![in alloc; FREE; count]?,
-        })
-    }
-
     /// The slot of an id with this key.
     #[inline(always)]
     pub fn slot_of(&self, key: u64, id: &[u8]) -> usize
@@ -188,74 +94,59 @@ impl Slots {
         true
     }
 
-    // A pilot by which the slots of these are free, if there is one.
-    fn pilot_for(&self, members: &[Member]) -> Option<u8>
-        requires { 1 ≤ length self.now.rows.items }
-    {
-        for pilot in 0..=u8::MAX {
-            if self.are_free(members, pilot) {
-                return Some(pilot);
-            }
-        }
-        None
-    }
-
-    // Puts the row at a place into a slot, where it is the first with its id.
-    fn put(&mut self, rows: &[IdRow], member: Member, slot: usize)
-        requires sorted { AllPairs IsNotAfter rows.now }
-        requires prefixed { All IsPrefixed rows.now }
-        requires within { slot < length self.old.rows.items }
-        requires before { AreSlots rows.now self.old }
-        ensures slots { AreSlots rows.now self.new }
-        ensures same { self.new.pilots ≡ self.old.pilots }
-    {
-        if member.place < rows.len() && is_first(rows, member.place) {
-            self.keys[slot] = key_by(rows[member.place].prefix, rows[member.place].id);
-            self.rows[slot] = rows[member.place].row;
-        }
-    }
-
-    // Puts the rows of a bucket into their slots, where there is a pilot for them.
+    // Puts the ids of a bucket into their slots, where there is a pilot by which these are free.
     fn fill(&mut self, rows: &[IdRow], bucket: usize, members: &[Member])
-        requires sorted { AllPairs IsNotAfter rows.now }
-        requires prefixed { All IsPrefixed rows.now }
         requires within { bucket < length self.old.pilots.items }
         requires before { AreSlots rows.now self.old }
         ensures slots { AreSlots rows.now self.new }
         ensures count { length self.new.pilots.items ≡ length self.old.pilots.items }
     {
-        let Some(pilot) = self.pilot_for(members) else {
+        let Some(pilot) = (0..=u8::MAX).find(|pilot| self.are_free(members, *pilot)) else {
             return;
         };
         self.pilots[bucket] = pilot;
         for member in members {
-            let slot = slot_by(member.hash, pilot, self.rows.len());
-            self.put(rows, *member, slot);
+            if let Some(entry) = rows.get(member.place) {
+                let slot = slot_by(member.hash, pilot, self.rows.len());
+                self.keys[slot] = entry.key;
+                self.rows[slot] = entry.row;
+            }
         }
     }
 }
 
 // The greatest size of a bucket whose ids get slots. Hardly one is greater.
-const LARGEST: u32 = 16;
+const LARGEST: usize = 16;
 
-/// Slots for rows in the order of their ids. Great buckets come first, while much is free.
+/// Slots for these ids, of which a quarter or more stays free. Great buckets come first, while much is free.
 ///
 /// # Errors
 /// Want of memory.
 pub fn slots_of(alloc: Global, rows: &[IdRow]) -> Result<Slots, AllocError>
-    requires sorted { AllPairs IsNotAfter rows.now }
-    requires prefixed { All IsPrefixed rows.now }
+    requires { length rows.now ≤ row_limit }
     ensures { IfOk result (AreSlots rows.now) }
 {
-    let mut slots = Slots::free(alloc, rows)?;
-    let count = slots.pilots.len();
-    let buckets = buckets_of(alloc, rows, count)?;
-    let mut members = Vec::new(alloc);
+    let count = (rows.len() * 4 / 3).next_power_of_two();
+    let buckets = (count / 4).max(1);
+    let mut slots = Slots {
+        pilots: vec![in alloc; 0u8; buckets]?,
+        keys: vec![in alloc; 0u64; count]?,
+        rows: vec![in alloc; FREE; count]?,
+    };
+    let mut members = Vec::with_capacity(alloc, rows.len())?;
+    for (place, entry) in rows.iter().enumerate() {
+        let hash = hash_of(entry.key, entry.id);
+        members.push(Grouped {
+            group: bucket_of(hash, buckets) as u32,
+            item: Member { place, hash },
+        })?;
+    }
+    let groups = Groups::of(alloc, members, buckets as u32)?;
     for step in 0..LARGEST {
-        for bucket in 0..count {
-            if buckets.sizes[bucket] == LARGEST - step {
-                gather(&buckets, bucket, &mut members)?;
-                slots.fill(rows, bucket, &members);
+        for bucket in 0..buckets {
+            let members = groups.get(bucket);
+            if members.len() == LARGEST - step {
+                slots.fill(rows, bucket, members);
             }
         }
     }

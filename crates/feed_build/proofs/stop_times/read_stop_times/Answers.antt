@@ -44,13 +44,12 @@ returns-then-not-branch-2-clause-why g c =
 
 pub loop-row-preserved : goal.loop-row-preserved
 loop-row-preserved g c = record {
-  trips = c.in_ok-take.ensures.trips;
   read = λ start stands.
       let so_far = c.loop-row.invariant.read start stands in
       let one_more = rw c.if-not-branch-2.false at (c.in_ok-next-2.ensures.goes_on start (so_far.0 ∷ so_far.1) so_far.2) in
       let last = last_record c.next-in-loop-row.new.self in
       let count : c.loop-row.row + 1 ≡ length (so_far.1 ++ last ∷ []) = ap (λ n. n + 1) so_far.3 ∙ sym (length-append so_far.1 (last ∷ [])) in
-      (so_far.0, so_far.1 ++ last ∷ [], one_more, count, c.in_ok-take.ensures.calls c.args.ids.now so_far.0 so_far.1 so_far.3 so_far.4);
+      (so_far.0, so_far.1 ++ last ∷ [], one_more, count, c.in_ok-take.ensures c.args.ids.now so_far.0 so_far.1 so_far.3 so_far.4);
 }
 
 pub returns-in_err-next-3-clause-why : goal.returns-in_err-next-3-clause-why

@@ -5,7 +5,6 @@ use Rattle.feed_build.proofs.stop_times.read_stop_times.Given as goal
 
 abbrev pub invariant-loop-row : goal.invariant-loop-row
 invariant-loop-row g l = record {
-  trips : l.calls.trips ≡ l.calls.ids.now.trips;
   read : (start : Option (List ℕ)) → StandsBehind g.R.Read.remaining start [] l.fn.records
       → (head : List (List ℕ)) × (rows : List (List (List ℕ))) × StandsBehind g.R.Read.remaining start (head ∷ rows) l.records × (l.row ≡ length rows) × HasCalls l.ids head rows l.calls;
 }

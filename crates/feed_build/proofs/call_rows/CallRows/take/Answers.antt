@@ -3,18 +3,18 @@ use Rattle.feed_text.specs.Reader.{last_record}
 use Rattle.feed_build.proofs.CallLaws.{keeps_fault, finds_fault, adds_row}
 use Rattle.feed_build.proofs.call_rows.CallRows.take.Goals as goal
 
-pub returns-then-is_some-clause-calls : goal.returns-then-is_some-clause-calls
-returns-then-is_some-clause-calls g c = λ ids head rows count has.
-    keeps_fault ids head rows (last_record c.args.records.now) c.args.self.now _ has refl refl refl c.in_ok-see.ensures (sym c.is_some.ensures ∙ c.if-is_some.true) refl
+pub returns-then-is_some : goal.returns-then-is_some
+returns-then-is_some g c = λ ids head rows count has.
+    keeps_fault ids head rows (last_record c.args.records.now) c.args.self.now _ has refl refl c.in_ok-see.ensures (sym c.is_some.ensures ∙ c.if-is_some.true) refl
 
-pub returns-in_ok-push-in-Ok-clause-calls : goal.returns-in_ok-push-in-Ok-clause-calls
-returns-in_ok-push-in-Ok-clause-calls g c = λ ids head rows count has.
+pub returns-in_ok-push-in-Ok : goal.returns-in_ok-push-in-Ok
+returns-in_ok-push-in-Ok g c = λ ids head rows count has.
     let own = rw (c.of-record.ensures, has.header_is, count) at c.in-Ok.ensures.sound in
     let call = rw (c.of-record.ensures, has.header_is, has.ids_are) at c.in-Ok.ensures.row in
-    adds_row ids head rows (last_record c.args.records.now) c.args.self.now _ has refl c.in-Ok.ensures.same refl c.in_ok-see.ensures (sym c.is_some.ensures ∙ c.if-is_some.false) own refl
+    adds_row ids head rows (last_record c.args.records.now) c.args.self.now _ has refl refl c.in_ok-see.ensures (sym c.is_some.ensures ∙ c.if-is_some.false) own refl
     (c.in_ok-push-in-Ok.ensures.ok ∙ ap (λ call. c.args.self.now.rows ++ call ∷ []) call)
 
-pub returns-in-Err-clause-calls : goal.returns-in-Err-clause-calls
-returns-in-Err-clause-calls g c = λ ids head rows count has.
+pub returns-in-Err : goal.returns-in-Err
+returns-in-Err g c = λ ids head rows count has.
     let own = rw (c.of-record.ensures, has.header_is, count) at c.in-Err.ensures.fault in
-    finds_fault ids head rows (last_record c.args.records.now) c.args.self.now _ has refl c.in-Err.ensures.same refl c.in_ok-see.ensures c.in-Err.fault (sym c.is_some.ensures ∙ c.if-is_some.false) own refl
+    finds_fault ids head rows (last_record c.args.records.now) c.args.self.now _ has refl refl c.in_ok-see.ensures c.in-Err.fault (sym c.is_some.ensures ∙ c.if-is_some.false) own refl

@@ -19,9 +19,9 @@ returns-then-eq c =
     sym (ap (λ (index : IndexedColumn). row_of index.table index.name c.args.id.now) c.self.view_is)
     ∙ elim c.if-id-le7.branch [
       | then-id-le7 w ↦
-          by_key c.self.inside.table.now c.self.inside.name _ _ c.self.invariant.slotted c.self.invariant.ordered few c.args.slot within _ _ c.index.ensures c.index-row.ensures
+          by_key c.self.inside.table.now c.self.inside.name _ _ c.self.invariant.1 c.self.invariant.0 few c.args.slot within _ _ c.index.ensures c.index-row.ensures
           below c.args.id.now c.args.key c.if-index-key.false c.requires w.if-id-le7.true
       | else-id-le7 w ↦
-          by_text c.self.inside.table.now c.self.inside.name _ _ c.self.invariant.slotted c.self.invariant.ordered few c.args.slot within _ _ c.index.ensures c.index-row.ensures
+          by_text c.self.inside.table.now c.self.inside.name _ _ c.self.invariant.1 c.self.invariant.0 few c.args.slot within _ _ c.index.ensures c.index-row.ensures
           below c.args.id.now (sym w.field.ensures ∙ (bytes_eq-Decides w.field.result.now c.args.id.now).0 (sym w.eq.ensures ∙ sym w.value-is ∙ c.if-eq.true))
     ]

@@ -1,5 +1,5 @@
 use Rattle.std.proofs.Common.{◌≡◌, length}
-use Rattle.feed_tables.specs.Slots.{AreSlots}
+use Rattle.feed_tables.specs.IdRows.{AreSlots}
 use Rattle.feed_tables.proofs.slots.Slots.fill.Given as goal
 
 abbrev pub invariant-loop-member : goal.invariant-loop-member

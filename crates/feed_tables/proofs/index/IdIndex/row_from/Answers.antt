@@ -1,6 +1,6 @@
 use Rattle.std.proofs.Common.{Some, sym}
 use Rattle.feed_tables.proofs.IdLaws.{row_of_within}
-use Rattle.feed_tables.proofs.index.IdIndex.row_by.Goals as goal
+use Rattle.feed_tables.proofs.index.IdIndex.row_from.Goals as goal
 
 pub returns-in-Some-clause-within : goal.returns-in-Some-clause-within
 returns-in-Some-clause-within c = row_of_within _ _ _ (Some c.in-Some.row) (sym c.in-Some.ensures)

@@ -1,0 +1,15 @@
+use Rattle.std.proofs.Common.{refl, sym}
+use Rattle.feed_tables.proofs.SlotLaws.{put_id}
+use Rattle.feed_tables.proofs.slots.Slots.fill.Goals as goal
+use Rattle.feed_tables.proofs.slots.Slots.fill.Goals.{in-Some-get, in_default-get}
+
+pub loop-member-preserved : goal.loop-member-preserved
+loop-member-preserved c = elim c.match-get.branch [
+  | in-Some-get w ↦
+      let lookup = w.in-Some-get.ensures.lookup in (
+        put_id c.args.rows.now c.loop-member.self c.match-get.self _ w.slot_by-slot.result w.in-Some-get.entry.now c.loop-member.invariant.0 lookup.3.0 (sym lookup.1)
+            (rw w.self-is refl) (rw w.self-is refl) (rw w.self-is refl),
+        rw w.self-is c.loop-member.invariant.1,
+      )
+  | in_default-get w ↦ rw w.self-is c.loop-member.invariant
+]

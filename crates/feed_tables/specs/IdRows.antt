@@ -1,0 +1,46 @@
+-- The ids of a column: their keys, the earliest row with each, and the slots in which they are looked for first.
+use Rattle.std.specs.Prelude.{◌≡◌, ℕ, zero, suc, ◌+◌, ◌*◌, ◌<◌, ◌≤◌, ◌^◌, ◌-◌, List, length, slice_index, min, Some, All, Any}
+use Rattle.std.specs.Cmp.Lexicographic.{slice_cmp}
+use Rattle.std.specs.List.Sorted.{IsStrictlySortedBy}
+use Rattle.std.specs.Ordering.{nat_cmp, ordering_then}
+use Rattle.std.specs.declared.cmp.Ordering.{Ordering}
+use Rattle.feed_rows.specs.declared.names.ColumnName.{ColumnName}
+use Rattle.feed_faults.specs.Records.{FileTable, row_count, field}
+use Rattle.feed_faults.specs.RowKeys.{row_of}
+use Rattle.feed_text.specs.RowLimits.{row_limit}
+use Rattle.feed_tables.specs.declared.id_rows.IdRow.{IdRow}
+use Rattle.feed_tables.specs.declared.slots.Slots.{Slots}
+
+-- the number that the first n bytes make, the first of them the most; past the end of a text bytes count as 0
+abbrev pub start_below : ℕ → List ℕ → ℕ
+start_below zero text = 0
+start_below (suc n) text = start_below n text * 256 + slice_index text n
+
+-- a number is the key of an id, a text of bytes: its first seven bytes and its length, of which one byte is kept
+pub record IsKeyOf (key : ℕ) (id : List ℕ) : Type 0 where
+  pub number : key ≡ start_below 7 id * 256 + min (length id) 255
+  pub bytes : (k : ℕ) → slice_index id k < 256
+
+-- the order of ids: that of their keys, and of those with one key that of their bytes
+abbrev pub id_order : IdRow → IdRow → Ordering
+id_order a b = ordering_then (nat_cmp a.key b.key) (slice_cmp nat_cmp a.id.now b.id.now)
+
+-- the list has each id of the column once, with its key and the earliest row with it, in the order of ids
+pub record AreIdRows (table : FileTable) (name : ColumnName) (rows : List IdRow) : Type 0 where
+  pub sorted : IsStrictlySortedBy id_order rows
+  pub keyed : All (λ (entry : IdRow). IsKeyOf entry.key entry.id.now) rows
+  pub earliest : All (λ (entry : IdRow). row_of table name entry.id.now ≡ Some entry.row) rows
+  pub all : (row : ℕ) → row < row_count table → Any (λ (entry : IdRow). entry.id.now ≡ field table row name) rows
+  pub few : length rows ≤ row_limit
+
+-- an id with this key and this row
+abbrev pub IsEntry : ℕ → ℕ → IdRow → Type 0
+IsEntry key row entry = (entry.key ≡ key) × (entry.row ≡ row)
+
+-- there are buckets and slots, and a slot that isn't free has the key and the row of an id
+pub record AreSlots (rows : List IdRow) (slots : Slots) : Type 0 where
+  pub piloted : 1 ≤ length slots.pilots.items
+  pub some : 1 ≤ length slots.rows.items
+  pub keyed : length slots.keys.items ≡ length slots.rows.items
+  pub are : (slot : ℕ) → slot < length slots.rows.items → slice_index slots.rows.items slot < 2 ^ 32 - 1
+      → Any (IsEntry (slice_index slots.keys.items slot) (slice_index slots.rows.items slot)) rows
