@@ -1,7 +1,6 @@
 //! What is wrong with a stop time, as its neighbours in an order of stop times tell it.
 ghost use Rattle.std.specs.Prelude.{◌≡◌, ◌<◌, ◌+◌, length, OnOk};
 ghost use Rattle.feed_faults.specs.StopTimeRelations.{is_earlier};
-ghost use Rattle.stop_order.specs.Numbered.{no_faults};
 ghost use Rattle.stop_order.specs.Order.{continues_trip, time_before, place_faults, AreTold};
 
 use crate::order::StopTimeOrder;
@@ -9,7 +8,7 @@ use std::alloc::AllocError;
 use trip_order::{first_time, is_timed, last_time};
 
 /// What is wrong with a stop time among those of its trip.
-#[derive(Clone, Copy, PartialEq, Eq)]
+#[derive(Clone, Copy, Default, PartialEq, Eq)]
 pub struct OrderFaults {
     /// An earlier row has its trip and its sequence.
     pub is_repeated: bool,
@@ -17,19 +16,6 @@ pub struct OrderFaults {
     pub is_end_time_missing: bool,
     /// Its last time is less than its first, or its first less than the last time of the nearest timed one before it.
     pub do_times_decrease: bool,
-}
-
-impl OrderFaults {
-    /// No fault.
-    pub fn none() -> OrderFaults
-        ensures { result ≡ no_faults }
-    {
-        OrderFaults {
-            is_repeated: false,
-            is_end_time_missing: false,
-            do_times_decrease: false,
-        }
-    }
 }
 
 // Both times are there, and the first is less than the second.
@@ -90,8 +76,8 @@ pub fn judge<O: StopTimeOrder>(
     let row = order.row(place);
     let before = if goes_on(order, place) { *latest } else { None };
     let found = faults_of(order, place, before);
-    if found != OrderFaults::none() {
-        faults.resize(order.times().len(), OrderFaults::none())?;
+    if found != OrderFaults::default() {
+        faults.resize(order.times().len(), OrderFaults::default())?;
         faults[row] = found;
     }
     *latest = last_time(order.time(place)).or(before);

@@ -1,4 +1,4 @@
-use Rattle.std.proofs.Common.{◌≡◌, ◌<◌, ℕ, length, slice_set, refl, sym, ◌∙◌, ap, arith}
+use Rattle.std.proofs.Common.{◌≡◌, ◌<◌, ℕ, length, slice_set, refl, sym, ◌∙◌, ap, arith, rules}
 use Rattle.std.proofs.lemmas.Grind.{common_steps}
 use Rattle.std.specs.Option.{option_or}
 use Rattle.stop_order.specs.Numbered.{numbered_at, no_faults, last_of_times}
@@ -39,7 +39,8 @@ returns g c =
           let size = ap length all in
           let ok = w.resize.new.self.ok.0 in
           let many : length list ≡ length times = omega arith in
-          let made = rw (all, w.none-then-ne.ensures) at w.in_ok-resize.ensures.items in
+          let blank : w.default-then-ne.result ≡ no_faults = search rules in
+          let made = rw (all, blank) at w.in_ok-resize.ensures.items in
           let put : c.if-ne.faults.items ≡ slice_set list (row place) (place_faults times row place) = grind (arith, common_steps) in
           rw put (told_some times row place c.args.latest.now c.or.result old list _ c.requires.told apart time made many (rw is at c.row-row.ensures.within))
       | else-ne w ↦
