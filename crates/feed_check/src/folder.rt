@@ -10,7 +10,7 @@ use feed_rows::{Feed, FeedFault, FileName};
 use feed_tables::{CallIds, ReadTable, read_tables};
 use feed_text::TextError;
 use folder_io::{Files, Folder, ReadError, read_files};
-use std::alloc::{AllocError, Global};
+use std::alloc::Global;
 use std::marker::Brand;
 
 /// Why a folder gives no feed.
@@ -35,17 +35,6 @@ impl From<ReadError> for LoadError {
             ReadError::ReadFault => LoadError::ReadFault,
             ReadError::NoMemory => LoadError::NoMemory,
         }
-    }
-}
-
-impl From<AllocError> for LoadError {
-    ghost use Rattle.std.specs.Prelude.{◌≡◌};
-    ghost use Rattle.feed_check.specs.declared.folder.LoadError.TheVariants.{NoMemory};
-
-    ghost from_gives = { λ _ load. load ≡ NoMemory };
-
-    fn from(_error: AllocError) -> LoadError {
-        LoadError::NoMemory
     }
 }
 
@@ -100,13 +89,12 @@ pub fn load<F: Folder>(alloc: Global, folder: &mut F) -> Result<Feed, LoadError>
 {
     let mut files = Files::empty();
     let first = first_tables(alloc, folder, &mut files)?;
-    let ids = CallIds::of(alloc, &first)?;
+    let Ok(ids) = CallIds::of(alloc, &first) else {
+        return Err(LoadError::NoMemory);
+    };
     let calls = folder_calls(alloc, folder, &ids)?;
     read_files(alloc, folder, &mut files, 4, 18)?;
-    let stop_times = match calls {
-        Ok(stop_times) => stop_times,
-        Err(fault) => return Err(LoadError::Fault(fault)),
-    };
+    let stop_times = calls?;
     let others = read_tables(alloc, &mut files, &FileName::all()[4..])?;
     let feed = related_feed::<Brand>(alloc, &first, &others, &ids, stop_times)?;
     Ok(feed)

@@ -12,10 +12,10 @@ returns-in_err-read_files-clause-err g c =
     let gave = c.in_err-read_files.ensures.err _ (c.in_ok-calls.ensures.ok _ c.in_ok-first.ensures.ok) in
     passed_on _ c.from_residual-in_err-read_files.result _ c.from_residual-in_err-read_files.ensures.1 (unread_gives _ _ _ gave)
 
-pub returns-in-Err-clause-err : goal.returns-in-Err-clause-err
-returns-in-Err-clause-err g c =
+pub returns-in_err-stop_times-clause-err : goal.returns-in_err-stop_times-clause-err
+returns-in_err-stop_times-clause-err g c =
     let loaded = loaded_so _ _ _ _ _ _ _ _ _ c.in_ok-first.ensures.first c.in_ok-first.ensures.ok c.in_ok-first.ensures.holds c.in_ok-calls.ensures.calls c.in_ok-calls.ensures.ok c.in_ok-calls.ensures.holds c.in_ok-read_files.ensures.files c.in_ok-read_files.ensures.ok in
-    calls_refused _ _ _ _ _ _ loaded c.in-Err.fault c.in-Err.is
+    passed_on _ c.from_residual-in_err-stop_times.result _ c.from_residual-in_err-stop_times.ensures.1 (calls_refused _ _ _ _ _ _ loaded _ c.in_err-stop_times.was)
 
 pub read_tables-requires-clause-order : goal.read_tables-requires-clause-order
 read_tables-requires-clause-order g c = rw c.all.ensures (4, others_stand [] [])
@@ -23,32 +23,32 @@ read_tables-requires-clause-order g c = rw c.all.ensures (4, others_stand [] [])
 pub returns-in_err-others-clause-err : goal.returns-in_err-others-clause-err
 returns-in_err-others-clause-err g c =
     let loaded = loaded_so _ _ _ _ _ _ _ _ _ c.in_ok-first.ensures.first c.in_ok-first.ensures.ok c.in_ok-first.ensures.holds c.in_ok-calls.ensures.calls c.in_ok-calls.ensures.ok c.in_ok-calls.ensures.holds c.in_ok-read_files.ensures.files c.in_ok-read_files.ensures.ok in
-    let refused = others_refused _ _ _ _ _ _ loaded c.in-Ok.stop_times c.in-Ok.is c.in_err-others.field-0.0 (rw c.all.ensures at c.in_err-others.ensures.fault) in
+    let refused = others_refused _ _ _ _ _ _ loaded c.in_ok-stop_times.stop_times c.in_ok-stop_times.was c.in_err-others.field-0.0 (rw c.all.ensures at c.in_err-others.ensures.fault) in
     passed_on _ c.from_residual-in_err-others.result _ c.from_residual-in_err-others.ensures.1 refused
 
 pub related_feed-requires : goal.related_feed-requires
 related_feed-requires g c =
     let loaded = loaded_so _ _ _ _ _ _ _ _ _ (rw (← c.deref-2.ensures.value) at c.in_ok-first.ensures.first) c.in_ok-first.ensures.ok c.in_ok-first.ensures.holds c.in_ok-calls.ensures.calls c.in_ok-calls.ensures.ok c.in_ok-calls.ensures.holds c.in_ok-read_files.ensures.files c.in_ok-read_files.ensures.ok in
-    let made = c.in-Ok.stop_times in
-    let ids = c.in_ok-ids.ensures made.table c.deref-3.result.now ∙ ap (λ first. call_ids (tables_with first made.table c.deref-3.result.now)) (c.deref.ensures.value ∙ sym c.deref-2.ensures.value) in
-    let so = read_so _ _ _ _ _ _ loaded made c.in-Ok.is c.deref-3.result.now ids (c.deref-3.ensures.value ∙ rw c.all.ensures at c.in_ok-others.ensures.tables) (rw c.all.ensures at c.in_ok-others.ensures.sound) in
+    let made = c.in_ok-stop_times.stop_times in
+    let ids = c.in-Ok.ensures made.table c.deref-3.result.now ∙ ap (λ first. call_ids (tables_with first made.table c.deref-3.result.now)) (c.deref.ensures.value ∙ sym c.deref-2.ensures.value) in
+    let so = read_so _ _ _ _ _ _ loaded made c.in_ok-stop_times.was c.deref-3.result.now ids (c.deref-3.ensures.value ∙ rw c.all.ensures at c.in_ok-others.ensures.tables) (rw c.all.ensures at c.in_ok-others.ensures.sound) in
     record { kept = are_kept _ _ _ _ _ so; formed = are_formed _ _ _ _ _ so; calls = so.ids_are; stop_times = are_typed _ _ _ _ _ so }
 
 pub returns-in_err-feed-clause-err : goal.returns-in_err-feed-clause-err
 returns-in_err-feed-clause-err g c =
     let loaded = loaded_so _ _ _ _ _ _ _ _ _ (rw (← c.deref-2.ensures.value) at c.in_ok-first.ensures.first) c.in_ok-first.ensures.ok c.in_ok-first.ensures.holds c.in_ok-calls.ensures.calls c.in_ok-calls.ensures.ok c.in_ok-calls.ensures.holds c.in_ok-read_files.ensures.files c.in_ok-read_files.ensures.ok in
-    let made = c.in-Ok.stop_times in
-    let ids = c.in_ok-ids.ensures made.table c.deref-3.result.now ∙ ap (λ first. call_ids (tables_with first made.table c.deref-3.result.now)) (c.deref.ensures.value ∙ sym c.deref-2.ensures.value) in
-    let so = read_so _ _ _ _ _ _ loaded made c.in-Ok.is c.deref-3.result.now ids (c.deref-3.ensures.value ∙ rw c.all.ensures at c.in_ok-others.ensures.tables) (rw c.all.ensures at c.in_ok-others.ensures.sound) in
+    let made = c.in_ok-stop_times.stop_times in
+    let ids = c.in-Ok.ensures made.table c.deref-3.result.now ∙ ap (λ first. call_ids (tables_with first made.table c.deref-3.result.now)) (c.deref.ensures.value ∙ sym c.deref-2.ensures.value) in
+    let so = read_so _ _ _ _ _ _ loaded made c.in_ok-stop_times.was c.deref-3.result.now ids (c.deref-3.ensures.value ∙ rw c.all.ensures at c.in_ok-others.ensures.tables) (rw c.all.ensures at c.in_ok-others.ensures.sound) in
     let refused = refused_at _ _ _ _ _ _ loaded c.in_err-feed.field-0.0 (fault_is _ _ _ _ _ so _ c.in_err-feed.ensures.fault) in
     passed_on _ c.from_residual-in_err-feed.result _ c.from_residual-in_err-feed.ensures.1 refused
 
 pub returns-clause-feed : goal.returns-clause-feed
 returns-clause-feed g c =
     let loaded = loaded_so _ _ _ _ _ _ _ _ _ (rw (← c.deref-2.ensures.value) at c.in_ok-first.ensures.first) c.in_ok-first.ensures.ok c.in_ok-first.ensures.holds c.in_ok-calls.ensures.calls c.in_ok-calls.ensures.ok c.in_ok-calls.ensures.holds c.in_ok-read_files.ensures.files c.in_ok-read_files.ensures.ok in
-    let made = c.in-Ok.stop_times in
-    let ids = c.in_ok-ids.ensures made.table c.deref-3.result.now ∙ ap (λ first. call_ids (tables_with first made.table c.deref-3.result.now)) (c.deref.ensures.value ∙ sym c.deref-2.ensures.value) in
-    let so = read_so _ _ _ _ _ _ loaded made c.in-Ok.is c.deref-3.result.now ids (c.deref-3.ensures.value ∙ rw c.all.ensures at c.in_ok-others.ensures.tables) (rw c.all.ensures at c.in_ok-others.ensures.sound) in
+    let made = c.in_ok-stop_times.stop_times in
+    let ids = c.in-Ok.ensures made.table c.deref-3.result.now ∙ ap (λ first. call_ids (tables_with first made.table c.deref-3.result.now)) (c.deref.ensures.value ∙ sym c.deref-2.ensures.value) in
+    let so = read_so _ _ _ _ _ _ loaded made c.in_ok-stop_times.was c.deref-3.result.now ids (c.deref-3.ensures.value ∙ rw c.all.ensures at c.in_ok-others.ensures.tables) (rw c.all.ensures at c.in_ok-others.ensures.sound) in
     loaded_feed _ _ _ _ _ _ loaded _ (sound_is _ _ _ _ _ so c.in_ok-feed.ensures.sound) (c.in_ok-feed.ensures.feed ∙ feed_is _ _ _ _ _ so)
 
 pub returns-clause-ok : goal.returns-clause-ok
