@@ -31,7 +31,7 @@ use Rattle.feed_faults.specs.AcceptedFeed.{feed_of}
 use Rattle.feed_faults.specs.FirstFault.{first_fault}
 use Rattle.feed_rows.specs.FeedRows.{FeedRows}
 use Rattle.feed_check.specs.FolderCalls.{AreCallsIn, AreCallsOfHeld}
-use Rattle.feed_check.specs.LoadErrors.{unread, refused, AreFirstOf, IsFeedOf, GivesUpLoading}
+use Rattle.feed_check.specs.LoadErrors.{unread, refused, IsFeedOf, GivesUpLoading}
 use Rattle.feed_check.proofs.FileLaws.{first_error, calls_error, others_error}
 use Rattle.feed_check.proofs.JoinedFiles.{joined, first_joined, first_faults, others_joined, others_faults, gives}
 use Rattle.feed_check.proofs.ReadFiles.{AreReadSo}
@@ -77,6 +77,16 @@ module _ (folder now : FolderState) (first others : FileName → HeldFile) (read
       let at = others file.StopTimes in
       let given = gives first at others folder.holds before (behind file.StopTimes (omega arith)) (λ name le. behind name (omega (arith, le))) in
       fault_gives folder now (joined first at others) given reads why (first_error (joined first at others) why (rw (first_faults first at others) is))
+
+-- the tables of the folder's files before stop_times.txt, which have no fault by themselves
+pub record AreFirstOf (folder : FolderState) (first : List TableOf) : Type 0 where
+  pub files : FileName → HeldFile
+  pub gives : (name : FileName) → place name < 3 → WhereTold folder (λ contents. files name ≡ held contents name)
+  pub sound : first_in first_files (form_fault files) ≡ None
+  pub are : first ≡ map (read_of files) first_files
+
+pub first_of : (folder : FolderState) (before after : List FileBytes) (first : List TableOf) → AreReadBetween folder 0 3 before after → first_in first_files (form_fault (held_in after)) ≡ None → first ≡ map (read_of (held_in after)) first_files → AreFirstOf folder first
+first_of folder before after first read sound are = record { files = held_in after; gives = λ name lt. read.given name (omega arith) lt; sound = sound; are = are }
 
 -- what is known once all files were read
 pub record AreLoaded (folder now : FolderState) (first : List TableOf) (ids : CallIds) (calls : Result StopTimes TextError) (others : FileName → HeldFile) : Type 0 where
