@@ -112,30 +112,13 @@ pub fn goes_on<O: StopTimeOrder>(order: &O, place: usize) -> bool
         && order.time(place - 1).trip.0 == order.time(place).trip.0
 }
 
-// What is wrong at a place, which has this last time before it in its trip.
-#[inline(always)]
-#[tactic(auto, unfolding(crate::specs::Order::continues_trip, crate::specs::Order::place_faults))]
-fn faults_of<O: StopTimeOrder>(order: &O, place: usize, before: Option<u32>) -> OrderFaults
-    requires within { place < length (O.rows order.now) }
-    requires before { before ≡ time_before (O.rows order.now) (O.row_at order.now) place }
-    ensures { result ≡ place_faults (O.rows order.now) (O.row_at order.now) place }
-{
-    let time = order.time(place);
-    OrderFaults {
-        is_repeated: goes_on(order, place) && order.time(place - 1).sequence == time.sequence,
-        is_end_time_missing: !is_timed(time)
-            && (!goes_on(order, place) || !goes_on(order, place + 1)),
-        do_times_decrease: is_earlier(last_time(time), first_time(time))
-            || is_earlier(first_time(time), before),
-    }
-}
-
 /// Puts what is wrong at a place into the list, at its row, if anything is. The latest time is that of the trip of the place
 /// before, and then that of this place's trip.
 ///
 /// # Errors
 /// Want of memory.
 #[inline(always)]
+#[tactic(auto, unfolding(crate::specs::Order::continues_trip, crate::specs::Order::place_faults))]
 pub fn judge<O: StopTimeOrder>(
     order: &O,
     place: usize,
@@ -147,12 +130,19 @@ pub fn judge<O: StopTimeOrder>(
     ensures { OnOk result (AreTold (O.rows order.now) (O.row_at order.now) (place + 1) latest.new faults.new.items) }
 {
     let row = order.row(place);
-    let before = if goes_on(order, place) { *latest } else { None };
-    let found = faults_of(order, place, before);
+    let time = order.time(place);
+    let does_go_on = goes_on(order, place);
+    let before = if does_go_on { *latest } else { None };
+    let found = OrderFaults {
+        is_repeated: does_go_on && order.time(place - 1).sequence == time.sequence,
+        is_end_time_missing: !is_timed(time) && !(does_go_on && goes_on(order, place + 1)),
+        do_times_decrease: is_earlier(last_time(time), first_time(time))
+            || is_earlier(first_time(time), before),
+    };
     if found != OrderFaults::default() {
         faults.resize(order.times().len(), OrderFaults::default())?;
         faults[row] = found;
     }
-    *latest = last_time(order.time(place)).or(before);
+    *latest = last_time(time).or(before);
     Ok(())
 }
