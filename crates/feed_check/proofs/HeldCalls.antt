@@ -1,5 +1,5 @@
 -- What the bytes of stop_times.txt give.
-use Rattle.std.proofs.Common.{◌≡◌, refl, sym, ap, ◌∙◌, inl, inr, ℕ, ◌+◌, ◌<◌, ◌≤◌, List, [], ◌∷◌, length, take, true, false, nat_lt, Option, Some, None, arith}
+use Rattle.std.proofs.Common.{◌≡◌, refl, sym, ap, subst, ◌∙◌, inl, inr, ℕ, ◌+◌, ◌<◌, ◌≤◌, List, [], ◌∷◌, length, take, true, false, nat_lt, Option, Some, None, arith}
 use Rattle.std.specs.Prelude.{option_map, IfSome, IfOk, IfErr, Bool, Result, Ok, Err}
 use Rattle.std.specs.Str.{is_utf8}
 use Rattle.std.proofs.lemmas.List.{take_all}
@@ -15,12 +15,11 @@ use Rattle.feed_faults.specs.FormFaults.{form_fault_of_held, form_fault_of_bytes
 use Rattle.feed_tables.specs.declared.ids.CallIds.{CallIds}
 use Rattle.feed_build.specs.CallRows.{calls_fault}
 use Rattle.feed_rows.specs.FaultCounts.{Rose, Stayed}
-use Rattle.folder_io.specs.declared.pieces.PiecesEnd.{PiecesEnd}
-use Rattle.folder_io.specs.declared.pieces.PiecesEnd.TheVariants.{Going, Ended, Failed, TooLarge}
 use Rattle.folder_io.specs.declared.reading.ReadError.{ReadError}
 use Rattle.folder_io.specs.declared.reading.ReadError.TheVariants as error
 use Rattle.folder_io.specs.FileReading.{GivesUp}
-use Rattle.folder_io.specs.PiecesSince.{StandsAs}
+use Rattle.feed_text.specs.declared.errors.TextError.{TextError}
+use Rattle.feed_text.specs.declared.errors.TextError.TheVariants as text
 use Rattle.feed_build.specs.declared.stop_times.CallError.{CallError}
 use Rattle.feed_build.specs.declared.stop_times.CallError.TheVariants.{Fault, Record}
 use Rattle.feed_build.specs.CallErrors.{AreCallsOf, IsFaultOf, IsCallError}
@@ -29,7 +28,7 @@ use Rattle.folder_io.specs.declared.folder.Opened.TheVariants as opened
 use Rattle.folder_io.specs.FolderCalls.{Contents, FolderState, Finds}
 use Rattle.folder_io.proofs.FilesRead.{absent_read}
 use Rattle.folder_io.proofs.Utf8Laws.{is_between-utf8_after}
-use Rattle.feed_check.specs.FolderCalls.{outcome_of, AreCallsOfHeld, AreCallsLeft, AreCallsIn}
+use Rattle.feed_check.specs.FolderCalls.{answer_of, AreCallsOfHeld, AreCallsLeft, AreCallsIn}
 
 pub not_text : (bytes : List ℕ) → is_utf8 bytes ≡ false → form_fault_of_held true file.StopTimes (HeldFile.Bytes bytes) ≡ Some (file_fault file.StopTimes kind.NotUtf8)
 unfolding form_fault_of_bytes
@@ -44,7 +43,7 @@ module _ (start : Option (List ℕ)) (ids : CallIds) where
   pub text_calls : (calls : StopTimes) (are : AreCallsOf start ids calls) → is_utf8 are.text ≡ true → AreCallsOfHeld ids (HeldFile.Bytes are.text) (Ok calls)
   text_calls calls are utf8 = (text_fault are.text utf8 ∙ are.sound, are.table_is, are.rows_are)
 
-  pub text_refused : (fault : FeedFault) (is : IsFaultOf start fault) → is_utf8 is.text ≡ true → AreCallsOfHeld ids (HeldFile.Bytes is.text) (Err fault)
+  pub text_refused : (fault : FeedFault) (is : IsFaultOf start fault) → is_utf8 is.text ≡ true → AreCallsOfHeld ids (HeldFile.Bytes is.text) (Err (text.Fault fault))
   text_refused fault is utf8 = text_fault is.text utf8 ∙ is.is_first
 
 -- what was read of an open file, of which these bytes were left
@@ -54,7 +53,7 @@ fits_held bytes le = let fits : nat_lt most_bytes (length bytes) ≡ false = gri
 abbrev pub read_start : Option (List ℕ) → Option (List ℕ)
 read_start left = option_map (take (most_bytes + 1)) left
 
-pub left_large : (left : Option (List ℕ)) (ids : CallIds) → IfSome left (λ bytes. most_bytes < length bytes) → AreCallsLeft left ids (Err (file_fault file.StopTimes kind.FileTooLarge))
+pub left_large : (left : Option (List ℕ)) (ids : CallIds) → IfSome left (λ bytes. most_bytes < length bytes) → AreCallsLeft left ids (Err (text.Fault (file_fault file.StopTimes kind.FileTooLarge)))
 left_large None ids long = record { held = HeldFile.TooLarge; told = tt; are = refl }
 left_large (Some bytes) ids long =
     let more : nat_lt most_bytes (length bytes) ≡ true = grind (arith, nat_tests, long) in
@@ -64,7 +63,7 @@ left_large (Some bytes) ids long =
 no_text : is_utf8 (255 ∷ []) ≡ false
 no_text = sym (is_between-utf8_after (255 ∷ []))
 
-pub left_wrong : (left : Option (List ℕ)) (ids : CallIds) → IfSome left (λ bytes. length bytes ≤ most_bytes) → IfSome left (λ bytes. false ≡ is_utf8 bytes) → AreCallsLeft left ids (Err (file_fault file.StopTimes kind.NotUtf8))
+pub left_wrong : (left : Option (List ℕ)) (ids : CallIds) → IfSome left (λ bytes. length bytes ≤ most_bytes) → IfSome left (λ bytes. false ≡ is_utf8 bytes) → AreCallsLeft left ids (Err (text.Fault (file_fault file.StopTimes kind.NotUtf8)))
 left_wrong None ids fits wrong = record { held = HeldFile.Bytes (255 ∷ []); told = tt; are = not_text (255 ∷ []) no_text }
 left_wrong (Some bytes) ids fits wrong = record { held = HeldFile.Bytes bytes; told = fits_held bytes fits; are = not_text bytes (sym wrong) }
 
@@ -77,14 +76,14 @@ left_calls (Some bytes) ids calls fits utf8 are =
     let same : are.text ≡ bytes = are.is_of.told ∙ whole bytes fits in
     record { held = HeldFile.Bytes are.text; told = ap HeldFile.Bytes same ∙ fits_held bytes fits; are = text_calls _ ids calls are (ap is_utf8 same ∙ sym utf8) }
 
-pub left_refused : (left : Option (List ℕ)) (ids : CallIds) (fault : FeedFault) → IfSome left (λ bytes. length bytes ≤ most_bytes) → IfSome left (λ bytes. true ≡ is_utf8 bytes) → IsFaultOf (read_start left) fault → AreCallsLeft left ids (Err fault)
+pub left_refused : (left : Option (List ℕ)) (ids : CallIds) (fault : FeedFault) → IfSome left (λ bytes. length bytes ≤ most_bytes) → IfSome left (λ bytes. true ≡ is_utf8 bytes) → IsFaultOf (read_start left) fault → AreCallsLeft left ids (Err (text.Fault fault))
 left_refused None ids fault fits utf8 is = record { held = HeldFile.Bytes is.text; told = tt; are = text_refused None ids fault is (is.is_of.utf8 refl) }
 left_refused (Some bytes) ids fault fits utf8 is =
     let same : is.text ≡ bytes = is.is_of.told ∙ whole bytes fits in
     record { held = HeldFile.Bytes is.text; told = ap HeldFile.Bytes same ∙ fits_held bytes fits; are = text_refused _ ids fault is (ap is_utf8 same ∙ sym utf8) }
 
 -- what is held of a file that isn't there, and of one that is open
-pub absent_in : (folder : FolderState) (left : Option (List ℕ)) (ids : CallIds) → IfSome folder.holds (λ contents. Finds (contents (file_text file.StopTimes)) left opened.Absent) → AreCallsIn folder ids (Err (file_fault file.StopTimes kind.MissingFile))
+pub absent_in : (folder : FolderState) (left : Option (List ℕ)) (ids : CallIds) → IfSome folder.holds (λ contents. Finds (contents (file_text file.StopTimes)) left opened.Absent) → AreCallsIn folder ids (Err (text.Fault (file_fault file.StopTimes kind.MissingFile)))
 unfolding held
 absent_in folder left ids finds = record { kept = HeldFile.Missing; given = (absent_read folder.holds (file_text file.StopTimes) left most_bytes finds).0; are = refl }
 
@@ -98,20 +97,32 @@ unfolding held
 given None left kept finds told = tt
 given (Some contents) left kept finds told = left_held (contents (file_text file.StopTimes)) left kept finds told
 
-pub given_in : (folder : FolderState) (left : Option (List ℕ)) (ids : CallIds) (calls : Result StopTimes FeedFault) → IfSome folder.holds (λ contents. Finds (contents (file_text file.StopTimes)) left opened.Present)
+pub given_in : (folder : FolderState) (left : Option (List ℕ)) (ids : CallIds) (calls : Result StopTimes TextError) → IfSome folder.holds (λ contents. Finds (contents (file_text file.StopTimes)) left opened.Present)
     → AreCallsLeft left ids calls → AreCallsIn folder ids calls
 given_in folder left ids calls finds are = record { kept = are.held; given = given folder.holds left are.held finds are.told; are = are.are }
 
--- what is answered at the end of the reading
-pub outcome_right : (start now : FolderState) (ids : CallIds) (end : PiecesEnd) (text : Bool) (calls : Result StopTimes CallError) → StandsAs start most_bytes now end → (end ≡ Ended → IfSome start.left (λ bytes. text ≡ is_utf8 bytes))
-    → IfOk calls (AreCallsOf (read_start start.left) ids) → IfErr calls (IsCallError (read_start start.left)) → IfOk (outcome_of end text calls) (AreCallsLeft start.left ids)
-outcome_right start now ids Going text calls stands utf8 are why = tt
-outcome_right start now ids Failed text calls stands utf8 are why = tt
-outcome_right start now ids TooLarge text calls stands utf8 are why = left_large start.left ids stands.1
-outcome_right start now ids Ended false calls stands utf8 are why = left_wrong start.left ids stands.1 (utf8 refl)
-outcome_right start now ids Ended true (Ok calls) stands utf8 are why = left_calls start.left ids calls stands.1 (utf8 refl) are
-outcome_right start now ids Ended true (Err (Fault fault)) stands utf8 are why = left_refused start.left ids fault stands.1 (utf8 refl) why
-outcome_right start now ids Ended true (Err (Record error)) stands utf8 are why = tt
+-- memory was wanting
+left_none : (left : Option (List ℕ)) (ids : CallIds) → IfSome left (λ bytes. length bytes ≤ most_bytes) → AreCallsLeft left ids (Err text.NoMemory)
+left_none None ids fits = record { held = HeldFile.Missing; told = tt; are = tt }
+left_none (Some bytes) ids fits = record { held = HeldFile.Bytes bytes; told = fits_held bytes fits; are = tt }
+
+-- what is answered at the end of an open file
+pub left_answer : (left : Option (List ℕ)) (ids : CallIds) (is_text : Bool) (calls : Result StopTimes CallError) → IfSome left (λ bytes. length bytes ≤ most_bytes) → IfSome left (λ bytes. is_text ≡ is_utf8 bytes)
+    → IfOk calls (AreCallsOf (read_start left) ids) → IfErr calls (IsCallError (read_start left)) → AreCallsLeft left ids (answer_of is_text calls)
+left_answer left ids false calls fits utf8 are why = left_wrong left ids fits utf8
+left_answer left ids true (Ok calls) fits utf8 are why = left_calls left ids calls fits utf8 are
+left_answer left ids true (Err (Fault fault)) fits utf8 are why = left_refused left ids fault fits utf8 why
+left_answer left ids true (Err (Record error)) fits utf8 are why = left_none left ids fits
+
+-- what is answered of bytes that are held
+pub held_answer : (bytes : List ℕ) (ids : CallIds) (is_text : Bool) (calls : Result StopTimes CallError) → is_text ≡ is_utf8 bytes
+    → IfOk calls (AreCallsOf (Some bytes) ids) → IfErr calls (IsCallError (Some bytes)) → AreCallsOfHeld ids (HeldFile.Bytes bytes) (answer_of is_text calls)
+held_answer bytes ids false calls utf8 are why = not_text bytes (sym utf8)
+held_answer bytes ids true (Ok calls) utf8 are why =
+    subst (λ own. AreCallsOfHeld ids (HeldFile.Bytes own) (Ok calls)) are.is_of.told (text_calls _ ids calls are (ap is_utf8 are.is_of.told ∙ sym utf8))
+held_answer bytes ids true (Err (Fault fault)) utf8 are why =
+    subst (λ own. AreCallsOfHeld ids (HeldFile.Bytes own) (Err (text.Fault fault))) why.is_of.told (text_refused _ ids fault why (ap is_utf8 why.is_of.told ∙ sym utf8))
+held_answer bytes ids true (Err (Record error)) utf8 are why = tt
 
 -- why a reading gave up that began before
 pub gives_behind : (why : ReadError) (start before now : FolderState) → Stayed start.faults before.faults → GivesUp why before now → GivesUp why start now

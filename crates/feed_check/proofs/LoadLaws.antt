@@ -30,10 +30,8 @@ use Rattle.feed_build.specs.declared.stop_times.StopTimes.{StopTimes}
 use Rattle.feed_faults.specs.AcceptedFeed.{feed_of}
 use Rattle.feed_faults.specs.FirstFault.{first_fault}
 use Rattle.feed_rows.specs.FeedRows.{FeedRows}
-use Rattle.feed_rows.specs.declared.faults.FeedFault.{FeedFault}
 use Rattle.feed_check.specs.FolderCalls.{AreCallsIn, AreCallsOfHeld}
-use Rattle.feed_check.specs.LoadErrors.{unread, refused, AreFirstOf, IsFeedOf, GivesUpLoading}
-use Rattle.feed_check.specs.declared.folder.LoadError.TheVariants as error
+use Rattle.feed_check.specs.LoadErrors.{unread, refused, IsFeedOf, GivesUpLoading}
 use Rattle.feed_check.proofs.FileLaws.{first_error, calls_error, others_error}
 use Rattle.feed_check.proofs.JoinedFiles.{joined, first_joined, first_faults, others_joined, others_faults, gives}
 use Rattle.feed_check.proofs.ReadFiles.{AreReadSo}
@@ -80,14 +78,24 @@ module _ (folder now : FolderState) (first others : FileName → HeldFile) (read
       let given = gives first at others folder.holds before (behind file.StopTimes (omega arith)) (λ name le. behind name (omega (arith, le))) in
       fault_gives folder now (joined first at others) given reads why (first_error (joined first at others) why (rw (first_faults first at others) is))
 
+-- the tables of the folder's files before stop_times.txt, which have no fault by themselves
+pub record AreFirstOf (folder : FolderState) (first : List TableOf) : Type 0 where
+  pub files : FileName → HeldFile
+  pub gives : (name : FileName) → place name < 3 → WhereTold folder (λ contents. files name ≡ held contents name)
+  pub sound : first_in first_files (form_fault files) ≡ None
+  pub are : first ≡ map (read_of files) first_files
+
+pub first_of : (folder : FolderState) (before after : List FileBytes) (first : List TableOf) → AreReadBetween folder 0 3 before after → first_in first_files (form_fault (held_in after)) ≡ None → first ≡ map (read_of (held_in after)) first_files → AreFirstOf folder first
+first_of folder before after first read sound are = record { files = held_in after; gives = λ name lt. read.given name (omega arith) lt; sound = sound; are = are }
+
 -- what is known once all files were read
-pub record AreLoaded (folder now : FolderState) (first : List TableOf) (ids : CallIds) (calls : Result StopTimes FeedFault) (others : FileName → HeldFile) : Type 0 where
+pub record AreLoaded (folder now : FolderState) (first : List TableOf) (ids : CallIds) (calls : Result StopTimes TextError) (others : FileName → HeldFile) : Type 0 where
   pub before : AreFirstOf folder first
   pub at : AreCallsIn folder ids calls
   pub behind : (name : FileName) → 4 ≤ place name → WhereTold folder (λ contents. others name ≡ held contents name)
   pub reads : ReadsTo folder 18 now
 
-pub loaded_so : (folder mid behind now : FolderState) (first : List TableOf) (ids : CallIds) (calls : Result StopTimes FeedFault) (before after : List FileBytes) → AreFirstOf folder first → ReadsTo folder 3 mid → mid.holds ≡ folder.holds
+pub loaded_so : (folder mid behind now : FolderState) (first : List TableOf) (ids : CallIds) (calls : Result StopTimes TextError) (before after : List FileBytes) → AreFirstOf folder first → ReadsTo folder 3 mid → mid.holds ≡ folder.holds
     → AreCallsIn mid ids calls → ((start : FolderState) → ReadsTo start 3 mid → ReadsTo start 4 behind) → behind.holds ≡ mid.holds
     → AreReadBetween behind 4 18 before after → ((start : FolderState) → ReadsTo start 4 behind → ReadsTo start 18 now) → AreLoaded folder now first ids calls (held_in after)
 loaded_so folder mid behind now first ids calls before after are reads_first holds_first are_calls reads_calls holds_calls are_others reads_others = record {
@@ -97,7 +105,7 @@ loaded_so folder mid behind now first ids calls before after are reads_first hol
   reads = reads_others folder (reads_calls folder reads_first);
 }
 
-module _ (folder now : FolderState) (first : List TableOf) (ids : CallIds) (calls : Result StopTimes FeedFault) (others : FileName → HeldFile) (loaded : AreLoaded folder now first ids calls others) where
+module _ (folder now : FolderState) (first : List TableOf) (ids : CallIds) (calls : Result StopTimes TextError) (others : FileName → HeldFile) (loaded : AreLoaded folder now first ids calls others) where
   abbrev pub files : FileName → HeldFile
   files = joined loaded.before.files loaded.at.kept others
 
@@ -110,8 +118,8 @@ module _ (folder now : FolderState) (first : List TableOf) (ids : CallIds) (call
   pub refused_at : (why : TextError) → IsErrorOf (first_fault files) why → GivesUpLoading (refused why) folder now
   refused_at why is = fault_gives folder now files given loaded.reads why is
 
-  pub calls_refused : (fault : FeedFault) → calls ≡ Err fault → GivesUpLoading (error.Fault fault) folder now
-  calls_refused fault is = refused_at (text.Fault fault) (calls_error files none (text.Fault fault) (rw is at loaded.at.are))
+  pub calls_refused : (why : TextError) → calls ≡ Err why → GivesUpLoading (refused why) folder now
+  calls_refused why is = refused_at why (calls_error files none why (rw is at loaded.at.are))
 
   module _ (made : StopTimes) (is : calls ≡ Ok made) where
     own : AreCallsOfHeld ids loaded.at.kept (Ok made)

@@ -1,20 +1,16 @@
 -- Why a folder gives no feed, and which feed it gives.
-use Rattle.std.specs.Prelude.{◌≡◌, ◌<◌, List, map, None, Some, true}
-use Rattle.plain_laws.specs.Plain.{first_in}
+use Rattle.std.specs.Prelude.{◌≡◌, None, Some, true}
 use Rattle.feed_rows.specs.FaultCounts.{Rose, Stayed}
 use Rattle.feed_rows.specs.FeedRows.{FeedRows}
-use Rattle.feed_rows.specs.HeldFiles.{HeldFile, held}
-use Rattle.feed_rows.specs.Names.{place}
+use Rattle.feed_rows.specs.HeldFiles.{HeldFile}
 use Rattle.feed_rows.specs.declared.faults.FeedFault.{FeedFault}
 use Rattle.feed_rows.specs.declared.names.FileName.{FileName}
 use Rattle.feed_faults.specs.AcceptedFeed.{feed_of}
-use Rattle.feed_faults.specs.FormFaults.{form_fault}
-use Rattle.folder_io.specs.FolderCalls.{FolderState, WhereTold}
+use Rattle.folder_io.specs.FolderCalls.{FolderState}
 use Rattle.folder_io.specs.declared.reading.ReadError.{ReadError}
 use Rattle.folder_io.specs.declared.reading.ReadError.TheVariants as read
 use Rattle.feed_text.specs.declared.errors.TextError.{TextError}
 use Rattle.feed_text.specs.declared.errors.TextError.TheVariants as text
-use Rattle.feed_tables.specs.RowNumbers.{TableOf, read_of, first_files}
 use Rattle.folder_io.specs.FileReading.{Gives, OpensAll, OpensSome}
 use Rattle.feed_check.specs.declared.folder.LoadError.{LoadError}
 use Rattle.feed_check.specs.declared.folder.LoadError.TheVariants as error
@@ -28,13 +24,6 @@ unread read.NoMemory = error.NoMemory
 abbrev pub refused : TextError → LoadError
 refused (text.Fault fault) = error.Fault fault
 refused text.NoMemory = error.NoMemory
-
--- the tables of the folder's files before stop_times.txt, which have no fault by themselves
-pub record AreFirstOf (folder : FolderState) (first : List TableOf) : Type 0 where
-  pub files : FileName → HeldFile
-  pub gives : (name : FileName) → place name < 3 → WhereTold folder (λ contents. files name ≡ held contents name)
-  pub sound : first_in first_files (form_fault files) ≡ None
-  pub are : first ≡ map (read_of files) first_files
 
 -- the feed is that of the folder's files, which have no fault
 pub record IsFeedOf (folder : FolderState) (feed : FeedRows) : Type 0 where

@@ -1,50 +1,43 @@
 //! stop_times.txt of a folder, read record by record.
-ghost use Rattle.std.specs.Prelude.{◌≡◌, ◌≢◌, true, IfOk, IfErr, OnOk};
+ghost use Rattle.std.specs.Prelude.{◌≡◌, true, IfOk, IfErr, OnOk};
 ghost use Rattle.feed_rows.specs.FaultCounts.{Stayed};
 ghost use Rattle.feed_rows.specs.HeldFiles.{most_bytes};
 ghost use Rattle.feed_rows.specs.declared.names.FileName.TheVariants as file;
 ghost use Rattle.feed_faults.specs.FaultPlaces.{file_fault};
 ghost use Rattle.folder_io.specs.FolderCalls.{FolderState};
 ghost use Rattle.folder_io.specs.FileReading.{GivesUp, GivesUpOn, ReadsTo};
-ghost use Rattle.feed_check.specs.FolderCalls.{outcome_of, AreCallsIn, AreCallsLeft, IsLeft};
+ghost use Rattle.feed_check.specs.FolderCalls.{answer_of, AreCallsIn, AreCallsLeft, IsLeft};
 
 use feed_build::{CallError, StopTimes, read_stop_times};
-use feed_rows::{FaultKind, FeedFault, FileName};
+use feed_rows::{FaultKind, FileName};
 use feed_tables::CallIds;
-use feed_text::{Records, file_fault};
+use feed_text::{Records, TextError, file_fault};
 use folder_io::{Beginning, Folder, MOST_BYTES, Opened, PiecesEnd, PiecesSince, ReadError};
 use std::alloc::Global;
 use std::marker::Brand;
 
-/// The fault of the file as a whole.
-pub(crate) fn whole_fault(kind: FaultKind) -> FeedFault
-    ensures { result ≡ file_fault file.StopTimes kind }
+/// That the file as a whole has a fault.
+pub(crate) fn whole_fault(kind: FaultKind) -> TextError
+    ensures { result ≡ TextError.Fault (file_fault file.StopTimes kind) }
 {
-    file_fault(FileName::StopTimes, kind)
+    TextError::Fault(file_fault(FileName::StopTimes, kind))
 }
 
-// What is answered where the reading of the file ended so.
-fn outcome(
-    end: PiecesEnd,
+/// What is answered of the file, of which this was read to its end.
+pub(crate) fn answer(
     is_text: bool,
     calls: Result<StopTimes, CallError>,
-) -> Result<Result<StopTimes, FeedFault>, ReadError>
-    requires { end ≢ PiecesEnd.Going }
-    ensures { result ≡ outcome_of end is_text calls }
+) -> Result<StopTimes, TextError>
+    ensures { result ≡ answer_of is_text calls }
 {
-    match end {
-        PiecesEnd::Going => unreachable!(),
-        PiecesEnd::Failed => return Err(ReadError::ReadFault),
-        PiecesEnd::TooLarge => return Ok(Err(whole_fault(FaultKind::FileTooLarge))),
-        PiecesEnd::Ended => {}
-    }
     if !is_text {
-        return Ok(Err(whole_fault(FaultKind::NotUtf8)));
+        return Err(whole_fault(FaultKind::NotUtf8));
     }
     match calls {
-        Ok(calls) => Ok(Ok(calls)),
-        Err(CallError::Fault(fault)) => Ok(Err(fault)),
-        Err(CallError::Record(_)) => Err(ReadError::NoMemory),
+        Ok(calls) => Ok(calls),
+        Err(CallError::Fault(fault)) => Err(TextError::Fault(fault)),
+        // Where the reading didn't fail, text gives records but for want of memory.
+        Err(CallError::Record(_)) => Err(TextError::NoMemory),
     }
 }
 
@@ -55,7 +48,7 @@ fn open_calls<'a, F: Folder, S: Beginning>(
     alloc: Global,
     folder: &'a mut F,
     ids: &CallIds,
-) -> (Result<Result<StopTimes, FeedFault>, ReadError>, &'a mut F)
+) -> (Result<Result<StopTimes, TextError>, ReadError>, &'a mut F)
     requires is_open { (F.state folder.old).present ≡ true }
     requires start { F.state folder.old ≡ S.start }
     requires limit { S.limit ≡ most_bytes }
@@ -73,7 +66,13 @@ fn open_calls<'a, F: Folder, S: Beginning>(
     let end = pieces.finish();
     let is_text = pieces.is_text();
     let folder = pieces.release();
-    (outcome(end, is_text, calls), folder)
+    let calls = match end {
+        PiecesEnd::Going => unreachable!(),
+        PiecesEnd::Failed => Err(ReadError::ReadFault),
+        PiecesEnd::TooLarge => Ok(Err(whole_fault(FaultKind::FileTooLarge))),
+        PiecesEnd::Ended => Ok(answer(is_text, calls)),
+    };
+    (calls, folder)
 }
 
 /// The rows of the stop times of a folder, by the ids of trips and stops, or the first fault of their file by itself. The
@@ -85,7 +84,7 @@ pub fn folder_calls<F: Folder>(
     alloc: Global,
     folder: &mut F,
     ids: &CallIds,
-) -> Result<Result<StopTimes, FeedFault>, ReadError>
+) -> Result<Result<StopTimes, TextError>, ReadError>
     ensures calls { IfOk result (AreCallsIn (F.state folder.old) ids.now) }
     ensures ok { OnOk result ((start : FolderState) → ReadsTo start 3 (F.state folder.old) → ReadsTo start 4 (F.state folder.new)) }
     ensures err { IfErr result (λ error. (start : FolderState) → ReadsTo start 3 (F.state folder.old) → GivesUpOn error start (F.state folder.new)) }

@@ -4,18 +4,19 @@ ghost use Rattle.feed_rows.specs.declared.names.FileName.TheVariants as file;
 ghost use Rattle.feed_faults.specs.FeedTables.{table_in};
 ghost use Rattle.feed_faults.specs.AcceptedFeed.{feed_of, rows_of_tables, stop_time_row, typed_rows};
 ghost use Rattle.feed_faults.specs.FirstFault.{first_relation_fault, first_fault};
+ghost use Rattle.feed_check.specs.FolderCalls.{AreCallsOfHeld};
 ghost use Rattle.feed_soundness.specs.AcceptedTables.{AreFormed};
-ghost use Rattle.folder_io.specs.KeptFiles.{AreWithin, held_in};
+ghost use Rattle.folder_io.specs.KeptFiles.{AreWithin, held_in, held_of};
 ghost use Rattle.feed_tables.specs.IdColumns.{call_ids};
 ghost use Rattle.feed_tables.specs.KeptTables.{tables_with, AreKept};
 ghost use Rattle.feed_text.specs.TextErrors.{IsErrorOf};
 
-use crate::stop_times::held_stop_times;
-use feed_build::{StopTimes, feed_of_tables};
+use crate::calls::{answer, whole_fault};
+use feed_build::{StopTimes, feed_of_tables, read_stop_times};
 use feed_relations::first_relation_fault;
-use feed_rows::{Feed, FileName};
+use feed_rows::{FaultKind, Feed, FileName};
 use feed_tables::{CallIds, CallTable, Ids, ReadTable, Tables, read_tables};
-use feed_text::TextError;
+use feed_text::{Records, TextError, is_text};
 use folder_io::{FileBytes, Files};
 use std::alloc::Global;
 use std::marker::Brand;
@@ -45,6 +46,21 @@ pub(crate) fn related_feed<C: CallTable>(
         return Err(TextError::Fault(fault));
     }
     Ok(feed_of_tables(alloc, &tables, &ids, rows)?)
+}
+
+// The rows of the stop times of a file as it is held, by the ids of trips and stops. `Fault` is the first fault of the file by
+// itself.
+fn held_stop_times(alloc: Global, held: &FileBytes, ids: &CallIds) -> Result<StopTimes, TextError>
+    ensures { AreCallsOfHeld ids.now (held_of held.now) result }
+{
+    let text = match held {
+        FileBytes::Absent => return Err(whole_fault(FaultKind::MissingFile)),
+        FileBytes::TooLarge => return Err(whole_fault(FaultKind::FileTooLarge)),
+        FileBytes::Bytes(text) => text.bytes(),
+    };
+    let mut records = Records::of(alloc, text);
+    let calls = read_stop_times(alloc, &mut records, ids);
+    answer(is_text(text), calls)
 }
 
 /// The feed of files that have no fault. `Fault` is exactly their first fault: of each file by itself, in the order of the

@@ -4,7 +4,6 @@
 mod calls;
 mod files;
 mod folder;
-mod stop_times;
 
 pub use files::check;
 pub use folder::{LoadError, load};

@@ -1,9 +1,10 @@
 -- What passes a test among the numbers below one, as `any` and `find` over a range tell it.
-use Rattle.std.proofs.Common.{◌≡◌, refl, sym, ◌∙◌, ℕ, zero, suc, ◌+◌, ◌≤◌, ◌<◌, Bool, true, false, Option, Some, None, arith}
+use Rattle.std.proofs.Common.{◌≡◌, refl, sym, ◌∙◌, ℕ, zero, suc, ◌+◌, ◌≤◌, ◌<◌, [], ◌∷◌, ◌++◌, map, Bool, true, false, Option, Some, None, arith}
 use Rattle.std.specs.Prelude.{◌||◌}
 use Rattle.std.specs.List.{list_any, range_with_len}
 use Rattle.std.specs.Option.{MatchOption}
-use Rattle.plain_laws.specs.Plain.{any_below, find_below}
+use Rattle.std.proofs.lemmas.List.{append-nil, append_assoc}
+use Rattle.plain_laws.specs.Plain.{any_below, find_below, list_below}
 use Rattle.plain_laws.proofs.Laws.{find_below_none, find_below_hit}
 
 grouped : (a b c : Bool) → ((a || b) || c) ≡ (a || (b || c))
@@ -29,3 +30,14 @@ any_of_range test n = let e : 0 + n ≡ n = omega arith in sym (rw e at (from_on
 pub find_of_range : (test : ℕ → Bool) (n : ℕ) (found : Option ℕ) → MatchOption found ((k : ℕ) → 0 ≤ k → k < n → test k ≡ false) (λ i. (0 ≤ i) × (i < n) × (test i ≡ true) × ((k : ℕ) → 0 ≤ k → k < i → test k ≡ false)) → found ≡ find_below n test
 find_of_range test n None none = sym (find_below_none test n (λ k lt. none k (omega arith) lt))
 find_of_range test n (Some i) is = sym (find_below_hit test n i (record { within = is.1; passes = is.2; earlier = λ k lt. is.3 k (omega arith) lt }))
+
+list_on : {X : Type 0} (f : ℕ → X) (a n : ℕ) → list_below (a + n) f ≡ list_below a f ++ map f (range_with_len a n)
+list_on f a zero = let e : a + 0 ≡ a = omega arith in rw e (sym (append-nil (list_below a f)))
+list_on f a (suc n) =
+    let e : a + suc n ≡ (a + 1) + n = omega arith in
+    let next : a + 1 ≡ suc a = omega arith in
+    rw e (list_on f (a + 1) n ∙ rw next (append_assoc (list_below a f) (f a ∷ []) (map f (range_with_len (suc a) n))))
+
+-- what is told of each number of a range
+pub list_of_range : {X : Type 0} (f : ℕ → X) (n : ℕ) → map f (range_with_len 0 n) ≡ list_below n f
+list_of_range f n = let e : 0 + n ≡ n = omega arith in sym (rw e at (list_on f 0 n))

@@ -57,39 +57,6 @@ impl<'t, C: CallTable> Drop for JudgedFeed<'t, C> {
     }
 }
 
-// Which stops are platforms.
-#[tactic(auto, unfolding(crate::specs::JudgedBy::are_platforms))]
-fn platforms_of<C: CallTable>(alloc: Global, tables: &Tables<C>) -> Result<Vec<bool>, AllocError>
-    ensures { IfOk result (λ platforms. platforms.items ≡ are_platforms (table_in tables.now file.Stops)) }
-{
-    let rows = tables.get(FileName::Stops).rows();
-    let mut platforms = Vec::with_capacity(alloc, rows as usize)?;
-    for row in 0..rows {
-        platforms.push(stop_kind(tables, row) == u32::from(PLATFORM))?;
-    }
-    Ok(platforms)
-}
-
-// Whether a number is marked; one past the last isn't.
-fn is_marked(marks: &[bool], number: u32) -> bool
-    ensures { result ≡ get_or marks.now number false }
-{
-    let number = number as usize;
-    number < marks.len() && marks[number]
-}
-
-// What is wrong with a row; nothing where the list has no such row.
-fn faults_of_row(order: &[OrderFaults], row: u32) -> OrderFaults
-    ensures { result ≡ get_or order.now row no_faults }
-{
-    let row = row as usize;
-    if row < order.len() {
-        order[row]
-    } else {
-        OrderFaults::none()
-    }
-}
-
 impl<'t, C: CallTable> JudgedFeed<'t, C> {
     /// What the rows of a feed of these tables are judged by.
     ///
@@ -107,7 +74,9 @@ impl<'t, C: CallTable> JudgedFeed<'t, C> {
         ensures { IfOk result (λ feed. feed ≡ tables.now) }
     {
         let _few = tables.rows(FileName::StopTimes);
-        let platforms = platforms_of(alloc, tables)?;
+        let platforms = (0..tables.rows(FileName::Stops))
+            .map(|row| stop_kind(tables, row) == u32::from(PLATFORM))
+            .collect::<Vec<bool>>(alloc)?;
         let order = order_faults(alloc, calls)?;
         Ok(JudgedFeed {
             tables,
@@ -170,7 +139,8 @@ impl<'t, C: CallTable> JudgedFeed<'t, C> {
         requires { row < row_count (table_in self.now file.StopTimes) }
         ensures { result ≡ is_at_platform (table_in self.now file.Stops) (table_in self.now file.StopTimes) row }
     {
-        is_marked(&self.platforms, self.call(row).stop.0)
+        let stop = self.call(row).stop.0 as usize;
+        self.platforms.get(stop).copied().unwrap_or(false)
     }
 
     /// What is wrong with a row of `stop_times.txt` among those of its trip, which is there.
@@ -179,6 +149,6 @@ impl<'t, C: CallTable> JudgedFeed<'t, C> {
         requires known { IsTripKnown self.now row }
         ensures { result ≡ faults_at (stop_times_of (table_in self.now file.StopTimes)) row }
     {
-        faults_of_row(&self.order, row)
+        self.order.get(row as usize).copied().unwrap_or_default()
     }
 }

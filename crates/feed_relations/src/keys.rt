@@ -26,32 +26,25 @@ fn row_key<C: CallTable>(feed: &JudgedFeed<C>, file: FileName, row: u32) -> RowK
     ensures { result ≡ row_key feed.now file row }
 {
     let table = feed.table(file);
+    let number = |ids: IdColumn, name: ColumnName|
+        requires { row < row_count table.now }
+    { feed.index(ids).number(table.field(row, name)) };
     match file {
         FileName::CalendarDates => {
             let &[_, day, _] = feed.tables().numbers::<3>(file, row);
-            let service = table.field(row, ColumnName::ServiceId);
-            RowKey(
-                feed.index(IdColumn::CalendarDate).number(service),
-                day.unwrap_or(0),
-                0,
-            )
+            let service = number(IdColumn::CalendarDate, ColumnName::ServiceId);
+            RowKey(service, day.unwrap_or(0), 0)
         }
         FileName::Frequencies => {
             let &[_, start, _, _, _] = feed.tables().numbers::<5>(file, row);
-            let trip = feed
-                .index(IdColumn::Trip)
-                .number(table.field(row, ColumnName::TripId));
+            let trip = number(IdColumn::Trip, ColumnName::TripId);
             RowKey(trip, i64::from(natural(start).unwrap_or(0)), 0)
         }
         FileName::FareProducts => {
-            let product = table.field(row, ColumnName::FareProductId);
-            let rider = table.field(row, ColumnName::RiderCategoryId);
-            let medium = table.field(row, ColumnName::FareMediaId);
-            RowKey(
-                feed.index(IdColumn::FareProduct).number(product),
-                i64::from(feed.index(IdColumn::RiderCategory).number(rider)),
-                feed.index(IdColumn::FareMedia).number(medium),
-            )
+            let product = number(IdColumn::FareProduct, ColumnName::FareProductId);
+            let rider = number(IdColumn::RiderCategory, ColumnName::RiderCategoryId);
+            let medium = number(IdColumn::FareMedia, ColumnName::FareMediaId);
+            RowKey(product, i64::from(rider), medium)
         }
         _ => RowKey(row, 0, 0),
     }

@@ -6,7 +6,7 @@ use Rattle.std.proofs.lemmas.Bool.{cases_eq, cases_lt, ltb-true, ltb-false}
 use Rattle.feed_rows.specs.declared.rows.StopTimeRow.{StopTimeRow}
 use Rattle.trip_order.specs.Order.{no_time, numbered_at}
 use Rattle.stop_order.specs.Order.{trip_at, AreOrdered, continues_trip}
-use Rattle.stop_order.specs.Together.{StandTogether, AreMarked, AreScattered}
+use Rattle.stop_order.specs.Order.{StandTogether, AreMarked, AreScattered}
 use Rattle.stop_order.proofs.OrderLaws.{on_hit, on_told}
 
 -- the trip of a row that is read

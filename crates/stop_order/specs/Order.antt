@@ -1,5 +1,6 @@
--- What neighbours in an order of stop times tell of a row. The order has a row of the file at each place.
-use Rattle.std.specs.Prelude.{◌≡◌, ℕ, zero, suc, ◌+◌, ◌-◌, ◌<◌, ◌≤◌, ◌==◌, ◌&&◌, ◌||◌, not, nat_lt, if◌then◌else◌, Bool, List, length, get_or, Option, None}
+-- What neighbours in an order of stop times tell of a row, where the order has a row of the file at each place; and rows of the
+-- file whose trips stand together, so that its own order is one.
+use Rattle.std.specs.Prelude.{◌≡◌, ℕ, zero, suc, ◌+◌, ◌-◌, ◌<◌, ◌≤◌, ◌==◌, ◌&&◌, ◌||◌, not, nat_lt, if◌then◌else◌, Bool, true, false, List, length, get_or, Option, None}
 use Rattle.std.specs.Option.{option_or}
 use Rattle.feed_faults.specs.StopTimeRelations.{is_earlier}
 use Rattle.feed_rows.specs.declared.rows.StopTimeRow.{StopTimeRow}
@@ -47,3 +48,19 @@ pub record AreTold (times : List StopTimeRow) (row : ℕ → ℕ) (to : ℕ) (la
   pub count : AreAllOrNone (length times) faults
   pub told : (place : ℕ) → place < to → get_or faults (row place) no_faults ≡ place_faults times row place
   pub untold : (r : ℕ) → ((place : ℕ) → place < to → row place ≡ r → ⊥) → get_or faults r no_faults ≡ no_faults
+
+-- of the rows before one, those of a trip stand together, and their sequences rise
+pub record StandTogether (times : List StopTimeRow) (to : ℕ) : Type 0 where
+  pub together : (i k j : ℕ) → i ≤ k → k ≤ j → j < to → trip_at times i ≡ trip_at times j → trip_at times k ≡ trip_at times j
+  pub rising : (i j : ℕ) → i < j → j < to → trip_at times i ≡ trip_at times j → (numbered_at times i).sequence < (numbered_at times j).sequence
+
+-- and exactly their trips are marked, among as many as there are rows
+pub record AreMarked (times : List StopTimeRow) (to : ℕ) (begun : List Bool) : Type 0 where
+  pub stand : StandTogether times to
+  pub many : length begun ≡ length times
+  pub marked : (row : ℕ) → row < to → get_or begun (trip_at times row) false ≡ true
+  pub met : (trip : ℕ) → get_or begun trip false ≡ true → (row : ℕ) × (row < to) × (trip_at times row ≡ trip)
+
+-- the rows of some trip don't stand together by rising sequences, or some trip's number is past the rows
+pub record AreScattered (times : List StopTimeRow) : Type 0 where
+  pub refutes : StandTogether times (length times) → ((row : ℕ) → row < length times → trip_at times row < length times) → ⊥

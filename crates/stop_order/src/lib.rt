@@ -2,7 +2,6 @@
 //! trip stand together in it and by rising sequences, as they mostly do, and else by a sort and a pass in its order.
 #![tactic(auto)]
 
-mod order;
 mod pass;
 mod times;
 

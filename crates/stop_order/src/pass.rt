@@ -3,10 +3,9 @@
 ghost use Rattle.std.specs.Prelude.{◌≡◌, ◌<◌, ◌+◌, ◌^◌, ℕ, List, get_or, length, IfOk, IfNone, IfSome};
 ghost use Rattle.std.specs.Bool.{OnFalse, OnTrue};
 ghost use Rattle.stop_order.specs.Numbered.{named_times, AreAllOrNone, AreFaults, IsOneTrip, faults_at, no_faults};
-ghost use Rattle.stop_order.specs.Together.{AreMarked, AreScattered};
+ghost use Rattle.stop_order.specs.Order.{AreMarked, AreScattered};
 
-use crate::order::SortedTimes;
-use crate::times::{OrderFaults, goes_on, judge};
+use crate::times::{OrderFaults, SortedTimes, goes_on, judge};
 use feed_rows::StopTimeRow;
 use std::alloc::{AllocError, Global};
 use trip_order::sorted_keys;

@@ -1,15 +1,87 @@
-//! What is wrong with a stop time, as its neighbours in an order of stop times tell it.
-ghost use Rattle.std.specs.Prelude.{◌≡◌, ◌<◌, ◌+◌, length, OnOk};
+//! What is wrong with a stop time, as its neighbours tell it in an order of stop times: that of the file, or of sorted keys.
+ghost use Rattle.std.specs.Prelude.{◌≡◌, ◌<◌, ◌+◌, ◌^◌, ℕ, List, length, OnOk};
+ghost use Rattle.feed_rows.specs.declared.rows.StopTimeRow.{StopTimeRow};
 ghost use Rattle.feed_faults.specs.StopTimeRelations.{is_earlier};
-ghost use Rattle.stop_order.specs.Numbered.{no_faults};
+ghost use Rattle.trip_order.specs.Order.{AreSorted, key_at, numbered_at};
 ghost use Rattle.stop_order.specs.Order.{continues_trip, time_before, place_faults, AreTold};
 
-use crate::order::StopTimeOrder;
+use feed_rows::StopTimeRow;
 use std::alloc::AllocError;
-use trip_order::{first_time, is_timed, last_time};
+use trip_order::{PlaceKey, first_time, is_timed, last_time};
+
+/// Stop times in an order, which has a row of the file at each place.
+pub trait StopTimeOrder {
+    /// The rows of the file.
+    ghost rows: { Self → List StopTimeRow };
+
+    /// The row at each place.
+    ghost row_at: { Self → ℕ → ℕ };
+
+    /// The rows of the file.
+    fn times(&self) -> &[StopTimeRow]
+        ensures { result.now ≡ rows self.now };
+
+    /// The row at a place, which no place before has.
+    fn row(&self, place: usize) -> usize
+        requires { place < length (rows self.now) }
+        ensures is { result ≡ row_at self.now place }
+        ensures within { result < length (rows self.now) }
+        ensures apart { (before : ℕ) → before < place → row_at self.now before ≡ result → ⊥ };
+
+    /// The stop time at a place.
+    #[inline(always)]
+    fn time(&self, place: usize) -> StopTimeRow
+        requires { place < length (rows self.now) }
+        ensures is { result ≡ numbered_at (rows self.now) (row_at self.now place) }
+        ensures next { place + 1 < 2 ^ 64 }
+    {
+        self.times()[self.row(place)]
+    }
+}
+
+// The order of the file.
+impl<'t> StopTimeOrder for &'t [StopTimeRow] {
+    ghost rows = { λ times. times.now };
+
+    ghost row_at = { λ times place. place };
+
+    #[inline(always)]
+    fn times(&self) -> &[StopTimeRow] {
+        *self
+    }
+
+    #[inline(always)]
+    fn row(&self, place: usize) -> usize {
+        place
+    }
+}
+
+/// Stop times in the order of their sorted keys.
+#[derive(Drop)]
+pub struct SortedTimes<'t> {
+    pub times: &'t [StopTimeRow],
+    pub keys: &'t [PlaceKey],
+    ghost sorted: { ∥ AreSorted times.now keys.now ∥₁ },
+}
+
+impl<'t> StopTimeOrder for SortedTimes<'t> {
+    ghost rows = { λ sorted. sorted.times.now };
+
+    ghost row_at = { λ sorted place. (key_at sorted.keys.now place).row };
+
+    #[inline(always)]
+    fn times(&self) -> &[StopTimeRow] {
+        self.times
+    }
+
+    #[inline(always)]
+    fn row(&self, place: usize) -> usize {
+        self.keys[place].row as usize
+    }
+}
 
 /// What is wrong with a stop time among those of its trip.
-#[derive(Clone, Copy, PartialEq, Eq)]
+#[derive(Clone, Copy, Default, PartialEq, Eq)]
 pub struct OrderFaults {
     /// An earlier row has its trip and its sequence.
     pub is_repeated: bool,
@@ -17,19 +89,6 @@ pub struct OrderFaults {
     pub is_end_time_missing: bool,
     /// Its last time is less than its first, or its first less than the last time of the nearest timed one before it.
     pub do_times_decrease: bool,
-}
-
-impl OrderFaults {
-    /// No fault.
-    pub fn none() -> OrderFaults
-        ensures { result ≡ no_faults }
-    {
-        OrderFaults {
-            is_repeated: false,
-            is_end_time_missing: false,
-            do_times_decrease: false,
-        }
-    }
 }
 
 // Both times are there, and the first is less than the second.
@@ -53,30 +112,13 @@ pub fn goes_on<O: StopTimeOrder>(order: &O, place: usize) -> bool
         && order.time(place - 1).trip.0 == order.time(place).trip.0
 }
 
-// What is wrong at a place, which has this last time before it in its trip.
-#[inline(always)]
-#[tactic(auto, unfolding(crate::specs::Order::continues_trip, crate::specs::Order::place_faults))]
-fn faults_of<O: StopTimeOrder>(order: &O, place: usize, before: Option<u32>) -> OrderFaults
-    requires within { place < length (O.rows order.now) }
-    requires before { before ≡ time_before (O.rows order.now) (O.row_at order.now) place }
-    ensures { result ≡ place_faults (O.rows order.now) (O.row_at order.now) place }
-{
-    let time = order.time(place);
-    OrderFaults {
-        is_repeated: goes_on(order, place) && order.time(place - 1).sequence == time.sequence,
-        is_end_time_missing: !is_timed(time)
-            && (!goes_on(order, place) || !goes_on(order, place + 1)),
-        do_times_decrease: is_earlier(last_time(time), first_time(time))
-            || is_earlier(first_time(time), before),
-    }
-}
-
 /// Puts what is wrong at a place into the list, at its row, if anything is. The latest time is that of the trip of the place
 /// before, and then that of this place's trip.
 ///
 /// # Errors
 /// Want of memory.
 #[inline(always)]
+#[tactic(auto, unfolding(crate::specs::Order::continues_trip, crate::specs::Order::place_faults))]
 pub fn judge<O: StopTimeOrder>(
     order: &O,
     place: usize,
@@ -88,12 +130,19 @@ pub fn judge<O: StopTimeOrder>(
     ensures { OnOk result (AreTold (O.rows order.now) (O.row_at order.now) (place + 1) latest.new faults.new.items) }
 {
     let row = order.row(place);
-    let before = if goes_on(order, place) { *latest } else { None };
-    let found = faults_of(order, place, before);
-    if found != OrderFaults::none() {
-        faults.resize(order.times().len(), OrderFaults::none())?;
+    let time = order.time(place);
+    let does_go_on = goes_on(order, place);
+    let before = if does_go_on { *latest } else { None };
+    let found = OrderFaults {
+        is_repeated: does_go_on && order.time(place - 1).sequence == time.sequence,
+        is_end_time_missing: !is_timed(time) && !(does_go_on && goes_on(order, place + 1)),
+        do_times_decrease: is_earlier(last_time(time), first_time(time))
+            || is_earlier(first_time(time), before),
+    };
+    if found != OrderFaults::default() {
+        faults.resize(order.times().len(), OrderFaults::default())?;
         faults[row] = found;
     }
-    *latest = last_time(order.time(place)).or(before);
+    *latest = last_time(time).or(before);
     Ok(())
 }

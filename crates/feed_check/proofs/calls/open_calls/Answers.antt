@@ -4,8 +4,9 @@ use Rattle.std.specs.Str.{is_utf8}
 use Rattle.folder_io.specs.declared.pieces.PiecesEnd.TheVariants.{Ended}
 use Rattle.std.proofs.lemmas.Result.{IfOk-weaker, IfErr-weaker}
 use Rattle.feed_build.specs.CallErrors.{AreCallsOf, IsCallError}
-use Rattle.feed_check.proofs.HeldCalls.{outcome_right, read_start}
+use Rattle.feed_check.proofs.HeldCalls.{left_answer, left_large, read_start}
 use Rattle.feed_check.proofs.calls.open_calls.Goals as goal
+use Rattle.feed_check.proofs.calls.open_calls.Goals.{in-Failed, in-TooLarge, in-Ended}
 
 pub returns-clause-calls : goal.returns-clause-calls
 returns-clause-calls g c =
@@ -18,4 +19,10 @@ returns-clause-calls g c =
     let stands = rw (← c.finish-end.ensures.value, c.requires.limit) at c.release-folder.ensures.since.stands in
     let utf8 : c.finish-end.result ≡ Ended → IfSome s.start.left (λ bytes. c.is_text-is_text.result ≡ is_utf8 bytes) =
     λ ended. c.is_text-is_text.ensures.ended (sym c.finish-end.ensures.value ∙ ended) in
-    rw c.outcome.ensures (outcome_right s.start (g.F.Folder.state c.release-folder.result.now) c.args.ids.now c.finish-end.result c.is_text-is_text.result c.read_stop_times-calls.result stands utf8 are why)
+    elim c.match-end.branch [
+      | in-Failed w ↦ rw w.calls2-is tt
+      | in-TooLarge w ↦ rw (w.calls2-is, w.whole_fault.ensures) (left_large s.start.left c.args.ids.now (rw w.in-TooLarge.is at stands).1)
+      | in-Ended w ↦
+          rw (w.calls2-is, w.answer.ensures)
+          (left_answer s.start.left c.args.ids.now c.is_text-is_text.result c.read_stop_times-calls.result (rw w.in-Ended.is at stands).1 (utf8 w.in-Ended.is) are why)
+    ]

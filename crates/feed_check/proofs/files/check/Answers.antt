@@ -23,7 +23,7 @@ returns-in_err-stop_times-clause-fault c =
     let left = (rw c.all.ensures at c.in_ok-first.ensures.left) 0 first_stand in
     let held = ap held_of c.get.ensures ∙ ap held_of (left file.StopTimes (omega arith)) in
     let first : IsErrorOf (first_fault (held_in c.args.files)) c.in_err-stop_times.field-0.0 =
-    calls_error (held_in c.args.files) none c.in_err-stop_times.field-0.0 (rw held at c.in_err-stop_times.ensures.fault) in
+    calls_error (held_in c.args.files) none c.in_err-stop_times.field-0.0 (rw held at c.in_err-stop_times.ensures) in
     grind (arith, common_steps, first)
 
 pub read_tables-requires-2-clause-order : goal.read_tables-requires-2-clause-order
@@ -35,7 +35,7 @@ returns-in_err-others-clause-fault c =
     let left = (rw c.all.ensures at c.in_ok-first.ensures.left) 0 first_stand in
     let held = ap held_of c.get.ensures ∙ ap held_of (left file.StopTimes (omega arith)) in
     let others = others_held c.args.files c.read_tables.new.files c.put.new.self left c.put.ensures.others in
-    let calls = (rw held at c.in_ok-stop_times.ensures.calls).0 in
+    let calls = (rw held at c.in_ok-stop_times.ensures).0 in
     let first : IsErrorOf (first_fault (held_in c.args.files)) c.in_err-others.field-0.0 =
     others_error (held_in c.args.files) none calls c.in_err-others.field-0.0
     (rw (c.all-2.ensures, other_faults_left c.args.files c.put.new.self others) at c.in_err-others.ensures.fault) in
@@ -51,7 +51,7 @@ related_feed-requires c =
       first_are = c.deref-2.ensures.value ∙ rw c.all.ensures at c.in_ok-first.ensures.tables;
       first_sound = rw c.all.ensures at c.in_ok-first.ensures.sound;
       ids_are = c.in_ok-calls.ensures made.table c.deref-3.result.now ∙ ap (λ first. call_ids (tables_with first made.table c.deref-3.result.now)) (c.deref.ensures.value ∙ sym c.deref-2.ensures.value);
-      calls_are = rw held at c.in_ok-stop_times.ensures.calls;
+      calls_are = rw held at c.in_ok-stop_times.ensures;
       others_are = c.deref-3.ensures.value ∙ (rw (c.all-2.ensures, other_tables_left c.args.files c.put.new.self others) at c.in_ok-others.ensures.tables);
       others_sound = rw (c.all-2.ensures, other_faults_left c.args.files c.put.new.self others) at c.in_ok-others.ensures.sound;
     } in
@@ -67,7 +67,7 @@ returns c =
       first_are = c.deref-2.ensures.value ∙ rw c.all.ensures at c.in_ok-first.ensures.tables;
       first_sound = rw c.all.ensures at c.in_ok-first.ensures.sound;
       ids_are = c.in_ok-calls.ensures made.table c.deref-3.result.now ∙ ap (λ first. call_ids (tables_with first made.table c.deref-3.result.now)) (c.deref.ensures.value ∙ sym c.deref-2.ensures.value);
-      calls_are = rw held at c.in_ok-stop_times.ensures.calls;
+      calls_are = rw held at c.in_ok-stop_times.ensures;
       others_are = c.deref-3.ensures.value ∙ (rw (c.all-2.ensures, other_tables_left c.args.files c.put.new.self others) at c.in_ok-others.ensures.tables);
       others_sound = rw (c.all-2.ensures, other_faults_left c.args.files c.put.new.self others) at c.in_ok-others.ensures.sound;
     } in

@@ -1,6 +1,6 @@
 use Rattle.std.proofs.Common.{◌≡◌, length, arith}
 use Rattle.std.proofs.lemmas.Grind.{common_steps}
-use Rattle.stop_order.specs.Together.{StandTogether}
+use Rattle.stop_order.specs.Order.{StandTogether}
 use Rattle.stop_order.proofs.OrderLaws.{faults_from}
 use Rattle.stop_order.proofs.ToldLaws.{none_told}
 use Rattle.stop_order.proofs.TogetherLaws.{in_file, none_marked, file_order}

@@ -1,5 +1,5 @@
 use Rattle.stop_order.specs.Order.{AreTold}
-use Rattle.stop_order.specs.Together.{AreMarked}
+use Rattle.stop_order.specs.Order.{AreMarked}
 use Rattle.stop_order.proofs.TogetherLaws.{in_file}
 use Rattle.stop_order.proofs.pass.faults_together.Given as goal
 

@@ -1,4 +1,4 @@
-use Rattle.std.proofs.Common.{◌≡◌, ◌∙◌, ap, subst, List, Bool, get_or, false}
+use Rattle.std.proofs.Common.{◌≡◌, ◌∙◌, ap, subst, get_or, false, rules}
 use Rattle.feed_rows.specs.declared.names.FileName.TheVariants as file
 use Rattle.feed_rows.specs.declared.rows.StopTimeRow.{StopTimeRow}
 use Rattle.feed_faults.specs.FeedTables.{FeedTables, table_in}
@@ -12,7 +12,7 @@ unfolding stop_time_row
 returns g c =
     let platforms = c.self.inside.platforms.items in
     let are = subst (λ (t : FeedTables). platforms ≡ are_platforms (table_in t file.Stops)) c.self.view_is c.self.invariant.platforms_are in
-    c.is_marked.ensures
-    ∙ ap (λ (marks : List Bool). get_or marks c.call.result.stop.0 false) c.deref.ensures.value
-    ∙ ap (λ (call : StopTimeRow). get_or platforms call.stop.0 false) c.call.ensures.row
+    let found : c.unwrap_or.result ≡ get_or platforms c.call-stop.result.stop.0 false = search rules in
+    found
+    ∙ ap (λ (call : StopTimeRow). get_or platforms call.stop.0 false) c.call-stop.ensures.row
     ∙ platform_by_number c.args.self.now c.args.row platforms are
