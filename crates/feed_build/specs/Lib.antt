@@ -2,4 +2,3 @@ pub mod NameNumbers
 pub mod CallRows
 pub mod CallsSoFar
 pub mod CallErrors
-pub mod Sources

@@ -1,17 +1,13 @@
--- Names and their numbers.
-use Rattle.std.specs.Prelude.{◌≡◌, ℕ, ◌<◌, ◌≤◌, ◌^◌, All, List, [], ◌∷◌, length, map, true}
+-- Names, their numbers, and what the rows of a feed are made of.
+use Rattle.std.specs.Prelude.{◌≡◌, ℕ, ◌<◌, ◌≤◌, ◌^◌, All, List, length, map, true}
 use Rattle.std.specs.Borrow.{Bor}
 use Rattle.indexmap.specs.IndexSet.{IndexSet}
 use Rattle.feed_rows.specs.declared.names.ColumnName.{ColumnName}
-use Rattle.feed_rows.specs.declared.names.ColumnName.TheVariants.{ServiceId, NetworkId, TimeframeGroupId, FareProductId, LegGroupId}
-use Rattle.feed_rows.specs.declared.names.FileName.{FileName}
-use Rattle.feed_rows.specs.declared.names.FileName.TheVariants as file
 use Rattle.feed_faults.specs.Records.{FileTable, row_count, field, is_filled}
 use Rattle.feed_faults.specs.FeedTables.{FeedTables}
 use Rattle.feed_faults.specs.AcceptedFeed.{service_names, network_names, frame_names, product_names, group_names}
-use Rattle.feed_build.specs.declared.name_hash.NameHash.{NameHash}
-use Rattle.feed_build.specs.declared.name_kinds.NameKind.{NameKind}
-use Rattle.feed_build.specs.declared.name_kinds.NameKind.TheVariants.{Service, Network, Frame, Product, Group}
+use Rattle.feed_soundness.specs.AcceptedTables.{AreFormed}
+use Rattle.feed_build.specs.declared.names.NameHash.{NameHash}
 
 -- the names that a set has, in its order
 abbrev pub names_in : IndexSet (Bor (List ℕ)) NameHash → List (List ℕ)
@@ -31,22 +27,12 @@ IsShort name = is_filled name ≡ true → length name ≤ 255
 abbrev pub AreShort : FileTable → ColumnName → Type 0
 AreShort table column = (row : ℕ) → row < row_count table → IsShort (field table row column)
 
--- all kinds, in the order in which they are declared
-abbrev pub name_kinds : List NameKind
-name_kinds = Service ∷ Network ∷ Frame ∷ Product ∷ Group ∷ []
-
--- the names of a kind, by first appearance
-abbrev pub names_of : FeedTables → NameKind → List (List ℕ)
-names_of t Service = service_names t
-names_of t Network = network_names t
-names_of t Frame = frame_names t
-names_of t Product = product_names t
-names_of t Group = group_names t
-
--- the columns that have names of a kind, in the order in which these are numbered
-abbrev pub columns_of : NameKind → List (FileName × ColumnName)
-columns_of Service = (file.Trips, ServiceId) ∷ (file.Calendar, ServiceId) ∷ (file.CalendarDates, ServiceId) ∷ (file.Timeframes, ServiceId) ∷ []
-columns_of Network = (file.Routes, NetworkId) ∷ (file.Networks, NetworkId) ∷ []
-columns_of Frame = (file.Timeframes, TimeframeGroupId) ∷ []
-columns_of Product = (file.FareProducts, FareProductId) ∷ []
-columns_of Group = (file.FareLegRules, LegGroupId) ∷ []
+-- the files of the tables have no fault by themselves; the rows by id and the names of each kind are those of the tables
+pub record IsSource (t ids : FeedTables) (services networks frames products groups : List (List ℕ)) : Type 0 where
+  pub formed : AreFormed t
+  pub ids_are : ids ≡ t
+  pub services_are : services ≡ service_names t
+  pub networks_are : networks ≡ network_names t
+  pub frames_are : frames ≡ frame_names t
+  pub products_are : products ≡ product_names t
+  pub groups_are : groups ≡ group_names t

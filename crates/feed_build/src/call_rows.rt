@@ -8,8 +8,8 @@ ghost use Rattle.feed_build.specs.CallRows.{call_row, call_fault, fields_behind}
 ghost use Rattle.feed_build.specs.CallsSoFar.{HasCalls, IsOwnFault};
 
 use crate::call_fields::read_call_fields;
+use crate::rows::is_code;
 use crate::stop_times::{CallError, StopTimes};
-use crate::values::is_code;
 use feed_rows::{CallTime, ColumnName, FeedFault, FileName, StopTimeRow, StopTimeRows};
 use feed_tables::{CallIds, NamedTable, RecordRow};
 use feed_text::{Fields, Records, SeenTable, Table, header_fault, nat_of, natural};

@@ -1,18 +1,165 @@
 //! A feed from the tables of its files.
-ghost use Rattle.std.specs.Prelude.{◌≡◌, IfOk};
+ghost use Rattle.std.specs.Prelude.{◌≡◌, ◌<◌, ℕ, Ok, IfOk};
 ghost use Rattle.feed_rows.specs.declared.names.FileName.TheVariants as file;
+ghost use Rattle.feed_tables.specs.IdColumns.{file_of, name_of};
+ghost use Rattle.feed_faults.specs.Records.{row_count};
 ghost use Rattle.feed_faults.specs.FeedTables.{table_in};
-ghost use Rattle.feed_faults.specs.AcceptedFeed.{typed_rows, rows_of_tables, stop_time_row};
+ghost use Rattle.feed_faults.specs.AcceptedFeed.{row_number, typed_rows, rows_of_tables, stop_time_row};
 ghost use Rattle.feed_soundness.specs.AcceptedTables.{AreFormed, AreRelated};
 
-use crate::fares::{feed_currency, feed_decimals};
-use crate::name_kinds::NameKind;
-use crate::rows::{rows_of_four, typed_rows};
-use crate::source::Source;
-use crate::timetable::link_rows;
+use crate::names::{NameHash, Numbering};
 use feed_rows::{ColumnName, Feed, FileName, StopTimeRows};
-use feed_tables::{CallTable, Ids, Tables};
+use feed_tables::{CallTable, IdColumn, Ids, Tables};
+use plain_laws::ItemList;
 use std::alloc::{AllocError, Global};
+use std::marker::Model;
+
+/// The tables of a feed whose files have no fault by themselves, with their rows by id and with the names that have no rows of
+/// their own. Contracts see it as the tables.
+pub struct Source<'t, C: CallTable> {
+    pub alloc: Global,
+    pub tables: &'t Tables<'t, C>,
+    pub ids: &'t Ids<'t, C>,
+    /// The names of services.
+    pub services: Numbering<'t>,
+    /// The names of fare networks.
+    pub networks: Numbering<'t>,
+    /// The names of timeframe groups.
+    pub frames: Numbering<'t>,
+    /// The names of fare products.
+    pub products: Numbering<'t>,
+    /// The names of leg groups.
+    pub groups: Numbering<'t>,
+}
+
+impl<'t, C: CallTable> Model for Source<'t, C> {
+    ghost use Rattle.feed_faults.specs.FeedTables.{FeedTables};
+    ghost use Rattle.feed_build.specs.NameNumbers.{IsSource};
+
+    ghost Value = { FeedTables };
+
+    ghost view = { λ s. s.tables.now };
+
+    ghost invariant = { λ s. IsSource s.tables.now s.ids.now s.services s.networks s.frames s.products s.groups };
+}
+
+// Written out, so that what lets go of a source needn't look into it.
+impl<'t, C: CallTable> Drop for Source<'t, C> {
+    fn drop(self) {
+        let Source {
+            alloc: _,
+            tables: _,
+            ids: _,
+            services: _,
+            networks: _,
+            frames: _,
+            products: _,
+            groups: _,
+        } = self;
+    }
+}
+
+impl<'t, C: CallTable> Source<'t, C> {
+    // The source of these tables.
+    fn of(
+        alloc: Global,
+        tables: &'t Tables<'t, C>,
+        ids: &'t Ids<'t, C>,
+    ) -> Result<Source<'t, C>, AllocError>
+        requires formed { AreFormed tables.now }
+        requires ids { ids.now ≡ tables.now }
+        ensures { IfOk result (λ source. source ≡ tables.now) }
+    {
+        let hash = NameHash::of(tables);
+        Ok(Source {
+            alloc,
+            tables,
+            ids,
+            services: Numbering::none(alloc, hash)
+                .with_column(tables.get(FileName::Trips), ColumnName::ServiceId)?
+                .with_column(tables.get(FileName::Calendar), ColumnName::ServiceId)?
+                .with_column(tables.get(FileName::CalendarDates), ColumnName::ServiceId)?
+                .with_column(tables.get(FileName::Timeframes), ColumnName::ServiceId)?,
+            networks: Numbering::none(alloc, hash)
+                .with_column(tables.get(FileName::Routes), ColumnName::NetworkId)?
+                .with_column(tables.get(FileName::Networks), ColumnName::NetworkId)?,
+            frames: Numbering::none(alloc, hash).with_column(
+                tables.get(FileName::Timeframes),
+                ColumnName::TimeframeGroupId,
+            )?,
+            products: Numbering::none(alloc, hash).with_column(
+                tables.get(FileName::FareProducts),
+                ColumnName::FareProductId,
+            )?,
+            groups: Numbering::none(alloc, hash).with_column(
+                tables.get(FileName::FareLegRules),
+                ColumnName::LegGroupId,
+            )?,
+        })
+    }
+
+    /// The number of the earliest row that has the id in a column; that after the last row where no row has it.
+    pub fn number(&self, column: IdColumn, id: &[u8]) -> u32
+        ensures { result ≡ row_number (table_in self.now (file_of column)) (name_of column) id.now }
+    {
+        self.ids.get(column).number(id)
+    }
+
+    // What the rows of a file give, in order.
+    fn rows_of<R: Drop, F: Fn(u32) -> Result<R, AllocError>>(
+        &self,
+        file: FileName,
+        row_at: F,
+    ) -> Result<ItemList<R>, AllocError>
+        requires { (row : ℕ) → row < row_count (table_in self.now file) → F.pre row_at row }
+        ensures { (row_in : ℕ → R) → ((row : ℕ) (made : R) → F.post row_at row (Ok made) → made ≡ row_in row) → IfOk result (λ rows. rows ≡ typed_rows (table_in self.now file) row_in) }
+    {
+        let mut rows = ItemList::empty(self.alloc);
+        for row in 0..self.tables.rows(file) {
+            rows.push(row_at(row)?)?;
+        }
+        Ok(rows)
+    }
+
+    // The feed, with these rows of stop_times.txt.
+    fn feed(&self, stop_times: StopTimeRows) -> Result<Feed, AllocError>
+        requires related { AreRelated self.now }
+        requires stop_times { stop_times ≡ typed_rows (table_in self.now file.StopTimes) (stop_time_row self.now) }
+        ensures { IfOk result (λ feed. feed ≡ rows_of_tables self.now) }
+    {
+        let fare_leg_rules = self.tables.get(FileName::FareLegRules);
+        let (currency, decimals) = self.currency();
+        Ok(Feed {
+            stops: self.rows_of(FileName::Stops, |row| self.stop_row(row))?,
+            routes: self.rows_of(FileName::Routes, |row| self.route_row(row))?,
+            trips: self.rows_of(FileName::Trips, |row| self.trip_row(row))?,
+            stop_times,
+            services: self.rows_of(FileName::Calendar, |row| Ok(self.service_row(row)))?,
+            exceptions: self.rows_of(FileName::CalendarDates, |row| Ok(self.exception_row(row)))?,
+            frequencies: self.rows_of(FileName::Frequencies, |row| Ok(self.frequency_row(row)))?,
+            links: self.link_rows()?,
+            areas: self.rows_of(FileName::Areas, |row| self.area_row(row))?,
+            stop_areas: self.rows_of(FileName::StopAreas, |row| Ok(self.stop_area_row(row)))?,
+            timeframes: self.rows_of(FileName::Timeframes, |row| Ok(self.timeframe_row(row)))?,
+            riders: self.rows_of(FileName::RiderCategories, |row| self.rider_row(row))?,
+            media: self.rows_of(FileName::FareMedia, |row| self.medium_row(row))?,
+            products: self.rows_of(FileName::FareProducts, |row| Ok(self.product_row(row)))?,
+            leg_rules: self.rows_of(FileName::FareLegRules, |row| Ok(self.leg_rule_row(row)))?,
+            transfer_rules: self.rows_of(
+                FileName::FareTransferRules,
+                |row| Ok(self.transfer_rule_row(row)),
+            )?,
+            service_names: self.services.ids(self.alloc)?,
+            network_names: self.networks.ids(self.alloc)?,
+            frame_names: self.frames.ids(self.alloc)?,
+            product_names: self.products.ids(self.alloc)?,
+            group_names: self.groups.ids(self.alloc)?,
+            has_priority: fare_leg_rules.has(ColumnName::RulePriority),
+            currency,
+            decimals,
+        })
+    }
+}
 
 /// The feed of tables in which both passes find no fault: the typed rows of each file, with row numbers in place of ids, and
 /// names numbered by first appearance. The rows of stop_times.txt are given.
@@ -31,35 +178,5 @@ pub fn feed_of_tables<C: CallTable>(
     requires stop_times { stop_times ≡ typed_rows (table_in tables.now file.StopTimes) (stop_time_row tables.now) }
     ensures { IfOk result (λ feed. feed ≡ rows_of_tables tables.now) }
 {
-    let source = Source::of(alloc, tables, ids)?;
-    let (stops, routes, trips, services) = rows_of_four(&source)?;
-    let (exceptions, frequencies, areas, stop_areas) = rows_of_four(&source)?;
-    let (timeframes, riders, media, products) = rows_of_four(&source)?;
-    let fare_leg_rules = tables.get(FileName::FareLegRules);
-    Ok(Feed {
-        stops,
-        routes,
-        trips,
-        stop_times,
-        services,
-        exceptions,
-        frequencies,
-        links: link_rows(&source)?,
-        areas,
-        stop_areas,
-        timeframes,
-        riders,
-        media,
-        products,
-        leg_rules: typed_rows(&source)?,
-        transfer_rules: typed_rows(&source)?,
-        service_names: source.names(NameKind::Service).ids(alloc)?,
-        network_names: source.names(NameKind::Network).ids(alloc)?,
-        frame_names: source.names(NameKind::Frame).ids(alloc)?,
-        product_names: source.names(NameKind::Product).ids(alloc)?,
-        group_names: source.names(NameKind::Group).ids(alloc)?,
-        has_priority: fare_leg_rules.has(ColumnName::RulePriority),
-        currency: feed_currency(tables),
-        decimals: feed_decimals(tables),
-    })
+    Source::of(alloc, tables, ids)?.feed(stop_times)
 }

@@ -4,16 +4,10 @@
 
 mod call_fields;
 mod call_rows;
-mod fares;
 mod feed;
-mod name_hash;
-mod name_kinds;
-mod numbering;
+mod names;
 mod rows;
-mod source;
 mod stop_times;
-mod timetable;
-mod values;
 
 pub use feed::feed_of_tables;
 pub use stop_times::{CallError, StopTimes, read_stop_times};

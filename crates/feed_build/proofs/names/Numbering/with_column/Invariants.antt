@@ -1,7 +1,7 @@
 use Rattle.std.proofs.Common.{◌≡◌, ◌≤◌, ◌+◌, length}
 use Rattle.feed_faults.specs.AcceptedFeed.{with_names}
 use Rattle.feed_build.specs.NameNumbers.{IsNumbering, names_in}
-use Rattle.feed_build.proofs.numbering.Numbering.with_column.Given as goal
+use Rattle.feed_build.proofs.names.Numbering.with_column.Given as goal
 
 abbrev pub invariant-loop-row : goal.invariant-loop-row
 invariant-loop-row l =

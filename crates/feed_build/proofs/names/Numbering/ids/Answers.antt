@@ -1,6 +1,6 @@
 use Rattle.std.proofs.Common.{◌∙◌, sym, ap, ◌≤◌, ◌++◌, ◌∷◌, [], take, map, length}
 use Rattle.feed_build.proofs.NumberLaws.{name_at, name_taken}
-use Rattle.feed_build.proofs.numbering.Numbering.ids.Goals as goal
+use Rattle.feed_build.proofs.names.Numbering.ids.Goals as goal
 
 pub copy_of-requires-clause-some : goal.copy_of-requires-clause-some
 copy_of-requires-clause-some c =

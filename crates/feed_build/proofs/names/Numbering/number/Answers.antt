@@ -3,7 +3,7 @@ use Rattle.std.proofs.lemmas.List.{length-map}
 use Rattle.feed_faults.specs.AcceptedFeed.{place_of_name}
 use Rattle.feed_build.specs.NameNumbers.{names_in}
 use Rattle.feed_build.proofs.NumberLaws.{place_is}
-use Rattle.feed_build.proofs.numbering.Numbering.number.Goals as goal
+use Rattle.feed_build.proofs.names.Numbering.number.Goals as goal
 
 pub returns-in-Some : goal.returns-in-Some
 returns-in-Some c =

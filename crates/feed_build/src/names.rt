@@ -1,0 +1,144 @@
+//! Names that have no rows of their own, numbered by their first appearance.
+ghost use Rattle.std.specs.Hash as fed;
+ghost use Rattle.std.specs.Hash.DefaultHasher.{initial, write};
+ghost use Rattle.std.specs.Prelude.{◌≡◌, ◌+◌, ◌<◌, ◌≤◌, ◌^◌, [], fold, length, IfOk};
+ghost use Rattle.feed_faults.specs.Records.{row_count};
+ghost use Rattle.feed_faults.specs.AcceptedFeed.{name_number, with_column};
+ghost use Rattle.feed_build.specs.NameNumbers.{AreShort};
+
+use feed_rows::{ColumnName, FileName, Id, NameList};
+use feed_tables::{CallTable, NamedTable, Tables};
+use feed_text::is_filled;
+use indexmap::IndexSet;
+use std::alloc::{AllocError, Global};
+use std::hash::{BuildHasher, DefaultHasher, Hasher};
+use std::marker::Model;
+
+// The columns of such names.
+const NAME_COLUMNS: [(FileName, ColumnName); 9] = [
+    (FileName::Trips, ColumnName::ServiceId),
+    (FileName::Calendar, ColumnName::ServiceId),
+    (FileName::CalendarDates, ColumnName::ServiceId),
+    (FileName::Timeframes, ColumnName::ServiceId),
+    (FileName::Routes, ColumnName::NetworkId),
+    (FileName::Networks, ColumnName::NetworkId),
+    (FileName::Timeframes, ColumnName::TimeframeGroupId),
+    (FileName::FareProducts, ColumnName::FareProductId),
+    (FileName::FareLegRules, ColumnName::LegGroupId),
+];
+
+/// A hash with a seed. Names are a stranger's text, and no random number is at hand where a feed is read, so the seed is made
+/// of all the names of the feed: whoever chooses names to collide changes the seed by them. That makes a slow feed hard to
+/// find, and isn't a promise that there is none.
+#[derive(Clone, Copy)]
+pub struct NameHash {
+    seed: u64,
+}
+
+impl NameHash {
+    /// The hash for the names of these tables.
+    pub fn of<C: CallTable>(tables: &Tables<C>) -> NameHash {
+        let mut hasher = DefaultHasher::new();
+        for (file, column) in NAME_COLUMNS {
+            let table = tables.get(file);
+            for row in 0..table.rows() {
+                hasher.write(table.field(row, column));
+            }
+        }
+        NameHash {
+            seed: hasher.finish(),
+        }
+    }
+}
+
+impl BuildHasher for NameHash {
+    type Hasher = DefaultHasher;
+
+    ghost build_hasher = { λ s. fold write initial (fed.u64 s.seed) };
+
+    fn build_hasher(&self) -> DefaultHasher {
+        let mut hasher = DefaultHasher::new();
+        hasher.write_u64(self.seed);
+        hasher
+    }
+}
+
+/// Names in the order of their first appearance, which is their numbers. Contracts see it as the list of names.
+pub struct Numbering<'t> {
+    names: IndexSet<&'t [u8], NameHash>,
+}
+
+// Written out, so that what lets go of the names needn't look into their set.
+impl<'t> Drop for Numbering<'t> {
+    fn drop(self) {
+        let Numbering { names: _ } = self;
+    }
+}
+
+impl<'t> Model for Numbering<'t> {
+    ghost use Rattle.std.specs.Prelude.{ℕ, List};
+    ghost use Rattle.feed_build.specs.NameNumbers.{IsNumbering, names_in};
+
+    ghost Value = { List (List ℕ) };
+
+    ghost view = { λ n. names_in n.names };
+
+    ghost invariant = { λ n. IsNumbering (names_in n.names) };
+}
+
+impl<'t> Numbering<'t> {
+    /// No names yet.
+    pub fn none(alloc: Global, hash: NameHash) -> Numbering<'t>
+        ensures { result ≡ [] }
+    {
+        Numbering {
+            names: IndexSet::with_hasher(alloc, hash),
+        }
+    }
+
+    /// These names and behind them the new ones of a column.
+    ///
+    /// # Errors
+    /// Want of memory.
+    #[tactic(auto, unfolding(feed_faults::specs::AcceptedFeed::with_name))]
+    pub fn with_column(self, table: &'t NamedTable, column: ColumnName) -> Result<Self, AllocError>
+        requires short { AreShort table.now column }
+        requires few { length self + row_count table.now < 2 ^ 32 }
+        ensures names { IfOk result (λ names. names ≡ with_column self.entry table.now column) }
+        ensures grows { IfOk result (λ names. length names ≤ length self.entry + row_count table.now) }
+    {
+        let Numbering { mut names } = self;
+        for row in 0..table.rows() {
+            let name = table.field(row, column);
+            if is_filled(name) {
+                names.insert(name)?;
+            }
+        }
+        Ok(Numbering { names })
+    }
+
+    /// The place of a name; the number of names where it isn't one of them.
+    pub fn number(&self, name: &[u8]) -> u32
+        ensures { result ≡ name_number self.now name.now }
+    {
+        match self.names.get_index_of(name) {
+            Some(place) => place as u32,
+            None => self.names.len() as u32,
+        }
+    }
+
+    /// The names, as ids.
+    ///
+    /// # Errors
+    /// Want of memory.
+    pub fn ids(&self, alloc: Global) -> Result<NameList, AllocError>
+        ensures { IfOk result (λ ids. ids ≡ self.now) }
+    {
+        let names = self.names.as_slice();
+        let mut ids = NameList::empty(alloc);
+        for place in 0..names.len() {
+            ids.push(Id::copy_of(alloc, names[place])?)?;
+        }
+        Ok(ids)
+    }
+}
