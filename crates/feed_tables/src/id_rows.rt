@@ -7,8 +7,8 @@ ghost use Rattle.feed_faults.specs.Records.{row_count};
 ghost use Rattle.feed_tables.specs.OrderedRows.{IsPrefixed, AreIdRows, AreOrderedRows, IsNotAfter, IsPlaceOf, IsFirst, HasIdBefore, is_id_before};
 
 use crate::id_keys::prefix_of;
-use crate::named::NamedTable;
 use feed_rows::ColumnName;
+use feed_text::Table;
 use std::alloc::{AllocError, Global};
 
 // A row, its id, and the number that the id begins with, by which most ids are told apart.
@@ -22,7 +22,7 @@ pub struct IdRow<'t> {
 // The rows in the order of the table, each with its id.
 fn id_rows<'t>(
     alloc: Global,
-    table: &'t NamedTable,
+    table: &'t Table,
     name: ColumnName,
 ) -> Result<Vec<IdRow<'t>>, AllocError>
     ensures { IfOk result (λ rows. AreIdRows table.now name (row_count table.now) rows.items) }
@@ -42,7 +42,7 @@ fn id_rows<'t>(
 /// The rows in the order of their ids; those of one id stay in the order of the table.
 pub fn ordered_rows<'t>(
     alloc: Global,
-    table: &'t NamedTable,
+    table: &'t Table,
     name: ColumnName,
 ) -> Result<Vec<IdRow<'t>>, AllocError>
     ensures { IfOk result (λ rows. AreOrderedRows table.now name rows.items) }

@@ -7,17 +7,17 @@ ghost use Rattle.feed_tables.specs.IdKeys.{IsKeyOf};
 
 use crate::id_keys::key_of;
 use crate::id_rows::{IdRow, ordered_rows, place_of};
-use crate::named::NamedTable;
 use crate::seek::Seek;
 use crate::slots::{Slots, slots_of};
 use feed_rows::ColumnName;
+use feed_text::Table;
 use std::alloc::{AllocError, Global};
 use std::marker::Model;
 
 /// The rows of a table by their fields in one of its columns. Contracts see it as the table and the column.
 #[derive(Drop)]
 pub struct IdIndex<'t> {
-    table: &'t NamedTable,
+    table: &'t Table,
     name: ColumnName,
     // All rows, in the order of their ids.
     rows: Vec<IdRow<'t>>,
@@ -41,11 +41,7 @@ impl<'t> IdIndex<'t> {
     ///
     /// # Errors
     /// Want of memory.
-    pub fn of(
-        alloc: Global,
-        table: &'t NamedTable,
-        name: ColumnName,
-    ) -> Result<IdIndex<'t>, AllocError>
+    pub fn of(alloc: Global, table: &'t Table, name: ColumnName) -> Result<IdIndex<'t>, AllocError>
         ensures { IfOk result (λ index. index ≡ record { table = table.now; name = name }) }
     {
         let rows = ordered_rows(alloc, table, name)?;

@@ -1,28 +1,21 @@
 //! The tables of a feed's files, with the first pass of faults: what is wrong with a file by itself.
 #![tactic(auto)]
 
-mod files;
 mod id_keys;
 mod id_rows;
 mod ids;
 mod index;
 mod kinds;
-mod named;
-mod read_table;
 mod reading;
-mod record_row;
 mod rows;
 mod seek;
 mod slots;
 mod tables;
 
-pub use files::MOST_ROWS;
 pub use ids::{CallIds, IdColumn, Ids};
 pub use index::IdIndex;
 pub use kinds::{frame_end, frame_start, stop_kind};
-pub use named::{NamedTable, TableRow};
-pub use read_table::ReadTable;
-pub use reading::read_tables;
-pub use record_row::RecordRow;
+pub use reading::{MOST_ROWS, read_tables};
+pub use rows::ReadTable;
 pub use seek::{LastSought, Seek};
 pub use tables::{CallTable, Tables};

@@ -9,9 +9,9 @@ ghost use Rattle.feed_text.specs.RowLimits.{row_limit};
 ghost use Rattle.feed_tables.specs.KeptTables.{tables_with, AreKept};
 ghost use Rattle.feed_tables.specs.RowNumbers.{has_table};
 
-use crate::named::NamedTable;
-use crate::read_table::ReadTable;
+use crate::rows::ReadTable;
 use feed_rows::FileName;
+use feed_text::Table;
 use std::marker::{Brand, Model, PhantomData};
 
 /// The table of stop_times.txt, of which only rows are kept. Contracts alone know it: a call of a function over a
@@ -87,7 +87,7 @@ impl<'t, C: CallTable> Tables<'t, C> {
     }
 
     /// The table of a file.
-    pub fn get(&self, file: FileName) -> &'t NamedTable
+    pub fn get(&self, file: FileName) -> &'t Table
         requires { has_table file ≡ true }
         ensures { result.now ≡ table_in self.now file }
     {
