@@ -1,6 +1,6 @@
 -- Reading in a table whose records are kept flat among its fields.
 use Rattle.std.proofs.Common.{◌≡◌, ℕ, ◌+◌, ◌-◌, ◌<◌, ◌≤◌, List, [], ◌∷◌, bytes_eq, length, take, drop, get_or, refl, sym, ap, ◌∙◌, arith, false, Bool, length-drop, length-take}
-use Rattle.std.specs.Prelude.{nat_le, ◌&&◌, map, Option, Some, None}
+use Rattle.std.specs.Prelude.{nat_le, ◌&&◌, map, Some, None}
 use Rattle.std.specs.List.{list_any, range_with_len}
 use Rattle.std.proofs.lemmas.List.{get_or-take, get_or-drop, get_or_past}
 use Rattle.plain_laws.specs.Plain.{parts, Rise, start_of, find_below, any_below}

@@ -1,7 +1,7 @@
--- What is found or met in a range.
-use Rattle.std.proofs.Common.{◌≡◌, ◌∙◌, ◌⊎◌, inl, inr, ⊎_elim, ℕ, zero, suc, ◌+◌, ◌-◌, ◌<◌, ◌≤◌, ◌++◌, ◌∷◌, [], Bool, true, false, Option, None, Some, refl, sym, ap, arith}
-use Rattle.std.specs.Prelude.{nat_le, ◌&&◌, ◌||◌}
-use Rattle.std.specs.List.{list_any, range_with_len}
+-- What is found or met in a range or a text.
+use Rattle.std.proofs.Common.{◌≡◌, ◌∙◌, ⊎_elim, ℕ, zero, suc, ◌+◌, ◌-◌, ◌<◌, ◌≤◌, ◌++◌, ◌∷◌, [], Bool, true, false, Option, None, Some, refl, sym, ap, arith}
+use Rattle.std.specs.Prelude.{nat_le, ◌&&◌, ◌||◌, List, length, slice_index}
+use Rattle.std.specs.List.{list_any, range_with_len, AllWithin, HoldsAt}
 use Rattle.std.specs.Option.{MatchOption}
 use Rattle.std.proofs.lemmas.Bool.{cases_lt, false_from_ne_true}
 use Rattle.std.proofs.lemmas.Bool.Decides.{nat_tests}
@@ -17,6 +17,14 @@ pub found_below : (test : ℕ → Bool) (n : ℕ) (r : Option ℕ)
     → r ≡ find_below n test
 found_below test n None none = sym (find_below_none test n (λ k lt. sym (none k (omega arith) lt)))
 found_below test n (Some i) first = sym (find_below_hit test n i (record { within = first.1; passes = sym first.2; earlier = λ k lt. sym (first.3 k (omega arith) lt) }))
+
+-- and so is the first byte of a text
+pub byte_found : (test : ℕ → Bool) (xs : List ℕ) (r : Option ℕ)
+    → MatchOption r (AllWithin (λ y. false ≡ test y) xs 0 (length xs)) (λ i. (i < length xs) × HoldsAt (λ y. true ≡ test y) xs i × AllWithin (λ y. false ≡ test y) xs 0 i)
+    → r ≡ find_below (length xs) (λ i. test (slice_index xs i))
+byte_found test xs None none = sym (find_below_none (λ i. test (slice_index xs i)) (length xs) (λ k lt. sym (none k 0 (omega arith) lt)))
+byte_found test xs (Some i) first =
+    sym (find_below_hit (λ i. test (slice_index xs i)) (length xs) i (record { within = first.0; passes = sym (first.1 0); earlier = λ k lt. sym (first.2 k 0 (omega arith) lt) }))
 
 range_more : (a n j : ℕ) → a + n ≡ j → range_with_len a (suc n) ≡ range_with_len a n ++ j ∷ []
 range_more a zero j e = let same : a ≡ j = omega (arith, e) in ap (λ k. k ∷ []) same

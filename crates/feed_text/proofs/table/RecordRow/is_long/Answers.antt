@@ -1,9 +1,7 @@
-use Rattle.std.proofs.Common.{◌≡◌, ◌∙◌, ℕ, [], length, refl, sym, ap, get_or, arith, rules, tests}
-use Rattle.std.specs.Prelude.{nat_le, ◌&&◌}
+use Rattle.std.proofs.Common.{◌∙◌, ℕ, [], refl, get_or, rules, tests}
 use Rattle.std.proofs.lemmas.Iterator.{YieldsList-from_range}
 use Rattle.std.proofs.lemmas.Iterator.Search.{any_from_yields_List}
-use Rattle.plain_laws.specs.Plain.{any_below}
-use Rattle.feed_faults.specs.Records.{header, is_filled, is_long}
+use Rattle.feed_faults.specs.Records.{is_filled, is_long}
 use Rattle.feed_text.specs.Reader.{last_record}
 use Rattle.feed_text.proofs.RangeLaws.{any_from}
 use Rattle.feed_text.proofs.table.RecordRow.is_long.Goals as goal

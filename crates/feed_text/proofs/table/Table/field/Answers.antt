@@ -1,9 +1,8 @@
-use Rattle.std.proofs.Common.{◌≡◌, ◌∙◌, ℕ, List, Some, None, ◌+◌, ◌<◌, [], length, refl, sym, ap, get_or, arith, rules, tests}
-use Rattle.std.specs.Option.{option_map_or}
+use Rattle.std.proofs.Common.{◌≡◌, ◌∙◌, ℕ, List, Some, None, ◌+◌, ◌<◌, [], length, refl, sym, ap, get_or, arith}
 use Rattle.std.proofs.lemmas.Option.{get_or_from_slice_get}
-use Rattle.plain_laws.specs.Plain.{parts, start_of}
+use Rattle.plain_laws.specs.Plain.{start_of}
 use Rattle.plain_laws.proofs.Laws.{length_parts}
-use Rattle.feed_faults.specs.Records.{field, column_of, data_row}
+use Rattle.feed_faults.specs.Records.{field, column_of}
 use Rattle.feed_text.proofs.AccessLaws.{field_there, field_short}
 use Rattle.feed_text.proofs.table.Table.field.Goals.{in_default-via-in-Some+else-column-end, in_default-via-in_default}
 use Rattle.feed_text.proofs.table.Table.field.Goals as goal
