@@ -1,22 +1,11 @@
 -- The faults of a file before its rows.
-use Rattle.std.proofs.Common.{◌≡◌, refl, sym, ℕ, ◌≤◌, Bool, true, false, List, length, Option, Some, None, nat_lt, arith}
-use Rattle.std.specs.Prelude.{not, if◌then◌else◌}
+use Rattle.std.proofs.Common.{◌≡◌, refl, sym, Bool, Option, Some, None}
 use Rattle.std.specs.Option.{option_or}
-use Rattle.std.specs.Str.{is_utf8}
-use Rattle.std.proofs.lemmas.Bool.Decides.{nat_tests}
-use Rattle.std.proofs.lemmas.Option.{none-some}
 use Rattle.feed_rows.specs.declared.names.FileName.{FileName}
-use Rattle.feed_rows.specs.declared.faults.FaultKind.TheVariants as kind
-use Rattle.plain_laws.specs.Plain.{when}
-use Rattle.feed_faults.specs.Records.{row_count, table_of_bytes}
-use Rattle.feed_faults.specs.FaultPlaces.{file_fault}
 use Rattle.feed_rows.specs.HeldFiles.{HeldFile}
 use Rattle.feed_faults.specs.FeedTables.{table_of}
+use Rattle.feed_faults.specs.FormFaults.{form_fault_of_held, form_fault_of_rows}
 use Rattle.feed_tables.specs.RowNumbers.{held_fault_before_rows}
-use Rattle.feed_faults.specs.FormFaults.{header_fault, form_fault_of_held, form_fault_of_rows, form_fault_of_bytes, form_fault_of_table, is_always_needed}
-use Rattle.feed_text.specs.declared.errors.TextError.{TextError}
-use Rattle.feed_text.specs.declared.errors.TextError.TheVariants as error
-use Rattle.feed_text.specs.TextErrors.{IsErrorOf}
 
 or_none : {X : Type 0} (o : Option X) → option_or o None ≡ o
 or_none None = refl

@@ -5,7 +5,6 @@ mod id_keys;
 mod id_rows;
 mod ids;
 mod index;
-mod kinds;
 mod reading;
 mod rows;
 mod seek;
@@ -14,8 +13,7 @@ mod tables;
 
 pub use ids::{CallIds, IdColumn, Ids};
 pub use index::IdIndex;
-pub use kinds::{frame_end, frame_start, stop_kind};
 pub use reading::{MOST_ROWS, read_tables};
 pub use rows::ReadTable;
 pub use seek::{LastSought, Seek};
-pub use tables::{CallTable, Tables};
+pub use tables::{CallTable, Tables, frame_end, frame_start, stop_kind};
