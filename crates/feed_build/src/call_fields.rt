@@ -7,10 +7,9 @@ ghost use Rattle.feed_text.specs.FieldNumbers.{numbers_of};
 ghost use Rattle.feed_text.specs.RowLimits.{row_limit};
 ghost use Rattle.feed_build.specs.CallRows.{call_fault, fields_behind};
 
-use feed_faults::columns_of;
+use feed_faults::rule_of;
 use feed_rows::{FaultKind, FeedFault, FileName};
-use feed_tables::RecordRow;
-use feed_text::{read_column, read_found, row_fault};
+use feed_text::{RecordRow, read_column, read_found, row_fault};
 use std::io::Read;
 
 /// What the fields of a stop time tell, in the order of its columns, or the first fault of its row. Column by column and not
@@ -34,7 +33,7 @@ pub fn read_call_fields<R: Read>(
     if fields.is_long() {
         return Err(row_fault(file, row, FaultKind::LongRow));
     }
-    let &[trip, stop, sequence, arrival, departure, pickup, drop_off] = columns_of(file) else {
+    let &[trip, stop, sequence, arrival, departure, pickup, drop_off] = rule_of(file).columns else {
         unreachable!();
     };
     let trip = read_found(file, row, fields, trip, trip_id)?;

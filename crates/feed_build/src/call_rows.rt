@@ -11,8 +11,8 @@ use crate::call_fields::read_call_fields;
 use crate::rows::is_code;
 use crate::stop_times::{CallError, StopTimes};
 use feed_rows::{CallTime, ColumnName, FeedFault, FileName, StopTimeRow, StopTimeRows};
-use feed_tables::{CallIds, NamedTable, RecordRow};
-use feed_text::{Fields, Records, SeenTable, Table, header_fault, nat_of, natural};
+use feed_tables::CallIds;
+use feed_text::{Fields, RecordRow, Records, SeenTable, Table, header_fault, nat_of, natural};
 use std::alloc::{AllocError, Global};
 use std::io::Read;
 use transit_base::{StopId, TripId};
@@ -23,7 +23,7 @@ const NOT_AVAILABLE: u32 = 1;
 /// The rows of the stop times that were read, up to the first fault.
 pub struct CallRows<'i, 't> {
     ids: &'i CallIds<'t>,
-    header: NamedTable,
+    header: Table,
     // Where the trip of the row before was looked for.
     last_trip: usize,
     rows: StopTimeRows,
@@ -96,7 +96,7 @@ impl<'i, 't> CallRows<'i, 't> {
         table.see(records)?;
         Ok(CallRows {
             ids,
-            header: NamedTable::of(alloc, header)?,
+            header,
             last_trip: 0,
             rows: StopTimeRows::empty(alloc),
             table,

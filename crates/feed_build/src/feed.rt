@@ -1,15 +1,16 @@
 //! A feed from the tables of its files.
 ghost use Rattle.std.specs.Prelude.{◌≡◌, ◌<◌, ℕ, Ok, IfOk};
 ghost use Rattle.feed_rows.specs.declared.names.FileName.TheVariants as file;
-ghost use Rattle.feed_tables.specs.IdColumns.{file_of, name_of};
+ghost use Rattle.feed_faults.specs.RowChecks.{id_place};
 ghost use Rattle.feed_faults.specs.Records.{row_count};
 ghost use Rattle.feed_faults.specs.FeedTables.{table_in};
 ghost use Rattle.feed_faults.specs.AcceptedFeed.{row_number, typed_rows, rows_of_tables, stop_time_row};
 ghost use Rattle.feed_soundness.specs.AcceptedTables.{AreFormed, AreRelated};
 
 use crate::names::{NameHash, Numbering};
+use feed_faults::IdColumn;
 use feed_rows::{ColumnName, Feed, FileName, StopTimeRows};
-use feed_tables::{CallTable, IdColumn, Ids, Tables};
+use feed_tables::{CallTable, Ids, Tables};
 use plain_laws::ItemList;
 use std::alloc::{AllocError, Global};
 use std::marker::Model;
@@ -100,7 +101,7 @@ impl<'t, C: CallTable> Source<'t, C> {
 
     /// The number of the earliest row that has the id in a column; that after the last row where no row has it.
     pub fn number(&self, column: IdColumn, id: &[u8]) -> u32
-        ensures { result ≡ row_number (table_in self.now (file_of column)) (name_of column) id.now }
+        ensures { result ≡ row_number (table_in self.now (id_place column).0) (id_place column).1 id.now }
     {
         self.ids.get(column).number(id)
     }

@@ -7,8 +7,8 @@ ghost use Rattle.feed_faults.specs.AcceptedFeed.{name_number, with_column};
 ghost use Rattle.feed_build.specs.NameNumbers.{AreShort};
 
 use feed_rows::{ColumnName, FileName, Id, NameList};
-use feed_tables::{CallTable, NamedTable, Tables};
-use feed_text::is_filled;
+use feed_tables::{CallTable, Tables};
+use feed_text::{Table, is_filled};
 use indexmap::IndexSet;
 use std::alloc::{AllocError, Global};
 use std::hash::{BuildHasher, DefaultHasher, Hasher};
@@ -101,7 +101,7 @@ impl<'t> Numbering<'t> {
     /// # Errors
     /// Want of memory.
     #[tactic(auto, unfolding(feed_faults::specs::AcceptedFeed::with_name))]
-    pub fn with_column(self, table: &'t NamedTable, column: ColumnName) -> Result<Self, AllocError>
+    pub fn with_column(self, table: &'t Table, column: ColumnName) -> Result<Self, AllocError>
         requires short { AreShort table.now column }
         requires few { length self + row_count table.now < 2 ^ 32 }
         ensures names { IfOk result (λ names. names ≡ with_column self.entry table.now column) }

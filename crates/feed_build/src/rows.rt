@@ -9,12 +9,13 @@ ghost use Rattle.feed_faults.specs.FieldValues.{nat_of};
 ghost use Rattle.feed_faults.specs.AcceptedFeed.{if_filled, stop_row, network_of_route, route_row, trip_row, service_row, exception_row, frequency_row, link_row, area_row, stop_area_row, timeframe_row, rider_row, medium_row, product_row, leg_rule_row, transfer_rule_row, feed_currency, feed_decimals};
 
 use crate::feed::Source;
+use feed_faults::IdColumn;
 use feed_rows::{
     AreaRow, ColumnName, ExceptionRow, FileName, FrequencyRow, Id, LegRuleRow, Limit, LinkRow,
     LinkRows, MediumRow, PLATFORM, ProductRow, RiderRow, RouteRow, ServiceRow, StopAreaRow,
     StopRow, TimeframeRow, TransferRuleRow, TripRow,
 };
-use feed_tables::{CallTable, IdColumn};
+use feed_tables::CallTable;
 use feed_text::{is_filled, is_passed_over, nat_of, natural};
 use std::alloc::AllocError;
 use transit_base::{

@@ -18,7 +18,8 @@ ghost use Rattle.feed_relations.specs.JudgedBy.{AreCallsNamed, AreJudged, IsTrip
 
 use feed_faults::IdColumn;
 use feed_rows::{FileName, PLATFORM, StopTimeRow};
-use feed_tables::{CallTable, IdIndex, Ids, NamedTable, Tables, stop_kind};
+use feed_tables::{CallTable, IdIndex, Ids, Tables, stop_kind};
+use feed_text::Table;
 use std::alloc::{AllocError, Global};
 use std::marker::Model;
 use stop_order::{OrderFaults, order_faults};
@@ -95,7 +96,7 @@ impl<'t, C: CallTable> JudgedFeed<'t, C> {
     }
 
     /// The table of a file.
-    pub fn table(&self, file: FileName) -> &'t NamedTable
+    pub fn table(&self, file: FileName) -> &'t Table
         requires { has_table file ≡ true }
         ensures { result.now ≡ table_in self.now file }
     {

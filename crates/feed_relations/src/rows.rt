@@ -13,11 +13,11 @@ ghost use Rattle.feed_relations.specs.FittingChecks.{Fits, IsByRow};
 use crate::judged::JudgedFeed;
 use feed_faults::{IdColumn, RowCheck, RowRule};
 use feed_rows::{ColumnName, FileName, PLATFORM, STATION};
-use feed_tables::{CallTable, NamedTable, Tables, stop_kind};
-use feed_text::{is_filled, is_passed_over};
+use feed_tables::{CallTable, Tables, stop_kind};
+use feed_text::{Table, is_filled, is_passed_over};
 
 // Whether the ids of a row are looked at.
-fn is_judged(file: FileName, table: &NamedTable, row: u32) -> bool
+fn is_judged(file: FileName, table: &Table, row: u32) -> bool
     requires { row < row_count table.now }
     ensures { result ≡ is_judged file table.now row }
 {
@@ -74,7 +74,7 @@ fn are_dates_reversed<C: CallTable>(feed: &JudgedFeed<C>, row: u32) -> bool
 
 // Whether the currency differs from that of the first row.
 #[tactic(auto, unfolding(feed_faults::specs::FareRelations::is_currency_mixed))]
-fn is_currency_mixed(products: &NamedTable, row: u32) -> bool
+fn is_currency_mixed(products: &Table, row: u32) -> bool
     requires { row < row_count products.now }
     ensures { result ≡ is_currency_mixed products.now row }
 {
@@ -83,7 +83,7 @@ fn is_currency_mixed(products: &NamedTable, row: u32) -> bool
 
 // Whether a count stands where the groups forbid it, or is lacking where they require it.
 #[tactic(auto, unfolding(feed_faults::specs::FareRelations::is_count_misplaced))]
-fn is_count_misplaced(rules: &NamedTable, row: u32) -> bool
+fn is_count_misplaced(rules: &Table, row: u32) -> bool
     requires { row < row_count rules.now }
     ensures { result ≡ is_count_misplaced rules.now row }
 {
@@ -104,7 +104,7 @@ pub fn is_one_filled(a: &[u8], b: &[u8]) -> bool
 
 // Whether a limit stands without its type, or a type without a limit.
 #[tactic(auto, unfolding(feed_faults::specs::FareRelations::is_limit_half))]
-fn is_limit_half(rules: &NamedTable, row: u32) -> bool
+fn is_limit_half(rules: &Table, row: u32) -> bool
     requires { row < row_count rules.now }
     ensures { result ≡ is_limit_half rules.now row }
 {

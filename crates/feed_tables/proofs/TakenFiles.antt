@@ -1,6 +1,7 @@
 -- Files of which some are let go of.
-use Rattle.std.proofs.Common.{◌≡◌, ◌∙◌, ℕ, zero, suc, ◌+◌, ◌<◌, List, [], ◌∷◌, length, get_or, ap, arith}
-use Rattle.std.specs.Prelude.{not, ◌≢◌}
+use Rattle.std.proofs.Common.{◌≡◌, ◌∙◌, ℕ, zero, suc, ◌+◌, ◌<◌, List, [], ◌∷◌, length, get_or, ap, sym, subst, ⊎_elim, arith}
+use Rattle.std.proofs.lemmas.Bool.{cases_eq}
+use Rattle.std.specs.Prelude.{not, ◌≢◌, slice_get, unwrap_or}
 use Rattle.feed_rows.specs.declared.names.FileName.{FileName}
 use Rattle.feed_rows.specs.declared.names.FileName.TheVariants as file
 use Rattle.feed_rows.specs.Names.{place}
@@ -8,7 +9,8 @@ use Rattle.feed_faults.specs.FileColumns.{is_always_needed}
 use Rattle.feed_faults.specs.FormFaults.{has_record, form_fault, form_fault_of_held}
 use Rattle.feed_faults.specs.FeedTables.{table_of}
 use Rattle.folder_io.specs.declared.files.FileBytes.{FileBytes}
-use Rattle.folder_io.specs.KeptFiles.{file_in, held_of, held_in}
+use Rattle.folder_io.specs.KeptFiles.{file_in, held_of, held_in, IsWithin, AreWithin}
+use Rattle.feed_rows.specs.HeldFiles.{most_bytes}
 use Rattle.feed_tables.specs.RowNumbers.{StandFrom, read_of}
 use Rattle.feed_tables.specs.LeftFiles.{AreLeft}
 
@@ -42,3 +44,11 @@ module _ (before now : List FileBytes) (names : List FileName) (n i : ℕ) (d : 
   -- where the next file alone is let go of, those behind it are left
   pub left_next : (later : List FileBytes) → ((other : FileName) → place other ≢ place (get_or names i d) → file_in later other ≡ file_in now other) → AreLeft before later (n + (i + 1))
   left_next later others = λ name le. others name (λ e. absurd (omega (arith, place_of names n i d order lt, e, le))) ∙ left name (omega (arith, le))
+
+-- files of which one is let go of stay within what is read
+pub within_without : (before now : List FileBytes) (name : FileName) → AreWithin before → file_in now name ≡ FileBytes.Absent
+    → ((other : FileName) → place other ≢ place name → file_in now other ≡ file_in before other) → AreWithin now
+within_without before now name within gone others = λ other. ⊎_elim (here other) (λ apart. subst (IsWithin most_bytes) (sym (others other apart)) (within other)) (cases_eq (place other) (place name))
+  where
+    here : (other : FileName) → place other ≡ place name → IsWithin most_bytes (file_in now other)
+    here other same = subst (IsWithin most_bytes) (sym (ap (λ k. unwrap_or (slice_get now k) FileBytes.Absent) same ∙ gone)) tt

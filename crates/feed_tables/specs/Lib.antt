@@ -1,6 +1,5 @@
 pub mod RowNumbers
 pub mod KeptTables
-pub mod Columns
 pub mod IndexedColumns
 pub mod IdColumns
 pub mod IdRows

@@ -3,8 +3,8 @@
 ghost use Rattle.std.specs.Prelude.{IfOk};
 ghost use Rattle.feed_tables.specs.IdRows.{IsKeyOf, AreIdRows};
 
-use crate::named::NamedTable;
 use feed_rows::ColumnName;
+use feed_text::Table;
 use std::alloc::{AllocError, Global};
 
 /// An id's key: the number that its first seven bytes make, and its length.
@@ -34,7 +34,7 @@ pub struct IdRow<'t> {
 /// Want of memory.
 pub fn id_rows<'t>(
     alloc: Global,
-    table: &'t NamedTable,
+    table: &'t Table,
     name: ColumnName,
 ) -> Result<Vec<IdRow<'t>>, AllocError>
     ensures { IfOk result (λ rows. AreIdRows table.now name rows.items) }

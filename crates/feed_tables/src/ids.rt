@@ -6,7 +6,7 @@ ghost use Rattle.feed_tables.specs.KeptTables.{tables_with};
 ghost use Rattle.feed_tables.specs.RowNumbers.{TableOf, first_files};
 
 use crate::index::IdIndex;
-use crate::read_table::ReadTable;
+use crate::rows::ReadTable;
 use crate::tables::{CallTable, Tables};
 use feed_faults::IdColumn;
 use feed_rows::ColumnName;

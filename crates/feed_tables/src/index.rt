@@ -6,16 +6,16 @@ ghost use Rattle.feed_faults.specs.AcceptedFeed.{row_number};
 ghost use Rattle.feed_tables.specs.IdRows.{IsKeyOf};
 
 use crate::id_rows::{IdRow, id_rows, key_of};
-use crate::named::NamedTable;
 use crate::slots::{Slots, slots_of};
 use feed_rows::ColumnName;
+use feed_text::Table;
 use std::alloc::{AllocError, Global};
 use std::marker::Model;
 
 /// The rows of a table by their fields in one of its columns. Contracts see it as the table and the column.
 #[derive(Drop)]
 pub struct IdIndex<'t> {
-    table: &'t NamedTable,
+    table: &'t Table,
     name: ColumnName,
     // All ids, in order.
     rows: Vec<IdRow<'t>>,
@@ -47,11 +47,7 @@ impl<'t> IdIndex<'t> {
     ///
     /// # Errors
     /// Want of memory.
-    pub fn of(
-        alloc: Global,
-        table: &'t NamedTable,
-        name: ColumnName,
-    ) -> Result<IdIndex<'t>, AllocError>
+    pub fn of(alloc: Global, table: &'t Table, name: ColumnName) -> Result<IdIndex<'t>, AllocError>
         ensures { IfOk result (λ index. index ≡ record { table = table.now; name = name }) }
     {
         let rows = id_rows(alloc, table, name)?;

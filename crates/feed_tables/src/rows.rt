@@ -1,50 +1,40 @@
-//! The rows of a table: what they tell, or their first fault.
-ghost use Rattle.std.specs.Prelude.{◌≡◌, ◌<◌, ◌++◌, ◌∷◌, [], None, IfOk, IfErr, OnOk};
+//! A file's table with what its rows tell, or their first fault.
+ghost use Rattle.std.specs.Prelude.{◌≡◌, ◌<◌, None, IfOk, IfErr, OnOk};
+ghost use Rattle.feed_faults.specs.FormFaults.{form_fault_of_rows};
 ghost use Rattle.feed_faults.specs.Records.{field, row_count};
-ghost use Rattle.feed_faults.specs.FormFaults.{form_fault_of_row, form_fault_of_rows};
 ghost use Rattle.feed_text.specs.FieldNumbers.{numbers_of};
 ghost use Rattle.feed_text.specs.TextErrors.{IsErrorOf};
 ghost use Rattle.feed_tables.specs.RowNumbers.{numbers_by_row};
 
-use crate::named::NamedTable;
 use feed_rows::{FaultKind, FileName};
-use feed_text::{TextError, read_fields, row_fault};
+use feed_text::{Table, TextError, read_fields, row_fault};
 use plain_laws::Groups;
-use std::alloc::{AllocError, Global};
+use std::alloc::Global;
+use std::marker::Model;
 
-// Reads a row, and keeps what it tells behind what the rows before it told. `Fault` is the fault of the row: first that it is
-// long, which is a field past the header.
-#[tactic(auto, unfolding(feed_faults::specs::FormFaults::form_fault_of_row))]
-fn keep_row(
+/// A file's table, and what its rows tell. Contracts see it as the file and the table.
+#[derive(Drop)]
+pub struct ReadTable {
     file: FileName,
-    table: &NamedTable,
-    row: u32,
-    numbers: &mut Vec<Option<i64>>,
-    rows: &mut Groups<Option<i64>>,
-) -> Result<(), TextError>
-    requires { row < row_count table.now }
-    ensures fault { IfErr result (IsErrorOf (form_fault_of_row file table.now row)) }
-    ensures sound { OnOk result (form_fault_of_row file table.now row ≡ None) }
-    ensures kept { OnOk result (rows.new ≡ rows.old ++ numbers_of file (field table.now row) ∷ []) }
-{
-    let fields = table.row(row);
-    if table.is_long(row) {
-        return Err(TextError::Fault(row_fault(file, row, FaultKind::LongRow)));
-    }
-    if let Some(fault) = read_fields(file, row, &fields, numbers)? {
-        return Err(TextError::Fault(fault));
-    }
-    rows.push(numbers)?;
-    Ok(())
+    table: Table,
+    numbers: Groups<Option<i64>>,
 }
 
-/// What the rows of a table tell, row by row. `Fault` is their first fault.
-#[tactic(auto, unfolding(feed_faults::specs::FormFaults::form_fault_of_rows))]
-pub fn read_rows(
-    alloc: Global,
-    file: FileName,
-    table: &NamedTable,
-) -> Result<Groups<Option<i64>>, TextError>
+impl Model for ReadTable {
+    ghost use Rattle.std.specs.Prelude.{◌≡◌};
+    ghost use Rattle.feed_tables.specs.RowNumbers.{TableOf, numbers_by_row};
+
+    ghost Value = { TableOf };
+
+    ghost view = { λ t. record { file = t.file; table = t.table } };
+
+    ghost invariant = { λ t. t.numbers ≡ numbers_by_row t.file t.table };
+}
+
+// What the rows of a table tell, row by row. `Fault` is their first fault. Of a row it is first that it is long, which is a
+// field past the header.
+#[tactic(auto, unfolding(feed_faults::specs::FormFaults::form_fault_of_rows, feed_faults::specs::FormFaults::form_fault_of_row))]
+fn read_rows(alloc: Global, file: FileName, table: &Table) -> Result<Groups<Option<i64>>, TextError>
     ensures fault { IfErr result (IsErrorOf (form_fault_of_rows file table.now)) }
     ensures sound { OnOk result (form_fault_of_rows file table.now ≡ None) }
     ensures numbers { IfOk result (λ rows. rows ≡ numbers_by_row file table.now) }
@@ -52,7 +42,46 @@ pub fn read_rows(
     let mut numbers = Vec::new(alloc);
     let mut rows = Groups::empty(alloc);
     for row in 0..table.rows() {
-        keep_row(file, table, row, &mut numbers, &mut rows)?;
+        if table.is_long(row) {
+            return Err(TextError::Fault(row_fault(file, row, FaultKind::LongRow)));
+        }
+        if let Some(fault) = read_fields(file, row, &table.row(row), &mut numbers)? {
+            return Err(TextError::Fault(fault));
+        }
+        rows.push(&numbers)?;
     }
     Ok(rows)
+}
+
+impl ReadTable {
+    /// The table with what its rows tell. `Fault` is the first fault of its rows.
+    pub fn of(alloc: Global, file: FileName, table: Table) -> Result<ReadTable, TextError>
+        ensures fault { IfErr result (IsErrorOf (form_fault_of_rows file table)) }
+        ensures sound { OnOk result (form_fault_of_rows file table ≡ None) }
+        ensures is { IfOk result (λ read. read ≡ record { file = file; table = table }) }
+    {
+        let numbers = read_rows(alloc, file, &table)?;
+        Ok(ReadTable {
+            file,
+            table,
+            numbers,
+        })
+    }
+
+    /// The table.
+    pub fn table(&self) -> &Table
+        ensures { result.now ≡ self.now.table }
+    {
+        &self.table
+    }
+
+    /// What a row tells: of each column that is judged, in their order, the number of the field; none where it is empty, or
+    /// an id.
+    #[tactic(auto, using(crate::proofs::NumberLaws::kept_within, crate::proofs::NumberLaws::kept_row))]
+    pub fn numbers(&self, row: u32) -> &[Option<i64>]
+        requires { row < row_count self.now.table }
+        ensures { result.now ≡ numbers_of self.now.file (field self.now.table row) }
+    {
+        self.numbers.group(row as usize)
+    }
 }

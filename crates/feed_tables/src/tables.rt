@@ -1,7 +1,9 @@
-//! The tables of a feed's files.
+//! The tables of a feed's files, and values of their rows by which faults among files are found.
 ghost use Rattle.std.specs.Prelude.{◌≡◌, ◌<◌, ◌≤◌, true, length};
 ghost use Rattle.feed_rows.specs.Names.{place};
+ghost use Rattle.feed_rows.specs.declared.names.FileName.TheVariants as file;
 ghost use Rattle.feed_faults.specs.FeedTables.{table_in};
+ghost use Rattle.feed_faults.specs.FieldValues.{stop_kind, frame_start, frame_end};
 ghost use Rattle.feed_faults.specs.FormFaults.{judged_columns};
 ghost use Rattle.feed_faults.specs.Records.{field, row_count};
 ghost use Rattle.feed_text.specs.FieldNumbers.{numbers_of};
@@ -9,10 +11,11 @@ ghost use Rattle.feed_text.specs.RowLimits.{row_limit};
 ghost use Rattle.feed_tables.specs.KeptTables.{tables_with, AreKept};
 ghost use Rattle.feed_tables.specs.RowNumbers.{has_table};
 
-use crate::named::NamedTable;
-use crate::read_table::ReadTable;
+use crate::rows::ReadTable;
 use feed_rows::FileName;
+use feed_text::{Table, nat_of, natural};
 use std::marker::{Brand, Model, PhantomData};
+use transit_base::DAY_SECONDS;
 
 /// The table of stop_times.txt, of which only rows are kept. Contracts alone know it: a call of a function over a
 /// `CallTable` passes [`Brand`], and its proof picks the table.
@@ -87,7 +90,7 @@ impl<'t, C: CallTable> Tables<'t, C> {
     }
 
     /// The table of a file.
-    pub fn get(&self, file: FileName) -> &'t NamedTable
+    pub fn get(&self, file: FileName) -> &'t Table
         requires { has_table file ≡ true }
         ensures { result.now ≡ table_in self.now file }
     {
@@ -119,4 +122,34 @@ impl<'t, C: CallTable> Tables<'t, C> {
         };
         numbers
     }
+}
+
+/// The kind of a stop: its `location_type`, where an empty one is 0.
+#[tactic(auto, using(feed_text::proofs::ValueLaws::int_is_short), unfolding(feed_faults::specs::FieldValues::int_or_zero))]
+pub fn stop_kind<C: CallTable>(tables: &Tables<C>, row: u32) -> u32
+    requires { row < row_count (table_in tables.now file.Stops) }
+    ensures { result ≡ stop_kind (table_in tables.now file.Stops) row }
+{
+    let &[_, kind, _] = tables.numbers::<3>(FileName::Stops, row);
+    nat_of(kind)
+}
+
+/// The first second of a timeframe, where an empty one is that of the day.
+#[tactic(auto, using(feed_text::proofs::ValueLaws::times))]
+pub fn frame_start<C: CallTable>(tables: &Tables<C>, row: u32) -> u32
+    requires { row < row_count (table_in tables.now file.Timeframes) }
+    ensures { result ≡ frame_start (table_in tables.now file.Timeframes) row }
+{
+    let &[_, start, _, _] = tables.numbers::<4>(FileName::Timeframes, row);
+    natural(start).unwrap_or(0)
+}
+
+/// The second before which a timeframe ends, where an empty one is the end of the day.
+#[tactic(auto, using(feed_text::proofs::ValueLaws::times))]
+pub fn frame_end<C: CallTable>(tables: &Tables<C>, row: u32) -> u32
+    requires { row < row_count (table_in tables.now file.Timeframes) }
+    ensures { result ≡ frame_end (table_in tables.now file.Timeframes) row }
+{
+    let &[_, _, end, _] = tables.numbers::<4>(FileName::Timeframes, row);
+    natural(end).unwrap_or(DAY_SECONDS)
 }

@@ -1,13 +1,18 @@
 -- Headers, and the columns that are found in them.
-use Rattle.std.proofs.Common.{◌≡◌, ℕ, zero, suc, ◌<◌, ◌≤◌, Bool, true, false, [], ◌∷◌, length, refl, arith, None, Some, nat_lt}
-use Rattle.std.specs.Prelude.{nat_le, ◌&&◌}
+use Rattle.std.proofs.Common.{◌≡◌, ℕ, zero, suc, ◌<◌, ◌≤◌, Bool, true, false, [], ◌∷◌, length, refl, sym, ap, ap₂, ◌∙◌, arith, None, Some, nat_lt}
+use Rattle.std.specs.Prelude.{nat_le, ◌&&◌, List, Option, option_map, option_and_then, is_none, slice_get, if◌then◌else◌}
+use Rattle.std.specs.List.{find}
+use Rattle.std.specs.Option.{option_or}
 use Rattle.std.proofs.lemmas.Bool.Decides.{nat_tests}
 use Rattle.feed_rows.specs.declared.names.FileName.{FileName}
 use Rattle.feed_rows.specs.declared.faults.FaultKind.TheVariants as kind
-use Rattle.plain_laws.specs.Plain.{when, any_below}
-use Rattle.feed_faults.specs.Records.{FileTable, header, row_count}
-use Rattle.feed_faults.specs.FaultPlaces.{file_fault}
-use Rattle.feed_faults.specs.FormFaults.{form_fault_of_table}
+use Rattle.plain_laws.specs.Plain.{when, any_below, first_below, first_in}
+use Rattle.plain_laws.proofs.Laws.{option_or-assoc}
+use Rattle.feed_faults.specs.Records.{FileTable, header, row_count, column_of}
+use Rattle.feed_faults.specs.FaultPlaces.{file_fault, column_fault}
+use Rattle.feed_faults.specs.FileColumns.{columns_of}
+use Rattle.feed_faults.specs.declared.columns.ColumnRule.{ColumnRule}
+use Rattle.feed_faults.specs.FormFaults.{form_fault_of_table, header_fault, doubled_column, missing_column, is_needed_column, is_twice}
 
 -- a table without a record has no columns
 pub no_header : (table : FileTable) → length table ≡ 0 → length (header table) ≡ 0
@@ -43,3 +48,34 @@ few_enough most kept table e = fitting (nat_le (row_count table) most) refl e
     fitting : (b : Bool) → nat_le (row_count table) most ≡ b → Some kept ≡ when b table → (kept ≡ table) × (nat_lt most (row_count table) ≡ false)
     fitting true fits e = (cc, grind (arith, nat_tests, fits))
     fitting false fits e = absurd (cc)
+
+-- what stands at the first number, or the first behind it
+first_head : {X : Type 0} (g : ℕ → Option X) (n : ℕ) → first_below (suc n) g ≡ option_or (g 0) (first_below n (λ i. g (suc i)))
+first_head g zero = none_right (g 0)
+  where
+    none_right : {X : Type 0} (o : Option X) → o ≡ option_or o None
+    none_right None = refl
+    none_right (Some x) = refl
+first_head g (suc n) = ap (λ o. option_or o (g (suc n))) (first_head g n) ∙ option_or-assoc (g 0) (first_below n (λ i. g (suc i))) (g (suc n))
+
+-- the first fault of those that have one is that of the first that fails
+pub first_made : {X Y : Type 0} (ys : List Y) (test : Y → Bool) (make : Y → X) → first_in ys (λ y. when (test y) (make y)) ≡ option_map make (find test ys)
+first_made [] test make = refl
+first_made {X} {Y} (y ∷ ys) test make =
+    first_head (λ i. option_and_then (λ y. when (test y) (make y)) (slice_get (y ∷ ys) i)) (length ys)
+    ∙ ap (λ o. option_or (when (test y) (make y)) o) (first_made ys test make) ∙ choose (test y)
+  where
+    choose : (b : Bool) → option_or (when b (make y)) (option_map make (find test ys)) ≡ option_map make (if b then Some y else find test ys)
+    choose true = refl
+    choose false = refl
+
+-- the first fault of a header, by the first columns that are wrong
+pub wrong_columns : (file : FileName) (table : FileTable) (doubled missing : Option ColumnRule)
+    → doubled ≡ find (λ (rule : ColumnRule). is_twice table rule.name) (columns_of file)
+    → missing ≡ find (λ (rule : ColumnRule). is_needed_column rule.empty && is_none (column_of table rule.name)) (columns_of file)
+    → option_or (option_map (λ (rule : ColumnRule). column_fault file rule.name kind.DoubledColumn) doubled) (option_map (λ (rule : ColumnRule). column_fault file rule.name kind.MissingColumn) missing) ≡ header_fault file table
+unfolding header_fault doubled_column missing_column
+wrong_columns file table doubled missing twice absent =
+    ap₂ option_or
+    (ap (option_map (λ (rule : ColumnRule). column_fault file rule.name kind.DoubledColumn)) twice ∙ sym (first_made (columns_of file) (λ (rule : ColumnRule). is_twice table rule.name) (λ (rule : ColumnRule). column_fault file rule.name kind.DoubledColumn)))
+    (ap (option_map (λ (rule : ColumnRule). column_fault file rule.name kind.MissingColumn)) absent ∙ sym (first_made (columns_of file) (λ (rule : ColumnRule). is_needed_column rule.empty && is_none (column_of table rule.name)) (λ (rule : ColumnRule). column_fault file rule.name kind.MissingColumn)))

@@ -6,6 +6,7 @@ pub mod AccessLaws
 pub mod RecordLaws
 pub mod ReaderLaws
 pub mod HeaderLaws
+pub mod RangeLaws
 pub mod Utf8Laws
 pub mod ValueLaws
 pub mod NumberLaws

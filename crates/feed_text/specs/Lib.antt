@@ -2,3 +2,4 @@ pub mod Reader
 pub mod TextErrors
 pub mod FieldNumbers
 pub mod RowLimits
+pub mod DataRows

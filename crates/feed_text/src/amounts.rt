@@ -1,8 +1,5 @@
 //! Amounts of money, as fields write them.
-ghost use Rattle.std.specs.Prelude.{◌≡◌, true, ◌==◌, ◌≤◌, ◌<◌, ◌*◌, ◌^◌, ◌-◌, IfSome, length, option_map};
-ghost use Rattle.std.specs.List.{list_all};
-ghost use Rattle.std.specs.Str.Parse.{digits_value};
-ghost use Rattle.std.specs.Char.{is_ascii_digit};
+ghost use Rattle.std.specs.Prelude.{◌≡◌, ◌≤◌, ◌<◌, IfSome, length, option_map};
 ghost use Rattle.feed_rows.specs.Numerals.{when_at_most};
 ghost use Rattle.feed_faults.specs.FieldGrammars.{point_place, fraction_value, unsigned_amount, amount_value};
 
@@ -10,69 +7,32 @@ use crate::numbers::{number_of, small_number_of};
 use transit_base::Money;
 
 // Where the first point stands.
-#[tactic(auto, using(plain_laws::proofs::Laws::found_firsts))]
 fn point_of(text: &[u8]) -> Option<usize>
     ensures value { result ≡ point_place text.now }
     ensures within { IfSome result (λ i. i < length text.now) }
 {
-    for i in 0..text.len() {
-        if text[i] == b'.' {
-            return Some(i);
-        }
-    }
-    None
-}
-
-// Whether each byte is a digit.
-fn are_digits(text: &[u8]) -> bool
-    ensures { result ≡ list_all is_ascii_digit text.now }
-{
-    text.iter().all(|b| b.is_ascii_digit())
-}
-
-// Whether each byte is the digit zero.
-fn are_zeros(text: &[u8]) -> bool
-    ensures { result ≡ list_all (λ c. c == 48) text.now }
-{
-    text.iter().all(|b| *b == b'0')
-}
-
-// The digits behind a point that count, as minor units.
-#[tactic(auto, using(crate::proofs::AmountLaws::three_digits, crate::proofs::AmountLaws::few_units))]
-fn counted_units_of(digits: &[u8], decimals: u8) -> u32
-    requires digits { list_all is_ascii_digit digits.now ≡ true }
-    requires few { length digits.now ≤ decimals }
-    requires decimals { decimals ≤ 3 }
-    ensures value { result ≡ digits_value 10 digits.now * 10 ^ (decimals - length digits.now) }
-    ensures bound { result ≤ 999_000 }
-{
-    if digits.is_empty() {
-        return 0;
-    }
-    let Some(number) = small_number_of(digits, 999) else {
-        unreachable!();
-    };
-    number * 10u32.pow(u32::from(decimals) - digits.len() as u32)
+    text.iter().position(|b| *b == b'.')
 }
 
 // The digits behind a point, as minor units: those past the decimals are zeros, and missing ones count as zeros.
-#[tactic(auto, unfolding(feed_faults::specs::FieldGrammars::fraction_value), using(crate::proofs::AmountLaws::digits_pass, crate::proofs::AmountLaws::digits_kept, crate::proofs::AmountLaws::kept_all))]
+#[tactic(auto, using(crate::proofs::AmountLaws::few_units))]
 fn fraction_of(digits: &[u8], decimals: u8) -> Option<u32>
     requires { decimals ≤ 3 }
     ensures value { result ≡ fraction_value decimals digits.now }
     ensures bound { IfSome result (λ v. v ≤ 999_000) }
 {
-    if digits.is_empty() || !are_digits(digits) {
+    if digits.is_empty() {
         return None;
     }
-    let places = usize::from(decimals);
-    if digits.len() <= places {
-        return Some(counted_units_of(digits, decimals));
-    }
-    if !are_zeros(&digits[places..]) {
+    let places = digits.len().min(usize::from(decimals));
+    if !digits[places..].iter().all(|b| *b == b'0') {
         return None;
     }
-    Some(counted_units_of(&digits[..places], decimals))
+    if places == 0 {
+        return Some(0);
+    }
+    let number = small_number_of(&digits[..places], 999)?;
+    Some(number * 10u32.pow(u32::from(decimals) - places as u32))
 }
 
 // An amount without sign in minor units, where it is at most 10^12.

@@ -11,26 +11,13 @@ ghost use Rattle.feed_text.specs.FieldNumbers.{number_by, field_number, numbers_
 ghost use Rattle.feed_text.specs.RowLimits.{row_limit};
 
 use crate::amounts::amount_of;
-use crate::dates::date_of;
-use crate::faults::field_fault;
+use crate::errors::field_fault;
 use crate::ids::{currency_of, id_ok};
-use crate::numbers::{count_of, int_of, time_of};
+use crate::numbers::{count_of, date_of, int_of, time_of};
+use crate::table::Fields;
 use feed_faults::{ColumnRule, EmptyField, Grammar, rule_of};
 use feed_rows::{ColumnName, FaultKind, FeedFault, FileName};
 use std::alloc::AllocError;
-
-/// The fields of a row, by the names of their columns.
-pub trait Fields {
-    ghost use Rattle.std.specs.Prelude.{◌≡◌};
-    ghost use Rattle.feed_faults.specs.Records.{Fields};
-
-    /// What they are.
-    ghost at: { Self → Fields };
-
-    /// The field in a column, without the blanks at its ends; empty where the row is short or has no such column.
-    fn field(&self, name: ColumnName) -> &[u8]
-        ensures { result.now ≡ at self.now name };
-}
 
 /// Whether a field isn't empty.
 pub fn is_filled(text: &[u8]) -> bool

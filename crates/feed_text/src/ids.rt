@@ -1,22 +1,17 @@
 //! Ids and codes of currencies, as fields write them.
 ghost use Rattle.std.specs.Prelude.{◌≡◌, ◌≤◌, IfSome};
-ghost use Rattle.std.specs.List.{list_any, list_all};
-ghost use Rattle.feed_faults.specs.FieldGrammars.{is_break, is_id, is_among, whole_currencies, three_decimal_currencies, unit_codes, is_capital, currency_decimals};
-
-// Whether a byte is a tab, a line feed or a carriage return.
-fn has_break(text: &[u8]) -> bool
-    ensures { result ≡ list_any is_break text.now }
-{
-    text.iter()
-        .any(|b| *b == b'\t' || *b == b'\n' || *b == b'\r')
-}
+ghost use Rattle.std.specs.List.{list_all};
+ghost use Rattle.feed_faults.specs.FieldGrammars.{is_id, is_among, whole_currencies, three_decimal_currencies, unit_codes, is_capital, currency_decimals};
 
 /// Whether the text is an id: 1 to 255 bytes without tab, line feed and carriage return.
 #[tactic(auto, unfolding(feed_faults::specs::FieldGrammars::is_id))]
 pub fn id_ok(text: &[u8]) -> bool
     ensures { result ≡ is_id text.now }
 {
-    !text.is_empty() && text.len() <= 255 && !has_break(text)
+    if text.is_empty() || text.len() > 255 {
+        return false;
+    }
+    !text.iter().any(|b| matches!(b, b'\t' | b'\n' | b'\r'))
 }
 
 // Whether each byte is a letter A to Z.

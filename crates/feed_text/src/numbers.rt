@@ -1,17 +1,11 @@
-//! Integers and times, as fields write them.
-ghost use Rattle.std.specs.Prelude.{◌≡◌, ◌+◌, ◌-◌, ◌*◌, ◌^◌, ◌≤◌, ◌<◌, IfSome, Some};
+//! Integers, times and dates, as fields write them.
+ghost use Rattle.std.specs.Prelude.{◌≡◌, ◌-◌, ◌^◌, ◌≤◌, IfSome, option_map};
 ghost use Rattle.feed_rows.specs.Numerals.{number_value, when_at_most};
 ghost use Rattle.feed_rows.specs.TimeGrammar.{time_value};
-ghost use Rattle.feed_faults.specs.FieldGrammars.{int_value, count_value};
+ghost use Rattle.feed_rows.specs.WordValues.{day_value};
+ghost use Rattle.feed_faults.specs.FieldGrammars.{int_value, count_value, date_value};
 
-// The number with one more digit, where it stays below 2^64.
-#[inline(always)]
-fn with_digit(value: u64, digit: u8) -> Option<u64>
-    requires { digit ≤ 9 }
-    ensures { result ≡ when_at_most (2 ^ 64 - 1) (Some (value * 10 + digit)) }
-{
-    value.checked_mul(10)?.checked_add(u64::from(digit))
-}
+use transit_base::{Day, day_of};
 
 // The number that one or more digits write, where it is below 2^64. Inlined, as are its callers: most fields of a feed are
 // times and small numbers.
@@ -27,7 +21,7 @@ pub(crate) fn number_of(text: &[u8]) -> Option<u64>
         if !b.is_ascii_digit() {
             return None;
         }
-        value = with_digit(value, *b - b'0')?;
+        value = value.checked_mul(10)?.checked_add(u64::from(*b - b'0'))?;
     }
     Some(value)
 }
@@ -99,4 +93,27 @@ pub fn count_of(text: &[u8]) -> Option<i64>
         return None;
     }
     Some(value)
+}
+
+/// The day of the date whose year, month and day of the month these texts write in digits. None exactly where a text is
+/// no number, or the years 0001 to 9999 have no such date.
+#[tactic(auto, using(crate::proofs::DateLaws::day_bounded))]
+pub fn day_of_parts(year: &[u8], month: &[u8], day: &[u8]) -> Option<Day>
+    ensures { option_map (λ d. d.0) result ≡ day_value (number_value year.now) (number_value month.now) (number_value day.now) }
+{
+    let year = small_number_of(year, 9999)?;
+    let month = small_number_of(month, 12)?;
+    let day = small_number_of(day, 31)?;
+    day_of(year as u16, month as u8, day as u8)
+}
+
+/// The day of a date: eight digits YYYYMMDD. None exactly where the text is no date of the years 0001 to 9999.
+#[tactic(auto, using(crate::proofs::DateLaws::date_by_parts, crate::proofs::DateLaws::no_date))]
+pub fn date_of(text: &[u8]) -> Option<Day>
+    ensures { option_map (λ d. d.0) result ≡ date_value text.now }
+{
+    if text.len() != 8 {
+        return None;
+    }
+    day_of_parts(&text[..4], &text[4..6], &text[6..])
 }

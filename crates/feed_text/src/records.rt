@@ -1,12 +1,14 @@
 //! The records of a text, one after another.
-ghost use Rattle.std.specs.Prelude.{◌≡◌, ◌<◌, [], List, ℕ, Option, length, get_or, IfOk, IfErr};
+ghost use Rattle.std.specs.Prelude.{◌≡◌, ◌++◌, ◌∷◌, [], List, ℕ, Option, length, get_or, IfOk, IfErr, OnOk};
 ghost use Rattle.feed_faults.specs.Records.{FileTable, cut};
 ghost use Rattle.csv.specs.Reading.{reader_source};
 ghost use Rattle.feed_text.specs.Reader.{StandsBehind, GoesOn, Explains, last_record};
 
 use csv::{ErrorKind, Reader, ReaderBuilder, StringRecord};
-use std::alloc::Global;
+use std::alloc::{AllocError, Global};
 use std::io::Read;
+use std::marker::Model;
+use std::snapshot::Snapshot;
 
 // The text without the blanks at both ends. Few texts have any, so that mostly two bytes are read.
 #[inline(always)]
@@ -78,13 +80,6 @@ impl<R: Read> Records<R> {
         reader.into_inner()
     }
 
-    // The last record as csv read it.
-    pub(crate) fn row(&self) -> &StringRecord
-        ensures { result.now ≡ self.now.row }
-    {
-        &self.row
-    }
-
     /// How many fields the last record has; one without a field counts as one with an empty field.
     pub fn len(&self) -> usize
         ensures { result ≡ length (last_record self.now) }
@@ -101,5 +96,45 @@ impl<R: Read> Records<R> {
             Some(field) => cut_of(field.as_bytes()),
             None => &[],
         }
+    }
+}
+
+/// The table of the records that were seen, of which nothing is kept: it is there for contracts alone, which see it as the
+/// table.
+#[derive(Drop)]
+pub struct SeenTable {
+    // A snapshot takes no bytes.
+    records: Vec<Snapshot<StringRecord>>,
+}
+
+impl Model for SeenTable {
+    ghost use Rattle.std.specs.Prelude.{map};
+    ghost use Rattle.csv.specs.Records.{fields_of};
+    ghost use Rattle.feed_faults.specs.Records.{FileTable};
+    ghost use Rattle.feed_text.specs.Reader.{cut_record};
+
+    ghost Value = { FileTable };
+
+    ghost view = { λ seen. map (λ r. cut_record (fields_of r.value)) seen.records.items };
+}
+
+impl SeenTable {
+    /// No record was seen yet.
+    pub fn none(alloc: Global) -> SeenTable
+        ensures { result ≡ [] }
+    {
+        SeenTable {
+            records: Vec::new(alloc),
+        }
+    }
+
+    /// Sees the last record that was read.
+    ///
+    /// # Errors
+    /// More records than can be counted.
+    pub fn see<R: Read>(&mut self, records: &Records<R>) -> Result<(), AllocError>
+        ensures { OnOk result (self.new ≡ self.old ++ last_record records.now ∷ []) }
+    {
+        Ok(self.records.push(Snapshot::of(&records.row))?)
     }
 }

@@ -1,11 +1,12 @@
-//! A file as a table, kept flat.
-ghost use Rattle.std.specs.Prelude.{◌≡◌, ◌≤◌, ◌<◌, ◌+◌, ◌-◌, ◌^◌, ◌++◌, ◌∷◌, [], List, ℕ, length, map, get_or, slice_index, IfOk, OnOk, IfSome, Some, bytes_eq, nat_le, nat_lt, not};
-ghost use Rattle.plain_laws.specs.Plain.{when};
-ghost use Rattle.feed_rows.specs.Names.{column_text};
-ghost use Rattle.feed_faults.specs.Records.{FileTable, table_of_bytes, cut, header, row_count, data_row, column_of, field, is_filled, is_long};
+//! A file as a table, kept flat, and its rows.
+ghost use Rattle.std.specs.Prelude.{◌≡◌, ◌≤◌, ◌<◌, ◌+◌, ◌^◌, ◌++◌, ◌∷◌, [], length, get_or, map, is_some, IfOk, OnOk, Some, bytes_eq, nat_le, nat_lt, not};
+ghost use Rattle.plain_laws.specs.Plain.{when, find_below, parts, Rise};
+ghost use Rattle.feed_rows.specs.Names.{all_columns, column_text};
+ghost use Rattle.feed_faults.specs.Records.{table_of_bytes, header, row_count, column_of, field, is_long};
 ghost use Rattle.feed_faults.specs.FormFaults.{is_twice};
 ghost use Rattle.feed_text.specs.Reader.{last_record};
-ghost use Rattle.plain_laws.specs.Plain.{parts, Rise};
+ghost use Rattle.feed_text.specs.RowLimits.{row_limit};
+ghost use Rattle.feed_text.specs.DataRows.{one_row};
 
 use crate::fields::is_filled;
 use crate::records::Records;
@@ -15,41 +16,81 @@ use std::alloc::{AllocError, Global};
 use std::io::Read;
 use std::marker::Model;
 
+// How many names of columns there are.
+const COLUMNS: usize = 58;
+
+/// The fields of a row, by the names of their columns.
+pub trait Fields {
+    ghost use Rattle.std.specs.Prelude.{◌≡◌};
+    ghost use Rattle.feed_faults.specs.Records.{Fields};
+
+    /// What they are.
+    ghost at: { Self → Fields };
+
+    /// The field in a column, without the blanks at its ends; empty where the row is short or has no such column.
+    fn field(&self, name: ColumnName) -> &[u8]
+        ensures { result.now ≡ at self.now name };
+}
+
 /// A file as a table: its header and its data rows, which are numbered from 0, each field without the blanks at its ends.
 #[derive(Drop)]
 pub struct Table {
-    // The bytes of all fields, field by field, and where each row ends among the fields.
+    // The bytes of all fields, field by field, and where each record ends among the fields.
     fields: Groups<u8>,
-    rows: Vec<u32>,
+    ends: Vec<u32>,
+    // The place of each column in the header, in the order of `ColumnName::all`.
+    places: [Option<u32>; COLUMNS],
 }
 
 impl Model for Table {
-    ghost use Rattle.std.specs.Prelude.{◌≤◌, ◌^◌, length};
-    ghost use Rattle.feed_faults.specs.Records.{FileTable};
+    ghost use Rattle.std.specs.Prelude.{◌≡◌, ◌<◌, ◌^◌, length, map};
     ghost use Rattle.plain_laws.specs.Plain.{parts, Rise};
+    ghost use Rattle.feed_rows.specs.Names.{all_columns};
+    ghost use Rattle.feed_faults.specs.Records.{FileTable, column_of};
 
     ghost Value = { FileTable };
 
-    ghost view = { λ t. parts 0 t.rows.items t.fields };
+    ghost view = { λ t. parts 0 t.ends.items t.fields };
 
-    ghost invariant = { λ t. Rise 0 t.rows.items (length t.fields) × (length t.rows.items ≤ 2 ^ 32) };
+    ghost invariant = { λ t. Rise 0 t.ends.items (length t.fields) × (length t.ends.items < 2 ^ 32) × (t.places ≡ map (column_of (parts 0 t.ends.items t.fields)) all_columns) };
 }
 
 // Puts a record behind those that are kept.
 fn push_record<R: Read>(
     fields: &mut Groups<u8>,
-    rows: &mut Vec<u32>,
+    ends: &mut Vec<u32>,
     records: &Records<R>,
 ) -> Result<(), AllocError>
-    requires { Rise 0 rows.old.items (length fields.old) }
-    ensures rise { OnOk result (Rise 0 rows.new.items (length fields.new)) }
-    ensures parts { OnOk result (parts 0 rows.new.items fields.new ≡ parts 0 rows.old.items fields.old ++ last_record records.now ∷ []) }
-    ensures count { OnOk result (length rows.new.items ≡ length rows.old.items + 1) }
+    requires { Rise 0 ends.old.items (length fields.old) }
+    ensures rise { OnOk result (Rise 0 ends.new.items (length fields.new)) }
+    ensures parts { OnOk result (parts 0 ends.new.items fields.new ≡ parts 0 ends.old.items fields.old ++ last_record records.now ∷ []) }
+    ensures count { OnOk result (length ends.new.items ≡ length ends.old.items + 1) }
 {
     for place in 0..records.len() {
         fields.push(records.field(place))?;
     }
-    push_end(rows, fields.count())
+    push_end(ends, fields.count())
+}
+
+// The place of the first column of this name among the fields of a header.
+fn place_of(fields: &Groups<u8>, columns: u32, name: ColumnName) -> Option<u32>
+    ensures { result ≡ find_below columns (λ c. bytes_eq (get_or fields.now c []) (column_text name)) }
+{
+    (0..columns).find(|column| fields.get(*column as usize) == name.text().as_bytes())
+}
+
+// The place of each column among the fields of a header.
+fn places_of(
+    alloc: Global,
+    fields: &Groups<u8>,
+    columns: u32,
+) -> Result<Vec<Option<u32>>, AllocError>
+    ensures { IfOk result (λ places. places.items ≡ map (λ name. find_below columns (λ c. bytes_eq (get_or fields.now c []) (column_text name))) all_columns) }
+{
+    ColumnName::all()
+        .iter()
+        .map(|name| place_of(fields, columns, *name))
+        .collect(alloc)
 }
 
 // The table of a file's bytes, where it has at most so many data rows.
@@ -58,16 +99,17 @@ pub(crate) fn table_within(
     text: &[u8],
     max_rows: u32,
 ) -> Result<Option<Table>, AllocError>
+    requires { max_rows ≤ row_limit }
     ensures { IfOk result (λ table. table ≡ when (nat_le (row_count (table_of_bytes text.now)) max_rows) (table_of_bytes text.now)) }
 {
     let mut records = Records::of(alloc, text);
     let mut fields = Groups::empty(alloc);
-    let mut rows = Vec::new(alloc);
+    let mut ends = Vec::new(alloc);
     // The header, the rows, and one record more, which is one too many.
     for _ in 0..u64::from(max_rows) + 2 {
         match records.next() {
-            Ok(true) => push_record(&mut fields, &mut rows, &records)?,
-            Ok(false) => return Ok(Some(Table { fields, rows })),
+            Ok(true) => push_record(&mut fields, &mut ends, &records)?,
+            Ok(false) => return Ok(Some(Table::of(alloc, fields, ends)?)),
             // A read over bytes in memory fails for want of memory alone.
             Err(_) => return Err(AllocError),
         }
@@ -90,13 +132,32 @@ pub fn has_record(alloc: Global, text: &[u8]) -> Result<bool, AllocError>
 
 impl Table {
     /// The table without a record, as of a file that isn't there.
+    #[tactic(auto, unfolding(feed_faults::specs::Records::column_of))]
     pub fn empty(alloc: Global) -> Table
         ensures { result ≡ [] }
     {
         Table {
             fields: Groups::empty(alloc),
-            rows: Vec::new(alloc),
+            ends: Vec::new(alloc),
+            places: [None; COLUMNS],
         }
+    }
+
+    // The table of these fields, of which the records end at these places.
+    fn of(alloc: Global, fields: Groups<u8>, ends: Vec<u32>) -> Result<Table, AllocError>
+        requires rise { Rise 0 ends.items (length fields) }
+        requires few { length ends.items < 2 ^ 32 }
+        ensures { IfOk result (λ table. table ≡ parts 0 ends.items fields) }
+    {
+        let places = places_of(alloc, &fields, ends.first().copied().unwrap_or(0))?;
+        let Some(places) = places.as_array() else {
+            unreachable!();
+        };
+        Ok(Table {
+            fields,
+            ends,
+            places: *places,
+        })
     }
 
     /// The table of the last record alone, which is its header.
@@ -107,133 +168,179 @@ impl Table {
         ensures { IfOk result (λ table. table ≡ last_record records.now ∷ []) }
     {
         let mut fields = Groups::empty(alloc);
-        let mut rows = Vec::new(alloc);
-        push_record(&mut fields, &mut rows, records)?;
-        Ok(Table { fields, rows })
+        let mut ends = Vec::new(alloc);
+        push_record(&mut fields, &mut ends, records)?;
+        Table::of(alloc, fields, ends)
     }
 
     /// Whether there is no record, not even a header.
+    #[tactic(auto, using(plain_laws::proofs::Laws::length_parts))]
     pub fn is_empty(&self) -> bool
         ensures { result ≡ not (nat_lt 0 (length self.now)) }
     {
-        self.records() == 0
-    }
-
-    // How many records there are, the header among them.
-    #[tactic(auto, using(plain_laws::proofs::Laws::length_parts))]
-    pub(crate) fn records(&self) -> usize
-        ensures count { result ≡ length self.now }
-        ensures few { result ≤ 2 ^ 32 }
-    {
-        self.rows.len()
-    }
-
-    // How many fields a record has; the header has the place 0.
-    fn width(&self, place: usize) -> usize
-        requires { place < length self.now }
-        ensures count { result ≡ length (get_or self.now place []) }
-        ensures few { result < 2 ^ 32 }
-    {
-        let (start, end) = part_of(&self.rows, place, self.fields.count());
-        end - start
-    }
-
-    // The field of a record, empty where the record is short; the header has the place 0.
-    fn field_at(&self, place: usize, column: usize) -> &[u8]
-        requires { place < length self.now }
-        ensures { result.now ≡ get_or (get_or self.now place []) column [] }
-    {
-        let (start, end) = part_of(&self.rows, place, self.fields.count());
-        if column >= end - start {
-            return &[];
-        }
-        self.fields.group(start + column)
+        self.ends.is_empty()
     }
 
     /// How many data rows there are.
+    #[tactic(auto, using(plain_laws::proofs::Laws::length_parts))]
     pub fn rows(&self) -> u32
-        ensures { result ≡ row_count self.now }
+        ensures count { result ≡ row_count self.now }
+        ensures few { result ≤ row_limit }
     {
-        self.records().saturating_sub(1) as u32
+        self.ends.len().saturating_sub(1) as u32
     }
 
     // How many columns the header has.
-    #[tactic(auto, using(crate::proofs::HeaderLaws::no_header))]
-    pub fn columns(&self) -> u32
+    fn columns(&self) -> u32
         ensures { result ≡ length (header self.now) }
     {
-        if self.records() == 0 {
-            return 0;
-        }
-        self.width(0) as u32
-    }
-
-    // Whether a column of the header has this name.
-    fn is_named(&self, column: u32, name: ColumnName) -> bool
-        requires { column < length (header self.now) }
-        ensures { result ≡ bytes_eq (get_or (header self.now) column []) (column_text name) }
-    {
-        self.field_at(0, column as usize) == name.text().as_bytes()
+        self.ends.first().copied().unwrap_or(0)
     }
 
     /// The place of the first column of this name. None exactly where the header lacks it.
-    #[tactic(auto, using(plain_laws::proofs::Laws::found_firsts), unfolding(feed_faults::specs::Records::column_of))]
+    #[inline(always)]
     pub fn column(&self, name: ColumnName) -> Option<u32>
-        ensures place { result ≡ column_of self.now name }
-        ensures within { IfSome result (λ column. column < length (header self.now)) }
+        ensures { result ≡ column_of self.now name }
     {
-        for column in 0..self.columns() {
-            if self.is_named(column, name) {
-                return Some(column);
-            }
-        }
-        None
+        self.places[name as usize]
     }
 
-    /// The field of a data row in a column, without the blanks at its ends; empty where the row is short.
-    #[tactic(auto, unfolding(feed_faults::specs::Records::field))]
-    pub fn field(&self, row: u32, column: u32) -> &[u8]
-        requires { row < row_count self.now }
-        ensures value { result.now ≡ get_or (data_row self.now row) column [] }
-        ensures named { (name : ColumnName) → column_of self.now name ≡ Some column → result.now ≡ field self.now row name }
+    /// Whether the header has the column.
+    pub fn has(&self, name: ColumnName) -> bool
+        ensures { result ≡ is_some (column_of self.now name) }
     {
-        self.field_at(row as usize + 1, column as usize)
+        self.column(name).is_some()
+    }
+
+    /// The field of a data row in a column, without the blanks at its ends; empty where the row is short or has no such
+    /// column.
+    #[tactic(auto, unfolding(feed_faults::specs::Records::field))]
+    pub fn field(&self, row: u32, name: ColumnName) -> &[u8]
+        requires { row < row_count self.now }
+        ensures { result.now ≡ field self.now row name }
+    {
+        let (start, end) = part_of(&self.ends, row as usize + 1, self.fields.count());
+        match self.column(name) {
+            Some(column) if (column as usize) < end - start => {
+                self.fields.group(start + column as usize)
+            }
+            _ => &[],
+        }
+    }
+
+    /// A data row.
+    #[tactic(auto, using(plain_laws::proofs::Laws::length_parts))]
+    pub fn row(&self, row: u32) -> TableRow<'_>
+        requires { row < row_count self.now }
+        ensures is { result ≡ record { table = self.now; row = row } }
+        ensures few { row < row_limit }
+    {
+        let _places = &self.places;
+        TableRow { table: self, row }
     }
 
     /// Whether a data row has a field past the header that isn't empty.
-    #[tactic(auto, using(plain_laws::proofs::Laws::any_below_next, crate::proofs::HeaderLaws::none_before), unfolding(feed_faults::specs::Records::is_long))]
-    pub fn extra(&self, row: u32) -> bool
+    #[tactic(auto, unfolding(feed_faults::specs::Records::is_long))]
+    pub fn is_long(&self, row: u32) -> bool
         requires { row < row_count self.now }
         ensures { result ≡ is_long self.now row }
     {
-        let place = row as usize + 1;
-        let past = self.columns() as usize;
-        let width = self.width(place);
-        if width <= past {
-            return false;
-        }
-        for column in past..width {
-            if is_filled(self.field_at(place, column)) {
-                return true;
-            }
-        }
-        false
+        let fields = &self.fields;
+        let (start, end) = part_of(&self.ends, row as usize + 1, fields.count());
+        (start + self.columns() as usize..end).any(|place| is_filled(fields.get(place)))
     }
 
     // Whether a column stands twice in the header.
-    #[tactic(auto, using(plain_laws::proofs::Laws::any_below_next, plain_laws::proofs::Laws::any_below_hit), unfolding(feed_faults::specs::FormFaults::is_twice))]
+    #[tactic(auto, unfolding(feed_faults::specs::FormFaults::is_twice))]
     pub(crate) fn is_twice(&self, name: ColumnName) -> bool
         ensures { result ≡ is_twice self.now name }
     {
-        let mut found = false;
-        for column in 0..self.columns() {
-            if self.is_named(column, name) {
-                if found {
-                    return true;
-                }
-                found = true;
-            }
+        let fields = &self.fields;
+        let columns = self.columns();
+        match self.column(name) {
+            Some(first) => (first + 1..columns).any(|column| fields.get(column as usize)
+                == name.text().as_bytes()),
+            None => false,
         }
-        false
+    }
+}
+
+/// A data row of a table. Contracts see it as the two.
+#[derive(Drop)]
+pub struct TableRow<'t> {
+    table: &'t Table,
+    row: u32,
+}
+
+impl<'t> Model for TableRow<'t> {
+    ghost use Rattle.std.specs.Prelude.{◌<◌};
+    ghost use Rattle.feed_faults.specs.Records.{row_count};
+    ghost use Rattle.feed_text.specs.DataRows.{RowOfTable};
+
+    ghost Value = { RowOfTable };
+
+    ghost view = { λ r. record { table = r.table.now; row = r.row } };
+
+    ghost invariant = { λ r. r.row < row_count r.table.now };
+}
+
+impl<'t> Fields for TableRow<'t> {
+    ghost use Rattle.feed_faults.specs.Records.{field};
+    ghost use Rattle.feed_text.specs.DataRows.{RowOfTable};
+
+    ghost at = { λ (r : RowOfTable). field r.table r.row };
+
+    fn field(&self, name: ColumnName) -> &[u8] {
+        self.table.field(self.row, name)
+    }
+}
+
+/// The last record that was read, as a data row behind a header. Contracts see it as the two.
+#[derive(Drop)]
+pub struct RecordRow<'r, R> {
+    header: &'r Table,
+    records: &'r Records<R>,
+}
+
+impl<'r, R> Model for RecordRow<'r, R> {
+    ghost use Rattle.feed_text.specs.Reader.{last_record};
+    ghost use Rattle.feed_text.specs.DataRows.{RecordOf};
+
+    ghost Value = { RecordOf };
+
+    ghost view = { λ r. record { header = r.header.now; fields = last_record r.records.now } };
+}
+
+impl<'r, R: Read> RecordRow<'r, R> {
+    /// The last record behind the header of a table.
+    pub fn of(header: &'r Table, records: &'r Records<R>) -> RecordRow<'r, R>
+        ensures { result ≡ record { header = header.now; fields = last_record records.now } }
+    {
+        RecordRow { header, records }
+    }
+
+    /// Whether the record has a field past the header that isn't empty.
+    #[tactic(auto, unfolding(feed_faults::specs::Records::is_long))]
+    pub fn is_long(&self) -> bool
+        ensures { result ≡ is_long (one_row self.now.header self.now.fields) 0 }
+    {
+        let records = self.records;
+        (self.header.columns() as usize..records.len()).any(|place| is_filled(records.field(place)))
+    }
+}
+
+impl<'r, R: Read> Fields for RecordRow<'r, R> {
+    ghost use Rattle.feed_faults.specs.Records.{field};
+    ghost use Rattle.feed_text.specs.DataRows.{RecordOf, one_row};
+
+    ghost at = { λ (r : RecordOf). field (one_row r.header r.fields) 0 };
+
+    #[inline(always)]
+    #[tactic(auto, unfolding(feed_faults::specs::Records::field, feed_faults::specs::Records::column_of))]
+    fn field(&self, name: ColumnName) -> &[u8] {
+        match self.header.column(name) {
+            Some(place) => self.records.field(place as usize),
+            None => &[],
+        }
     }
 }

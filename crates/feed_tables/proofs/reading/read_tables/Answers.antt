@@ -1,4 +1,4 @@
-use Rattle.std.proofs.Common.{◌∙◌, sym, subst, arith}
+use Rattle.std.proofs.Common.{◌≡◌, ◌++◌, ◌∷◌, [], ◌∙◌, sym, subst, arith}
 use Rattle.std.proofs.lemmas.List.{map_more}
 use Rattle.plain_laws.proofs.Laws.{first_in_next}
 use Rattle.std.proofs.lemmas.Grind.{common_steps}
@@ -17,12 +17,13 @@ loop-i-preserved c =
     let order = c.requires.order in
     let lt = c.loop-i-test.true in
     let taken = c.in_ok-table.ensures in
+    let pushed : c.push.new.self.items ≡ c.loop-i.tables.items ++ c.in_ok-table.table ∷ [] = rw (← c.in_ok-map_err.ensures.variant) at c.push.ensures.items in
     let left = before.left order.0 order.1 in
     record {
-      tables = rw (c.in_ok-push_table.ensures, before.tables, taken.table, next_read c.args.files.now c.loop-i.files c.args.names.now order.0 c.loop-i.i _ order.1 lt left)
+      tables = rw (pushed, before.tables, taken.table, next_read c.args.files.now c.loop-i.files c.args.names.now order.0 c.loop-i.i _ order.1 lt left)
           (sym (map_more (read_of (held_in c.args.files.now)) c.args.names.now c.loop-i.i _ lt));
       none = first_in_next c.args.names.now (form_fault (held_in c.args.files.now)) c.loop-i.i _ lt before.none (sym (next_fault c.args.files.now c.loop-i.files c.args.names.now order.0 c.loop-i.i _ order.1 lt left) ∙ taken.sound);
-      left = λ n stand. left_next c.args.files.now c.loop-i.files c.args.names.now n c.loop-i.i _ stand lt (before.left n stand) c.taken_table.new.files taken.others;
+      left = λ n stand. left_next c.args.files.now c.loop-i.files c.args.names.now n c.loop-i.i _ stand lt (before.left n stand) c.read_file.new.files taken.others;
       within = taken.within;
     }
 

@@ -1,16 +1,25 @@
-use Rattle.std.proofs.Common.{◌<◌, arith}
-use Rattle.std.proofs.lemmas.Grind.{common_steps}
-use Rattle.feed_faults.specs.Records.{row_count}
-use Rattle.feed_faults.specs.FormFaults.{form_fault_of_row, form_fault_of_rows}
-use Rattle.feed_text.specs.TextErrors.{IsErrorOf}
-use Rattle.feed_tables.proofs.PassLaws.{error_below}
+use Rattle.std.proofs.Common.{◌≡◌, ◌∙◌, ◌<◌, Some, true, false, ap, sym, refl, arith}
+use Rattle.plain_laws.proofs.Laws.{first_below_found}
+use Rattle.feed_faults.specs.Records.{field, row_count, is_long}
+use Rattle.feed_faults.specs.FormFaults.{fault_of_fields, form_fault_of_row, form_fault_of_rows}
+use Rattle.feed_text.specs.DataRows.{RowOfTable}
 use Rattle.feed_tables.proofs.rows.read_rows.Goals as goal
 
-pub returns-in_err-keep_row-clause-fault : goal.returns-in_err-keep_row-clause-fault
-unfolding form_fault_of_rows
-returns-in_err-keep_row-clause-fault c =
+pub returns-then-is_long-clause-fault : goal.returns-then-is_long-clause-fault
+unfolding form_fault_of_rows form_fault_of_row
+returns-then-is_long-clause-fault c =
     let lt : c.loop-row.row < row_count c.args.table.now = omega (arith, c.loop-row-test.true, c.rows-row-end.ensures.count) in
-    let first : IsErrorOf (form_fault_of_rows c.args.file c.args.table.now) c.in_err-keep_row.field-0.0 =
-    error_below (form_fault_of_row c.args.file c.args.table.now) (row_count c.args.table.now) c.loop-row.row c.in_err-keep_row.field-0.0 lt c.loop-row.invariant.none c.in_err-keep_row.ensures.fault
+    let long : is_long c.args.table.now c.loop-row.row ≡ true = sym c.is_long.ensures ∙ c.if-is_long.true in
+    let here : form_fault_of_row c.args.file c.args.table.now c.loop-row.row ≡ Some c.row_fault.result = rw (long, c.row_fault.ensures) refl in
+    first_below_found (form_fault_of_row c.args.file c.args.table.now) (row_count c.args.table.now) c.loop-row.row c.row_fault.result lt c.loop-row.invariant.none here
+
+pub returns-in-Some-clause-fault : goal.returns-in-Some-clause-fault
+unfolding form_fault_of_rows form_fault_of_row
+returns-in-Some-clause-fault c =
+    let lt : c.loop-row.row < row_count c.args.table.now = omega (arith, c.loop-row-test.true, c.rows-row-end.ensures.count) in
+    let long : is_long c.args.table.now c.loop-row.row ≡ false = sym c.is_long.ensures ∙ c.if-is_long.false in
+    let told : fault_of_fields c.args.file c.loop-row.row (field c.args.table.now c.loop-row.row) ≡ Some c.in-Some.fault =
+    sym (sym c.in-Some.is ∙ c.in_ok-fault.ensures.fault ∙ ap (λ (r : RowOfTable). fault_of_fields c.args.file c.loop-row.row (field r.table r.row)) c.row.ensures.is)
     in
-    grind (arith, common_steps, first)
+    let here : form_fault_of_row c.args.file c.args.table.now c.loop-row.row ≡ Some c.in-Some.fault = rw (long, told) refl in
+    first_below_found (form_fault_of_row c.args.file c.args.table.now) (row_count c.args.table.now) c.loop-row.row c.in-Some.fault lt c.loop-row.invariant.none here

@@ -2,7 +2,7 @@ use Rattle.std.proofs.Common.{◌≡◌, ◌+◌, ◌-◌, ◌^◌, take, arith,
 use Rattle.std.specs.Char.{is_ascii_digit}
 use Rattle.std.proofs.lemmas.Grind.{common_steps}
 use Rattle.std.proofs.Math.Seq.{take-length}
-use Rattle.feed_text.proofs.DigitLaws.{all_more, no_number, empty_number, too_large, whole, grown, bounded_none, bounded_some}
+use Rattle.feed_text.proofs.DigitLaws.{all_more, no_number, empty_number, too_large, whole, grown}
 use Rattle.feed_text.proofs.numbers.number_of.Goals as goal
 
 pub returns-then-is_empty : goal.returns-then-is_empty
@@ -12,23 +12,27 @@ pub returns-then-not-is_ascii_digit : goal.returns-then-not-is_ascii_digit
 returns-then-not-is_ascii_digit c =
     no_number c.args.text.now (2 ^ 64 - 1) c.loop-b.b-index c.loop-b-test.true (sym c.if-not-is_ascii_digit.ensures.value)
 
+pub returns-in_err-checked_mul : goal.returns-in_err-checked_mul
+returns-in_err-checked_mul c =
+    let digit : is_ascii_digit (get_or c.args.text.now c.loop-b.b-index 0) ≡ true = sym c.if-not-is_ascii_digit.ensures.value in
+    let next = grown c.args.text.now c.loop-b.b-index c.loop-b.value c.loop-b.invariant.value c.loop-b-test.true digit in
+    rw c.from_residual.ensures (too_large c.args.text.now (2 ^ 64 - 1) (c.loop-b.b-index + 1) (rw next (omega (arith, c.in_err-checked_mul.ensures))))
+
 pub returns-in_err-value : goal.returns-in_err-value
 returns-in_err-value c =
     let digit : is_ascii_digit (get_or c.args.text.now c.loop-b.b-index 0) ≡ true = sym c.if-not-is_ascii_digit.ensures.value in
     let next = grown c.args.text.now c.loop-b.b-index c.loop-b.value c.loop-b.invariant.value c.loop-b-test.true digit in
-    rw c.from_residual.ensures
-    (too_large c.args.text.now (2 ^ 64 - 1) (c.loop-b.b-index + 1) (rw next (bounded_none _ (2 ^ 64 - 1) c.in_err-value.ensures)))
+    rw c.from_residual-in_err-value.ensures (too_large c.args.text.now (2 ^ 64 - 1) (c.loop-b.b-index + 1) (rw next (omega (arith, c.in_err-value.ensures, c.in_ok-checked_mul.ensures, c.from.ensures))))
 
 pub loop-b-preserved : goal.loop-b-preserved
 loop-b-preserved c =
     let digit : is_ascii_digit (get_or c.args.text.now c.loop-b.b-index 0) ≡ true = sym c.if-not-is_ascii_digit.ensures.value in
     let next = grown c.args.text.now c.loop-b.b-index c.loop-b.value c.loop-b.invariant.value c.loop-b-test.true digit in
-    let is = bounded_some _ (2 ^ 64 - 1) c.in_ok-value.value c.in_ok-value.ensures in
     record {
       some = c.loop-b.invariant.some;
-      fits = rw is.0 is.1;
+      fits = omega (arith, c.in_ok-value.ensures);
       digits = all_more c.args.text.now c.loop-b.b-index c.loop-b-test.true c.loop-b.invariant.digits digit;
-      value = is.0 ∙ sym next;
+      value = (omega (arith, c.in_ok-value.ensures, c.in_ok-checked_mul.ensures, c.from.ensures)) ∙ sym next;
     }
 
 pub returns : goal.returns

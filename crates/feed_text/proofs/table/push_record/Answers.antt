@@ -12,7 +12,7 @@ returns-clause-rise g c =
     let grown : c.loop-place.fields ≡ c.args.fields.now ++ fields = rw all at c.loop-place.invariant in
     let size : c.count.result ≡ length c.args.fields.now + length fields = c.count.ensures ∙ ap length grown ∙ length-append c.args.fields.now fields in
     on_ok_weaker _
-    (λ ends. (pushed_part c.args.rows.now.items c.push_end.new.ends.items c.args.fields.now fields c.loop-place.fields c.count.result c.requires ends grown size).0)
+    (λ ends. (pushed_part c.args.ends.now.items c.push_end.new.ends.items c.args.fields.now fields c.loop-place.fields c.count.result c.requires ends grown size).0)
     c.push_end.ensures.ok
 
 pub returns-clause-parts : goal.returns-clause-parts
@@ -22,5 +22,5 @@ returns-clause-parts g c =
     let grown : c.loop-place.fields ≡ c.args.fields.now ++ fields = rw all at c.loop-place.invariant in
     let size : c.count.result ≡ length c.args.fields.now + length fields = c.count.ensures ∙ ap length grown ∙ length-append c.args.fields.now fields in
     on_ok_weaker _
-    (λ ends. (pushed_part c.args.rows.now.items c.push_end.new.ends.items c.args.fields.now fields c.loop-place.fields c.count.result c.requires ends grown size).1)
+    (λ ends. (pushed_part c.args.ends.now.items c.push_end.new.ends.items c.args.fields.now fields c.loop-place.fields c.count.result c.requires ends grown size).1)
     c.push_end.ensures.ok

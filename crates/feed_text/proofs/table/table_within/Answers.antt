@@ -1,4 +1,4 @@
-use Rattle.std.proofs.Common.{Some, arith}
+use Rattle.std.proofs.Common.{◌≡◌, Some, arith}
 use Rattle.plain_laws.specs.Plain.{parts}
 use Rattle.plain_laws.proofs.Laws.{length_parts}
 use Rattle.feed_faults.specs.Records.{table_of_bytes}
@@ -11,19 +11,20 @@ loop-preserved c =
     record {
       rows = pushed.rise;
       count = omega (arith, pushed.count, c.loop.invariant.count);
-      stands = rw pushed.parts (rw c.in-Ok-true.field-0-test at (c.in-Ok-true.ensures.goes_on (Some c.args.text.now) (parts 0 c.loop.rows.items c.loop.fields) c.loop.invariant.stands));
+      stands = rw pushed.parts (rw c.in-Ok-true.field-0-test at (c.in-Ok-true.ensures.goes_on (Some c.args.text.now) (parts 0 c.loop.ends.items c.loop.fields) c.loop.invariant.stands));
     }
 
 pub returns-in-Ok-false : goal.returns-in-Ok-false
 returns-in-Ok-false c =
-    let all = rw c.in-Ok-false.field-0-test at (c.in-Ok-false.ensures.goes_on (Some c.args.text.now) (parts 0 c.loop.rows.items c.loop.fields) c.loop.invariant.stands) in
-    let size = length_parts 0 c.loop.rows.items c.loop.fields in
-    kept_within (parts 0 c.loop.rows.items c.loop.fields) (table_of_bytes c.args.text.now) c.args.max_rows (rw all.is_of.told at all.is_table)
-    (omega (arith, size, c.loop.invariant.count, c.loop-test.true, c.from-end.ensures))
+    let all = rw c.in-Ok-false.field-0-test at (c.in-Ok-false.ensures.goes_on (Some c.args.text.now) (parts 0 c.loop.ends.items c.loop.fields) c.loop.invariant.stands) in
+    let size = length_parts 0 c.loop.ends.items c.loop.fields in
+    let is : c.in_ok-of-in-Ok-false.field-0 ≡ parts 0 c.loop.ends.items c.loop.fields = c.in_ok-of-in-Ok-false.ensures in
+    rw is (kept_within (parts 0 c.loop.ends.items c.loop.fields) (table_of_bytes c.args.text.now) c.args.max_rows (rw all.is_of.told at all.is_table)
+    (omega (arith, size, c.loop.invariant.count, c.loop-test.true, c.from-end.ensures)))
 
 pub returns : goal.returns
 returns c =
-    let within = goes_within (λ s. Some s.now) c.loop.records c.args.text.now (parts 0 c.loop.rows.items c.loop.fields) c.loop.invariant.stands in
-    let size = length_parts 0 c.loop.rows.items c.loop.fields in
+    let within = goes_within (λ s. Some s.now) c.loop.records c.args.text.now (parts 0 c.loop.ends.items c.loop.fields) c.loop.invariant.stands in
+    let size = length_parts 0 c.loop.ends.items c.loop.fields in
     too_long (table_of_bytes c.args.text.now) c.args.max_rows
     (omega (arith, within, size, c.loop.invariant.count, c.loop-test.false, c.from-end.ensures))

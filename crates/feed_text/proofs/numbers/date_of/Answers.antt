@@ -1,7 +1,7 @@
 use Rattle.std.proofs.Common.{◌≡◌, ◌-◌, length, take, drop, sym, ◌∙◌, arith, length-drop}
 use Rattle.std.proofs.lemmas.List.{take_all}
 use Rattle.feed_text.proofs.DateLaws.{no_date, date_by_parts}
-use Rattle.feed_text.proofs.dates.date_of.Goals as goal
+use Rattle.feed_text.proofs.numbers.date_of.Goals as goal
 
 pub returns-then-text-ne8 : goal.returns-then-text-ne8
 returns-then-text-ne8 c = sym (no_date c.args.text.now c.if-text-ne8.true)
