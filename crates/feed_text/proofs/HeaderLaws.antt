@@ -14,11 +14,6 @@ use Rattle.feed_faults.specs.FileColumns.{columns_of}
 use Rattle.feed_faults.specs.declared.columns.ColumnRule.{ColumnRule}
 use Rattle.feed_faults.specs.FormFaults.{form_fault_of_table, header_fault, doubled_column, missing_column, is_needed_column, is_twice}
 
--- a table without a record has no columns
-pub no_header : (table : FileTable) → length table ≡ 0 → length (header table) ≡ 0
-no_header [] e = refl
-no_header (r ∷ rs) e = absurd (omega (arith, e))
-
 -- no number below the first that may pass does
 pub none_before : (past : ℕ) (test : ℕ → Bool) (n : ℕ) → n ≤ past → any_below n (λ c. nat_le past c && test c) ≡ false
 none_before past test zero le = refl

@@ -191,6 +191,7 @@ impl Table {
     }
 
     // How many columns the header has.
+    #[inline(always)]
     fn columns(&self) -> u32
         ensures { result ≡ length (header self.now) }
     {
@@ -219,13 +220,14 @@ impl Table {
         requires { row < row_count self.now }
         ensures { result.now ≡ field self.now row name }
     {
+        let Some(column) = self.column(name) else {
+            return &[];
+        };
         let (start, end) = part_of(&self.ends, row as usize + 1, self.fields.count());
-        match self.column(name) {
-            Some(column) if (column as usize) < end - start => {
-                self.fields.group(start + column as usize)
-            }
-            _ => &[],
+        if column as usize >= end - start {
+            return &[];
         }
+        self.fields.group(start + column as usize)
     }
 
     /// A data row.

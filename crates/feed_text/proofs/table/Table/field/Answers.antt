@@ -4,7 +4,6 @@ use Rattle.plain_laws.specs.Plain.{start_of}
 use Rattle.plain_laws.proofs.Laws.{length_parts}
 use Rattle.feed_faults.specs.Records.{field, column_of}
 use Rattle.feed_text.proofs.AccessLaws.{field_there, field_short}
-use Rattle.feed_text.proofs.table.Table.field.Goals.{in_default-via-in-Some+else-column-end, in_default-via-in_default}
 use Rattle.feed_text.proofs.table.Table.field.Goals as goal
 
 pub part_of-start-requires-clause-within : goal.part_of-start-requires-clause-within
@@ -13,9 +12,9 @@ part_of-start-requires-clause-within c =
     let asked = rw (← c.self.view_is) at c.requires in
     rw c.deref.ensures.value (omega (arith, asked, length_parts 0 v.ends.items v.fields))
 
-pub returns-in-Some : goal.returns-in-Some
+pub returns : goal.returns
 unfolding field
-returns-in-Some c =
+returns c =
     let v = c.self.inside in
     let row = c.args.row + 1 in
     let asked = rw (← c.self.view_is) at c.requires in
@@ -24,22 +23,22 @@ returns-in-Some c =
     let end : c.part_of-start.result.1 ≡ get_or v.ends.items row 0 = c.part_of-start.ensures.end ∙ ap (λ (l : List ℕ). get_or l row 0) c.deref.ensures.value in
     let got : get_or v.fields (c.part_of-start.result.0 + c.in-Some.column) [] ≡ c.group.result.now = get_or_from_slice_get v.fields (c.part_of-start.result.0 + c.in-Some.column) c.group.result.now [] c.group.ensures in
     let found : column_of c.args.self.now c.args.name ≡ Some c.in-Some.column = sym c.column.ensures ∙ c.in-Some.is in
-    rw found (rw (← c.self.view_is) (sym (field_there v.ends.items v.fields row within c.in-Some.column (rw (← start, ← end) c.if-column-end.true) ∙ rw (← start) got)))
+    rw found (rw (← c.self.view_is) (sym (field_there v.ends.items v.fields row within c.in-Some.column (rw (← start, ← end) c.if-column-end.false) ∙ rw (← start) got)))
 
-pub returns-in_default : goal.returns-in_default
+pub returns-then-column-end : goal.returns-then-column-end
 unfolding field
-returns-in_default c =
+returns-then-column-end c =
     let v = c.self.inside in
     let row = c.args.row + 1 in
     let asked = rw (← c.self.view_is) at c.requires in
     let within : row < length v.ends.items = omega (arith, asked, length_parts 0 v.ends.items v.fields) in
     let start : c.part_of-start.result.0 ≡ start_of 0 v.ends.items row = c.part_of-start.ensures.start ∙ ap (λ (l : List ℕ). start_of 0 l row) c.deref.ensures.value in
     let end : c.part_of-start.result.1 ≡ get_or v.ends.items row 0 = c.part_of-start.ensures.end ∙ ap (λ (l : List ℕ). get_or l row 0) c.deref.ensures.value in
-    elim c.in_default.branch [
-      | in_default-via-in-Some+else-column-end w ↦
-          let found : column_of c.args.self.now c.args.name ≡ Some w.in-Some.column = sym c.column.ensures ∙ w.in-Some.is in
-          rw found (rw (← c.self.view_is) (sym (field_short v.ends.items v.fields row within w.in-Some.column (rw (← start, ← end) w.if-column-end.false))))
-      | in_default-via-in_default w ↦
-          let found : column_of c.args.self.now c.args.name ≡ None = sym c.column.ensures ∙ w.in_default.is in
-          rw found refl
-    ]
+    let found : column_of c.args.self.now c.args.name ≡ Some c.in-Some.column = sym c.column.ensures ∙ c.in-Some.is in
+    rw found (rw (← c.self.view_is) (sym (field_short v.ends.items v.fields row within c.in-Some.column (rw (← start, ← end) c.if-column-end.true))))
+
+pub returns-in_default : goal.returns-in_default
+unfolding field
+returns-in_default c =
+    let found : column_of c.args.self.now c.args.name ≡ None = sym c.column.ensures ∙ c.in_default.is in
+    rw found refl
