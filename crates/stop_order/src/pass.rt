@@ -50,8 +50,8 @@ fn faults_together(
     Ok(Some(faults))
 }
 
-/// What is wrong with each row among those of its trip, an empty list where nothing is, under every text of trips by which a
-/// row's trip has the rows that it has by number.
+/// What is wrong with each row among those of its trip, an empty list where nothing is, under every text of trips by
+/// which a row's trip has the rows that it has by number.
 ///
 /// # Errors
 /// Want of memory.
