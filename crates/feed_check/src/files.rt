@@ -48,8 +48,8 @@ pub(crate) fn related_feed<C: CallTable>(
     Ok(feed_of_tables(alloc, &tables, &ids, rows)?)
 }
 
-// The rows of the stop times of a file as it is held, by the ids of trips and stops. `Fault` is the first fault of the file by
-// itself.
+// The rows of the stop times of a file as it is held, by the ids of trips and stops. `Fault` is the first fault of the
+// file by itself.
 fn held_stop_times(alloc: Global, held: &FileBytes, ids: &CallIds) -> Result<StopTimes, TextError>
     ensures { AreCallsOfHeld ids.now (held_of held.now) result }
 {

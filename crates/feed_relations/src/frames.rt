@@ -23,8 +23,8 @@ pub struct Frame {
     pub end: u32,
 }
 
-// The first row of timeframes.txt below one whose timeframe is bad. As those before it don't overlap, some of them overlaps it
-// exactly where the last one does that begins before it ends.
+// The first row of timeframes.txt below one whose timeframe is bad. As those before it don't overlap, some of them
+// overlaps it exactly where the last one does that begins before it ends.
 pub fn first_bad_frame<C: CallTable>(
     alloc: Global,
     feed: &JudgedFeed<C>,

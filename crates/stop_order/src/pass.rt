@@ -50,23 +50,8 @@ fn faults_together(
     Ok(Some(faults))
 }
 
-// What is wrong with each row, by sorted keys.
-fn faults_by_keys(alloc: Global, times: &[StopTimeRow]) -> Result<Vec<OrderFaults>, AllocError>
-    requires { length times.now < 2 ^ 32 }
-    ensures { IfOk result (λ faults. AreFaults times.now faults.items) }
-{
-    let keys = sorted_keys(alloc, times)?;
-    let order = SortedTimes { times, keys: &keys };
-    let mut faults = Vec::new(alloc);
-    let mut latest = None;
-    for place in 0..times.len() {
-        judge(&order, place, &mut latest, &mut faults)?;
-    }
-    Ok(faults)
-}
-
-/// What is wrong with each row among those of its trip, an empty list where nothing is, under every text of trips by which a row's trip has the rows that it
-/// has by number.
+/// What is wrong with each row among those of its trip, an empty list where nothing is, under every text of trips by
+/// which a row's trip has the rows that it has by number.
 ///
 /// # Errors
 /// Want of memory.
@@ -78,5 +63,12 @@ pub fn order_faults(alloc: Global, times: &[StopTimeRow]) -> Result<Vec<OrderFau
     if let Some(faults) = faults_together(alloc, times)? {
         return Ok(faults);
     }
-    faults_by_keys(alloc, times)
+    let keys = sorted_keys(alloc, times)?;
+    let order = SortedTimes { times, keys: &keys };
+    let mut faults = Vec::new(alloc);
+    let mut latest = None;
+    for place in 0..times.len() {
+        judge(&order, place, &mut latest, &mut faults)?;
+    }
+    Ok(faults)
 }

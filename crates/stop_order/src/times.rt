@@ -1,4 +1,4 @@
-//! What is wrong with a stop time, as its neighbours tell it in an order of stop times: that of the file, or of sorted keys.
+//! What is wrong with a stop time, as its neighbours tell it in an order: that of the file, or of sorted keys.
 ghost use Rattle.std.specs.Prelude.{◌≡◌, ◌<◌, ◌+◌, ◌^◌, ℕ, List, length, OnOk};
 ghost use Rattle.feed_rows.specs.declared.rows.StopTimeRow.{StopTimeRow};
 ghost use Rattle.feed_faults.specs.StopTimeRelations.{is_earlier};
