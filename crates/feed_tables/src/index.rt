@@ -34,11 +34,13 @@ impl<'t> Model for IdIndex<'t> {
     ghost invariant = { λ i. AreIdRows i.table.now i.name i.rows.items × AreSlots i.rows.items i.slots };
 }
 
-/// A look-up that was begun: where the id is looked for first, and its key. Nothing is read there yet, so that a caller can
-/// do other work while memory is waited for.
+/// A look-up that was begun: where the id is looked for first, and its key. Nothing is read there yet, so that a caller
+/// can do other work while memory is waited for.
 #[derive(Clone, Copy)]
 pub struct IdStart {
+    /// The slot that is looked into first; any is right.
     pub slot: usize,
+    /// The key of the id.
     pub key: u64,
 }
 
@@ -132,7 +134,8 @@ impl<'t> IdIndex<'t> {
         }
     }
 
-    /// The number of the earliest row with the id of a look-up that was begun; that after the last row where no row has it.
+    /// Ends a look-up that was begun: the number of the earliest row with the id; that after the last row where no row
+    /// has it.
     #[inline(always)]
     pub fn number_from(&self, start: IdStart, id: &[u8]) -> u32
         requires { IsKeyOf start.key id.now }
