@@ -20,11 +20,11 @@ use Rattle.feed_build.specs.CallRows.{call_row, call_rows, call_fault, calls_fau
 use Rattle.feed_text.specs.Reader.{StandsBehind, IsTableOf}
 use Rattle.feed_text.specs.declared.records.Records.{Records}
 use Rattle.feed_text.proofs.ReaderLaws.{text_begins}
-use Rattle.feed_build.specs.CallErrors.{AreCallsOf, IsFaultOf, IsCallError}
-use Rattle.feed_build.specs.declared.stop_times.CallError.{CallError}
-use Rattle.feed_build.specs.declared.stop_times.StopTimes.{StopTimes}
-use Rattle.feed_build.specs.declared.stop_times.CallError.TheVariants.{Fault, Record}
-use Rattle.feed_build.specs.CallsSoFar.{HasCalls, IsOwnFault}
+use Rattle.feed_build.specs.CallRows.{AreCallsOf, IsFaultOf, IsCallError}
+use Rattle.feed_build.specs.declared.call_rows.CallError.{CallError}
+use Rattle.feed_build.specs.declared.call_rows.StopTimes.{StopTimes}
+use Rattle.feed_build.specs.declared.call_rows.CallError.TheVariants.{Fault, Record}
+use Rattle.feed_build.specs.CallRows.{HasCalls, IsOwnFault}
 use Rattle.feed_build.specs.declared.call_rows.CallRows.{CallRows}
 
 -- one record more

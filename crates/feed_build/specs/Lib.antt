@@ -1,4 +1,2 @@
 pub mod NameNumbers
 pub mod CallRows
-pub mod CallsSoFar
-pub mod CallErrors

@@ -1,18 +1,19 @@
-//! The rows of stop_times.txt so far.
+//! The rows of stop_times.txt, read record by record.
 ghost use Rattle.std.specs.Prelude.{◌≡◌, ◌<◌, ◌++◌, ◌∷◌, [], List, ℕ, Option, None, Some, length, IfOk, IfErr, OnOk};
 ghost use Rattle.feed_rows.specs.declared.names.FileName.TheVariants as file;
 ghost use Rattle.feed_faults.specs.Records.{header};
 ghost use Rattle.feed_text.specs.Reader.{StandsBehind, last_record};
 ghost use Rattle.feed_text.specs.RowLimits.{row_limit};
-ghost use Rattle.feed_build.specs.CallRows.{call_row, call_fault, fields_behind};
-ghost use Rattle.feed_build.specs.CallsSoFar.{HasCalls, IsOwnFault};
+ghost use Rattle.feed_build.specs.CallRows.{call_row, call_fault, fields_behind, AreCallsOf, IsCallError, HasCalls, IsOwnFault};
 
-use crate::call_fields::read_call_fields;
 use crate::rows::is_code;
-use crate::stop_times::{CallError, StopTimes};
-use feed_rows::{CallTime, ColumnName, FeedFault, FileName, StopTimeRow, StopTimeRows};
-use feed_tables::CallIds;
-use feed_text::{Fields, RecordRow, Records, SeenTable, Table, header_fault, nat_of, natural};
+use feed_faults::rule_of;
+use feed_rows::{CallTime, ColumnName, FaultKind, FeedFault, FileName, StopTimeRow, StopTimeRows};
+use feed_tables::{CallIds, MOST_ROWS};
+use feed_text::{
+    Fields, RecordError, RecordRow, Records, SeenTable, Table, file_fault, header_fault, nat_of, natural,
+    read_column, read_found, row_fault,
+};
 use std::alloc::{AllocError, Global};
 use std::io::Read;
 use transit_base::{StopId, TripId};
@@ -20,8 +21,47 @@ use transit_base::{StopId, TripId};
 // The `pickup_type` or `drop_off_type` of a stop where riders may not board, or alight.
 const NOT_AVAILABLE: u32 = 1;
 
-/// The rows of the stop times that were read, up to the first fault.
-pub struct CallRows<'i, 't> {
+/// The rows of stop_times.txt, and its table, of which nothing is kept.
+#[derive(Drop)]
+pub struct StopTimes {
+    pub rows: StopTimeRows,
+    pub table: SeenTable,
+}
+
+/// Why stop_times.txt makes no rows.
+#[derive(Clone, Copy, Debug, PartialEq, Eq)]
+pub enum CallError {
+    /// The first fault of the file by itself, but that it isn't UTF-8.
+    Fault(FeedFault),
+    /// No more records were read.
+    Record(RecordError),
+}
+
+impl From<RecordError> for CallError {
+    ghost use Rattle.std.specs.Prelude.{◌≡◌};
+    ghost use Rattle.feed_build.specs.declared.call_rows.CallError.TheVariants as error;
+
+    ghost from_gives = { λ e f. f ≡ error.Record e };
+
+    fn from(error: RecordError) -> CallError {
+        CallError::Record(error)
+    }
+}
+
+impl From<AllocError> for CallError {
+    ghost use Rattle.std.specs.Prelude.{◌≡◌};
+    ghost use Rattle.feed_text.specs.declared.records.RecordError.TheVariants.{Stopped};
+    ghost use Rattle.feed_build.specs.declared.call_rows.CallError.TheVariants as error;
+
+    ghost from_gives = { λ e f. f ≡ error.Record Stopped };
+
+    fn from(_error: AllocError) -> CallError {
+        CallError::Record(RecordError::Stopped)
+    }
+}
+
+// The rows of the stop times that were read, up to the first fault.
+struct CallRows<'i, 't> {
     ids: &'i CallIds<'t>,
     header: Table,
     // Where the trip of the row before was looked for.
@@ -46,7 +86,8 @@ impl<'i, 't> Drop for CallRows<'i, 't> {
     }
 }
 
-// The row that a record makes, judged as it is read, or its fault.
+// The row that a record makes, judged as it is read, or its fault. Column by column and not in a loop, so that each is
+// judged by its own rule alone: a feed has more fields of stop times than of all else.
 #[tactic(auto, unfolding(crate::specs::CallRows::call_row), using(crate::proofs::ValueLaws::values))]
 fn read_call<R: Read>(
     ids: &CallIds,
@@ -54,22 +95,34 @@ fn read_call<R: Read>(
     row: u32,
     fields: &RecordRow<R>,
 ) -> Result<StopTimeRow, FeedFault>
-    requires few { row < row_limit }
+    requires { row < row_limit }
     ensures fault { IfErr result (λ fault. call_fault (header fields.now.header) row fields.now.fields ≡ Some fault) }
     ensures sound { OnOk result (call_fault (header fields.now.header) row fields.now.fields ≡ None) }
     ensures row { IfOk result (λ call. call ≡ call_row ids.now (fields_behind (header fields.now.header) fields.now.fields)) }
 {
+    let file = FileName::StopTimes;
     let trip_id = fields.field(ColumnName::TripId);
     let stop_id = fields.field(ColumnName::StopId);
     // Both are looked up in two steps, so that the other fields are read while memory is waited for.
-    let trip = ids.trips.start_at(*last_trip, trip_id);
-    *last_trip = trip.slot;
-    let stop = ids.stops.start(stop_id);
-    let numbers = read_call_fields(row, fields, trip_id, stop_id)?;
-    let [_, _, sequence, arrival, departure, pickup, drop_off] = numbers;
+    let trip_start = ids.trips.start_at(*last_trip, trip_id);
+    *last_trip = trip_start.slot;
+    let stop_start = ids.stops.start(stop_id);
+    if fields.is_long() {
+        return Err(row_fault(file, row, FaultKind::LongRow));
+    }
+    let &[trip, stop, sequence, arrival, departure, pickup, drop_off] = rule_of(file).columns else {
+        unreachable!();
+    };
+    read_found(file, row, fields, trip, trip_id)?;
+    read_found(file, row, fields, stop, stop_id)?;
+    let sequence = read_column(file, row, fields, sequence)?;
+    let arrival = read_column(file, row, fields, arrival)?;
+    let departure = read_column(file, row, fields, departure)?;
+    let pickup = read_column(file, row, fields, pickup)?;
+    let drop_off = read_column(file, row, fields, drop_off)?;
     Ok(StopTimeRow {
-        trip: TripId(ids.trips.number_from(trip, trip_id)),
-        stop: StopId(ids.stops.number_from(stop, stop_id)),
+        trip: TripId(ids.trips.number_from(trip_start, trip_id)),
+        stop: StopId(ids.stops.number_from(stop_start, stop_id)),
         sequence: nat_of(sequence),
         arrival: CallTime::of(natural(arrival)),
         departure: CallTime::of(natural(departure)),
@@ -79,11 +132,8 @@ fn read_call<R: Read>(
 }
 
 impl<'i, 't> CallRows<'i, 't> {
-    /// None yet, behind the header that was read last.
-    ///
-    /// # Errors
-    /// Want of memory.
-    pub fn behind<R: Read>(
+    // None yet, behind the header that was read last.
+    fn behind<R: Read>(
         alloc: Global,
         ids: &'i CallIds<'t>,
         records: &Records<R>,
@@ -104,12 +154,9 @@ impl<'i, 't> CallRows<'i, 't> {
         })
     }
 
-    /// Takes the record that was read last as the next row; where a fault was found before, the row isn't looked at.
-    ///
-    /// # Errors
-    /// Want of memory.
-    pub fn take<R: Read>(&mut self, row: u32, records: &Records<R>) -> Result<(), AllocError>
-        requires few { row < row_limit }
+    // Takes the record that was read last as the next row; where a fault was found before, the row isn't looked at.
+    fn take<R: Read>(&mut self, row: u32, records: &Records<R>) -> Result<(), AllocError>
+        requires { row < row_limit }
         ensures { OnOk result ((ids : CallIds) (head : List (List ℕ)) (rows : List (List (List ℕ))) → row ≡ length rows → HasCalls ids head rows self.old → HasCalls ids head (rows ++ last_record records.now ∷ []) self.new) }
     {
         self.table.see(records)?;
@@ -124,8 +171,8 @@ impl<'i, 't> CallRows<'i, 't> {
         Ok(())
     }
 
-    /// The rows, or the first fault.
-    pub fn end(self) -> Result<StopTimes, CallError>
+    // The rows, or the first fault.
+    fn end(self) -> Result<StopTimes, CallError>
         ensures rows { IfOk result (λ calls. (self.entry.fault ≡ None) × (calls.rows ≡ self.entry.rows) × (calls.table ≡ self.entry.table)) }
         ensures fault { IfErr result (IsOwnFault self.entry.fault) }
     {
@@ -142,4 +189,34 @@ impl<'i, 't> CallRows<'i, 't> {
             None => Ok(StopTimes { rows, table }),
         }
     }
+}
+
+/// The rows of the stop times that all records of a text tell, by the ids of trips and stops. A trip or a stop that isn't
+/// there has the number after the last row of its file.
+///
+/// # Errors
+/// The first fault of the text's table, as a whole, then of the header, then row by row and in a row column by column; a
+/// record that isn't UTF-8; that of the source; want of memory.
+pub fn read_stop_times<R: Read>(
+    alloc: Global,
+    records: &mut Records<R>,
+    ids: &CallIds,
+) -> Result<StopTimes, CallError>
+    ensures rows { IfOk result (λ calls. (start : Option (List ℕ)) → StandsBehind R.remaining start [] records.old → AreCallsOf start ids.now calls) }
+    ensures why { IfErr result (λ error. (start : Option (List ℕ)) → StandsBehind R.remaining start [] records.old → IsCallError start error) }
+{
+    if !records.next()? {
+        return Err(CallError::Fault(file_fault(FileName::StopTimes, FaultKind::MissingFile)));
+    }
+    let mut calls = CallRows::behind(alloc, ids, records)?;
+    for row in 0..MOST_ROWS {
+        if !records.next()? {
+            return calls.end();
+        }
+        calls.take(row, records)?;
+    }
+    if records.next()? {
+        return Err(CallError::Fault(file_fault(FileName::StopTimes, FaultKind::TooManyRows)));
+    }
+    calls.end()
 }

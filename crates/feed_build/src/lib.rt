@@ -2,12 +2,10 @@
 //! names numbered by their first appearance.
 #![tactic(auto)]
 
-mod call_fields;
 mod call_rows;
 mod feed;
 mod names;
 mod rows;
-mod stop_times;
 
+pub use call_rows::{CallError, StopTimes, read_stop_times};
 pub use feed::feed_of_tables;
-pub use stop_times::{CallError, StopTimes, read_stop_times};

@@ -20,10 +20,10 @@ use Rattle.folder_io.specs.declared.reading.ReadError.TheVariants as error
 use Rattle.folder_io.specs.FileReading.{GivesUp}
 use Rattle.feed_text.specs.declared.errors.TextError.{TextError}
 use Rattle.feed_text.specs.declared.errors.TextError.TheVariants as text
-use Rattle.feed_build.specs.declared.stop_times.CallError.{CallError}
-use Rattle.feed_build.specs.declared.stop_times.CallError.TheVariants.{Fault, Record}
-use Rattle.feed_build.specs.CallErrors.{AreCallsOf, IsFaultOf, IsCallError}
-use Rattle.feed_build.specs.declared.stop_times.StopTimes.{StopTimes}
+use Rattle.feed_build.specs.declared.call_rows.CallError.{CallError}
+use Rattle.feed_build.specs.declared.call_rows.CallError.TheVariants.{Fault, Record}
+use Rattle.feed_build.specs.CallRows.{AreCallsOf, IsFaultOf, IsCallError}
+use Rattle.feed_build.specs.declared.call_rows.StopTimes.{StopTimes}
 use Rattle.folder_io.specs.declared.folder.Opened.TheVariants as opened
 use Rattle.folder_io.specs.FolderCalls.{Contents, FolderState, Finds}
 use Rattle.folder_io.proofs.FilesRead.{absent_read}

@@ -22,7 +22,7 @@ use Rattle.feed_tables.specs.IdColumns.{call_ids}
 use Rattle.feed_tables.specs.declared.ids.CallIds.{CallIds}
 use Rattle.feed_tables.proofs.NumberLaws.{calls_between}
 use Rattle.feed_build.specs.CallRows.{call_row, call_rows}
-use Rattle.feed_build.specs.declared.stop_times.StopTimes.{StopTimes}
+use Rattle.feed_build.specs.declared.call_rows.StopTimes.{StopTimes}
 use Rattle.feed_check.specs.FolderCalls.{AreCallsOfHeld}
 use Rattle.feed_check.proofs.FileLaws.{tables_are, no_form_fault, related_error, related_sound}
 

@@ -7,9 +7,9 @@ use Rattle.feed_faults.specs.FormFaults.{form_fault_of_held}
 use Rattle.folder_io.specs.FolderCalls.{FolderState, WhereTold}
 use Rattle.feed_tables.specs.declared.ids.CallIds.{CallIds}
 use Rattle.feed_build.specs.CallRows.{call_rows}
-use Rattle.feed_build.specs.declared.stop_times.StopTimes.{StopTimes}
-use Rattle.feed_build.specs.declared.stop_times.CallError.{CallError}
-use Rattle.feed_build.specs.declared.stop_times.CallError.TheVariants.{Fault, Record}
+use Rattle.feed_build.specs.declared.call_rows.StopTimes.{StopTimes}
+use Rattle.feed_build.specs.declared.call_rows.CallError.{CallError}
+use Rattle.feed_build.specs.declared.call_rows.CallError.TheVariants.{Fault, Record}
 use Rattle.feed_faults.specs.FaultPlaces.{file_fault}
 use Rattle.feed_text.specs.TextErrors.{IsErrorOf}
 use Rattle.feed_text.specs.declared.errors.TextError.{TextError}

@@ -14,12 +14,12 @@ use Rattle.feed_text.proofs.reading.header_fault.Goals as goal
 doubled : (c : After-find) → option_map (λ r. r.now) c.find.result ≡ find (λ (rule : ColumnRule). is_twice c.args.table.now rule.name) (columns_of c.args.file)
 doubled c =
     find_from_yields_List (λ (rule : ColumnRule). is_twice c.args.table.now rule.name) _ _ c.find.result c.find.ensures.ran (YieldsList-from_slice _ c.iter.ensures.rest) (λ x b q k. search (rules, tests))
-    ∙ ap (find (λ (rule : ColumnRule). is_twice c.args.table.now rule.name)) c.columns_of-rules.ensures
+    ∙ ap (find (λ (rule : ColumnRule). is_twice c.args.table.now rule.name)) c.rule_of.ensures.columns
 
 missing : (c : After-find-2) → option_map (λ r. r.now) c.find-2.result ≡ find (λ (rule : ColumnRule). is_needed_column rule.empty && is_none (column_of c.args.table.now rule.name)) (columns_of c.args.file)
 missing c =
     find_from_yields_List (λ (rule : ColumnRule). is_needed_column rule.empty && is_none (column_of c.args.table.now rule.name)) _ _ c.find-2.result c.find-2.ensures.ran (YieldsList-from_slice _ c.iter-2.ensures.rest) (λ x b q k. search (rules, tests))
-    ∙ ap (find (λ (rule : ColumnRule). is_needed_column rule.empty && is_none (column_of c.args.table.now rule.name))) c.columns_of-rules.ensures
+    ∙ ap (find (λ (rule : ColumnRule). is_needed_column rule.empty && is_none (column_of c.args.table.now rule.name))) c.rule_of.ensures.columns
 
 pub returns-in-Some : goal.returns-in-Some
 returns-in-Some c =

@@ -1,4 +1,4 @@
-use Rattle.std.proofs.Common.{◌≡◌, ◌∙◌, refl, ap, rules}
+use Rattle.std.proofs.Common.{◌∙◌, refl, ap, rules}
 use Rattle.feed_faults.specs.AcceptedFeed.{rows_of_tables, service_names, network_names, frame_names, product_names, group_names, stop_row, route_row, trip_row, service_row, exception_row, frequency_row, area_row, stop_area_row, timeframe_row, rider_row, medium_row, product_row, leg_rule_row, transfer_rule_row}
 use Rattle.feed_build.proofs.FeedLaws.{sound_rows, rows_are}
 use Rattle.feed_build.proofs.feed.Source.feed.Goals as goal
