@@ -11,8 +11,8 @@ use feed_faults::rule_of;
 use feed_rows::{CallTime, ColumnName, FaultKind, FeedFault, FileName, StopTimeRow, StopTimeRows};
 use feed_tables::{CallIds, MOST_ROWS};
 use feed_text::{
-    Fields, RecordError, RecordRow, Records, SeenTable, Table, file_fault, header_fault, nat_of, natural,
-    read_column, read_found, row_fault,
+    Fields, RecordError, RecordRow, Records, SeenTable, Table, file_fault, header_fault, nat_of,
+    natural, read_column, read_found, row_fault,
 };
 use std::alloc::{AllocError, Global};
 use std::io::Read;

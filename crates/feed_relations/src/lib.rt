@@ -2,7 +2,6 @@
 #![tactic(auto)]
 
 mod calls;
-mod checks;
 mod frames;
 mod judged;
 mod keys;

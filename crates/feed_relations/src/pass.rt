@@ -1,24 +1,49 @@
 //! The files in their order, and the checks of each.
-ghost use Rattle.std.specs.Prelude.{◌≡◌, true, IfOk};
-ghost use Rattle.plain_laws.specs.Plain.{first_below};
+ghost use Rattle.std.specs.Prelude.{◌≡◌, ◌<◌, ◌≤◌, ℕ, true, IfOk};
+ghost use Rattle.plain_laws.specs.Plain.{find_below, first_below};
 ghost use Rattle.feed_rows.specs.declared.names.FileName.TheVariants as file;
 ghost use Rattle.feed_faults.specs.Records.{row_count};
 ghost use Rattle.feed_faults.specs.FeedTables.{table_in};
 ghost use Rattle.feed_faults.specs.NetworkRelations.{are_networks_forbidden};
-ghost use Rattle.feed_faults.specs.RowChecks.{relation_fault_of_row};
+ghost use Rattle.feed_faults.specs.RowChecks.{fails, relation_fault_of_row};
 ghost use Rattle.feed_faults.specs.FirstFault.{relation_fault, first_relation_fault};
 ghost use Rattle.feed_faults.specs.AcceptedFeed.{typed_rows, stop_time_row};
 ghost use Rattle.feed_tables.specs.RowNumbers.{has_table};
+ghost use Rattle.feed_relations.specs.FittingChecks.{Fits, IsByRow};
 ghost use Rattle.feed_relations.specs.JudgedBy.{AreCallsNamed};
+ghost use Rattle.feed_relations.specs.RowKeys.{IsKeyKnown};
 
 use crate::calls::fault_of_calls;
-use crate::checks::first_failing;
+use crate::frames::first_bad_frame;
 use crate::judged::JudgedFeed;
-use feed_faults::rule_of;
+use crate::keys::first_repeated;
+use crate::rows::row_fails;
+use feed_faults::{RowCheck, RowRule, rule_of};
 use feed_rows::{ColumnName, FaultKind, FeedFault, FileName, StopTimeRow};
 use feed_tables::{CallTable, Ids, Tables};
 use feed_text::{field_fault, file_fault, is_filled};
 use std::alloc::{AllocError, Global};
+
+// The first row below one at which a check of its file fails.
+fn first_failing<C: CallTable>(
+    alloc: Global,
+    feed: &JudgedFeed<C>,
+    file: FileName,
+    rule: RowRule,
+    below: u32,
+) -> Result<Option<u32>, AllocError>
+    requires within { below ≤ row_count (table_in feed.now file) }
+    requires kept { has_table file ≡ true }
+    requires fits { Fits file rule.check }
+    requires known { (row : ℕ) → row < below → rule.check ≡ RowCheck.NewKey → IsKeyKnown feed.now file row }
+    ensures { IfOk result (λ found. found ≡ find_below below (fails feed.now file rule)) }
+{
+    match rule.check {
+        RowCheck::NewKey => Ok(first_repeated(alloc, feed, file, below)?),
+        RowCheck::GoodTimeframe => first_bad_frame(alloc, feed, below),
+        _ => Ok((0..below).find(|row| row_fails(feed, file, rule, *row))),
+    }
+}
 
 // The first fault of the rows of a table: the least row at which a check fails, and at that row the earliest of its checks. Each
 // check looks only at the rows before those at which an earlier one failed.

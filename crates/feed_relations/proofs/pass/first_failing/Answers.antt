@@ -1,9 +1,11 @@
-use Rattle.std.proofs.Common.{sym, ap, ◌∙◌}
+use Rattle.std.proofs.Common.{rules, tests, ◌≡◌, true, false, sym, ap, ◌∙◌}
+use Rattle.std.proofs.lemmas.Iterator.{first_from_Range}
+use Rattle.feed_relations.proofs.RangeLaws.{find_of_range}
 use Rattle.feed_faults.specs.declared.checks.RowCheck.{RowCheck}
-use Rattle.feed_faults.specs.RowChecks.{check_fails}
+use Rattle.feed_faults.specs.RowChecks.{fails, check_fails}
 use Rattle.plain_laws.specs.Plain.{find_below}
 use Rattle.feed_relations.proofs.KeyLaws.{repeated_by_numbers}
-use Rattle.feed_relations.proofs.checks.first_failing.Goals as goal
+use Rattle.feed_relations.proofs.pass.first_failing.Goals as goal
 
 pub returns-in_ok-first_repeated-in-NewKey : goal.returns-in_ok-first_repeated-in-NewKey
 returns-in_ok-first_repeated-in-NewKey g c =
@@ -17,3 +19,9 @@ pub returns-in-GoodTimeframe : goal.returns-in-GoodTimeframe
 returns-in-GoodTimeframe g c =
     let timeframes = rw c.in-GoodTimeframe.is at c.requires.fits in
     rw (c.in-GoodTimeframe.is, timeframes) c.first_bad_frame.ensures
+
+pub returns-in_default : goal.returns-in_default
+returns-in_default g c =
+    let test = fails c.args.feed.now c.args.file c.args.rule in
+    find_of_range test c.args.below c.find.result
+    (first_from_Range _ _ _ _ (λ row. test row ≡ true) (λ row. test row ≡ false) c.find.ensures.ran (λ x q k. search (rules, tests)) (λ x q k. search (rules, tests)))
