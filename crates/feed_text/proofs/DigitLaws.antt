@@ -1,5 +1,5 @@
 -- Digits one by one.
-use Rattle.std.proofs.Common.{◌≡◌, ℕ, ◌+◌, ◌-◌, ◌*◌, ◌<◌, ◌≤◌, List, [], ◌∷◌, Bool, true, false, zero, suc, length, take, get_or, None, Some, nat_lt, ◌&&◌, refl, ap, ◌∙◌, arith, add-one}
+use Rattle.std.proofs.Common.{◌≡◌, ℕ, ◌+◌, ◌-◌, ◌*◌, ◌^◌, ◌<◌, ◌≤◌, List, [], ◌∷◌, Bool, true, false, zero, suc, sym, length, take, get_or, None, Some, nat_lt, ◌&&◌, refl, ap, ◌∙◌, arith, add-one}
 use Rattle.std.specs.Prelude.{nat_le}
 use Rattle.std.specs.Char.{is_ascii_digit, digit_value}
 use Rattle.std.specs.Str.{all_ascii_digits}
@@ -79,3 +79,26 @@ digit_is c d = grind (arith, nat_tests)
 pub grown : (bs : List ℕ) (i v : ℕ) → v ≡ digits_value 10 (take i bs) → i < length bs → is_ascii_digit (get_or bs i 0) ≡ true
     → digits_value 10 (take (i + 1) bs) ≡ v * 10 + (get_or bs i 0 - 48)
 grown bs i v e lt d = digits_value_more 10 bs i lt ∙ rw (← e, digit_is (get_or bs i 0) d) refl
+
+small : (c : ℕ) → is_ascii_digit c ≡ true → c - 48 ≤ 9
+small c d = grind (arith, nat_tests)
+
+-- two digits
+pub two_digits : (tens ones : ℕ) → is_ascii_digit tens ≡ true → is_ascii_digit ones ≡ true
+    → Some ((tens - 48) * 10 + (ones - 48)) ≡ when_at_most (2 ^ 64 - 1) (number_value (tens ∷ ones ∷ []))
+two_digits tens ones t o =
+    let bs : List ℕ = tens ∷ ones ∷ [] in
+    let one = grown bs 0 0 refl (omega arith) t in
+    let first : tens - 48 ≡ digits_value 10 (take 1 bs) = omega (arith, one) in
+    let two = grown bs 1 (tens - 48) first (omega arith) o in
+    let digits = all_more bs 1 (omega arith) (all_more bs 0 (omega arith) refl t) o in
+    let few = small tens t in
+    let low = small ones o in
+    whole bs (2 ^ 64 - 1) ((tens - 48) * 10 + (ones - 48)) digits (omega arith) (sym two) (omega (arith, few, low))
+
+-- another byte among two
+pub no_tens : (tens ones : ℕ) → is_ascii_digit tens ≡ false → None ≡ when_at_most (2 ^ 64 - 1) (number_value (tens ∷ ones ∷ []))
+no_tens tens ones other = no_number (tens ∷ ones ∷ []) (2 ^ 64 - 1) 0 (omega arith) other
+
+pub no_ones : (tens ones : ℕ) → is_ascii_digit ones ≡ false → None ≡ when_at_most (2 ^ 64 - 1) (number_value (tens ∷ ones ∷ []))
+no_ones tens ones other = no_number (tens ∷ ones ∷ []) (2 ^ 64 - 1) 1 (omega arith) other

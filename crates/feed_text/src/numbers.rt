@@ -1,5 +1,5 @@
 //! Integers, times and dates, as fields write them.
-ghost use Rattle.std.specs.Prelude.{◌≡◌, ◌-◌, ◌^◌, ◌≤◌, IfSome, option_map};
+ghost use Rattle.std.specs.Prelude.{◌≡◌, ◌-◌, ◌^◌, ◌≤◌, ◌∷◌, [], IfSome, option_map};
 ghost use Rattle.feed_rows.specs.Numerals.{number_value, when_at_most};
 ghost use Rattle.feed_rows.specs.TimeGrammar.{time_value};
 ghost use Rattle.feed_rows.specs.WordValues.{day_value};
@@ -7,12 +7,27 @@ ghost use Rattle.feed_faults.specs.FieldGrammars.{int_value, count_value, date_v
 
 use transit_base::{Day, day_of};
 
+// The number that two digits write: the minutes and the seconds of a time, and most hours.
+#[inline(always)]
+#[tactic(auto, using(crate::proofs::DigitLaws::two_digits, crate::proofs::DigitLaws::no_tens, crate::proofs::DigitLaws::no_ones))]
+fn two_digits(tens: u8, ones: u8) -> Option<u64>
+    ensures { result ≡ when_at_most (2 ^ 64 - 1) (number_value (tens ∷ ones ∷ [])) }
+{
+    if !tens.is_ascii_digit() || !ones.is_ascii_digit() {
+        return None;
+    }
+    Some(u64::from(tens - b'0') * 10 + u64::from(ones - b'0'))
+}
+
 // The number that one or more digits write, where it is below 2^64. Inlined, as are its callers: most fields of a feed are
 // times and small numbers.
 #[inline(always)]
 pub(crate) fn number_of(text: &[u8]) -> Option<u64>
     ensures { result ≡ when_at_most (2 ^ 64 - 1) (number_value text.now) }
 {
+    if let [tens, ones] = text {
+        return two_digits(*tens, *ones);
+    }
     if text.is_empty() {
         return None;
     }
