@@ -20,9 +20,9 @@ returns c =
     (record {
       key_is = c.requires;
       short = λ few same below short.
-        by_key c.self.inside.table.now c.self.inside.name _ _ c.self.invariant.1 c.self.invariant.0 few c.args.slot within _ _ c.index.ensures c.index-2.ensures
-        below c.args.id.now c.args.key same c.requires short;
+          by_key c.self.inside.table.now c.self.inside.name _ _ c.self.invariant.1 c.self.invariant.0 few c.args.slot within _ _ c.index.ensures c.index-2.ensures
+          below c.args.id.now c.args.key same c.requires short;
       long = λ few same below text.
-        by_text c.self.inside.table.now c.self.inside.name _ _ c.self.invariant.1 c.self.invariant.0 few c.args.slot within _ _ c.index.ensures c.index-2.ensures
-        below c.args.id.now text;
+          by_text c.self.inside.table.now c.self.inside.name _ _ c.self.invariant.1 c.self.invariant.0 few c.args.slot within _ _ c.index.ensures c.index-2.ensures
+          below c.args.id.now text;
     })
