@@ -8,9 +8,7 @@ use Rattle.feed_rows.specs.declared.names.ColumnName.{ColumnName}
 use Rattle.feed_faults.specs.Records.{FileTable, row_count, field}
 use Rattle.feed_faults.specs.RowKeys.{row_of}
 use Rattle.feed_text.specs.RowLimits.{row_limit}
-use Rattle.feed_tables.specs.IndexedColumns.{IndexedColumn}
 use Rattle.feed_tables.specs.declared.id_rows.IdRow.{IdRow}
-use Rattle.feed_tables.specs.declared.index.IdStart.{IdStart}
 use Rattle.feed_tables.specs.declared.slots.Slots.{Slots}
 
 -- the number that the first n bytes make, the first of them the most; past the end of a text bytes count as 0
@@ -46,12 +44,3 @@ pub record AreSlots (rows : List IdRow) (slots : Slots) : Type 0 where
   pub keyed : length slots.keys.items ≡ length slots.rows.items
   pub are : (slot : ℕ) → slot < length slots.rows.items → slice_index slots.rows.items slot < 2 ^ 32 - 1
       → Any (IsEntry (slice_index slots.keys.items slot) (slice_index slots.rows.items slot)) rows
-
--- a look-up of an id was begun: it has the id's key, and where this is found with a row, that row is the earliest with the id,
--- if the id is short or the row has it
-pub record IsStart (column : IndexedColumn) (id : List ℕ) (start : IdStart) : Type 0 where
-  pub key_is : IsKeyOf start.key id
-  pub short : row_count column.table ≤ row_limit → start.found ≡ start.key → start.row < row_count column.table → length id ≤ 7
-      → row_of column.table column.name id ≡ Some start.row
-  pub long : row_count column.table ≤ row_limit → start.found ≡ start.key → start.row < row_count column.table
-      → field column.table start.row column.name ≡ id → row_of column.table column.name id ≡ Some start.row

@@ -3,10 +3,10 @@ ghost use Rattle.std.specs.Prelude.{◌≡◌, ◌<◌, IfOk, IfSome};
 ghost use Rattle.feed_faults.specs.Records.{row_count};
 ghost use Rattle.feed_faults.specs.RowKeys.{row_of, is_unknown, is_doubled};
 ghost use Rattle.feed_faults.specs.AcceptedFeed.{row_number};
-ghost use Rattle.feed_tables.specs.IdRows.{IsKeyOf, IsStart};
+ghost use Rattle.feed_tables.specs.IdRows.{IsKeyOf};
 
 use crate::id_rows::{IdRow, id_rows, key_of};
-use crate::slots::{FREE, Slots, slots_of};
+use crate::slots::{Slots, slots_of};
 use feed_rows::ColumnName;
 use feed_text::Table;
 use std::alloc::{AllocError, Global};
@@ -34,16 +34,14 @@ impl<'t> Model for IdIndex<'t> {
     ghost invariant = { λ i. AreIdRows i.table.now i.name i.rows.items × AreSlots i.rows.items i.slots };
 }
 
-/// A look-up that was begun: the slot where the id is looked for first, and what is read there. It isn't compared yet, so that
-/// a caller can do other work while memory is waited for.
+/// A look-up that was begun: where the id is looked for first, and its key. Nothing is read there yet, so that a caller
+/// can do other work while memory is waited for.
 #[derive(Clone, Copy)]
 pub struct IdStart {
+    /// The slot that is looked into first; any is right.
+    pub slot: usize,
     /// The key of the id.
     pub key: u64,
-    pub slot: usize,
-    /// What the slot has: the key of an id, and the earliest row with that.
-    pub found: u64,
-    pub row: u32,
 }
 
 impl<'t> IdIndex<'t> {
@@ -81,40 +79,18 @@ impl<'t> IdIndex<'t> {
         }
     }
 
-    // Begins to look for an id with this key in a slot; past the last one nothing is found.
-    #[inline(always)]
-    fn start_in(&self, slot: usize, key: u64, id: &[u8]) -> IdStart
-        requires { IsKeyOf key id.now }
-        ensures { IsStart self.now id.now result }
-    {
-        if slot >= self.slots.rows.len() {
-            return IdStart {
-                key,
-                slot,
-                found: key,
-                row: FREE,
-            };
-        }
-        IdStart {
-            key,
-            slot,
-            found: self.slots.keys[slot],
-            row: self.slots.rows[slot],
-        }
-    }
-
-    // The row that was found as a look-up was begun, where it has the id. One of at most seven bytes is told by its key alone,
+    // The row in a slot, where it has this id, which has this key. One of at most seven bytes is told by its key alone,
     // so that none of the table's text is read.
     #[inline(always)]
-    fn started_row(&self, start: IdStart, id: &[u8]) -> Option<u32>
-        requires { IsStart self.now id.now start }
+    fn row_in(&self, slot: usize, key: u64, id: &[u8]) -> Option<u32>
+        requires { IsKeyOf key id.now }
         ensures { IfSome result (λ row. row_of self.now.table self.now.name id.now ≡ Some row) }
     {
-        let row = start.row;
-        if start.found == start.key
-            && row < self.table.rows()
-            && (id.len() <= 7 || self.table.field(row, self.name) == id)
-        {
+        if slot >= self.slots.rows.len() || self.slots.keys[slot] != key {
+            return None;
+        }
+        let row = self.slots.rows[slot];
+        if row < self.table.rows() && (id.len() <= 7 || self.table.field(row, self.name) == id) {
             return Some(row);
         }
         None
@@ -123,34 +99,36 @@ impl<'t> IdIndex<'t> {
     /// Begins to look for the earliest row with an id: in the id's own slot.
     #[inline(always)]
     pub fn start(&self, id: &[u8]) -> IdStart
-        ensures { IsStart self.now id.now result }
+        ensures { IsKeyOf result.key id.now }
     {
         let key = key_of(id);
-        self.start_in(self.slots.slot_of(key, id), key, id)
+        let slot = self.slots.slot_of(key, id);
+        IdStart { slot, key }
     }
 
     /// The same, but in the slot where an id was looked for last, where that has this one too: as when an id is mostly
     /// looked for several times in a row.
     #[inline(always)]
     pub fn start_at(&self, last: usize, id: &[u8]) -> IdStart
-        ensures { IsStart self.now id.now result }
+        ensures { IsKeyOf result.key id.now }
     {
         let key = key_of(id);
-        let start = self.start_in(last, key, id);
-        if self.started_row(start, id).is_some() {
-            return start;
-        }
-        self.start_in(self.slots.slot_of(key, id), key, id)
+        let slot = if self.row_in(last, key, id).is_some() {
+            last
+        } else {
+            self.slots.slot_of(key, id)
+        };
+        IdStart { slot, key }
     }
 
     // The earliest row with the id of a look-up that was begun.
     #[inline(always)]
     fn row_from(&self, start: IdStart, id: &[u8]) -> Option<u32>
-        requires { IsStart self.now id.now start }
+        requires { IsKeyOf start.key id.now }
         ensures row { result ≡ row_of self.now.table self.now.name id.now }
         ensures within { IfSome result (λ row. row < row_count self.now.table) }
     {
-        match self.started_row(start, id) {
+        match self.row_in(start.slot, start.key, id) {
             Some(row) => Some(row),
             None => self.searched_row(start.key, id),
         }
@@ -160,7 +138,7 @@ impl<'t> IdIndex<'t> {
     /// has it.
     #[inline(always)]
     pub fn number_from(&self, start: IdStart, id: &[u8]) -> u32
-        requires { IsStart self.now id.now start }
+        requires { IsKeyOf start.key id.now }
         ensures { result ≡ row_number self.now.table self.now.name id.now }
     {
         self.row_from(start, id).unwrap_or(self.table.rows())

@@ -9,8 +9,8 @@ use crate::id_rows::IdRow;
 use plain_laws::{Grouped, Groups};
 use std::alloc::{AllocError, Global};
 
-/// The row of a slot without an id: more than any table has.
-pub const FREE: u32 = u32::MAX;
+// The row of a slot without an id: more than any table has.
+const FREE: u32 = u32::MAX;
 
 /// A slot for most ids of a column.
 #[derive(Drop)]
