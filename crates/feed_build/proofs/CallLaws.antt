@@ -16,7 +16,8 @@ use Rattle.feed_faults.specs.Records.{FileTable, table_of_bytes, header, row_cou
 use Rattle.feed_faults.specs.FaultPlaces.{file_fault}
 use Rattle.feed_faults.specs.FormFaults.{header_fault, doubled_column, missing_column, is_twice, form_fault_of_row, form_fault_of_rows, form_fault_of_table}
 use Rattle.feed_tables.specs.declared.ids.CallIds.{CallIds}
-use Rattle.feed_build.specs.CallRows.{call_row, call_rows, call_fault, calls_fault, fields_behind}
+use Rattle.feed_tables.specs.ReadCalls.{read_call, read_calls}
+use Rattle.feed_build.specs.CallRows.{call_fault, calls_fault, fields_behind}
 use Rattle.feed_text.specs.Reader.{StandsBehind, IsTableOf}
 use Rattle.feed_text.specs.declared.records.Records.{Records}
 use Rattle.feed_text.proofs.ReaderLaws.{text_begins}
@@ -88,7 +89,7 @@ module _ (ids : CallIds) (head : List (List ℕ)) (rs : List (List (List ℕ))) 
     header_is = still_header;
     table_is = more_seen;
     fault_is = rw (same, faults_more head rs r, ← has.fault_is, or_some before.fault (call_fault head (length rs) r) some) refl;
-    rows_are = λ none. absurd (let wrong : true ≡ false = sym some ∙ ap is_some (sym same ∙ none) in cc);
+    calls_are = λ none. absurd (let wrong : true ≡ false = sym some ∙ ap is_some (sym same ∙ none) in cc);
   }
 
   -- else that of the record, if it has one
@@ -98,17 +99,17 @@ module _ (ids : CallIds) (head : List (List ℕ)) (rs : List (List (List ℕ))) 
     header_is = still_header;
     table_is = more_seen;
     fault_is = rw (is, faults_more head rs r, ← has.fault_is, or_none before.fault (call_fault head (length rs) r) (no_some before.fault none)) (sym own);
-    rows_are = λ gone. absurd (none-some fault (sym gone ∙ is));
+    calls_are = λ gone. absurd (none-some fault (sym gone ∙ is));
   }
 
   -- and else its row is one more
-  pub adds_row : is_some before.fault ≡ false → call_fault head (length rs) r ≡ None → now.fault ≡ before.fault → now.rows ≡ before.rows ++ call_row ids (fields_behind head r) ∷ [] → HasCalls ids head (rs ++ r ∷ []) now
+  pub adds_row : is_some before.fault ≡ false → call_fault head (length rs) r ≡ None → now.fault ≡ before.fault → now.calls ≡ before.calls ++ read_call ids (fields_behind head r) ∷ [] → HasCalls ids head (rs ++ r ∷ []) now
   adds_row none own same rows = record {
     ids_are = still_ids;
     header_is = still_header;
     table_is = more_seen;
     fault_is = rw (same, faults_more head rs r, ← has.fault_is, no_some before.fault none) (sym own);
-    rows_are = λ gone. rw (rows, has.rows_are (no_some before.fault none), list_more rs r (λ x. call_row ids (fields_behind head x))) refl;
+    calls_are = λ gone. rw (rows, has.calls_are (no_some before.fault none), list_more rs r (λ x. read_call ids (fields_behind head x))) refl;
   }
 
 -- the table of a header and records
@@ -128,10 +129,10 @@ module _ (ids : CallIds) (head : List (List ℕ)) (rs : List (List (List ℕ))) 
   unfolding form_fault_of_row
   fault_at k = rw (row_is k, long_is k) refl
 
-  pub rows_of_table : call_rows ids (head ∷ rs) ≡ list_below (length rs) (λ k. call_row ids (fields_behind head (get_or rs k [])))
+  pub rows_of_table : read_calls ids (head ∷ rs) ≡ list_below (length rs) (λ k. read_call ids (fields_behind head (get_or rs k [])))
   rows_of_table =
-      ap (λ n. list_below n (λ k. call_row ids (field (head ∷ rs) k))) count
-      ∙ list_below-same (length rs) (λ k. call_row ids (field (head ∷ rs) k)) (λ k. call_row ids (fields_behind head (get_or rs k []))) (λ k lt. ap (call_row ids) (row_is k))
+      ap (λ n. list_below n (λ k. read_call ids (field (head ∷ rs) k))) count
+      ∙ list_below-same (length rs) (λ k. read_call ids (field (head ∷ rs) k)) (λ k. read_call ids (fields_behind head (get_or rs k []))) (λ k lt. ap (read_call ids) (row_is k))
 
   header_same : header_fault file.StopTimes (head ∷ rs) ≡ header_fault file.StopTimes (head ∷ [])
   unfolding header_fault doubled_column missing_column is_twice column_of
@@ -161,13 +162,13 @@ no_record = refl
 -- what is answered at the end
 module _ (ids : CallIds) (head : List (List ℕ)) (rs : List (List (List ℕ))) (calls : CallRows) (has : HasCalls ids head rs calls) (few : length rs ≤ most_rows)
     (start : Option (List ℕ)) (all : IsTableOf start (head ∷ rs)) where
-  pub are_calls : (made : StopTimes) → calls.fault ≡ None → made.rows ≡ calls.rows → made.table ≡ calls.table → AreCallsOf start ids made
+  pub are_calls : (made : StopTimes) → calls.fault ≡ None → made.calls ≡ calls.calls → made.table ≡ calls.table → AreCallsOf start ids made
   are_calls made none rows table = record {
     text = all.text;
     is_of = all.is_of;
     sound = rw (← all.is_table) (faults_of_table ids head rs few ∙ sym has.fault_is ∙ none);
     table_is = table ∙ has.table_is ∙ all.is_table;
-    rows_are = rows ∙ has.rows_are none ∙ sym (rows_of_table ids head rs) ∙ ap (call_rows ids) all.is_table;
+    calls_are = rows ∙ has.calls_are none ∙ sym (rows_of_table ids head rs) ∙ ap (read_calls ids) all.is_table;
   }
 
   is_fault : (fault : FeedFault) → calls.fault ≡ Some fault → IsFaultOf start fault

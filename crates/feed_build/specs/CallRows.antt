@@ -1,14 +1,13 @@
--- The rows of stop times, read record by record.
+-- Stop times, read record by record.
 use Rattle.std.specs.Prelude.{◌≡◌, ℕ, ◌∷◌, [], List, length, get_or, true, Option, None, Some}
 use Rattle.std.specs.Option.{option_or}
 use Rattle.plain_laws.specs.Plain.{list_below, first_below}
 use Rattle.feed_rows.specs.Limits.{most_rows}
 use Rattle.feed_rows.specs.declared.names.FileName.TheVariants as file
 use Rattle.feed_rows.specs.declared.faults.FeedFault.{FeedFault}
-use Rattle.feed_rows.specs.declared.rows.StopTimeRow.{StopTimeRow}
-use Rattle.feed_faults.specs.Records.{FileTable, Fields, table_of_bytes, header, row_count, field, is_long}
+use Rattle.feed_faults.specs.Records.{FileTable, Fields, table_of_bytes, header, field, is_long}
 use Rattle.feed_faults.specs.FormFaults.{header_fault, form_fault_of_table, form_fault_of_rows}
-use Rattle.feed_faults.specs.AcceptedFeed.{row_number, stop_time_by}
+use Rattle.feed_tables.specs.ReadCalls.{read_call, read_calls}
 use Rattle.feed_text.specs.Reader.{IsOfText, Explains}
 use Rattle.feed_tables.specs.RowNumbers.{fault_of_row}
 use Rattle.feed_tables.specs.declared.ids.CallIds.{CallIds}
@@ -16,10 +15,6 @@ use Rattle.feed_build.specs.declared.call_rows.CallRows.{CallRows}
 use Rattle.feed_build.specs.declared.call_rows.CallError.{CallError}
 use Rattle.feed_build.specs.declared.call_rows.CallError.TheVariants.{Fault, Record}
 use Rattle.feed_build.specs.declared.call_rows.StopTimes.{StopTimes}
-
--- what the fields of a stop time give, by the numbers of the rows that its ids name
-unfoldable pub call_row : CallIds → Fields → StopTimeRow
-call_row ids at = stop_time_by (row_number ids.trips.table ids.trips.name) (row_number ids.stops.table ids.stops.name) at
 
 -- the fields of a record behind a header
 abbrev pub fields_behind : List (List ℕ) → List (List ℕ) → Fields
@@ -34,17 +29,13 @@ call_fault header row record_fields =
 abbrev pub calls_fault : FileTable → Option FeedFault
 calls_fault table = option_or (form_fault_of_table true most_rows file.StopTimes table) (form_fault_of_rows file.StopTimes table)
 
--- the rows of a table of stop times
-abbrev pub call_rows : CallIds → FileTable → List StopTimeRow
-call_rows ids table = list_below (row_count table) (λ row. call_row ids (field table row))
-
--- these are the rows and the table of a text without a fault, the one that the source told
+-- these are the stop times and the table of a text without a fault, the one that the source told
 pub record AreCallsOf (start : Option (List ℕ)) (ids : CallIds) (calls : StopTimes) : Type 0 where
   pub text : List ℕ
   pub is_of : IsOfText start text
   pub sound : calls_fault (table_of_bytes text) ≡ None
   pub table_is : calls.table ≡ table_of_bytes text
-  pub rows_are : calls.rows ≡ call_rows ids (table_of_bytes text)
+  pub calls_are : calls.calls ≡ read_calls ids (table_of_bytes text)
 
 -- the fault is the first of such a text; a record that isn't UTF-8 is none of a text that is
 pub record IsFaultOf (start : Option (List ℕ)) (fault : FeedFault) : Type 0 where
@@ -56,13 +47,13 @@ abbrev pub IsCallError : Option (List ℕ) → CallError → Type 0
 IsCallError start (Fault fault) = IsFaultOf start fault
 IsCallError start (Record why) = Explains start why
 
--- these are the rows of records behind a header, or their first fault
+-- these are the stop times of records behind a header, or their first fault
 pub record HasCalls (ids : CallIds) (head : List (List ℕ)) (rows : List (List (List ℕ))) (calls : CallRows) : Type 0 where
   pub ids_are : calls.ids.now ≡ ids
   pub header_is : header calls.header ≡ head
   pub table_is : calls.table ≡ head ∷ rows
   pub fault_is : calls.fault ≡ option_or (header_fault file.StopTimes (head ∷ [])) (first_below (length rows) (λ k. call_fault head k (get_or rows k [])))
-  pub rows_are : calls.fault ≡ None → calls.rows ≡ list_below (length rows) (λ k. call_row ids (fields_behind head (get_or rows k [])))
+  pub calls_are : calls.fault ≡ None → calls.calls ≡ list_below (length rows) (λ k. read_call ids (fields_behind head (get_or rows k [])))
 
 -- the error is this fault
 abbrev pub IsOwnFault : Option FeedFault → CallError → Type 0

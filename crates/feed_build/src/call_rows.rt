@@ -1,15 +1,16 @@
-//! The rows of stop_times.txt, read record by record.
+//! Stop times, read record by record.
 ghost use Rattle.std.specs.Prelude.{◌≡◌, ◌<◌, ◌++◌, ◌∷◌, [], List, ℕ, Option, None, Some, length, IfOk, IfErr, OnOk};
 ghost use Rattle.feed_rows.specs.declared.names.FileName.TheVariants as file;
 ghost use Rattle.feed_faults.specs.Records.{header};
 ghost use Rattle.feed_text.specs.Reader.{StandsBehind, last_record};
 ghost use Rattle.feed_text.specs.RowLimits.{row_limit};
-ghost use Rattle.feed_build.specs.CallRows.{call_row, call_fault, fields_behind, AreCallsOf, IsCallError, HasCalls, IsOwnFault};
+ghost use Rattle.feed_tables.specs.ReadCalls.{read_call};
+ghost use Rattle.feed_build.specs.CallRows.{call_fault, fields_behind, AreCallsOf, IsCallError, HasCalls, IsOwnFault};
 
 use crate::rows::is_code;
 use feed_faults::rule_of;
-use feed_rows::{CallTime, ColumnName, FaultKind, FeedFault, FileName, StopTimeRow, StopTimeRows};
-use feed_tables::{CallIds, MOST_ROWS};
+use feed_rows::{CallTime, ColumnName, FaultKind, FeedFault, FileName};
+use feed_tables::{CallIds, MOST_ROWS, ReadCall, ReadCalls};
 use feed_text::{
     Fields, RecordError, RecordRow, Records, SeenTable, Table, file_fault, header_fault, nat_of,
     natural, read_column, read_found, row_fault,
@@ -21,14 +22,14 @@ use transit_base::{StopId, TripId};
 // The `pickup_type` or `drop_off_type` of a stop where riders may not board, or alight.
 const NOT_AVAILABLE: u32 = 1;
 
-/// The rows of stop_times.txt, and its table, of which nothing is kept.
+/// What was read of stop_times.txt, and its table, of which nothing is kept.
 #[derive(Drop)]
 pub struct StopTimes {
-    pub rows: StopTimeRows,
+    pub calls: ReadCalls,
     pub table: SeenTable,
 }
 
-/// Why stop_times.txt makes no rows.
+/// Why stop_times.txt gives no stop times.
 #[derive(Clone, Copy, Debug, PartialEq, Eq)]
 pub enum CallError {
     /// The first fault of the file by itself, but that it isn't UTF-8.
@@ -60,13 +61,13 @@ impl From<AllocError> for CallError {
     }
 }
 
-// The rows of the stop times that were read, up to the first fault.
+// The stop times that were read, up to the first fault.
 struct CallRows<'i, 't> {
     ids: &'i CallIds<'t>,
     header: Table,
     // Where the trip of the row before was looked for.
     last_trip: usize,
-    rows: StopTimeRows,
+    calls: ReadCalls,
     table: SeenTable,
     // The first fault of the header and of the rows.
     fault: Option<FeedFault>,
@@ -79,26 +80,26 @@ impl<'i, 't> Drop for CallRows<'i, 't> {
             ids: _,
             header: _,
             last_trip: _,
-            rows: _,
+            calls: _,
             table: _,
             fault: _,
         } = self;
     }
 }
 
-// The row that a record makes, judged as it is read, or its fault. Column by column and not in a loop, so that each is
+// The stop time that a record makes, judged as it is read, or its fault. Column by column and not in a loop, so that each is
 // judged by its own rule alone: a feed has more fields of stop times than of all else.
-#[tactic(auto, unfolding(crate::specs::CallRows::call_row), using(crate::proofs::ValueLaws::values))]
+#[tactic(auto, unfolding(feed_tables::specs::ReadCalls::read_call), using(crate::proofs::ValueLaws::values))]
 fn read_call<R: Read>(
     ids: &CallIds,
     last_trip: &mut usize,
     row: u32,
     fields: &RecordRow<R>,
-) -> Result<StopTimeRow, FeedFault>
+) -> Result<ReadCall, FeedFault>
     requires { row < row_limit }
     ensures fault { IfErr result (λ fault. call_fault (header fields.now.header) row fields.now.fields ≡ Some fault) }
     ensures sound { OnOk result (call_fault (header fields.now.header) row fields.now.fields ≡ None) }
-    ensures row { IfOk result (λ call. call ≡ call_row ids.now (fields_behind (header fields.now.header) fields.now.fields)) }
+    ensures row { IfOk result (λ call. call ≡ read_call ids.now (fields_behind (header fields.now.header) fields.now.fields)) }
 {
     let file = FileName::StopTimes;
     let trip_id = fields.field(ColumnName::TripId);
@@ -120,9 +121,9 @@ fn read_call<R: Read>(
     let departure = read_column(file, row, fields, departure)?;
     let pickup = read_column(file, row, fields, pickup)?;
     let drop_off = read_column(file, row, fields, drop_off)?;
-    Ok(StopTimeRow {
-        trip: TripId(ids.trips.number_from(trip_start, trip_id)),
-        stop: StopId(ids.stops.number_from(stop_start, stop_id)),
+    Ok(ReadCall {
+        trip: ids.trips.row_from(trip_start, trip_id).map(TripId),
+        stop: ids.stops.row_from(stop_start, stop_id).map(StopId),
         sequence: nat_of(sequence),
         arrival: CallTime::of(natural(arrival)),
         departure: CallTime::of(natural(departure)),
@@ -148,7 +149,7 @@ impl<'i, 't> CallRows<'i, 't> {
             ids,
             header,
             last_trip: 0,
-            rows: StopTimeRows::empty(alloc),
+            calls: ReadCalls::empty(alloc),
             table,
             fault,
         })
@@ -165,34 +166,33 @@ impl<'i, 't> CallRows<'i, 't> {
         }
         let record = RecordRow::of(&self.header, records);
         match read_call(self.ids, &mut self.last_trip, row, &record) {
-            Ok(call) => self.rows.push(call)?,
+            Ok(call) => self.calls.push(call)?,
             Err(fault) => self.fault = Some(fault),
         }
         Ok(())
     }
 
-    // The rows, or the first fault.
+    // The stop times, or the first fault.
     fn end(self) -> Result<StopTimes, CallError>
-        ensures rows { IfOk result (λ calls. (self.entry.fault ≡ None) × (calls.rows ≡ self.entry.rows) × (calls.table ≡ self.entry.table)) }
+        ensures rows { IfOk result (λ calls. (self.entry.fault ≡ None) × (calls.calls ≡ self.entry.calls) × (calls.table ≡ self.entry.table)) }
         ensures fault { IfErr result (IsOwnFault self.entry.fault) }
     {
         let CallRows {
             ids: _,
             header: _,
             last_trip: _,
-            rows,
+            calls,
             table,
             fault,
         } = self;
         match fault {
             Some(fault) => Err(CallError::Fault(fault)),
-            None => Ok(StopTimes { rows, table }),
+            None => Ok(StopTimes { calls, table }),
         }
     }
 }
 
-/// The rows of the stop times that all records of a text tell, by the ids of trips and stops. A trip or a stop that isn't
-/// there has the number after the last row of its file.
+/// The stop times that all records of a text tell, by the ids of trips and stops.
 ///
 /// # Errors
 /// The first fault of the text's table, as a whole, then of the header, then row by row and in a row column by column; a

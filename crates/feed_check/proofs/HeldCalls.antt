@@ -41,7 +41,7 @@ text_fault bytes e = rw e refl
 -- what was read of a text
 module _ (start : Option (List ℕ)) (ids : CallIds) where
   pub text_calls : (calls : StopTimes) (are : AreCallsOf start ids calls) → is_utf8 are.text ≡ true → AreCallsOfHeld ids (HeldFile.Bytes are.text) (Ok calls)
-  text_calls calls are utf8 = (text_fault are.text utf8 ∙ are.sound, are.table_is, are.rows_are)
+  text_calls calls are utf8 = (text_fault are.text utf8 ∙ are.sound, are.table_is, are.calls_are)
 
   pub text_refused : (fault : FeedFault) (is : IsFaultOf start fault) → is_utf8 is.text ≡ true → AreCallsOfHeld ids (HeldFile.Bytes is.text) (Err (text.Fault fault))
   text_refused fault is utf8 = text_fault is.text utf8 ∙ is.is_first

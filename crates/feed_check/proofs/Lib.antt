@@ -4,3 +4,4 @@ pub mod JoinedFiles
 pub mod LoadLaws
 pub mod NamedLaws
 pub mod ReadFiles
+pub mod StrayLaws

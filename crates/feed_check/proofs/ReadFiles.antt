@@ -7,10 +7,10 @@ use Rattle.feed_rows.specs.Limits.{most_rows}
 use Rattle.feed_rows.specs.HeldFiles.{HeldFile}
 use Rattle.feed_rows.specs.declared.names.FileName.{FileName}
 use Rattle.feed_rows.specs.declared.names.FileName.TheVariants as file
-use Rattle.feed_faults.specs.Records.{FileTable, row_count}
-use Rattle.feed_faults.specs.FeedTables.{FeedTables, table_in, table_of, tables_of}
+use Rattle.feed_faults.specs.Records.{row_count}
+use Rattle.feed_faults.specs.FeedTables.{FeedTables, table_of, tables_of}
 use Rattle.feed_faults.specs.FormFaults.{form_fault, first_form_fault}
-use Rattle.feed_faults.specs.AcceptedFeed.{feed_of, rows_of_tables, stop_time_row, typed_rows}
+use Rattle.feed_faults.specs.AcceptedFeed.{feed_of, rows_of_tables}
 use Rattle.feed_faults.specs.FirstFault.{first_fault, first_relation_fault}
 use Rattle.feed_soundness.specs.AcceptedTables.{AreFormed}
 use Rattle.feed_soundness.proofs.FormedFiles.{formed}
@@ -20,8 +20,7 @@ use Rattle.feed_tables.specs.RowNumbers.{TableOf, read_of, first_files, other_fi
 use Rattle.feed_tables.specs.KeptTables.{tables_with, AreKept}
 use Rattle.feed_tables.specs.IdColumns.{call_ids}
 use Rattle.feed_tables.specs.declared.ids.CallIds.{CallIds}
-use Rattle.feed_tables.proofs.NumberLaws.{calls_between}
-use Rattle.feed_build.specs.CallRows.{call_row, call_rows}
+use Rattle.feed_tables.specs.ReadCalls.{read_calls}
 use Rattle.feed_build.specs.declared.call_rows.StopTimes.{StopTimes}
 use Rattle.feed_check.specs.FolderCalls.{AreCallsOfHeld}
 use Rattle.feed_check.proofs.FileLaws.{tables_are, no_form_fault, related_error, related_sound}
@@ -48,14 +47,14 @@ module _ (files : FileName → HeldFile) (first others : List TableOf) (ids : Ca
   pub are_formed : AreFormed kept
   are_formed = subst AreFormed (sym kept_are) (formed files no_fault)
 
-  count : length calls.rows ≡ row_count calls.table
+  count : length calls.calls ≡ row_count calls.table
   count = ap length read.calls_are.2 ∙ length-list_below _ _ ∙ ap row_count (sym read.calls_are.1)
 
   few : row_count (table_of (files file.StopTimes)) ≤ most_rows
   unfolding tables_of
   few = (formed files no_fault file.StopTimes).few
 
-  pub are_kept : AreKept first others calls.table (length calls.rows)
+  pub are_kept : AreKept first others calls.table (length calls.calls)
   are_kept = record {
     first_are = rw read.first_are refl;
     others_are = rw read.others_are refl;
@@ -63,16 +62,8 @@ module _ (files : FileName → HeldFile) (first others : List TableOf) (ids : Ca
     few = omega (arith, count, ap row_count read.calls_are.1, few);
   }
 
-  typed : (table : FileTable) → table_in kept file.StopTimes ≡ table → call_rows (call_ids kept) table ≡ typed_rows table (stop_time_row kept)
-  unfolding stop_time_row call_row
-  typed table at = rw (← at) refl
-
-  pub are_typed : calls.rows ≡ typed_rows calls.table (stop_time_row kept)
-  are_typed =
-      read.calls_are.2
-      ∙ ap (call_rows ids) (sym read.calls_are.1)
-      ∙ ap (λ ids. call_rows ids calls.table) read.ids_are
-      ∙ typed calls.table (calls_between first others calls.table (rw read.first_are refl))
+  pub are_read : calls.calls ≡ read_calls (call_ids kept) calls.table
+  are_read = read.calls_are.2 ∙ ap (read_calls ids) (sym read.calls_are.1) ∙ ap (λ ids. read_calls ids calls.table) read.ids_are
 
   pub fault_is : (e : TextError) → IsErrorOf (first_relation_fault kept) e → IsErrorOf (first_fault files) e
   fault_is e is = related_error files no_fault e (rw kept_are at is)

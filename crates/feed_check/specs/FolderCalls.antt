@@ -5,8 +5,8 @@ use Rattle.feed_rows.specs.declared.names.FileName.TheVariants as file
 use Rattle.feed_faults.specs.FeedTables.{table_of}
 use Rattle.feed_faults.specs.FormFaults.{form_fault_of_held}
 use Rattle.folder_io.specs.FolderCalls.{FolderState, WhereTold}
+use Rattle.feed_tables.specs.ReadCalls.{read_calls}
 use Rattle.feed_tables.specs.declared.ids.CallIds.{CallIds}
-use Rattle.feed_build.specs.CallRows.{call_rows}
 use Rattle.feed_build.specs.declared.call_rows.StopTimes.{StopTimes}
 use Rattle.feed_build.specs.declared.call_rows.CallError.{CallError}
 use Rattle.feed_build.specs.declared.call_rows.CallError.TheVariants.{Fault, Record}
@@ -16,10 +16,10 @@ use Rattle.feed_text.specs.declared.errors.TextError.{TextError}
 use Rattle.feed_text.specs.declared.errors.TextError.TheVariants as text
 use Rattle.feed_rows.specs.declared.faults.FaultKind.TheVariants as kind
 
--- these are the rows and the table of a file as it is held, which has no fault by itself; or the fault is its first
+-- these are the stop times and the table of a file as it is held, which has no fault by itself; or the fault is its first
 abbrev pub AreCallsOfHeld : CallIds → HeldFile → Result StopTimes TextError → Type 0
 AreCallsOfHeld ids held (Ok calls) =
-    (form_fault_of_held true file.StopTimes held ≡ None) × (calls.table ≡ table_of held) × (calls.rows ≡ call_rows ids (table_of held))
+    (form_fault_of_held true file.StopTimes held ≡ None) × (calls.table ≡ table_of held) × (calls.calls ≡ read_calls ids (table_of held))
 AreCallsOfHeld ids held (Err why) = IsErrorOf (form_fault_of_held true file.StopTimes held) why
 
 -- the same of a file that is open, of which these bytes are left, where they are told

@@ -41,7 +41,7 @@ pub(crate) fn answer(
     }
 }
 
-// The rows of the file that the folder has open, or its first fault. The file is read to its end, whatever
+// The stop times of the file that the folder has open, or its first fault. The file is read to its end, whatever
 // is wrong with its rows: a failure of the folder comes before any fault, and a fault of the file as a whole before those of
 // its rows.
 fn open_calls<'a, F: Folder, S: Beginning>(
@@ -75,8 +75,8 @@ fn open_calls<'a, F: Folder, S: Beginning>(
     (calls, folder)
 }
 
-/// The rows of the stop times of a folder, by the ids of trips and stops, or the first fault of their file by itself. The
-/// files before it were opened. Nothing of the file is kept but its rows.
+/// The stop times of a folder, by the ids of trips and stops, or the first fault of their file by itself. The
+/// files before it were opened. Nothing of the file is kept but these.
 ///
 /// # Errors
 /// [`ReadError::ReadFault`] where a call of the folder failed, after which no further call was made; want of memory.

@@ -1,13 +1,13 @@
 //! The feed that files make.
 ghost use Rattle.std.specs.Prelude.{◌≡◌, IfOk, IfErr, OnOk, None, length};
 ghost use Rattle.feed_rows.specs.declared.names.FileName.TheVariants as file;
-ghost use Rattle.feed_faults.specs.FeedTables.{table_in};
-ghost use Rattle.feed_faults.specs.AcceptedFeed.{feed_of, rows_of_tables, stop_time_row, typed_rows};
+ghost use Rattle.feed_faults.specs.AcceptedFeed.{feed_of, rows_of_tables};
 ghost use Rattle.feed_faults.specs.FirstFault.{first_relation_fault, first_fault};
 ghost use Rattle.feed_check.specs.FolderCalls.{AreCallsOfHeld};
 ghost use Rattle.feed_soundness.specs.AcceptedTables.{AreFormed};
 ghost use Rattle.folder_io.specs.KeptFiles.{AreWithin, held_in, held_of};
 ghost use Rattle.feed_tables.specs.IdColumns.{call_ids};
+ghost use Rattle.feed_tables.specs.ReadCalls.{read_calls};
 ghost use Rattle.feed_tables.specs.KeptTables.{tables_with, AreKept};
 ghost use Rattle.feed_text.specs.TextErrors.{IsErrorOf};
 
@@ -21,7 +21,7 @@ use folder_io::{FileBytes, Files};
 use std::alloc::Global;
 use std::marker::Brand;
 
-/// The feed of tables whose files have no fault by themselves, with the rows of stop_times.txt. `Fault` is exactly the first
+/// The feed of tables whose files have no fault by themselves, with what was read of stop_times.txt. `Fault` is exactly the first
 /// fault of the files among each other.
 pub(crate) fn related_feed<C: CallTable>(
     alloc: Global,
@@ -30,25 +30,28 @@ pub(crate) fn related_feed<C: CallTable>(
     calls: &CallIds,
     stop_times: StopTimes,
 ) -> Result<Feed, TextError>
-    requires kept { AreKept first.now others.now C.table (length stop_times.rows) }
+    requires kept { AreKept first.now others.now C.table (length stop_times.calls) }
     requires formed { AreFormed (tables_with first.now C.table others.now) }
     requires calls { calls.now ≡ call_ids (tables_with first.now C.table others.now) }
-    requires stop_times { stop_times.rows ≡ typed_rows C.table (stop_time_row (tables_with first.now C.table others.now)) }
+    requires stop_times { stop_times.calls ≡ read_calls (call_ids (tables_with first.now C.table others.now)) C.table }
     ensures fault { IfErr result (IsErrorOf (first_relation_fault (tables_with first.now C.table others.now))) }
     ensures sound { OnOk result (first_relation_fault (tables_with first.now C.table others.now) ≡ None) }
     ensures feed { IfOk result (λ feed. feed ≡ rows_of_tables (tables_with first.now C.table others.now)) }
 {
-    let rows = stop_times.rows;
-    let count = rows.items().len();
+    let read = stop_times.calls;
+    let count = read.len();
     let tables: Tables<C> = Tables::of(first, others, count as u32);
     let ids = Ids::of(alloc, &tables, calls)?;
-    if let Some(fault) = first_relation_fault(alloc, &tables, &ids, rows.items())? {
+    if let Some(fault) = first_relation_fault(alloc, &tables, &ids, &read)? {
         return Err(TextError::Fault(fault));
     }
+    let Some(rows) = read.into_rows() else {
+        unreachable!();
+    };
     Ok(feed_of_tables(alloc, &tables, &ids, rows)?)
 }
 
-// The rows of the stop times of a file as it is held, by the ids of trips and stops. `Fault` is the first fault of the
+// The stop times of a file as it is held, by the ids of trips and stops. `Fault` is the first fault of the
 // file by itself.
 fn held_stop_times(alloc: Global, held: &FileBytes, ids: &CallIds) -> Result<StopTimes, TextError>
     ensures { AreCallsOfHeld ids.now (held_of held.now) result }

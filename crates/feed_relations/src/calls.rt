@@ -34,10 +34,10 @@ fn failing_check<C: CallTable>(
         rising_times,
     ] = checks;
     let call = feed.call(row);
-    if call.trip.0 == feed.table(FileName::Trips).rows() {
+    if call.trip.is_none() {
         return Some(trip_known);
     }
-    if call.stop.0 == feed.table(FileName::Stops).rows() {
+    if call.stop.is_none() {
         return Some(stop_known);
     }
     if !feed.is_at_platform(row) {

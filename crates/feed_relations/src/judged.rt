@@ -1,5 +1,5 @@
 //! What the rows of a feed are judged by.
-ghost use Rattle.std.specs.Prelude.{◌≡◌, ◌<◌, ◌≤◌, ◌==◌, true, false, get_or, IfOk};
+ghost use Rattle.std.specs.Prelude.{◌≡◌, ◌<◌, ◌≤◌, true, is_none, map, IfOk};
 ghost use Rattle.feed_rows.specs.Codes.{platform_type};
 ghost use Rattle.feed_rows.specs.declared.names.FileName.TheVariants as file;
 ghost use Rattle.feed_rows.specs.declared.names.ColumnName.TheVariants as column;
@@ -9,27 +9,28 @@ ghost use Rattle.feed_faults.specs.RowKeys.{is_unknown};
 ghost use Rattle.feed_faults.specs.declared.checks.IdColumn.TheVariants.{Trip, Stop};
 ghost use Rattle.feed_faults.specs.FeedTables.{table_in};
 ghost use Rattle.feed_faults.specs.StopTimeRelations.{stop_times_of, is_at_platform};
-ghost use Rattle.feed_faults.specs.AcceptedFeed.{typed_rows, stop_time_row};
+ghost use Rattle.feed_tables.specs.ReadCalls.{numbered, read_calls};
 ghost use Rattle.feed_text.specs.RowLimits.{row_limit};
-ghost use Rattle.feed_tables.specs.IdColumns.{indexed};
+ghost use Rattle.feed_tables.specs.IdColumns.{indexed, call_ids};
 ghost use Rattle.feed_tables.specs.RowNumbers.{has_table};
 ghost use Rattle.stop_order.specs.Numbered.{no_faults, faults_at};
-ghost use Rattle.feed_relations.specs.JudgedBy.{AreCallsNamed, AreJudged, IsTripKnown, are_platforms};
+ghost use Rattle.feed_relations.specs.JudgedBy.{AreCallsNamed, AreJudged, IsOrderJudged, IsTripKnown, are_platforms, call_at};
 
 use feed_faults::IdColumn;
 use feed_rows::{FileName, PLATFORM, StopTimeRow};
-use feed_tables::{CallTable, IdIndex, Ids, Tables, stop_kind};
+use feed_tables::{CallTable, IdIndex, Ids, ReadCall, ReadCalls, Tables, stop_kind};
 use feed_text::Table;
 use std::alloc::{AllocError, Global};
 use std::marker::Model;
 use stop_order::{OrderFaults, order_faults};
+use transit_base::{StopId, TripId};
 
-/// What the rows of a feed are judged by: its tables, their rows by ids, the stop times as rows, which stops are platforms, and
+/// What the rows of a feed are judged by: its tables, their rows by ids, the stop times as they were read, which stops are platforms, and
 /// what is wrong with each stop time in its trip. Contracts see it as the tables.
 pub struct JudgedFeed<'t, C: CallTable> {
     tables: &'t Tables<'t, C>,
     ids: &'t Ids<'t, C>,
-    calls: &'t [StopTimeRow],
+    calls: &'t ReadCalls,
     platforms: Vec<bool>,
     order: Vec<OrderFaults>,
 }
@@ -58,6 +59,50 @@ impl<'t, C: CallTable> Drop for JudgedFeed<'t, C> {
     }
 }
 
+// Stop times as rows, for what is asked of their order alone: those whose trip isn't there are put behind all trips.
+#[tactic(auto, using(std::proofs::lemmas::List::take_more, std::proofs::lemmas::List::map_push, std::proofs::lemmas::List::take_all))]
+fn rows_for_order<C: CallTable>(
+    alloc: Global,
+    tables: &Tables<C>,
+    calls: &ReadCalls,
+) -> Result<Vec<StopTimeRow>, AllocError>
+    ensures { IfOk result (λ rows. rows.items ≡ map (numbered (row_count (table_in tables.now file.Trips)) (row_count (table_in tables.now file.Stops))) calls.now) }
+{
+    let trip_behind = TripId(tables.rows(FileName::Trips));
+    let stop_behind = StopId(tables.rows(FileName::Stops));
+    let mut rows = Vec::with_capacity(alloc, calls.len())?;
+    for i in 0..calls.len() {
+        let call = calls.get(i);
+        rows.push(StopTimeRow {
+            trip: call.trip.unwrap_or(trip_behind),
+            stop: call.stop.unwrap_or(stop_behind),
+            sequence: call.sequence,
+            arrival: call.arrival,
+            departure: call.departure,
+            pickup: call.pickup,
+            drop_off: call.drop_off,
+        })?;
+    }
+    Ok(rows)
+}
+
+// What is wrong with each stop time among those of its trip, where that is there.
+fn order_of<C: CallTable>(
+    alloc: Global,
+    tables: &Tables<C>,
+    calls: &ReadCalls,
+) -> Result<Vec<OrderFaults>, AllocError>
+    requires named { AreCallsNamed tables.now }
+    requires calls { calls.now ≡ read_calls (call_ids tables.now) (table_in tables.now file.StopTimes) }
+    ensures { IfOk result (λ order. IsOrderJudged tables.now order.items) }
+{
+    let _few = tables.rows(FileName::StopTimes);
+    match calls.rows() {
+        Some(rows) => order_faults(alloc, rows),
+        None => order_faults(alloc, &rows_for_order(alloc, tables, calls)?),
+    }
+}
+
 impl<'t, C: CallTable> JudgedFeed<'t, C> {
     /// What the rows of a feed of these tables are judged by.
     ///
@@ -67,18 +112,17 @@ impl<'t, C: CallTable> JudgedFeed<'t, C> {
         alloc: Global,
         tables: &'t Tables<'t, C>,
         ids: &'t Ids<'t, C>,
-        calls: &'t [StopTimeRow],
+        calls: &'t ReadCalls,
     ) -> Result<JudgedFeed<'t, C>, AllocError>
         requires ids { ids.now ≡ tables.now }
         requires named { AreCallsNamed tables.now }
-        requires calls { calls.now ≡ typed_rows (table_in tables.now file.StopTimes) (stop_time_row tables.now) }
+        requires calls { calls.now ≡ read_calls (call_ids tables.now) (table_in tables.now file.StopTimes) }
         ensures { IfOk result (λ feed. feed ≡ tables.now) }
     {
-        let _few = tables.rows(FileName::StopTimes);
         let platforms = (0..tables.rows(FileName::Stops))
             .map(|row| stop_kind(tables, row) == u32::from(PLATFORM))
             .collect::<Vec<bool>>(alloc)?;
-        let order = order_faults(alloc, calls)?;
+        let order = order_of(alloc, tables, calls)?;
         Ok(JudgedFeed {
             tables,
             ids,
@@ -125,14 +169,14 @@ impl<'t, C: CallTable> JudgedFeed<'t, C> {
         self.index(column).is_unknown(id)
     }
 
-    /// A row of `stop_times.txt`. Its trip, or its stop, has the number after the last exactly where it isn't there.
-    pub fn call(&self, row: u32) -> StopTimeRow
+    /// What was read of a row of `stop_times.txt`.
+    pub fn call(&self, row: u32) -> ReadCall
         requires { row < row_count (table_in self.now file.StopTimes) }
-        ensures row { result ≡ stop_time_row self.now row }
-        ensures trip { (result.trip.0 == row_count (table_in self.now file.Trips)) ≡ is_unknown_in self.now Trip (field (table_in self.now file.StopTimes) row column.TripId) }
-        ensures stop { (result.stop.0 == row_count (table_in self.now file.Stops)) ≡ is_unknown_in self.now Stop (field (table_in self.now file.StopTimes) row column.StopId) }
+        ensures call { result ≡ call_at self.now row }
+        ensures trip { is_none result.trip ≡ is_unknown_in self.now Trip (field (table_in self.now file.StopTimes) row column.TripId) }
+        ensures stop { is_none result.stop ≡ is_unknown_in self.now Stop (field (table_in self.now file.StopTimes) row column.StopId) }
     {
-        self.calls[row as usize]
+        self.calls.get(row as usize)
     }
 
     /// Whether the stop of a row of `stop_times.txt` is there and a platform.
@@ -140,8 +184,14 @@ impl<'t, C: CallTable> JudgedFeed<'t, C> {
         requires { row < row_count (table_in self.now file.StopTimes) }
         ensures { result ≡ is_at_platform (table_in self.now file.Stops) (table_in self.now file.StopTimes) row }
     {
-        let stop = self.call(row).stop.0 as usize;
-        self.platforms.get(stop).copied().unwrap_or(false)
+        match self.call(row).stop {
+            Some(stop) => self
+                .platforms
+                .get(stop.0 as usize)
+                .copied()
+                .unwrap_or(false),
+            None => false,
+        }
     }
 
     /// What is wrong with a row of `stop_times.txt` among those of its trip, which is there.

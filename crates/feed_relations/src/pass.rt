@@ -7,7 +7,8 @@ ghost use Rattle.feed_faults.specs.FeedTables.{table_in};
 ghost use Rattle.feed_faults.specs.NetworkRelations.{are_networks_forbidden};
 ghost use Rattle.feed_faults.specs.RowChecks.{fails, relation_fault_of_row};
 ghost use Rattle.feed_faults.specs.FirstFault.{relation_fault, first_relation_fault};
-ghost use Rattle.feed_faults.specs.AcceptedFeed.{typed_rows, stop_time_row};
+ghost use Rattle.feed_tables.specs.IdColumns.{call_ids};
+ghost use Rattle.feed_tables.specs.ReadCalls.{read_calls};
 ghost use Rattle.feed_tables.specs.RowNumbers.{has_table};
 ghost use Rattle.feed_relations.specs.FittingChecks.{Fits, IsByRow};
 ghost use Rattle.feed_relations.specs.JudgedBy.{AreCallsNamed};
@@ -19,8 +20,8 @@ use crate::judged::JudgedFeed;
 use crate::keys::first_repeated;
 use crate::rows::row_fails;
 use feed_faults::{RowCheck, RowRule, rule_of};
-use feed_rows::{ColumnName, FaultKind, FeedFault, FileName, StopTimeRow};
-use feed_tables::{CallTable, Ids, Tables};
+use feed_rows::{ColumnName, FaultKind, FeedFault, FileName};
+use feed_tables::{CallTable, Ids, ReadCalls, Tables};
 use feed_text::{field_fault, file_fault, is_filled};
 use std::alloc::{AllocError, Global};
 
@@ -95,7 +96,8 @@ fn relation_fault<C: CallTable>(
     fault_of_table(alloc, feed, file)
 }
 
-/// The first fault of the files among each other, in the order of the files and of their rows. None exactly where they have
+/// The first fault of the files among each other, in the order of the files and of their rows, by what was read of the stop
+/// times. None exactly where they have
 /// none.
 ///
 /// # Errors
@@ -105,14 +107,14 @@ pub fn first_relation_fault<C: CallTable>(
     alloc: Global,
     tables: &Tables<C>,
     ids: &Ids<C>,
-    stop_times: &[StopTimeRow],
+    calls: &ReadCalls,
 ) -> Result<Option<FeedFault>, AllocError>
     requires ids { ids.now ≡ tables.now }
     requires named { AreCallsNamed tables.now }
-    requires stop_times { stop_times.now ≡ typed_rows (table_in tables.now file.StopTimes) (stop_time_row tables.now) }
+    requires calls { calls.now ≡ read_calls (call_ids tables.now) (table_in tables.now file.StopTimes) }
     ensures { IfOk result (λ fault. fault ≡ first_relation_fault tables.now) }
 {
-    let feed = JudgedFeed::of(alloc, tables, ids, stop_times)?;
+    let feed = JudgedFeed::of(alloc, tables, ids, calls)?;
     for (i, file) in FileName::all().iter().enumerate() {
         if let Some(fault) = relation_fault(alloc, &feed, *file)? {
             return Ok(Some(fault));

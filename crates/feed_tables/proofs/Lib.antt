@@ -5,3 +5,4 @@ pub mod PassLaws
 pub mod HeldLaws
 pub mod TakenFiles
 pub mod NumberLaws
+pub mod CallLaws

@@ -4,3 +4,4 @@ pub mod IndexedColumns
 pub mod IdColumns
 pub mod IdRows
 pub mod LeftFiles
+pub mod ReadCalls

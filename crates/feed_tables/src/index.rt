@@ -121,9 +121,9 @@ impl<'t> IdIndex<'t> {
         IdStart { slot, key }
     }
 
-    // The earliest row with the id of a look-up that was begun.
+    /// Ends a look-up that was begun: the earliest row with the id.
     #[inline(always)]
-    fn row_from(&self, start: IdStart, id: &[u8]) -> Option<u32>
+    pub fn row_from(&self, start: IdStart, id: &[u8]) -> Option<u32>
         requires { IsKeyOf start.key id.now }
         ensures row { result ≡ row_of self.now.table self.now.name id.now }
         ensures within { IfSome result (λ row. row < row_count self.now.table) }
@@ -132,16 +132,6 @@ impl<'t> IdIndex<'t> {
             Some(row) => Some(row),
             None => self.searched_row(start.key, id),
         }
-    }
-
-    /// Ends a look-up that was begun: the number of the earliest row with the id; that after the last row where no row
-    /// has it.
-    #[inline(always)]
-    pub fn number_from(&self, start: IdStart, id: &[u8]) -> u32
-        requires { IsKeyOf start.key id.now }
-        ensures { result ≡ row_number self.now.table self.now.name id.now }
-    {
-        self.row_from(start, id).unwrap_or(self.table.rows())
     }
 
     /// The earliest row with this id.
@@ -156,7 +146,7 @@ impl<'t> IdIndex<'t> {
     pub fn number(&self, id: &[u8]) -> u32
         ensures { result ≡ row_number self.now.table self.now.name id.now }
     {
-        self.number_from(self.start(id), id)
+        self.row_of(id).unwrap_or(self.table.rows())
     }
 
     /// Whether an id is filled and no row has it: an empty reference is no fault.

@@ -1,6 +1,7 @@
-//! The tables of a feed's files, with the first pass of faults: what is wrong with a file by itself.
+//! The tables of a feed's files, with the first pass of faults: what is wrong with a file by itself; and stop times as they are read.
 #![tactic(auto)]
 
+mod calls;
 mod id_rows;
 mod ids;
 mod index;
@@ -9,6 +10,7 @@ mod rows;
 mod slots;
 mod tables;
 
+pub use calls::{ReadCall, ReadCalls};
 pub use ids::{CallIds, Ids};
 pub use index::{IdIndex, IdStart};
 pub use reading::{MOST_ROWS, read_tables};

@@ -8,7 +8,7 @@ use Rattle.folder_io.specs.KeptFiles.{held_of, held_in}
 use Rattle.feed_check.proofs.FileLaws.{first_error, calls_error, others_error, first_stand, others_stand, others_held, other_faults_left, other_tables_left}
 use Rattle.feed_tables.specs.IdColumns.{call_ids}
 use Rattle.feed_tables.specs.KeptTables.{tables_with}
-use Rattle.feed_check.proofs.ReadFiles.{AreReadSo, are_kept, are_formed, are_typed, fault_is, sound_is, feed_is}
+use Rattle.feed_check.proofs.ReadFiles.{AreReadSo, are_kept, are_formed, are_read, fault_is, sound_is, feed_is}
 use Rattle.feed_check.proofs.files.check.Goals as goal
 
 pub returns-in_err-first-clause-fault : goal.returns-in_err-first-clause-fault
@@ -55,7 +55,7 @@ related_feed-requires c =
       others_are = c.deref-3.ensures.value ∙ (rw (c.all-2.ensures, other_tables_left c.args.files c.put.new.self others) at c.in_ok-others.ensures.tables);
       others_sound = rw (c.all-2.ensures, other_faults_left c.args.files c.put.new.self others) at c.in_ok-others.ensures.sound;
     } in
-    record { kept = are_kept _ _ _ _ _ so; formed = are_formed _ _ _ _ _ so; calls = so.ids_are; stop_times = are_typed _ _ _ _ _ so }
+    record { kept = are_kept _ _ _ _ _ so; formed = are_formed _ _ _ _ _ so; calls = so.ids_are; stop_times = are_read _ _ _ _ _ so }
 
 pub returns : goal.returns
 returns c =

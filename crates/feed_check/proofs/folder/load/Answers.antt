@@ -5,7 +5,7 @@ use Rattle.folder_io.proofs.PlaceLaws.{inside}
 use Rattle.feed_tables.specs.IdColumns.{call_ids}
 use Rattle.feed_tables.specs.KeptTables.{tables_with}
 use Rattle.feed_check.proofs.FileLaws.{others_stand}
-use Rattle.feed_check.proofs.ReadFiles.{are_kept, are_formed, are_typed, fault_is, sound_is, feed_is}
+use Rattle.feed_check.proofs.ReadFiles.{are_kept, are_formed, are_read, fault_is, sound_is, feed_is}
 use Rattle.feed_check.proofs.LoadLaws.{began, first_of, first_refused, opens_all, unread_gives, loaded_so, calls_refused, others_refused, refused_at, read_so, loaded_feed}
 use Rattle.feed_check.proofs.folder.load.Goals as goal
 
@@ -62,7 +62,7 @@ related_feed-requires g c =
     let made = c.in_ok-stop_times.stop_times in
     let ids = c.in-Ok-of.ensures made.table c.deref-3.result.now ∙ ap (λ first. call_ids (tables_with first made.table c.deref-3.result.now)) (c.deref.ensures.value ∙ sym c.deref-2.ensures.value) in
     let so = read_so _ _ _ _ _ _ loaded made c.in_ok-stop_times.was c.deref-3.result.now ids (c.deref-3.ensures.value ∙ rw c.all-2.ensures at c.in_ok-others.ensures.tables) (rw c.all-2.ensures at c.in_ok-others.ensures.sound) in
-    record { kept = are_kept _ _ _ _ _ so; formed = are_formed _ _ _ _ _ so; calls = so.ids_are; stop_times = are_typed _ _ _ _ _ so }
+    record { kept = are_kept _ _ _ _ _ so; formed = are_formed _ _ _ _ _ so; calls = so.ids_are; stop_times = are_read _ _ _ _ _ so }
 
 pub returns-in_err-feed-clause-err : goal.returns-in_err-feed-clause-err
 returns-in_err-feed-clause-err g c =

@@ -12,7 +12,7 @@ returns-in_ok-push-in-Ok g c = λ ids head rows count has.
     let own = rw (c.of-record.ensures, has.header_is, count) at c.in-Ok.ensures.sound in
     let call = rw (c.of-record.ensures, has.header_is, has.ids_are) at c.in-Ok.ensures.row in
     adds_row ids head rows (last_record c.args.records.now) c.args.self.now _ has refl refl c.in_ok-see.ensures (sym c.is_some.ensures ∙ c.if-is_some.false) own refl
-    (c.in_ok-push-in-Ok.ensures.ok ∙ ap (λ call. c.args.self.now.rows ++ call ∷ []) call)
+    (c.in_ok-push-in-Ok.ensures ∙ ap (λ call. c.args.self.now.calls ++ call ∷ []) call)
 
 pub returns-in-Err : goal.returns-in-Err
 returns-in-Err g c = λ ids head rows count has.
