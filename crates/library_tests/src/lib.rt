@@ -5,16 +5,8 @@
 #[cfg(test)]
 mod automata;
 #[cfg(test)]
-mod bags;
-#[cfg(test)]
-mod fronts;
-#[cfg(test)]
-mod labels;
-#[cfg(test)]
 mod patterns;
 #[cfg(test)]
 mod prices;
 #[cfg(test)]
 mod readings;
-#[cfg(test)]
-mod triples;

@@ -4,15 +4,10 @@
 //! names all are tried. A line is printed of each case that differs, and at the end how many were tried and differ.
 #![tactic(auto)]
 
-mod archive;
-mod case;
-mod failing_call;
-mod feed_files;
-mod library;
 mod trial;
 
 use anyhow::Result;
-use library::Library;
+use case_files::Library;
 use std::env;
 use std::process::ExitCode;
 use std::rt::Runtime;

@@ -2,10 +2,9 @@
 ghost use Rattle.std.specs.Prelude.{IsTrue};
 ghost use Rattle.folder_io.specs.KeptFiles.{are_whole};
 
-use crate::case::{Case, Wanted};
-use crate::failing_call::FailingCall;
 use anyhow::Result;
 use bstr::ByteSlice;
+use case_files::{Case, FailingCall, Wanted};
 use folder_io::{Files, MemFolder, MemSink};
 use plan_app::{WordList, run};
 use std::alloc::{AllocError, Global};

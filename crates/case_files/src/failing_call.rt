@@ -6,7 +6,7 @@ use std::fmt;
 
 /// A call that fails, by its number among its like, counted from 1.
 #[derive(Clone, Copy)]
-pub(crate) enum FailingCall {
+pub enum FailingCall {
     Open(u32),
     Read(u32),
     /// A write, of whose piece so many bytes are kept.
@@ -18,7 +18,7 @@ impl FailingCall {
     ///
     /// # Errors
     /// Another line.
-    pub(crate) fn parse(line: &str) -> Result<FailingCall> {
+    pub fn parse(line: &str) -> Result<FailingCall> {
         if let Some(call) = number_after("open ", line) {
             return Ok(FailingCall::Open(call));
         }

@@ -33,7 +33,7 @@ struct FeedFile {
 }
 
 /// Files of a feed. Of two of one name the later one counts.
-pub(crate) struct FeedFiles {
+pub struct FeedFiles {
     files: Vec<FeedFile>,
 }
 
@@ -46,7 +46,7 @@ impl Drop for FeedFiles {
 
 impl FeedFiles {
     /// No files.
-    pub(crate) fn empty(alloc: Global) -> FeedFiles {
+    pub fn empty(alloc: Global) -> FeedFiles {
         FeedFiles {
             files: Vec::new(alloc),
         }
@@ -56,7 +56,7 @@ impl FeedFiles {
     ///
     /// # Errors
     /// Want of memory, or a section that is no file.
-    pub(crate) fn add(&mut self, alloc: Global, archive: &Archive, others: &[&str]) -> Result<()> {
+    pub fn add(&mut self, alloc: Global, archive: &Archive, others: &[&str]) -> Result<()> {
         for section in archive.sections() {
             let name = section.name();
             let mut known = others.iter().chain(UNOPENED.iter());
@@ -84,7 +84,7 @@ impl FeedFiles {
     ///
     /// # Errors
     /// Want of memory.
-    pub(crate) fn files(&self, alloc: Global) -> Result<Files, AllocError>
+    pub fn files(&self, alloc: Global) -> Result<Files, AllocError>
         ensures { IfOk result (λ files. IsTrue (are_whole files)) }
     {
         let mut files = Files::empty();

@@ -10,12 +10,12 @@ use std::rt::Files;
 
 /// A folder with the folders `cases` and `feeds`, whose files are `NAME.txtar`.
 #[derive(Drop)]
-pub(crate) struct Library {
+pub struct Library {
     folder: String,
 }
 
 impl Library {
-    pub(crate) fn new(folder: String) -> Library {
+    pub fn new(folder: String) -> Library {
         Library { folder }
     }
 
@@ -23,10 +23,7 @@ impl Library {
     ///
     /// # Errors
     /// Want of memory, a folder that can't be read, or a file in it that is no case.
-    pub(crate) fn case_names<R: Files + AllocGlobal + Clone + Drop>(
-        &self,
-        rt: &R,
-    ) -> Result<Vec<String>> {
+    pub fn case_names<R: Files + AllocGlobal + Clone + Drop>(&self, rt: &R) -> Result<Vec<String>> {
         let folder = self.folder.as_str();
         let folder = format!(in rt.alloc(); "{folder}/cases")?;
         let mut names = Vec::new(rt.alloc());
@@ -46,7 +43,7 @@ impl Library {
     ///
     /// # Errors
     /// Want of memory, or a file that can't be read or is no case.
-    pub(crate) fn case<R: Files + AllocGlobal>(&self, rt: &R, name: &str) -> Result<Case> {
+    pub fn case<R: Files + AllocGlobal>(&self, rt: &R, name: &str) -> Result<Case> {
         let archive = self.archive(rt, "cases", name)?;
         let mut files = FeedFiles::empty(rt.alloc());
         if let Some(name) = Case::feed_name(&archive)? {

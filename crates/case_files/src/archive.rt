@@ -6,27 +6,27 @@ use std::str;
 
 /// A section: its name, and all lines behind the line that names it.
 #[derive(Drop)]
-pub(crate) struct Section {
+pub struct Section {
     name: String,
     lines: Vec<u8>,
 }
 
 impl Section {
     /// The name.
-    pub(crate) fn name(&self) -> &str {
+    pub fn name(&self) -> &str {
         self.name.as_str()
     }
 
     /// The lines as one text. It ends with a line feed, but where its last line ends with `\`: there neither the `\` nor
     /// the line feed belongs to it.
-    pub(crate) fn text(&self) -> &[u8] {
+    pub fn text(&self) -> &[u8] {
         let lines = self.lines.as_slice();
         lines.strip_suffix(b"\\\n").unwrap_or(lines)
     }
 }
 
 /// The sections of a text, in order.
-pub(crate) struct Archive {
+pub struct Archive {
     sections: Vec<Section>,
 }
 
@@ -42,7 +42,7 @@ impl Archive {
     ///
     /// # Errors
     /// Want of memory.
-    pub(crate) fn parse(alloc: Global, text: &[u8]) -> Result<Archive, AllocError> {
+    pub fn parse(alloc: Global, text: &[u8]) -> Result<Archive, AllocError> {
         let mut sections = Vec::<Section>::new(alloc);
         for line in text.lines_with_terminator() {
             if let Some(name) = section_name(line) {
@@ -58,12 +58,12 @@ impl Archive {
     }
 
     /// The sections.
-    pub(crate) fn sections(&self) -> &[Section] {
+    pub fn sections(&self) -> &[Section] {
         self.sections.as_slice()
     }
 
     /// The text of the first section of that name, if there is one.
-    pub(crate) fn text_of(&self, name: &str) -> Option<&[u8]> {
+    pub fn text_of(&self, name: &str) -> Option<&[u8]> {
         self.sections
             .iter()
             .find(|section| section.name() == name)
@@ -71,7 +71,7 @@ impl Archive {
     }
 
     /// The name of the first section whose name an earlier one has, if there is one.
-    pub(crate) fn doubled_name(&self) -> Option<&str> {
+    pub fn doubled_name(&self) -> Option<&str> {
         let sections = self.sections.as_slice();
         for (count, section) in sections.iter().enumerate() {
             let is_named = |earlier: &Section| earlier.name() == section.name();

@@ -5,7 +5,7 @@ use crate::failing_call::FailingCall;
 use crate::feed_files::FeedFiles;
 use anyhow::{Result, bail};
 use bstr::ByteSlice;
-use plan_app::WordList;
+use plan_words::WordList;
 use std::alloc::Global;
 use std::str;
 
@@ -22,7 +22,7 @@ const SECTIONS: [&str; 7] = [
 
 /// The text that must come.
 #[derive(Drop)]
-pub(crate) enum Wanted {
+pub enum Wanted {
     /// This very text.
     Text(Vec<u8>),
     /// A text with journeys of these arrivals, rides and prices, a line for each and in order, and with these lines.
@@ -30,13 +30,13 @@ pub(crate) enum Wanted {
 }
 
 /// A case.
-pub(crate) struct Case {
-    pub(crate) words: WordList,
-    pub(crate) files: FeedFiles,
+pub struct Case {
+    pub words: WordList,
+    pub files: FeedFiles,
     /// The calls that fail in turn, each in a run of its own; none where all go well, in one run.
-    pub(crate) failing_calls: Vec<FailingCall>,
-    pub(crate) status: u8,
-    pub(crate) wanted: Wanted,
+    pub failing_calls: Vec<FailingCall>,
+    pub status: u8,
+    pub wanted: Wanted,
 }
 
 // Written out, so that what holds one needn't look into it to let go of it.
@@ -57,7 +57,7 @@ impl Case {
     ///
     /// # Errors
     /// More than one line.
-    pub(crate) fn feed_name(archive: &Archive) -> Result<Option<&str>> {
+    pub fn feed_name(archive: &Archive) -> Result<Option<&str>> {
         match archive.text_of("feed") {
             None => Ok(None),
             Some(text) => Ok(Some(only_line(text)?)),
@@ -68,7 +68,7 @@ impl Case {
     ///
     /// # Errors
     /// Want of memory, or sections that are no case.
-    pub(crate) fn new(alloc: Global, archive: &Archive, mut files: FeedFiles) -> Result<Case> {
+    pub fn new(alloc: Global, archive: &Archive, mut files: FeedFiles) -> Result<Case> {
         if let Some(name) = archive.doubled_name() {
             bail!("there are two sections {name:?}");
         }
