@@ -4,4 +4,3 @@ pub mod CurrencyLaws
 pub mod FeedLaws
 pub mod IdLaws
 pub mod ValueLaws
-pub mod CallLaws

@@ -1,2 +1,1 @@
 pub mod NameNumbers
-pub mod CallRows

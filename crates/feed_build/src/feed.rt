@@ -8,6 +8,7 @@ ghost use Rattle.feed_faults.specs.AcceptedFeed.{row_number, typed_rows, rows_of
 ghost use Rattle.feed_soundness.specs.AcceptedTables.{AreFormed, AreRelated};
 
 use crate::names::{NameHash, Numbering};
+use crate::rows::FileRow;
 use feed_faults::IdColumn;
 use feed_rows::{ColumnName, Feed, FileName, StopTimeRows};
 use feed_tables::{CallTable, Ids, Tables};
@@ -106,18 +107,13 @@ impl<'t, C: CallTable> Source<'t, C> {
         self.ids.get(column).number(id)
     }
 
-    // What the rows of a file give, in order.
-    fn rows_of<R: Drop, F: Fn(u32) -> Result<R, AllocError>>(
-        &self,
-        file: FileName,
-        row_at: F,
-    ) -> Result<ItemList<R>, AllocError>
-        requires { (row : ℕ) → row < row_count (table_in self.now file) → F.pre row_at row }
-        ensures { (row_in : ℕ → R) → ((row : ℕ) (made : R) → F.post row_at row (Ok made) → made ≡ row_in row) → IfOk result (λ rows. rows ≡ typed_rows (table_in self.now file) row_in) }
+    // The rows of a file, in order.
+    fn rows_of<R: FileRow>(&self) -> Result<ItemList<R>, AllocError>
+        ensures { IfOk result (λ rows. rows ≡ typed_rows (table_in self.now R.FILE) (R.row_in self.now)) }
     {
         let mut rows = ItemList::empty(self.alloc);
-        for row in 0..self.tables.rows(file) {
-            rows.push(row_at(row)?)?;
+        for row in 0..self.tables.rows(R::FILE) {
+            rows.push(R::of(self, row)?)?;
         }
         Ok(rows)
     }
@@ -131,25 +127,22 @@ impl<'t, C: CallTable> Source<'t, C> {
         let fare_leg_rules = self.tables.get(FileName::FareLegRules);
         let (currency, decimals) = self.currency();
         Ok(Feed {
-            stops: self.rows_of(FileName::Stops, |row| self.stop_row(row))?,
-            routes: self.rows_of(FileName::Routes, |row| self.route_row(row))?,
-            trips: self.rows_of(FileName::Trips, |row| self.trip_row(row))?,
+            stops: self.rows_of()?,
+            routes: self.rows_of()?,
+            trips: self.rows_of()?,
             stop_times,
-            services: self.rows_of(FileName::Calendar, |row| Ok(self.service_row(row)))?,
-            exceptions: self.rows_of(FileName::CalendarDates, |row| Ok(self.exception_row(row)))?,
-            frequencies: self.rows_of(FileName::Frequencies, |row| Ok(self.frequency_row(row)))?,
+            services: self.rows_of()?,
+            exceptions: self.rows_of()?,
+            frequencies: self.rows_of()?,
             links: self.link_rows()?,
-            areas: self.rows_of(FileName::Areas, |row| self.area_row(row))?,
-            stop_areas: self.rows_of(FileName::StopAreas, |row| Ok(self.stop_area_row(row)))?,
-            timeframes: self.rows_of(FileName::Timeframes, |row| Ok(self.timeframe_row(row)))?,
-            riders: self.rows_of(FileName::RiderCategories, |row| self.rider_row(row))?,
-            media: self.rows_of(FileName::FareMedia, |row| self.medium_row(row))?,
-            products: self.rows_of(FileName::FareProducts, |row| Ok(self.product_row(row)))?,
-            leg_rules: self.rows_of(FileName::FareLegRules, |row| Ok(self.leg_rule_row(row)))?,
-            transfer_rules: self.rows_of(
-                FileName::FareTransferRules,
-                |row| Ok(self.transfer_rule_row(row)),
-            )?,
+            areas: self.rows_of()?,
+            stop_areas: self.rows_of()?,
+            timeframes: self.rows_of()?,
+            riders: self.rows_of()?,
+            media: self.rows_of()?,
+            products: self.rows_of()?,
+            leg_rules: self.rows_of()?,
+            transfer_rules: self.rows_of()?,
             service_names: self.services.ids(self.alloc)?,
             network_names: self.networks.ids(self.alloc)?,
             frame_names: self.frames.ids(self.alloc)?,

@@ -2,10 +2,8 @@
 //! names numbered by their first appearance.
 #![tactic(auto)]
 
-mod call_rows;
 mod feed;
 mod names;
 mod rows;
 
-pub use call_rows::{CallError, StopTimes, read_stop_times};
 pub use feed::feed_of_tables;

@@ -42,36 +42,375 @@ fn filled<T: Copy>(text: &[u8], value: T) -> Option<T>
     if is_filled(text) { Some(value) } else { None }
 }
 
-/// Whether a field tells this code. An empty one tells 0.
-pub fn is_code(number: Option<i64>, code: u32) -> bool
+// Whether a field tells this code. An empty one tells 0.
+fn is_code(number: Option<i64>, code: u32) -> bool
     requires { 1 ≤ code }
     ensures { result ≡ (nat_of number == code) }
 {
     number == Some(i64::from(code))
 }
 
-impl<'t, C: CallTable> Source<'t, C> {
-    /// A row of `stops.txt`. A platform alone has the station that it names.
+/// A row of a feed that a row of one file gives.
+pub trait FileRow: Drop {
+    ghost use Rattle.std.specs.Prelude.{◌≡◌, ◌<◌, ℕ, IfOk};
+    ghost use Rattle.feed_rows.specs.declared.names.FileName.{FileName};
+    ghost use Rattle.feed_faults.specs.Records.{row_count};
+    ghost use Rattle.feed_faults.specs.FeedTables.{FeedTables, table_in};
+
+    /// The file.
+    ghost FILE: { FileName };
+
+    const FILE: FileName;
+
+    /// What a row of the file gives.
+    ghost row_in: { FeedTables → ℕ → Self };
+
+    /// The row of a number.
+    ///
+    /// # Errors
+    /// Want of memory.
+    fn of<C: CallTable>(source: &Source<C>, row: u32) -> Result<Self, AllocError>
+        requires { row < row_count (table_in source.now FILE) }
+        ensures { IfOk result (λ made. made ≡ row_in source.now row) };
+}
+
+// A row of `stops.txt`. A platform alone has the station that it names.
+impl FileRow for StopRow {
+    ghost FILE = { file.Stops };
+
+    const FILE: FileName = FileName::Stops;
+
+    ghost row_in = { stop_row };
+
     #[tactic(auto, unfolding(feed_faults::specs::AcceptedFeed::stop_row, feed_faults::specs::AcceptedFeed::accepted_parent), using(feed_soundness::proofs::IdColumns::stop_id, crate::proofs::ValueLaws::values))]
-    pub fn stop_row(&self, row: u32) -> Result<StopRow, AllocError>
-        requires { row < row_count (table_in self.now file.Stops) }
-        ensures { IfOk result (λ made. made ≡ stop_row self.now row) }
-    {
-        let stops = self.tables.get(FileName::Stops);
-        let &[_, kind, _] = self.tables.numbers::<3>(FileName::Stops, row);
+    fn of<C: CallTable>(source: &Source<C>, row: u32) -> Result<StopRow, AllocError> {
+        let stops = source.tables.get(FileName::Stops);
+        let &[_, kind, _] = source.tables.numbers::<3>(FileName::Stops, row);
         let kind = nat_of(kind) as u8;
         let parent = stops.field(row, ColumnName::ParentStation);
         Ok(StopRow {
-            id: Id::copy_of(self.alloc, stops.field(row, ColumnName::StopId))?,
+            id: Id::copy_of(source.alloc, stops.field(row, ColumnName::StopId))?,
             kind,
             parent: if kind == PLATFORM && is_filled(parent) {
-                Some(StopId(self.number(IdColumn::Stop, parent)))
+                Some(StopId(source.number(IdColumn::Stop, parent)))
             } else {
                 None
             },
         })
     }
+}
 
+// A row of `routes.txt`.
+impl FileRow for RouteRow {
+    ghost FILE = { file.Routes };
+
+    const FILE: FileName = FileName::Routes;
+
+    ghost row_in = { route_row };
+
+    #[tactic(auto, unfolding(feed_faults::specs::AcceptedFeed::route_row), using(feed_soundness::proofs::IdColumns::route_id))]
+    fn of<C: CallTable>(source: &Source<C>, row: u32) -> Result<RouteRow, AllocError> {
+        let routes = source.tables.get(FileName::Routes);
+        let network = source.network_of_route(row);
+        Ok(RouteRow {
+            id: Id::copy_of(source.alloc, routes.field(row, ColumnName::RouteId))?,
+            network: filled(network, NetworkId(source.networks.number(network))),
+        })
+    }
+}
+
+// A row of `trips.txt`.
+impl FileRow for TripRow {
+    ghost FILE = { file.Trips };
+
+    const FILE: FileName = FileName::Trips;
+
+    ghost row_in = { trip_row };
+
+    #[tactic(auto, unfolding(feed_faults::specs::AcceptedFeed::trip_row), using(feed_soundness::proofs::IdColumns::trip_id))]
+    fn of<C: CallTable>(source: &Source<C>, row: u32) -> Result<TripRow, AllocError> {
+        let trips = source.tables.get(FileName::Trips);
+        let service = trips.field(row, ColumnName::ServiceId);
+        Ok(TripRow {
+            id: Id::copy_of(source.alloc, trips.field(row, ColumnName::TripId))?,
+            route: RouteId(source.number(IdColumn::Route, trips.field(row, ColumnName::RouteId))),
+            service: ServiceId(source.services.number(service)),
+        })
+    }
+}
+
+// A row of `calendar.txt`.
+impl FileRow for ServiceRow {
+    ghost FILE = { file.Calendar };
+
+    const FILE: FileName = FileName::Calendar;
+
+    ghost row_in = { service_row };
+
+    #[tactic(auto, unfolding(feed_faults::specs::AcceptedFeed::service_row, feed_faults::specs::FieldValues::int_or_zero, feed_faults::specs::FieldValues::day_or_zero))]
+    fn of<C: CallTable>(source: &Source<C>, row: u32) -> Result<ServiceRow, AllocError> {
+        let calendar = source.tables.get(FileName::Calendar);
+        let &[
+            _,
+            monday,
+            tuesday,
+            wednesday,
+            thursday,
+            friday,
+            saturday,
+            sunday,
+            first,
+            last,
+        ] = source.tables.numbers::<10>(FileName::Calendar, row);
+        let service = calendar.field(row, ColumnName::ServiceId);
+        Ok(ServiceRow {
+            service: ServiceId(source.services.number(service)),
+            days: [
+                is_code(monday, SERVICE_AVAILABLE),
+                is_code(tuesday, SERVICE_AVAILABLE),
+                is_code(wednesday, SERVICE_AVAILABLE),
+                is_code(thursday, SERVICE_AVAILABLE),
+                is_code(friday, SERVICE_AVAILABLE),
+                is_code(saturday, SERVICE_AVAILABLE),
+                is_code(sunday, SERVICE_AVAILABLE),
+            ],
+            first: Day(first.unwrap_or(0)),
+            last: Day(last.unwrap_or(0)),
+        })
+    }
+}
+
+// A row of `calendar_dates.txt`.
+impl FileRow for ExceptionRow {
+    ghost FILE = { file.CalendarDates };
+
+    const FILE: FileName = FileName::CalendarDates;
+
+    ghost row_in = { exception_row };
+
+    #[tactic(auto, unfolding(feed_faults::specs::AcceptedFeed::exception_row, feed_faults::specs::FieldValues::int_or_zero, feed_faults::specs::FieldValues::day_or_zero))]
+    fn of<C: CallTable>(source: &Source<C>, row: u32) -> Result<ExceptionRow, AllocError> {
+        let dates = source.tables.get(FileName::CalendarDates);
+        let &[_, date, kind] = source.tables.numbers::<3>(FileName::CalendarDates, row);
+        let service = dates.field(row, ColumnName::ServiceId);
+        Ok(ExceptionRow {
+            service: ServiceId(source.services.number(service)),
+            day: Day(date.unwrap_or(0)),
+            added: is_code(kind, SERVICE_ADDED),
+        })
+    }
+}
+
+// A row of `frequencies.txt`.
+impl FileRow for FrequencyRow {
+    ghost FILE = { file.Frequencies };
+
+    const FILE: FileName = FileName::Frequencies;
+
+    ghost row_in = { frequency_row };
+
+    #[tactic(auto, unfolding(feed_faults::specs::AcceptedFeed::frequency_row), using(crate::proofs::ValueLaws::values))]
+    fn of<C: CallTable>(source: &Source<C>, row: u32) -> Result<FrequencyRow, AllocError> {
+        let frequencies = source.tables.get(FileName::Frequencies);
+        let &[_, start, end, headway, _] = source.tables.numbers::<5>(FileName::Frequencies, row);
+        let trip = frequencies.field(row, ColumnName::TripId);
+        Ok(FrequencyRow {
+            trip: TripId(source.number(IdColumn::Trip, trip)),
+            start: natural(start).unwrap_or(0),
+            end: natural(end).unwrap_or(0),
+            headway: nat_of(headway),
+        })
+    }
+}
+
+// A row of `areas.txt`.
+impl FileRow for AreaRow {
+    ghost FILE = { file.Areas };
+
+    const FILE: FileName = FileName::Areas;
+
+    ghost row_in = { area_row };
+
+    #[tactic(auto, unfolding(feed_faults::specs::AcceptedFeed::area_row), using(crate::proofs::IdLaws::area_ids))]
+    fn of<C: CallTable>(source: &Source<C>, row: u32) -> Result<AreaRow, AllocError> {
+        let areas = source.tables.get(FileName::Areas);
+        Ok(AreaRow {
+            id: Id::copy_of(source.alloc, areas.field(row, ColumnName::AreaId))?,
+        })
+    }
+}
+
+// A row of `stop_areas.txt`.
+impl FileRow for StopAreaRow {
+    ghost FILE = { file.StopAreas };
+
+    const FILE: FileName = FileName::StopAreas;
+
+    ghost row_in = { stop_area_row };
+
+    #[tactic(auto, unfolding(feed_faults::specs::AcceptedFeed::stop_area_row))]
+    fn of<C: CallTable>(source: &Source<C>, row: u32) -> Result<StopAreaRow, AllocError> {
+        let members = source.tables.get(FileName::StopAreas);
+        Ok(StopAreaRow {
+            area: AreaId(source.number(IdColumn::Area, members.field(row, ColumnName::AreaId))),
+            stop: StopId(source.number(IdColumn::Stop, members.field(row, ColumnName::StopId))),
+        })
+    }
+}
+
+// A row of `timeframes.txt`.
+impl FileRow for TimeframeRow {
+    ghost FILE = { file.Timeframes };
+
+    const FILE: FileName = FileName::Timeframes;
+
+    ghost row_in = { timeframe_row };
+
+    #[tactic(auto, unfolding(feed_faults::specs::AcceptedFeed::timeframe_row), using(crate::proofs::ValueLaws::values))]
+    fn of<C: CallTable>(source: &Source<C>, row: u32) -> Result<TimeframeRow, AllocError> {
+        let frames = source.tables.get(FileName::Timeframes);
+        let &[_, start, end, _] = source.tables.numbers::<4>(FileName::Timeframes, row);
+        let group = frames.field(row, ColumnName::TimeframeGroupId);
+        let service = frames.field(row, ColumnName::ServiceId);
+        Ok(TimeframeRow {
+            frame: FrameId(source.frames.number(group)),
+            start: natural(start).unwrap_or(0),
+            end: natural(end).unwrap_or(DAY_SECONDS),
+            service: ServiceId(source.services.number(service)),
+        })
+    }
+}
+
+// A row of `rider_categories.txt`.
+impl FileRow for RiderRow {
+    ghost FILE = { file.RiderCategories };
+
+    const FILE: FileName = FileName::RiderCategories;
+
+    ghost row_in = { rider_row };
+
+    #[tactic(auto, unfolding(feed_faults::specs::AcceptedFeed::rider_row), using(crate::proofs::IdLaws::rider_ids, crate::proofs::ValueLaws::values))]
+    fn of<C: CallTable>(source: &Source<C>, row: u32) -> Result<RiderRow, AllocError> {
+        let riders = source.tables.get(FileName::RiderCategories);
+        let &[_, default] = source.tables.numbers::<2>(FileName::RiderCategories, row);
+        Ok(RiderRow {
+            id: Id::copy_of(source.alloc, riders.field(row, ColumnName::RiderCategoryId))?,
+            default: is_code(default, DEFAULT_CATEGORY),
+        })
+    }
+}
+
+// A row of `fare_media.txt`.
+impl FileRow for MediumRow {
+    ghost FILE = { file.FareMedia };
+
+    const FILE: FileName = FileName::FareMedia;
+
+    ghost row_in = { medium_row };
+
+    #[tactic(auto, unfolding(feed_faults::specs::AcceptedFeed::medium_row), using(crate::proofs::IdLaws::medium_ids))]
+    fn of<C: CallTable>(source: &Source<C>, row: u32) -> Result<MediumRow, AllocError> {
+        let media = source.tables.get(FileName::FareMedia);
+        Ok(MediumRow {
+            id: Id::copy_of(source.alloc, media.field(row, ColumnName::FareMediaId))?,
+        })
+    }
+}
+
+// A row of `fare_products.txt`.
+impl FileRow for ProductRow {
+    ghost FILE = { file.FareProducts };
+
+    const FILE: FileName = FileName::FareProducts;
+
+    ghost row_in = { product_row };
+
+    #[tactic(auto, unfolding(feed_faults::specs::AcceptedFeed::product_row, feed_faults::specs::FieldValues::amount_or_zero))]
+    fn of<C: CallTable>(source: &Source<C>, row: u32) -> Result<ProductRow, AllocError> {
+        let products = source.tables.get(FileName::FareProducts);
+        let &[_, _, _, _, amount] = source.tables.numbers::<5>(FileName::FareProducts, row);
+        let product = products.field(row, ColumnName::FareProductId);
+        let rider = products.field(row, ColumnName::RiderCategoryId);
+        let medium = products.field(row, ColumnName::FareMediaId);
+        Ok(ProductRow {
+            product: ProductId(source.products.number(product)),
+            rider: filled(
+                rider,
+                RiderId(source.number(IdColumn::RiderCategory, rider)),
+            ),
+            medium: filled(medium, MediumId(source.number(IdColumn::FareMedia, medium))),
+            amount: Money(amount.unwrap_or(0)),
+        })
+    }
+}
+
+// A row of `fare_leg_rules.txt`.
+impl FileRow for LegRuleRow {
+    ghost FILE = { file.FareLegRules };
+
+    const FILE: FileName = FileName::FareLegRules;
+
+    ghost row_in = { leg_rule_row };
+
+    #[tactic(auto, unfolding(feed_faults::specs::AcceptedFeed::leg_rule_row), using(crate::proofs::ValueLaws::values))]
+    fn of<C: CallTable>(source: &Source<C>, row: u32) -> Result<LegRuleRow, AllocError> {
+        let rules = source.tables.get(FileName::FareLegRules);
+        let &[_, _, _, _, _, _, _, priority] = source
+            .tables
+            .numbers::<8>(FileName::FareLegRules, row);
+        let group = rules.field(row, ColumnName::LegGroupId);
+        let network = rules.field(row, ColumnName::NetworkId);
+        let from_area = rules.field(row, ColumnName::FromAreaId);
+        let to_area = rules.field(row, ColumnName::ToAreaId);
+        let from_frame = rules.field(row, ColumnName::FromTimeframeGroupId);
+        let to_frame = rules.field(row, ColumnName::ToTimeframeGroupId);
+        let product = rules.field(row, ColumnName::FareProductId);
+        Ok(LegRuleRow {
+            group: filled(group, LegGroupId(source.groups.number(group))),
+            network: filled(network, NetworkId(source.networks.number(network))),
+            from_area: filled(from_area, AreaId(source.number(IdColumn::Area, from_area))),
+            to_area: filled(to_area, AreaId(source.number(IdColumn::Area, to_area))),
+            from_frame: filled(from_frame, FrameId(source.frames.number(from_frame))),
+            to_frame: filled(to_frame, FrameId(source.frames.number(to_frame))),
+            product: ProductId(source.products.number(product)),
+            priority: nat_of(priority),
+        })
+    }
+}
+
+// A row of `fare_transfer_rules.txt`.
+impl FileRow for TransferRuleRow {
+    ghost FILE = { file.FareTransferRules };
+
+    const FILE: FileName = FileName::FareTransferRules;
+
+    ghost row_in = { transfer_rule_row };
+
+    #[tactic(auto, unfolding(feed_faults::specs::AcceptedFeed::transfer_rule_row, feed_faults::specs::AcceptedFeed::limit_of), using(crate::proofs::ValueLaws::values))]
+    fn of<C: CallTable>(source: &Source<C>, row: u32) -> Result<TransferRuleRow, AllocError> {
+        let rules = source.tables.get(FileName::FareTransferRules);
+        let &[_, _, count, seconds, limit_kind, kind, _] = source
+            .tables
+            .numbers::<7>(FileName::FareTransferRules, row);
+        let from = rules.field(row, ColumnName::FromLegGroupId);
+        let to = rules.field(row, ColumnName::ToLegGroupId);
+        let limit = Limit {
+            seconds: nat_of(seconds),
+            kind: nat_of(limit_kind) as u8,
+        };
+        let product = rules.field(row, ColumnName::FareProductId);
+        Ok(TransferRuleRow {
+            from: filled(from, LegGroupId(source.groups.number(from))),
+            to: filled(to, LegGroupId(source.groups.number(to))),
+            count: natural(count),
+            limit: filled(rules.field(row, ColumnName::DurationLimit), limit),
+            kind: nat_of(kind) as u8,
+            product: filled(product, ProductId(source.products.number(product))),
+        })
+    }
+}
+
+impl<'t, C: CallTable> Source<'t, C> {
     // The name of a route's network: that of its own row, or else that of its row in route_networks.txt.
     #[tactic(auto, unfolding(feed_faults::specs::AcceptedFeed::network_of_route))]
     fn network_of_route(&self, row: u32) -> &'t [u8]
@@ -88,104 +427,6 @@ impl<'t, C: CallTable> Source<'t, C> {
         match self.ids.get(IdColumn::NetworkRoute).row_of(route) {
             Some(member) => members.field(member, ColumnName::NetworkId),
             None => &[],
-        }
-    }
-
-    /// A row of `routes.txt`.
-    #[tactic(auto, unfolding(feed_faults::specs::AcceptedFeed::route_row), using(feed_soundness::proofs::IdColumns::route_id))]
-    pub fn route_row(&self, row: u32) -> Result<RouteRow, AllocError>
-        requires { row < row_count (table_in self.now file.Routes) }
-        ensures { IfOk result (λ made. made ≡ route_row self.now row) }
-    {
-        let routes = self.tables.get(FileName::Routes);
-        let network = self.network_of_route(row);
-        Ok(RouteRow {
-            id: Id::copy_of(self.alloc, routes.field(row, ColumnName::RouteId))?,
-            network: filled(network, NetworkId(self.networks.number(network))),
-        })
-    }
-
-    /// A row of `trips.txt`.
-    #[tactic(auto, unfolding(feed_faults::specs::AcceptedFeed::trip_row), using(feed_soundness::proofs::IdColumns::trip_id))]
-    pub fn trip_row(&self, row: u32) -> Result<TripRow, AllocError>
-        requires { row < row_count (table_in self.now file.Trips) }
-        ensures { IfOk result (λ made. made ≡ trip_row self.now row) }
-    {
-        let trips = self.tables.get(FileName::Trips);
-        let service = trips.field(row, ColumnName::ServiceId);
-        Ok(TripRow {
-            id: Id::copy_of(self.alloc, trips.field(row, ColumnName::TripId))?,
-            route: RouteId(self.number(IdColumn::Route, trips.field(row, ColumnName::RouteId))),
-            service: ServiceId(self.services.number(service)),
-        })
-    }
-
-    /// A row of `calendar.txt`.
-    #[tactic(auto, unfolding(feed_faults::specs::AcceptedFeed::service_row, feed_faults::specs::FieldValues::int_or_zero, feed_faults::specs::FieldValues::day_or_zero))]
-    pub fn service_row(&self, row: u32) -> ServiceRow
-        requires { row < row_count (table_in self.now file.Calendar) }
-        ensures { result ≡ service_row self.now row }
-    {
-        let calendar = self.tables.get(FileName::Calendar);
-        let &[
-            _,
-            monday,
-            tuesday,
-            wednesday,
-            thursday,
-            friday,
-            saturday,
-            sunday,
-            first,
-            last,
-        ] = self.tables.numbers::<10>(FileName::Calendar, row);
-        let service = calendar.field(row, ColumnName::ServiceId);
-        ServiceRow {
-            service: ServiceId(self.services.number(service)),
-            days: [
-                is_code(monday, SERVICE_AVAILABLE),
-                is_code(tuesday, SERVICE_AVAILABLE),
-                is_code(wednesday, SERVICE_AVAILABLE),
-                is_code(thursday, SERVICE_AVAILABLE),
-                is_code(friday, SERVICE_AVAILABLE),
-                is_code(saturday, SERVICE_AVAILABLE),
-                is_code(sunday, SERVICE_AVAILABLE),
-            ],
-            first: Day(first.unwrap_or(0)),
-            last: Day(last.unwrap_or(0)),
-        }
-    }
-
-    /// A row of `calendar_dates.txt`.
-    #[tactic(auto, unfolding(feed_faults::specs::AcceptedFeed::exception_row, feed_faults::specs::FieldValues::int_or_zero, feed_faults::specs::FieldValues::day_or_zero))]
-    pub fn exception_row(&self, row: u32) -> ExceptionRow
-        requires { row < row_count (table_in self.now file.CalendarDates) }
-        ensures { result ≡ exception_row self.now row }
-    {
-        let dates = self.tables.get(FileName::CalendarDates);
-        let &[_, date, kind] = self.tables.numbers::<3>(FileName::CalendarDates, row);
-        let service = dates.field(row, ColumnName::ServiceId);
-        ExceptionRow {
-            service: ServiceId(self.services.number(service)),
-            day: Day(date.unwrap_or(0)),
-            added: is_code(kind, SERVICE_ADDED),
-        }
-    }
-
-    /// A row of `frequencies.txt`.
-    #[tactic(auto, unfolding(feed_faults::specs::AcceptedFeed::frequency_row), using(crate::proofs::ValueLaws::values))]
-    pub fn frequency_row(&self, row: u32) -> FrequencyRow
-        requires { row < row_count (table_in self.now file.Frequencies) }
-        ensures { result ≡ frequency_row self.now row }
-    {
-        let frequencies = self.tables.get(FileName::Frequencies);
-        let &[_, start, end, headway, _] = self.tables.numbers::<5>(FileName::Frequencies, row);
-        let trip = frequencies.field(row, ColumnName::TripId);
-        FrequencyRow {
-            trip: TripId(self.number(IdColumn::Trip, trip)),
-            start: natural(start).unwrap_or(0),
-            end: natural(end).unwrap_or(0),
-            headway: nat_of(headway),
         }
     }
 
@@ -223,150 +464,6 @@ impl<'t, C: CallTable> Source<'t, C> {
             }
         }
         Ok(rows)
-    }
-
-    /// A row of `areas.txt`.
-    #[tactic(auto, unfolding(feed_faults::specs::AcceptedFeed::area_row), using(crate::proofs::IdLaws::area_ids))]
-    pub fn area_row(&self, row: u32) -> Result<AreaRow, AllocError>
-        requires { row < row_count (table_in self.now file.Areas) }
-        ensures { IfOk result (λ made. made ≡ area_row self.now row) }
-    {
-        let areas = self.tables.get(FileName::Areas);
-        Ok(AreaRow {
-            id: Id::copy_of(self.alloc, areas.field(row, ColumnName::AreaId))?,
-        })
-    }
-
-    /// A row of `stop_areas.txt`.
-    #[tactic(auto, unfolding(feed_faults::specs::AcceptedFeed::stop_area_row))]
-    pub fn stop_area_row(&self, row: u32) -> StopAreaRow
-        requires { row < row_count (table_in self.now file.StopAreas) }
-        ensures { result ≡ stop_area_row self.now row }
-    {
-        let members = self.tables.get(FileName::StopAreas);
-        StopAreaRow {
-            area: AreaId(self.number(IdColumn::Area, members.field(row, ColumnName::AreaId))),
-            stop: StopId(self.number(IdColumn::Stop, members.field(row, ColumnName::StopId))),
-        }
-    }
-
-    /// A row of `timeframes.txt`.
-    #[tactic(auto, unfolding(feed_faults::specs::AcceptedFeed::timeframe_row), using(crate::proofs::ValueLaws::values))]
-    pub fn timeframe_row(&self, row: u32) -> TimeframeRow
-        requires { row < row_count (table_in self.now file.Timeframes) }
-        ensures { result ≡ timeframe_row self.now row }
-    {
-        let frames = self.tables.get(FileName::Timeframes);
-        let &[_, start, end, _] = self.tables.numbers::<4>(FileName::Timeframes, row);
-        let group = frames.field(row, ColumnName::TimeframeGroupId);
-        let service = frames.field(row, ColumnName::ServiceId);
-        TimeframeRow {
-            frame: FrameId(self.frames.number(group)),
-            start: natural(start).unwrap_or(0),
-            end: natural(end).unwrap_or(DAY_SECONDS),
-            service: ServiceId(self.services.number(service)),
-        }
-    }
-
-    /// A row of `rider_categories.txt`.
-    #[tactic(auto, unfolding(feed_faults::specs::AcceptedFeed::rider_row), using(crate::proofs::IdLaws::rider_ids, crate::proofs::ValueLaws::values))]
-    pub fn rider_row(&self, row: u32) -> Result<RiderRow, AllocError>
-        requires { row < row_count (table_in self.now file.RiderCategories) }
-        ensures { IfOk result (λ made. made ≡ rider_row self.now row) }
-    {
-        let riders = self.tables.get(FileName::RiderCategories);
-        let &[_, default] = self.tables.numbers::<2>(FileName::RiderCategories, row);
-        Ok(RiderRow {
-            id: Id::copy_of(self.alloc, riders.field(row, ColumnName::RiderCategoryId))?,
-            default: is_code(default, DEFAULT_CATEGORY),
-        })
-    }
-
-    /// A row of `fare_media.txt`.
-    #[tactic(auto, unfolding(feed_faults::specs::AcceptedFeed::medium_row), using(crate::proofs::IdLaws::medium_ids))]
-    pub fn medium_row(&self, row: u32) -> Result<MediumRow, AllocError>
-        requires { row < row_count (table_in self.now file.FareMedia) }
-        ensures { IfOk result (λ made. made ≡ medium_row self.now row) }
-    {
-        let media = self.tables.get(FileName::FareMedia);
-        Ok(MediumRow {
-            id: Id::copy_of(self.alloc, media.field(row, ColumnName::FareMediaId))?,
-        })
-    }
-
-    /// A row of `fare_products.txt`.
-    #[tactic(auto, unfolding(feed_faults::specs::AcceptedFeed::product_row, feed_faults::specs::FieldValues::amount_or_zero))]
-    pub fn product_row(&self, row: u32) -> ProductRow
-        requires { row < row_count (table_in self.now file.FareProducts) }
-        ensures { result ≡ product_row self.now row }
-    {
-        let products = self.tables.get(FileName::FareProducts);
-        let &[_, _, _, _, amount] = self.tables.numbers::<5>(FileName::FareProducts, row);
-        let product = products.field(row, ColumnName::FareProductId);
-        let rider = products.field(row, ColumnName::RiderCategoryId);
-        let medium = products.field(row, ColumnName::FareMediaId);
-        ProductRow {
-            product: ProductId(self.products.number(product)),
-            rider: filled(rider, RiderId(self.number(IdColumn::RiderCategory, rider))),
-            medium: filled(medium, MediumId(self.number(IdColumn::FareMedia, medium))),
-            amount: Money(amount.unwrap_or(0)),
-        }
-    }
-
-    /// A row of `fare_leg_rules.txt`.
-    #[tactic(auto, unfolding(feed_faults::specs::AcceptedFeed::leg_rule_row), using(crate::proofs::ValueLaws::values))]
-    pub fn leg_rule_row(&self, row: u32) -> LegRuleRow
-        requires { row < row_count (table_in self.now file.FareLegRules) }
-        ensures { result ≡ leg_rule_row self.now row }
-    {
-        let rules = self.tables.get(FileName::FareLegRules);
-        let &[_, _, _, _, _, _, _, priority] = self
-            .tables
-            .numbers::<8>(FileName::FareLegRules, row);
-        let group = rules.field(row, ColumnName::LegGroupId);
-        let network = rules.field(row, ColumnName::NetworkId);
-        let from_area = rules.field(row, ColumnName::FromAreaId);
-        let to_area = rules.field(row, ColumnName::ToAreaId);
-        let from_frame = rules.field(row, ColumnName::FromTimeframeGroupId);
-        let to_frame = rules.field(row, ColumnName::ToTimeframeGroupId);
-        let product = rules.field(row, ColumnName::FareProductId);
-        LegRuleRow {
-            group: filled(group, LegGroupId(self.groups.number(group))),
-            network: filled(network, NetworkId(self.networks.number(network))),
-            from_area: filled(from_area, AreaId(self.number(IdColumn::Area, from_area))),
-            to_area: filled(to_area, AreaId(self.number(IdColumn::Area, to_area))),
-            from_frame: filled(from_frame, FrameId(self.frames.number(from_frame))),
-            to_frame: filled(to_frame, FrameId(self.frames.number(to_frame))),
-            product: ProductId(self.products.number(product)),
-            priority: nat_of(priority),
-        }
-    }
-
-    /// A row of `fare_transfer_rules.txt`.
-    #[tactic(auto, unfolding(feed_faults::specs::AcceptedFeed::transfer_rule_row, feed_faults::specs::AcceptedFeed::limit_of), using(crate::proofs::ValueLaws::values))]
-    pub fn transfer_rule_row(&self, row: u32) -> TransferRuleRow
-        requires { row < row_count (table_in self.now file.FareTransferRules) }
-        ensures { result ≡ transfer_rule_row self.now row }
-    {
-        let rules = self.tables.get(FileName::FareTransferRules);
-        let &[_, _, count, seconds, limit_kind, kind, _] = self
-            .tables
-            .numbers::<7>(FileName::FareTransferRules, row);
-        let from = rules.field(row, ColumnName::FromLegGroupId);
-        let to = rules.field(row, ColumnName::ToLegGroupId);
-        let limit = Limit {
-            seconds: nat_of(seconds),
-            kind: nat_of(limit_kind) as u8,
-        };
-        let product = rules.field(row, ColumnName::FareProductId);
-        TransferRuleRow {
-            from: filled(from, LegGroupId(self.groups.number(from))),
-            to: filled(to, LegGroupId(self.groups.number(to))),
-            count: natural(count),
-            limit: filled(rules.field(row, ColumnName::DurationLimit), limit),
-            kind: nat_of(kind) as u8,
-            product: filled(product, ProductId(self.products.number(product))),
-        }
     }
 
     /// The currency of the products and its decimals, those of the first; none and 2 where there is no product.

@@ -13,17 +13,17 @@ use Rattle.feed_faults.specs.Records.{table_of_bytes}
 use Rattle.feed_faults.specs.FaultPlaces.{file_fault}
 use Rattle.feed_faults.specs.FormFaults.{form_fault_of_held, form_fault_of_bytes}
 use Rattle.feed_tables.specs.declared.ids.CallIds.{CallIds}
-use Rattle.feed_build.specs.CallRows.{calls_fault}
+use Rattle.feed_calls.specs.CallRows.{calls_fault}
 use Rattle.feed_rows.specs.FaultCounts.{Rose, Stayed}
 use Rattle.folder_io.specs.declared.reading.ReadError.{ReadError}
 use Rattle.folder_io.specs.declared.reading.ReadError.TheVariants as error
 use Rattle.folder_io.specs.FileReading.{GivesUp}
 use Rattle.feed_text.specs.declared.errors.TextError.{TextError}
 use Rattle.feed_text.specs.declared.errors.TextError.TheVariants as text
-use Rattle.feed_build.specs.declared.call_rows.CallError.{CallError}
-use Rattle.feed_build.specs.declared.call_rows.CallError.TheVariants.{Fault, Record}
-use Rattle.feed_build.specs.CallRows.{AreCallsOf, IsFaultOf, IsCallError}
-use Rattle.feed_build.specs.declared.call_rows.StopTimes.{StopTimes}
+use Rattle.feed_calls.specs.declared.calls.CallError.{CallError}
+use Rattle.feed_calls.specs.declared.calls.CallError.TheVariants.{Fault, Record}
+use Rattle.feed_calls.specs.CallRows.{AreCallsOf, IsFaultOf, IsCallError}
+use Rattle.feed_calls.specs.declared.calls.StopTimes.{StopTimes}
 use Rattle.folder_io.specs.declared.folder.Opened.TheVariants as opened
 use Rattle.folder_io.specs.FolderCalls.{Contents, FolderState, Finds}
 use Rattle.folder_io.proofs.FilesRead.{absent_read}

@@ -26,7 +26,7 @@ use Rattle.feed_tables.specs.RowNumbers.{TableOf, read_of, first_files, other_fi
 use Rattle.feed_tables.specs.IdColumns.{call_ids}
 use Rattle.feed_tables.specs.KeptTables.{tables_with}
 use Rattle.feed_tables.specs.declared.ids.CallIds.{CallIds}
-use Rattle.feed_build.specs.declared.call_rows.StopTimes.{StopTimes}
+use Rattle.feed_calls.specs.declared.calls.StopTimes.{StopTimes}
 use Rattle.feed_faults.specs.AcceptedFeed.{feed_of}
 use Rattle.feed_faults.specs.FirstFault.{first_fault}
 use Rattle.feed_rows.specs.FeedRows.{FeedRows}

@@ -21,7 +21,7 @@ use Rattle.feed_tables.specs.KeptTables.{tables_with, AreKept}
 use Rattle.feed_tables.specs.IdColumns.{call_ids}
 use Rattle.feed_tables.specs.declared.ids.CallIds.{CallIds}
 use Rattle.feed_tables.specs.ReadCalls.{read_calls}
-use Rattle.feed_build.specs.declared.call_rows.StopTimes.{StopTimes}
+use Rattle.feed_calls.specs.declared.calls.StopTimes.{StopTimes}
 use Rattle.feed_check.specs.FolderCalls.{AreCallsOfHeld}
 use Rattle.feed_check.proofs.FileLaws.{tables_are, no_form_fault, related_error, related_sound}
 

@@ -7,9 +7,9 @@ use Rattle.feed_faults.specs.FormFaults.{form_fault_of_held}
 use Rattle.folder_io.specs.FolderCalls.{FolderState, WhereTold}
 use Rattle.feed_tables.specs.ReadCalls.{read_calls}
 use Rattle.feed_tables.specs.declared.ids.CallIds.{CallIds}
-use Rattle.feed_build.specs.declared.call_rows.StopTimes.{StopTimes}
-use Rattle.feed_build.specs.declared.call_rows.CallError.{CallError}
-use Rattle.feed_build.specs.declared.call_rows.CallError.TheVariants.{Fault, Record}
+use Rattle.feed_calls.specs.declared.calls.StopTimes.{StopTimes}
+use Rattle.feed_calls.specs.declared.calls.CallError.{CallError}
+use Rattle.feed_calls.specs.declared.calls.CallError.TheVariants.{Fault, Record}
 use Rattle.feed_faults.specs.FaultPlaces.{file_fault}
 use Rattle.feed_text.specs.TextErrors.{IsErrorOf}
 use Rattle.feed_text.specs.declared.errors.TextError.{TextError}

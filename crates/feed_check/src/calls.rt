@@ -8,7 +8,7 @@ ghost use Rattle.folder_io.specs.FolderCalls.{FolderState};
 ghost use Rattle.folder_io.specs.FileReading.{GivesUp, GivesUpOn, ReadsTo};
 ghost use Rattle.feed_check.specs.FolderCalls.{answer_of, AreCallsIn, AreCallsLeft, IsLeft};
 
-use feed_build::{CallError, StopTimes, read_stop_times};
+use feed_calls::{CallError, StopTimes, read_stop_times};
 use feed_rows::{FaultKind, FileName};
 use feed_tables::CallIds;
 use feed_text::{Records, TextError, file_fault};

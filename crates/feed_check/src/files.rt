@@ -12,7 +12,8 @@ ghost use Rattle.feed_tables.specs.KeptTables.{tables_with, AreKept};
 ghost use Rattle.feed_text.specs.TextErrors.{IsErrorOf};
 
 use crate::calls::{answer, whole_fault};
-use feed_build::{StopTimes, feed_of_tables, read_stop_times};
+use feed_build::feed_of_tables;
+use feed_calls::{StopTimes, read_stop_times};
 use feed_relations::first_relation_fault;
 use feed_rows::{FaultKind, Feed, FileName};
 use feed_tables::{CallIds, CallTable, Ids, ReadTable, Tables, read_tables};

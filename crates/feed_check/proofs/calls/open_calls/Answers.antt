@@ -3,7 +3,7 @@ use Rattle.std.specs.Prelude.{option_map, IfSome, IfOk, IfErr}
 use Rattle.std.specs.Str.{is_utf8}
 use Rattle.folder_io.specs.declared.pieces.PiecesEnd.TheVariants.{Ended}
 use Rattle.std.proofs.lemmas.Result.{IfOk-weaker, IfErr-weaker}
-use Rattle.feed_build.specs.CallRows.{AreCallsOf, IsCallError}
+use Rattle.feed_calls.specs.CallRows.{AreCallsOf, IsCallError}
 use Rattle.feed_check.proofs.HeldCalls.{left_answer, left_large, read_start}
 use Rattle.feed_check.proofs.calls.open_calls.Goals as goal
 use Rattle.feed_check.proofs.calls.open_calls.Goals.{in-Failed, in-TooLarge, in-Ended}

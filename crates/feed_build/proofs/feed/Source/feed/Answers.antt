@@ -1,5 +1,5 @@
-use Rattle.std.proofs.Common.{◌∙◌, refl, ap, rules}
-use Rattle.feed_faults.specs.AcceptedFeed.{rows_of_tables, service_names, network_names, frame_names, product_names, group_names, stop_row, route_row, trip_row, service_row, exception_row, frequency_row, area_row, stop_area_row, timeframe_row, rider_row, medium_row, product_row, leg_rule_row, transfer_rule_row}
+use Rattle.std.proofs.Common.{◌∙◌, refl, ap}
+use Rattle.feed_faults.specs.AcceptedFeed.{rows_of_tables, service_names, network_names, frame_names, product_names, group_names}
 use Rattle.feed_build.proofs.FeedLaws.{sound_rows, rows_are}
 use Rattle.feed_build.proofs.feed.Source.feed.Goals as goal
 
@@ -8,22 +8,22 @@ unfolding rows_of_tables
 invariant_of-result g c =
     sound_rows c.args.self.now _ (rw (← c.self.view_is) c.self.invariant.formed) c.requires.related
     (rows_are c.args.self.now c.args.self.now refl _
-    (c.in_ok-rows_of.ensures (stop_row c.args.self.now) (λ row made post. search rules))
-    (c.in_ok-rows_of-2.ensures (route_row c.args.self.now) (λ row made post. search rules))
-    (c.in_ok-rows_of-3.ensures (trip_row c.args.self.now) (λ row made post. search rules))
+    c.in_ok-rows_of.ensures
+    c.in_ok-rows_of-2.ensures
+    c.in_ok-rows_of-3.ensures
     c.requires.stop_times
-    (c.in_ok-rows_of-4.ensures (service_row c.args.self.now) (λ row made post. search rules))
-    (c.in_ok-rows_of-5.ensures (exception_row c.args.self.now) (λ row made post. search rules))
-    (c.in_ok-rows_of-6.ensures (frequency_row c.args.self.now) (λ row made post. search rules))
+    c.in_ok-rows_of-4.ensures
+    c.in_ok-rows_of-5.ensures
+    c.in_ok-rows_of-6.ensures
     c.in_ok-link_rows.ensures
-    (c.in_ok-rows_of-7.ensures (area_row c.args.self.now) (λ row made post. search rules))
-    (c.in_ok-rows_of-8.ensures (stop_area_row c.args.self.now) (λ row made post. search rules))
-    (c.in_ok-rows_of-9.ensures (timeframe_row c.args.self.now) (λ row made post. search rules))
-    (c.in_ok-rows_of-10.ensures (rider_row c.args.self.now) (λ row made post. search rules))
-    (c.in_ok-rows_of-11.ensures (medium_row c.args.self.now) (λ row made post. search rules))
-    (c.in_ok-rows_of-12.ensures (product_row c.args.self.now) (λ row made post. search rules))
-    (c.in_ok-rows_of-13.ensures (leg_rule_row c.args.self.now) (λ row made post. search rules))
-    (c.in_ok-rows_of-14.ensures (transfer_rule_row c.args.self.now) (λ row made post. search rules))
+    c.in_ok-rows_of-7.ensures
+    c.in_ok-rows_of-8.ensures
+    c.in_ok-rows_of-9.ensures
+    c.in_ok-rows_of-10.ensures
+    c.in_ok-rows_of-11.ensures
+    c.in_ok-rows_of-12.ensures
+    c.in_ok-rows_of-13.ensures
+    c.in_ok-rows_of-14.ensures
     (c.in_ok-ids.ensures ∙ c.self.invariant.services_are ∙ ap service_names c.self.view_is)
     (c.in_ok-ids-2.ensures ∙ c.self.invariant.networks_are ∙ ap network_names c.self.view_is)
     (c.in_ok-ids-3.ensures ∙ c.self.invariant.frames_are ∙ ap frame_names c.self.view_is)
@@ -37,22 +37,22 @@ pub returns : goal.returns
 unfolding rows_of_tables
 returns g c =
     rows_are c.args.self.now c.args.self.now refl _
-    (c.in_ok-rows_of.ensures (stop_row c.args.self.now) (λ row made post. search rules))
-    (c.in_ok-rows_of-2.ensures (route_row c.args.self.now) (λ row made post. search rules))
-    (c.in_ok-rows_of-3.ensures (trip_row c.args.self.now) (λ row made post. search rules))
+    c.in_ok-rows_of.ensures
+    c.in_ok-rows_of-2.ensures
+    c.in_ok-rows_of-3.ensures
     c.requires.stop_times
-    (c.in_ok-rows_of-4.ensures (service_row c.args.self.now) (λ row made post. search rules))
-    (c.in_ok-rows_of-5.ensures (exception_row c.args.self.now) (λ row made post. search rules))
-    (c.in_ok-rows_of-6.ensures (frequency_row c.args.self.now) (λ row made post. search rules))
+    c.in_ok-rows_of-4.ensures
+    c.in_ok-rows_of-5.ensures
+    c.in_ok-rows_of-6.ensures
     c.in_ok-link_rows.ensures
-    (c.in_ok-rows_of-7.ensures (area_row c.args.self.now) (λ row made post. search rules))
-    (c.in_ok-rows_of-8.ensures (stop_area_row c.args.self.now) (λ row made post. search rules))
-    (c.in_ok-rows_of-9.ensures (timeframe_row c.args.self.now) (λ row made post. search rules))
-    (c.in_ok-rows_of-10.ensures (rider_row c.args.self.now) (λ row made post. search rules))
-    (c.in_ok-rows_of-11.ensures (medium_row c.args.self.now) (λ row made post. search rules))
-    (c.in_ok-rows_of-12.ensures (product_row c.args.self.now) (λ row made post. search rules))
-    (c.in_ok-rows_of-13.ensures (leg_rule_row c.args.self.now) (λ row made post. search rules))
-    (c.in_ok-rows_of-14.ensures (transfer_rule_row c.args.self.now) (λ row made post. search rules))
+    c.in_ok-rows_of-7.ensures
+    c.in_ok-rows_of-8.ensures
+    c.in_ok-rows_of-9.ensures
+    c.in_ok-rows_of-10.ensures
+    c.in_ok-rows_of-11.ensures
+    c.in_ok-rows_of-12.ensures
+    c.in_ok-rows_of-13.ensures
+    c.in_ok-rows_of-14.ensures
     (c.in_ok-ids.ensures ∙ c.self.invariant.services_are ∙ ap service_names c.self.view_is)
     (c.in_ok-ids-2.ensures ∙ c.self.invariant.networks_are ∙ ap network_names c.self.view_is)
     (c.in_ok-ids-3.ensures ∙ c.self.invariant.frames_are ∙ ap frame_names c.self.view_is)

@@ -3,10 +3,10 @@ use Rattle.std.proofs.lemmas.Grind.{common_steps}
 use Rattle.std.proofs.lemmas.List.{length-append}
 use Rattle.std.proofs.lemmas.Result.{IfOk-weaker, IfErr-weaker}
 use Rattle.feed_text.specs.Reader.{StandsBehind, last_record}
-use Rattle.feed_build.specs.CallRows.{IsCallError}
-use Rattle.feed_build.specs.declared.call_rows.CallError.TheVariants.{Record}
-use Rattle.feed_build.proofs.CallLaws.{are_calls, is_own_fault, is_missing, too_many}
-use Rattle.feed_build.proofs.call_rows.read_stop_times.Goals as goal
+use Rattle.feed_calls.specs.CallRows.{IsCallError}
+use Rattle.feed_calls.specs.declared.calls.CallError.TheVariants.{Record}
+use Rattle.feed_calls.proofs.CallLaws.{are_calls, is_own_fault, is_missing, too_many}
+use Rattle.feed_calls.proofs.calls.read_stop_times.Goals as goal
 
 pub returns-in_err-next-clause-why : goal.returns-in_err-next-clause-why
 returns-in_err-next-clause-why g c =

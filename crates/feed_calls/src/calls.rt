@@ -1,13 +1,13 @@
 //! Stop times, read record by record.
-ghost use Rattle.std.specs.Prelude.{◌≡◌, ◌<◌, ◌++◌, ◌∷◌, [], List, ℕ, Option, None, Some, length, IfOk, IfErr, OnOk};
+ghost use Rattle.std.specs.Prelude.{◌≡◌, ◌<◌, ◌++◌, ◌∷◌, [], List, ℕ, Option, None, Some, length, not, ◌==◌, IfOk, IfErr, OnOk};
 ghost use Rattle.feed_rows.specs.declared.names.FileName.TheVariants as file;
+ghost use Rattle.feed_faults.specs.FieldValues.{nat_of};
 ghost use Rattle.feed_faults.specs.Records.{header};
 ghost use Rattle.feed_text.specs.Reader.{StandsBehind, last_record};
 ghost use Rattle.feed_text.specs.RowLimits.{row_limit};
 ghost use Rattle.feed_tables.specs.ReadCalls.{read_call};
-ghost use Rattle.feed_build.specs.CallRows.{call_fault, fields_behind, AreCallsOf, IsCallError, HasCalls, IsOwnFault};
+ghost use Rattle.feed_calls.specs.CallRows.{call_fault, fields_behind, AreCallsOf, IsCallError, HasCalls, IsOwnFault};
 
-use crate::rows::is_code;
 use feed_faults::rule_of;
 use feed_rows::{CallTime, ColumnName, FaultKind, FeedFault, FileName};
 use feed_tables::{CallIds, MOST_ROWS, ReadCall, ReadCalls};
@@ -20,7 +20,7 @@ use std::io::Read;
 use transit_base::{StopId, TripId};
 
 // The `pickup_type` or `drop_off_type` of a stop where riders may not board, or alight.
-const NOT_AVAILABLE: u32 = 1;
+const NOT_AVAILABLE: i64 = 1;
 
 /// What was read of stop_times.txt, and its table, of which nothing is kept.
 #[derive(Drop)]
@@ -40,7 +40,7 @@ pub enum CallError {
 
 impl From<RecordError> for CallError {
     ghost use Rattle.std.specs.Prelude.{◌≡◌};
-    ghost use Rattle.feed_build.specs.declared.call_rows.CallError.TheVariants as error;
+    ghost use Rattle.feed_calls.specs.declared.calls.CallError.TheVariants as error;
 
     ghost from_gives = { λ e f. f ≡ error.Record e };
 
@@ -52,7 +52,7 @@ impl From<RecordError> for CallError {
 impl From<AllocError> for CallError {
     ghost use Rattle.std.specs.Prelude.{◌≡◌};
     ghost use Rattle.feed_text.specs.declared.records.RecordError.TheVariants.{Stopped};
-    ghost use Rattle.feed_build.specs.declared.call_rows.CallError.TheVariants as error;
+    ghost use Rattle.feed_calls.specs.declared.calls.CallError.TheVariants as error;
 
     ghost from_gives = { λ e f. f ≡ error.Record Stopped };
 
@@ -87,9 +87,16 @@ impl<'i, 't> Drop for CallRows<'i, 't> {
     }
 }
 
+// Whether a stop of this `pickup_type` or `drop_off_type` lets riders board or alight.
+fn permits(kind: Option<i64>) -> bool
+    ensures { result ≡ not (nat_of kind == 1) }
+{
+    kind != Some(NOT_AVAILABLE)
+}
+
 // The stop time that a record makes, judged as it is read, or its fault. Column by column and not in a loop, so that each is
 // judged by its own rule alone: a feed has more fields of stop times than of all else.
-#[tactic(auto, unfolding(feed_tables::specs::ReadCalls::read_call), using(crate::proofs::ValueLaws::values))]
+#[tactic(auto, unfolding(feed_tables::specs::ReadCalls::read_call, feed_faults::specs::FieldValues::int_or_zero), using(feed_soundness::proofs::ValueLaws::int_small, feed_text::proofs::ValueLaws::int_is_short, feed_text::proofs::ValueLaws::times))]
 fn read_call<R: Read>(
     ids: &CallIds,
     last_trip: &mut usize,
@@ -127,8 +134,8 @@ fn read_call<R: Read>(
         sequence: nat_of(sequence),
         arrival: CallTime::of(natural(arrival)),
         departure: CallTime::of(natural(departure)),
-        pickup: !is_code(pickup, NOT_AVAILABLE),
-        drop_off: !is_code(drop_off, NOT_AVAILABLE),
+        pickup: permits(pickup),
+        drop_off: permits(drop_off),
     })
 }
 

@@ -1,7 +1,7 @@
 use Rattle.std.proofs.Common.{◌≡◌, ◌∷◌, [], List, ℕ, Option, length}
 use Rattle.feed_text.specs.Reader.{StandsBehind}
-use Rattle.feed_build.specs.CallRows.{HasCalls}
-use Rattle.feed_build.proofs.call_rows.read_stop_times.Given as goal
+use Rattle.feed_calls.specs.CallRows.{HasCalls}
+use Rattle.feed_calls.proofs.calls.read_stop_times.Given as goal
 
 abbrev pub invariant-loop-row : goal.invariant-loop-row
 invariant-loop-row g l = record {

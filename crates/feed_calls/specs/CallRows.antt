@@ -11,10 +11,10 @@ use Rattle.feed_tables.specs.ReadCalls.{read_call, read_calls}
 use Rattle.feed_text.specs.Reader.{IsOfText, Explains}
 use Rattle.feed_tables.specs.RowNumbers.{fault_of_row}
 use Rattle.feed_tables.specs.declared.ids.CallIds.{CallIds}
-use Rattle.feed_build.specs.declared.call_rows.CallRows.{CallRows}
-use Rattle.feed_build.specs.declared.call_rows.CallError.{CallError}
-use Rattle.feed_build.specs.declared.call_rows.CallError.TheVariants.{Fault, Record}
-use Rattle.feed_build.specs.declared.call_rows.StopTimes.{StopTimes}
+use Rattle.feed_calls.specs.declared.calls.CallRows.{CallRows}
+use Rattle.feed_calls.specs.declared.calls.CallError.{CallError}
+use Rattle.feed_calls.specs.declared.calls.CallError.TheVariants.{Fault, Record}
+use Rattle.feed_calls.specs.declared.calls.StopTimes.{StopTimes}
 
 -- the fields of a record behind a header
 abbrev pub fields_behind : List (List ℕ) → List (List ℕ) → Fields

@@ -17,16 +17,16 @@ use Rattle.feed_faults.specs.FaultPlaces.{file_fault}
 use Rattle.feed_faults.specs.FormFaults.{header_fault, doubled_column, missing_column, is_twice, form_fault_of_row, form_fault_of_rows, form_fault_of_table}
 use Rattle.feed_tables.specs.declared.ids.CallIds.{CallIds}
 use Rattle.feed_tables.specs.ReadCalls.{read_call, read_calls}
-use Rattle.feed_build.specs.CallRows.{call_fault, calls_fault, fields_behind}
+use Rattle.feed_calls.specs.CallRows.{call_fault, calls_fault, fields_behind}
 use Rattle.feed_text.specs.Reader.{StandsBehind, IsTableOf}
 use Rattle.feed_text.specs.declared.records.Records.{Records}
 use Rattle.feed_text.proofs.ReaderLaws.{text_begins}
-use Rattle.feed_build.specs.CallRows.{AreCallsOf, IsFaultOf, IsCallError}
-use Rattle.feed_build.specs.declared.call_rows.CallError.{CallError}
-use Rattle.feed_build.specs.declared.call_rows.StopTimes.{StopTimes}
-use Rattle.feed_build.specs.declared.call_rows.CallError.TheVariants.{Fault, Record}
-use Rattle.feed_build.specs.CallRows.{HasCalls, IsOwnFault}
-use Rattle.feed_build.specs.declared.call_rows.CallRows.{CallRows}
+use Rattle.feed_calls.specs.CallRows.{AreCallsOf, IsFaultOf, IsCallError}
+use Rattle.feed_calls.specs.declared.calls.CallError.{CallError}
+use Rattle.feed_calls.specs.declared.calls.StopTimes.{StopTimes}
+use Rattle.feed_calls.specs.declared.calls.CallError.TheVariants.{Fault, Record}
+use Rattle.feed_calls.specs.CallRows.{HasCalls, IsOwnFault}
+use Rattle.feed_calls.specs.declared.calls.CallRows.{CallRows}
 
 -- one record more
 module _ (rs : List (List (List ℕ))) (r : List (List ℕ)) where

@@ -1,7 +1,7 @@
 use Rattle.std.proofs.Common.{◌∙◌, refl, sym, ap, ◌++◌, ◌∷◌, []}
 use Rattle.feed_text.specs.Reader.{last_record}
-use Rattle.feed_build.proofs.CallLaws.{keeps_fault, finds_fault, adds_row}
-use Rattle.feed_build.proofs.call_rows.CallRows.take.Goals as goal
+use Rattle.feed_calls.proofs.CallLaws.{keeps_fault, finds_fault, adds_row}
+use Rattle.feed_calls.proofs.calls.CallRows.take.Goals as goal
 
 pub returns-then-is_some : goal.returns-then-is_some
 returns-then-is_some g c = λ ids head rows count has.

@@ -1,0 +1,6 @@
+//! Stop times, judged and made rows as their records are read, by the ids of trips and stops. Nothing else of their file is kept.
+#![tactic(auto)]
+
+mod calls;
+
+pub use calls::{CallError, StopTimes, read_stop_times};
