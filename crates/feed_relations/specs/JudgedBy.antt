@@ -13,6 +13,7 @@ use Rattle.feed_tables.specs.IdColumns.{call_ids}
 use Rattle.feed_tables.specs.ReadCalls.{read_call, read_calls}
 use Rattle.feed_tables.specs.declared.calls.ReadCall.{ReadCall}
 use Rattle.stop_order.specs.declared.times.OrderFaults.{OrderFaults}
+use Rattle.stop_order.specs.declared.times.TripTime.{TripTime}
 use Rattle.stop_order.specs.Numbered.{no_faults, faults_at}
 
 -- each stop time names a trip and a stop
@@ -23,6 +24,10 @@ pub record AreCallsNamed (t : FeedTables) : Type 0 where
 -- what was read of a stop time
 abbrev pub call_at : FeedTables → ℕ → ReadCall
 call_at t row = read_call (call_ids t) (field (table_in t file.StopTimes) row)
+
+-- what is asked of it, where its order is
+abbrev pub time_of_call : ReadCall → TripTime
+time_of_call call = record { trip = call.trip; sequence = call.sequence; arrival = call.arrival; departure = call.departure }
 
 -- the trip of a stop time is there
 abbrev pub IsTripKnown : FeedTables → ℕ → Type 0

@@ -9,21 +9,20 @@ ghost use Rattle.feed_faults.specs.RowKeys.{is_unknown};
 ghost use Rattle.feed_faults.specs.declared.checks.IdColumn.TheVariants.{Trip, Stop};
 ghost use Rattle.feed_faults.specs.FeedTables.{table_in};
 ghost use Rattle.feed_faults.specs.StopTimeRelations.{stop_times_of, is_at_platform};
-ghost use Rattle.feed_tables.specs.ReadCalls.{numbered, read_calls};
+ghost use Rattle.feed_tables.specs.ReadCalls.{read_calls};
 ghost use Rattle.feed_text.specs.RowLimits.{row_limit};
 ghost use Rattle.feed_tables.specs.IdColumns.{indexed, call_ids};
 ghost use Rattle.feed_tables.specs.RowNumbers.{has_table};
 ghost use Rattle.stop_order.specs.Numbered.{no_faults, faults_at};
-ghost use Rattle.feed_relations.specs.JudgedBy.{AreCallsNamed, AreJudged, IsOrderJudged, IsTripKnown, are_platforms, call_at};
+ghost use Rattle.feed_relations.specs.JudgedBy.{AreCallsNamed, AreJudged, IsOrderJudged, IsTripKnown, are_platforms, call_at, time_of_call};
 
 use feed_faults::IdColumn;
-use feed_rows::{FileName, PLATFORM, StopTimeRow};
+use feed_rows::{FileName, PLATFORM};
 use feed_tables::{CallTable, IdIndex, Ids, ReadCall, ReadCalls, Tables, stop_kind};
 use feed_text::Table;
 use std::alloc::{AllocError, Global};
 use std::marker::Model;
-use stop_order::{OrderFaults, order_faults};
-use transit_base::{StopId, TripId};
+use stop_order::{OrderFaults, StopTimes, TripTime, order_faults};
 
 /// What the rows of a feed are judged by: its tables, their rows by ids, the stop times as they were read, which stops are platforms, and
 /// what is wrong with each stop time in its trip. Contracts see it as the tables.
@@ -59,31 +58,28 @@ impl<'t, C: CallTable> Drop for JudgedFeed<'t, C> {
     }
 }
 
-// Stop times as rows, for what is asked of their order alone: those whose trip isn't there are put behind all trips.
-#[tactic(auto, using(std::proofs::lemmas::List::take_more, std::proofs::lemmas::List::map_push, std::proofs::lemmas::List::take_all))]
-fn rows_for_order<C: CallTable>(
-    alloc: Global,
-    tables: &Tables<C>,
-    calls: &ReadCalls,
-) -> Result<Vec<StopTimeRow>, AllocError>
-    ensures { IfOk result (λ rows. rows.items ≡ map (numbered (row_count (table_in tables.now file.Trips)) (row_count (table_in tables.now file.Stops))) calls.now) }
-{
-    let trip_behind = TripId(tables.rows(FileName::Trips));
-    let stop_behind = StopId(tables.rows(FileName::Stops));
-    let mut rows = Vec::with_capacity(alloc, calls.len())?;
-    for i in 0..calls.len() {
-        let call = calls.get(i);
-        rows.push(StopTimeRow {
-            trip: call.trip.unwrap_or(trip_behind),
-            stop: call.stop.unwrap_or(stop_behind),
+// Stop times as they were read, for what is asked of their order.
+#[derive(Drop)]
+struct CallTimes<'c>(&'c ReadCalls);
+
+impl<'c> StopTimes for CallTimes<'c> {
+    ghost times = { λ calls. map time_of_call calls.0.now };
+
+    #[inline(always)]
+    fn len(&self) -> usize {
+        self.0.len()
+    }
+
+    #[inline(always)]
+    fn time(&self, row: usize) -> TripTime {
+        let call = self.0.get(row);
+        TripTime {
+            trip: call.trip,
             sequence: call.sequence,
             arrival: call.arrival,
             departure: call.departure,
-            pickup: call.pickup,
-            drop_off: call.drop_off,
-        })?;
+        }
     }
-    Ok(rows)
 }
 
 // What is wrong with each stop time among those of its trip, where that is there.
@@ -98,8 +94,8 @@ fn order_of<C: CallTable>(
 {
     let _few = tables.rows(FileName::StopTimes);
     match calls.rows() {
-        Some(rows) => order_faults(alloc, rows),
-        None => order_faults(alloc, &rows_for_order(alloc, tables, calls)?),
+        Some(rows) => order_faults(alloc, &rows),
+        None => order_faults(alloc, &CallTimes(calls)),
     }
 }
 

@@ -12,7 +12,7 @@ use Rattle.feed_faults.specs.FeedTables.{FeedTables, table_in}
 use Rattle.feed_faults.specs.AcceptedFeed.{row_number, stop_time_by, typed_rows, stop_time_row}
 use Rattle.feed_tables.specs.IdColumns.{call_ids}
 use Rattle.feed_tables.specs.declared.calls.ReadCall.{ReadCall}
-use Rattle.feed_tables.specs.ReadCalls.{trip_of, stop_of, call_of, IsStray, row_in, numbered, read_call, read_calls}
+use Rattle.feed_tables.specs.ReadCalls.{trip_of, stop_of, call_of, IsStray, row_in, read_call, read_calls}
 
 -- one among the last is one among all
 pub stray_behind : (before rest : List ReadCall) → Any IsStray rest → Any IsStray (before ++ rest)
@@ -20,6 +20,19 @@ stray_behind before rest some =
     let size = length-append before rest in
     let lt = some.2 in
     (length before + some.0, some.1, omega arith, get_or-append-add before rest some.0 some.1 ∙ some.3, some.4)
+
+-- the row that was read, with these numbers for what isn't there
+abbrev numbered : ℕ → ℕ → ReadCall → StopTimeRow
+numbered trips stops call =
+    record {
+      trip = unwrap_or call.trip (trip_of trips);
+      stop = unwrap_or call.stop (stop_of stops);
+      sequence = call.sequence;
+      arrival = call.arrival;
+      departure = call.departure;
+      pickup = call.pickup;
+      drop_off = call.drop_off;
+    }
 
 -- a row keeps its numbers, whatever stands for others
 row_kept : (trips stops : ℕ) (rows : List StopTimeRow) → map (numbered trips stops) (map call_of rows) ≡ rows
@@ -50,7 +63,7 @@ module _ (t : FeedTables) where
   numbered_call at = rw (number_or trip_of (row_in (call_ids t).trips (at column.TripId)) trips, number_or stop_of (row_in (call_ids t).stops (at column.StopId)) stops) refl
 
   -- stop times that were read, with the number after the last for what isn't there, are the rows of the definitions
-  pub numbered_calls : map (numbered trips stops) calls ≡ typed_rows (table_in t file.StopTimes) (stop_time_row t)
+  numbered_calls : map (numbered trips stops) calls ≡ typed_rows (table_in t file.StopTimes) (stop_time_row t)
   unfolding stop_time_row
   numbered_calls =
       map_below (row_count (table_in t file.StopTimes)) (λ row. read_call (call_ids t) (field (table_in t file.StopTimes) row)) (numbered trips stops)

@@ -1,5 +1,5 @@
 -- Stop times as they are read.
-use Rattle.std.specs.Prelude.{◌≡◌, ℕ, ◌⊎◌, List, Option, None, Some, option_map, unwrap_or}
+use Rattle.std.specs.Prelude.{◌≡◌, ℕ, ◌⊎◌, List, Option, None, Some, option_map}
 use Rattle.plain_laws.specs.Plain.{list_below}
 use Rattle.transit_base.specs.declared.numbers.StopId.{StopId}
 use Rattle.transit_base.specs.declared.numbers.TripId.{TripId}
@@ -35,19 +35,6 @@ call_of row =
 -- the trip or the stop isn't there
 abbrev pub IsStray : ReadCall → Type 0
 IsStray call = (call.trip ≡ None) ⊎ (call.stop ≡ None)
-
--- the row that was read, with these numbers for what isn't there
-abbrev pub numbered : ℕ → ℕ → ReadCall → StopTimeRow
-numbered trips stops call =
-    record {
-      trip = unwrap_or call.trip (trip_of trips);
-      stop = unwrap_or call.stop (stop_of stops);
-      sequence = call.sequence;
-      arrival = call.arrival;
-      departure = call.departure;
-      pickup = call.pickup;
-      drop_off = call.drop_off;
-    }
 
 -- the earliest row with an id of a column
 abbrev pub row_in : IndexedColumn → List ℕ → Option ℕ

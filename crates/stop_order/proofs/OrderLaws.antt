@@ -7,66 +7,32 @@ use Rattle.plain_laws.specs.Plain.{at_and, any_below}
 use Rattle.plain_laws.proofs.Laws.{any_below_hit, any_below_tells, length-list_below, same_test, at_and-list_below}
 use Rattle.feed_faults.specs.RowKeys.{is_repeated}
 use Rattle.feed_faults.specs.StopTimeRelations.{StopTime, has_time, is_earlier, first_filled, last_filled, same_place, comes_before, is_first, is_last, is_end_time_missing, is_nearest_before, do_times_decrease}
-use Rattle.feed_rows.specs.declared.rows.StopTimeRow.{StopTimeRow}
-use Rattle.trip_order.specs.declared.keys.PlaceKey.{PlaceKey}
-use Rattle.trip_order.specs.Order.{AreSorted, Precedes, key_of, key_at}
+use Rattle.stop_order.specs.declared.times.TripTime.{TripTime}
 use Rattle.stop_order.specs.declared.times.OrderFaults.{OrderFaults}
-use Rattle.stop_order.specs.Numbered.{numbered_at, named_time, named_times, IsOneTrip, AreFaults, faults_at, is_set, first_of_times, last_of_times}
-use Rattle.stop_order.specs.Order.{trip_at, AreOrdered, continues_trip, time_before, place_faults, AreTold}
-use Rattle.stop_order.proofs.PlaceLaws.{Before, sequence, timed, comes_hit, comes_told_first, comes_told_last, same_hit, same_told, timed_alike}
-
--- the row at a place of sorted keys
-abbrev pub key_row : List PlaceKey → ℕ → ℕ
-key_row keys place = (key_at keys place).row
+use Rattle.stop_order.specs.Numbered.{numbered_at, named_time, named_times, is_one_trip, IsOneTrip, AreFaults, faults_at, is_timed, first_time, last_time}
+use Rattle.stop_order.specs.Order.{trip_at, Before, AreOrdered, continues_trip, time_before, place_faults, AreTold}
+use Rattle.stop_order.proofs.PlaceLaws.{one_hit, one_told, sequence, timed, comes_hit, comes_told_first, comes_told_last, same_hit, same_told, timed_alike}
 
 -- the stop time at a place
-abbrev time_at : List StopTimeRow → (ℕ → ℕ) → ℕ → StopTimeRow
+abbrev time_at : List TripTime → (ℕ → ℕ) → ℕ → TripTime
 time_at times row place = numbered_at times (row place)
 
--- sorted keys are such an order
-pub sorted_order : (times : List StopTimeRow) (keys : List PlaceKey) → AreSorted times keys → AreOrdered times (key_row keys)
-sorted_order times keys are =
-    record {
-      own = λ place lt. (are.own place (rw are.many lt)).1;
-      placed = λ row lt. let at = are.placed row lt in (at.0, rw (← are.many) at.1, at.2);
-      together = λ i k j low high lt same.
-          let low' = not_after i k low (omega (arith, are.many)) in
-          let high' = not_after k j high (omega (arith, are.many)) in
-          omega arith;
-      in_order = λ i j less lt same. precedes i j less (rw are.many lt);
-    }
-  where
-    precedes : (i j : ℕ) → i < j → j < length keys → Precedes (key_of times (key_row keys i)) (key_of times (key_row keys j))
-    precedes i j less lt =
-        subst (λ (a : PlaceKey). Precedes a (key_of times (key_row keys j))) (are.own i (omega arith)).0
-        (subst (λ (b : PlaceKey). Precedes (key_at keys i) b) (are.own j lt).0 (are.in_order i j less lt))
-
-    -- trips don't fall
-    rises : (a b : PlaceKey) → Precedes a b → a.trip ≤ b.trip
-    rises a b is = grind (arith, is)
-
-    not_after : (i j : ℕ) → i ≤ j → j < length keys → trip_at times (key_row keys i) ≤ trip_at times (key_row keys j)
-    not_after i j le lj = ⊎_elim
-        (λ (same : i ≡ j). rw same (omega arith))
-        (λ (other : i ≡ j → ⊥). rises (key_of times (key_row keys i)) (key_of times (key_row keys j)) (precedes i j (omega arith) lj))
-        (cases_eq i j)
-
 -- a place goes on with the trip of the one before it
-pub on_hit : (times : List StopTimeRow) (row : ℕ → ℕ) (k place : ℕ) → place ≡ k + 1 → place < length times → trip_at times (row k) ≡ trip_at times (row place) → continues_trip times row place ≡ true
+pub on_hit : (times : List TripTime) (row : ℕ → ℕ) (k place : ℕ) → place ≡ k + 1 → place < length times → trip_at times (row k) ≡ trip_at times (row place) → continues_trip times row place ≡ true
 unfolding continues_trip
 on_hit times row k place next within same =
     let back : place - 1 ≡ k = omega arith in
     let same' : trip_at times (row (place - 1)) ≡ trip_at times (row place) = rw back same in
-    and_from (nat_lt 0 place && nat_lt place (length times)) (trip_at times (row (place - 1)) == trip_at times (row place))
+    and_from (nat_lt 0 place && nat_lt place (length times)) (is_one_trip (trip_at times (row (place - 1))) (trip_at times (row place)))
     (and_from (nat_lt 0 place) (nat_lt place (length times)) (lt-ltb 0 place (omega arith)) (lt-ltb place (length times) within))
-    (eq-eqb (trip_at times (row (place - 1))) (trip_at times (row place)) same')
+    (one_hit (trip_at times (row (place - 1))) (trip_at times (row place)) same')
 
-pub on_told : (times : List StopTimeRow) (row : ℕ → ℕ) (place : ℕ) → continues_trip times row place ≡ true → (0 < place) × (place < length times) × (trip_at times (row (place - 1)) ≡ trip_at times (row place))
+pub on_told : (times : List TripTime) (row : ℕ → ℕ) (place : ℕ) → continues_trip times row place ≡ true → (0 < place) × (place < length times) × (trip_at times (row (place - 1)) ≡ trip_at times (row place))
 unfolding continues_trip
 on_told times row place on =
-    let two = and_parts (nat_lt 0 place && nat_lt place (length times)) (trip_at times (row (place - 1)) == trip_at times (row place)) on in
+    let two = and_parts (nat_lt 0 place && nat_lt place (length times)) (is_one_trip (trip_at times (row (place - 1))) (trip_at times (row place))) on in
     let ends = and_parts (nat_lt 0 place) (nat_lt place (length times)) two.0 in
-    (ltb-true 0 place ends.0, ltb-true place (length times) ends.1, eqb-true (trip_at times (row (place - 1))) (trip_at times (row place)) two.1)
+    (ltb-true 0 place ends.0, ltb-true place (length times) ends.1, one_told (trip_at times (row (place - 1))) (trip_at times (row place)) two.1)
 
 -- a row has a last time where it has a first
 either_set : (a b : Option ℕ) → is_some (option_or a b) ≡ is_some (option_or b a)
@@ -75,7 +41,7 @@ either_set None (Some y) = refl
 either_set (Some x) None = refl
 either_set (Some x) (Some y) = refl
 
-timed_last : (time : StopTimeRow) → is_set time ≡ is_some (last_of_times time)
+timed_last : (time : TripTime) → is_timed time ≡ is_some (last_time time)
 timed_last time = either_set time.arrival time.departure
 
 none_of : (a : Option ℕ) → is_some a ≡ false → a ≡ None
@@ -87,15 +53,15 @@ some_of None e = absurd (cc)
 some_of (Some x) e = (x, refl)
 
 -- the nearest timed place before one in its trip, and its last time
-record IsNearest (times : List StopTimeRow) (row : ℕ → ℕ) (p t : ℕ) : Type 0 where
+record IsNearest (times : List TripTime) (row : ℕ → ℕ) (p t : ℕ) : Type 0 where
   place : ℕ
   ahead : place < p
   here : trip_at times (row place) ≡ trip_at times (row p)
-  last : last_of_times (time_at times row place) ≡ Some t
-  later : (k : ℕ) → place < k → k < p → is_set (time_at times row k) ≡ false
+  last : last_time (time_at times row place) ≡ Some t
+  later : (k : ℕ) → place < k → k < p → is_timed (time_at times row k) ≡ false
 
 -- the time before a place is that of the nearest timed place before it in its trip
-before_told : (times : List StopTimeRow) (row : ℕ → ℕ) (p t : ℕ) → time_before times row p ≡ Some t → IsNearest times row p t
+before_told : (times : List TripTime) (row : ℕ → ℕ) (p t : ℕ) → time_before times row p ≡ Some t → IsNearest times row p t
 unfolding time_before
 before_told times row zero t e = absurd (cc)
 before_told times row (suc k) t e = ⊎_elim
@@ -103,12 +69,12 @@ before_told times row (suc k) t e = ⊎_elim
     let told = on_told times row (suc k) on in
     let back : suc k - 1 ≡ k = omega arith in
     let same : trip_at times (row k) ≡ trip_at times (row (suc k)) = rw back at told.2 in
-    let e' : option_or (last_of_times (time_at times row k)) (time_before times row k) ≡ Some t = rw on at e in
-    step (last_of_times (time_at times row k)) refl e' same (λ before. before_told times row k t before))
+    let e' : option_or (last_time (time_at times row k)) (time_before times row k) ≡ Some t = rw on at e in
+    step (last_time (time_at times row k)) refl e' same (λ before. before_told times row k t before))
     (λ (off : continues_trip times row (suc k) ≡ false). let no : None ≡ Some t = rw off at e in absurd (cc))
     (cases_Bool (continues_trip times row (suc k)))
   where
-    step : (last : Option ℕ) → last_of_times (time_at times row k) ≡ last → option_or last (time_before times row k) ≡ Some t → trip_at times (row k) ≡ trip_at times (row (suc k)) → (time_before times row k ≡ Some t → IsNearest times row k t) → IsNearest times row (suc k) t
+    step : (last : Option ℕ) → last_time (time_at times row k) ≡ last → option_or last (time_before times row k) ≡ Some t → trip_at times (row k) ≡ trip_at times (row (suc k)) → (time_before times row k ≡ Some t → IsNearest times row k t) → IsNearest times row (suc k) t
     step None is e same old =
         let near = old e in
         let ahead = near.ahead in
@@ -131,16 +97,16 @@ before_told times row (suc k) t e = ⊎_elim
           later = λ j from to. absurd (omega arith);
         }
 
-before_hit : (times : List StopTimeRow) (row : ℕ → ℕ) → AreOrdered times row → (p t q : ℕ) → p < length times → q < p → trip_at times (row q) ≡ trip_at times (row p) → last_of_times (time_at times row q) ≡ Some t → ((k : ℕ) → q < k → k < p → is_set (time_at times row k) ≡ false) → time_before times row p ≡ Some t
+before_hit : (times : List TripTime) (row : ℕ → ℕ) → AreOrdered times row → (p t q : ℕ) → p < length times → q < p → trip_at times (row q) ≡ trip_at times (row p) → last_time (time_at times row q) ≡ Some t → ((k : ℕ) → q < k → k < p → is_timed (time_at times row k) ≡ false) → time_before times row p ≡ Some t
 unfolding time_before
 before_hit times row are zero t q within ahead here last later = absurd (omega arith)
 before_hit times row are (suc k) t q within ahead here last later =
     let same = are.together q k (suc k) (omega arith) (omega arith) within here in
     let on = on_hit times row k (suc k) (omega arith) within same in
     rw on (⊎_elim
-    (λ (own : q ≡ k). let last' : last_of_times (time_at times row k) ≡ Some t = rw own at last in rw last' refl)
+    (λ (own : q ≡ k). let last' : last_time (time_at times row k) ≡ Some t = rw own at last in rw last' refl)
     (λ (apart : q ≡ k → ⊥).
-    let none = none_of (last_of_times (time_at times row k)) (sym (timed_last (time_at times row k)) ∙ later k (omega arith) (omega arith)) in
+    let none = none_of (last_time (time_at times row k)) (sym (timed_last (time_at times row k)) ∙ later k (omega arith) (omega arith)) in
     let old = before_hit times row are k t q (omega arith) (omega arith) (here ∙ sym same) last (λ j from to. later j from (omega arith)) in
     rw none old)
     (cases_eq q k))
@@ -150,32 +116,28 @@ never : (first : Option ℕ) → is_earlier first None ≡ false
 never None = refl
 never (Some x) = refl
 
--- what precedes comes before, within a trip
-before_from : (a b : PlaceKey) → Precedes a b → a.trip ≡ b.trip → Before a.sequence b.sequence a.row b.row
-before_from a b is same = grind (arith, is, same)
-
 -- what comes before isn't preceded
-not_back : (a b : PlaceKey) → Precedes b a → a.trip ≡ b.trip → Before a.sequence b.sequence a.row b.row → ⊥
-not_back a b back same is = grind (arith, back, same, is)
+not_back : (s t a b : ℕ) → Before t s b a → Before s t a b → ⊥
+not_back s t a b back is = grind (arith, back, is)
 
-not_itself : (s a : ℕ) → Before s s a a → ⊥
+pub not_itself : (s a : ℕ) → Before s s a a → ⊥
 not_itself s a is = grind (arith, is)
 
--- between two keys of one trip and one sequence all have it
-level_between : (a b c : PlaceKey) → Precedes a b → Precedes b c → a.trip ≡ c.trip → b.trip ≡ c.trip → a.sequence ≡ c.sequence → b.sequence ≡ c.sequence
-level_between a b c x y ac bc s =
-    let low : a.sequence ≤ b.sequence = grind (arith, x, ac, bc) in
-    let high : b.sequence ≤ c.sequence = grind (arith, y, bc) in
+-- between two rows of one sequence all have it
+level_between : (s t u a b c : ℕ) → Before s t a b → Before t u b c → s ≡ u → t ≡ u
+level_between s t u a b c x y e =
+    let low : s ≤ t = grind (arith, x) in
+    let high : t ≤ u = grind (arith, y) in
     omega arith
 
--- of two rows with one sequence the earlier precedes
-row_less : (a b : PlaceKey) → Precedes a b → a.trip ≡ b.trip → a.sequence ≡ b.sequence → a.row < b.row
-row_less a b is t s = grind (arith, is, t, s)
+-- of two rows with one sequence the earlier is the lesser
+row_less : (s t a b : ℕ) → Before s t a b → s ≡ t → a < b
+row_less s t a b is e = grind (arith, is, e)
 
-module _ (times : List StopTimeRow) (row : ℕ → ℕ) (are : AreOrdered times row) (text : ℕ → List ℕ) (p : ℕ) (below : p < length times) (one : IsOneTrip times text (row p)) where
-  -- the key of the row at a place
-  abbrev key : ℕ → PlaceKey
-  key k = key_of times (row k)
+module _ (times : List TripTime) (row : ℕ → ℕ) (are : AreOrdered times row) (text : ℕ → List ℕ) (p : ℕ) (below : p < length times) (one : IsOneTrip times text (row p)) where
+  -- the sequence of a place
+  abbrev level : ℕ → ℕ
+  level k = (time_at times row k).sequence
 
   abbrev rows : List StopTime
   rows = named_times times text
@@ -191,14 +153,13 @@ module _ (times : List StopTimeRow) (row : ℕ → ℕ) (are : AreOrdered times 
   comes : (i j : ℕ) → i < j → j < length times → IsHere i → IsHere j → comes_before rows (row i) (row j) ≡ true
   comes i j lt lj hi hj =
       let li : i < length times = omega arith in
-      let is = before_from (key i) (key j) (are.in_order i j lt lj (hi ∙ sym hj)) (hi ∙ sym hj) in
-      comes_hit times text (row p) (within p below) one (row i) (row j) (within i li) (within j lj) hi hj is
+      comes_hit times text (row p) (within p below) one (row i) (row j) (within i li) (within j lj) hi hj (are.in_order i j lt lj (hi ∙ sym hj))
 
   earlier : (i j : ℕ) → i < length times → j < length times → IsHere i → IsHere j → Before (sequence times text (row i)) (sequence times text (row j)) (row i) (row j) → i < j
   earlier i j li lj hi hj is =
-      ⊎_elim (λ (same : i ≡ j). absurd (let itself : Before (key j).sequence (key j).sequence (row j) (row j) = rw same at is in not_itself (key j).sequence (row j) itself))
+      ⊎_elim (λ (same : i ≡ j). absurd (let itself : Before (level j) (level j) (row j) (row j) = rw same at is in not_itself (level j) (row j) itself))
       (λ (other : i ≡ j → ⊥). ⊎_elim (λ (lt : i < j). lt)
-      (λ (ge : j ≤ i). absurd (not_back (key i) (key j) (are.in_order j i (omega arith) li (hj ∙ sym hi)) (hi ∙ sym hj) is))
+      (λ (ge : j ≤ i). absurd (not_back (level i) (level j) (row i) (row j) (are.in_order j i (omega arith) li (hj ∙ sym hi)) is))
       (cases_lt i j))
       (cases_eq i j)
 
@@ -277,14 +238,14 @@ module _ (times : List StopTimeRow) (row : ℕ → ℕ) (are : AreOrdered times 
       let ahead : row at.0 < row p = rw at.2 small in
       let two = same_told times text (row p) in_file one (row p) (row at.0) in_file (within at.0 at.1) refl same' in
       let here = two.0 in
-      let level : (key at.0).sequence ≡ (key p).sequence = sym two.1 in
-      let lt = earlier at.0 p at.1 below here refl (inr (level, ahead)) in
-      let last : IsHere (p - 1) × ((key (p - 1)).sequence ≡ (key p).sequence) = ⊎_elim
-      (λ (is : at.0 ≡ p - 1). rw (← is) (here, level))
+      let level' : level at.0 ≡ level p = sym two.1 in
+      let lt = earlier at.0 p at.1 below here refl (inr (level', ahead)) in
+      let last : IsHere (p - 1) × (level (p - 1) ≡ level p) = ⊎_elim
+      (λ (is : at.0 ≡ p - 1). rw (← is) (here, level'))
       (λ (apart : at.0 ≡ p - 1 → ⊥).
       let next = here_between at.0 (p - 1) (omega arith) (omega arith) here in
       let ahead' = are.in_order at.0 (p - 1) (omega arith) (omega arith) (here ∙ sym next) in
-      (next, level_between (key at.0) (key (p - 1)) (key p) ahead' (are.in_order (p - 1) p (omega arith) below next) here next level))
+      (next, level_between (level at.0) (level (p - 1)) (level p) (row at.0) (row (p - 1)) (row p) ahead' (are.in_order (p - 1) p (omega arith) below next) level'))
       (cases_eq at.0 (p - 1)) in
       and_from (continues_trip times row p) ((time_at times row (p - 1)).sequence == (time_at times row p).sequence)
       (on_hit times row (p - 1) p (omega arith) below last.0)
@@ -294,13 +255,13 @@ module _ (times : List StopTimeRow) (row : ℕ → ℕ) (are : AreOrdered times 
       let told = on_told times row p two.0 in
       let lt = told.0 in
       let small : p - 1 < length times = omega arith in
-      let level = eqb-true (time_at times row (p - 1)).sequence (time_at times row p).sequence two.1 in
-      let ahead = row_less (key (p - 1)) (key p) (are.in_order (p - 1) p (omega arith) below told.2) told.2 level in
-      let same = same_hit times text (row p) (within p below) one (row p) (row (p - 1)) (within p below) (within (p - 1) small) refl told.2 (sym level) in
+      let level' = eqb-true (level (p - 1)) (level p) two.1 in
+      let ahead = row_less (level (p - 1)) (level p) (row (p - 1)) (row p) (are.in_order (p - 1) p (omega arith) below told.2) level' in
+      let same = same_hit times text (row p) (within p below) one (row p) (row (p - 1)) (within p below) (within (p - 1) small) refl told.2 (sym level') in
       any_below_hit (same_place rows (row p)) (row p) (row (p - 1)) ahead same)
 
   -- a place is timed where its row is
-  timed_is : (k : ℕ) → k < length times → at_and rows (row k) has_time ≡ is_set (time_at times row k)
+  timed_is : (k : ℕ) → k < length times → at_and rows (row k) has_time ≡ is_timed (time_at times row k)
   timed_is k lt = timed times text (row k) (within k lt)
 
   -- timed between a row and this one, and nearest to this one
@@ -311,7 +272,7 @@ module _ (times : List StopTimeRow) (row : ℕ → ℕ) (are : AreOrdered times 
   nearest_test e = comes_before rows e (row p) && at_and rows e has_time && not (any_below (length rows) (between_test e))
 
   -- no row is timed between the nearest timed place and this one
-  none_between : (q : ℕ) → q < p → IsHere q → ((k : ℕ) → q < k → k < p → is_set (time_at times row k) ≡ false) → any_below (length rows) (between_test (row q)) ≡ false
+  none_between : (q : ℕ) → q < p → IsHere q → ((k : ℕ) → q < k → k < p → is_timed (time_at times row k) ≡ false) → any_below (length rows) (between_test (row q)) ≡ false
   none_between q lt here later = ⊎_elim
       (λ some.
       let found = any_below_tells (between_test (row q)) (length rows) some in
@@ -327,9 +288,9 @@ module _ (times : List StopTimeRow) (row : ℕ → ℕ) (are : AreOrdered times 
       (cases_Bool (any_below (length rows) (between_test (row q))))
 
   -- and no place
-  untimed_between : (q k : ℕ) → any_below (length rows) (between_test (row q)) ≡ false → IsHere q → q < k → k < p → is_set (time_at times row k) ≡ false
+  untimed_between : (q k : ℕ) → any_below (length rows) (between_test (row q)) ≡ false → IsHere q → q < k → k < p → is_timed (time_at times row k) ≡ false
   untimed_between q k none here from to = ⊎_elim
-      (λ (timed' : is_set (time_at times row k) ≡ true).
+      (λ (timed' : is_timed (time_at times row k) ≡ true).
       let inner : k < length times = omega arith in
       let own = here_between q k (omega arith) (omega arith) here in
       let first = comes q k from inner here own in
@@ -339,14 +300,14 @@ module _ (times : List StopTimeRow) (row : ℕ → ℕ) (are : AreOrdered times 
       let no : true ≡ false = sym some ∙ none in
       absurd (cc))
       (λ none. none)
-      (cases_Bool (is_set (time_at times row k)))
+      (cases_Bool (is_timed (time_at times row k)))
 
   -- a row's first and last time
   abbrev first_at : ℕ → Option ℕ
-  first_at r = first_of_times (numbered_at times r)
+  first_at r = first_time (numbered_at times r)
 
   abbrev last_at : ℕ → Option ℕ
-  last_at r = last_of_times (numbered_at times r)
+  last_at r = last_time (numbered_at times r)
 
   -- a test of the nearest timed row
   abbrev behind_test : ℕ → Bool
@@ -399,7 +360,7 @@ module _ (times : List StopTimeRow) (row : ℕ → ℕ) (are : AreOrdered times 
       ∙ ap (λ (b : Bool). is_earlier (last_at (row p)) (first_at (row p)) || b) behind_is
 
   -- the end of a trip lacks its time
-  pub missing_is : is_end_time_missing rows (row p) ≡ not (is_set (time_at times row p)) && (not (continues_trip times row p) || not (continues_trip times row (p + 1)))
+  pub missing_is : is_end_time_missing rows (row p) ≡ not (is_timed (time_at times row p)) && (not (continues_trip times row p) || not (continues_trip times row (p + 1)))
   unfolding is_end_time_missing
   missing_is =
       ap (λ (b : Bool). b && (is_first rows (row p) || is_last rows (row p))) (at_and-list_below (length times) (named_time times text) (row p) (λ x. not (has_time x)) (within p below))
@@ -412,7 +373,7 @@ module _ (times : List StopTimeRow) (row : ℕ → ℕ) (are : AreOrdered times 
   faults_is = rw (repeated_is, missing_is, decreases_is) refl
 
 -- what each place tells is what is wrong with each row
-pub faults_from : (times : List StopTimeRow) (row : ℕ → ℕ) (to : ℕ) (before : Option ℕ) (faults : List OrderFaults) → AreOrdered times row → to ≡ length times → AreTold times row to before faults → AreFaults times faults
+pub faults_from : (times : List TripTime) (row : ℕ → ℕ) (to : ℕ) (before : Option ℕ) (faults : List OrderFaults) → AreOrdered times row → to ≡ length times → AreTold times row to before faults → AreFaults times faults
 faults_from times row to before faults are all told =
     record {
       count = told.count;

@@ -1,5 +1,5 @@
 -- Named stop times by their rows: to come before another, and to be of one trip, by numbers.
-use Rattle.std.proofs.Common.{◌≡◌, refl, sym, ◌∙◌, ℕ, ◌<◌, ◌⊎◌, Bool, true, List, length, arith}
+use Rattle.std.proofs.Common.{◌≡◌, refl, sym, ◌∙◌, ap, subst, ℕ, ◌<◌, Bool, true, List, length, arith}
 use Rattle.std.specs.Prelude.{◌==◌, ◌&&◌, ◌||◌, nat_lt, bytes_eq, is_some, Option, None, Some}
 use Rattle.std.specs.Option.{option_or}
 use Rattle.std.proofs.lemmas.Bool.{and_parts, and_from, eqb-true, eq-eqb}
@@ -7,12 +7,27 @@ use Rattle.std.proofs.lemmas.Bool.Decides.{nat_tests}
 use Rattle.plain_laws.specs.Plain.{at_and}
 use Rattle.plain_laws.proofs.Laws.{at_and-list_below, bytes_eq-true, eq-bytes_eq}
 use Rattle.feed_faults.specs.StopTimeRelations.{StopTime, has_time, both_and, same_place, comes_before}
-use Rattle.feed_rows.specs.declared.rows.StopTimeRow.{StopTimeRow}
-use Rattle.stop_order.specs.Numbered.{numbered_at, named_time, named_times, IsOneTrip, is_set}
+use Rattle.stop_order.specs.declared.times.TripTime.{TripTime}
+use Rattle.transit_base.specs.declared.numbers.TripId.{TripId}
+use Rattle.stop_order.specs.Numbered.{numbered_at, named_time, named_times, is_one_trip, IsOneTrip, is_timed}
+use Rattle.stop_order.specs.Order.{trip_at, Before}
 
--- one number is less than another, or bytes_eq-true with a row that is less
-abbrev pub Before : ℕ → ℕ → ℕ → ℕ → Type 0
-Before s t a b = (s < t) ⊎ ((s ≡ t) × (a < b))
+-- two trips are one where they are equal
+pub one_told : (a b : Option TripId) → is_one_trip a b ≡ true → a ≡ b
+one_told None None e = refl
+one_told None (Some y) e = absurd (cc)
+one_told (Some x) None e = absurd (cc)
+one_told (Some x) (Some y) e = ap (λ n. Some (trip_of n)) (eqb-true x.0 y.0 e)
+  where
+    trip_of : ℕ → TripId
+    trip_of n = record { 0 = n }
+
+pub one_hit : (a b : Option TripId) → a ≡ b → is_one_trip a b ≡ true
+one_hit a b e = subst (λ x. is_one_trip a x ≡ true) e (itself a)
+  where
+    itself : (x : Option TripId) → is_one_trip x x ≡ true
+    itself None = refl
+    itself (Some x) = eq-eqb x.0 x.0 refl
 
 before_told : (s t a b : ℕ) → (nat_lt s t || ((s == t) && nat_lt a b)) ≡ true → Before s t a b
 before_told s t a b e = grind (arith, nat_tests, e)
@@ -25,10 +40,10 @@ some_time : (arrival departure : Option ℕ) → is_some arrival || is_some depa
 some_time None departure = refl
 some_time (Some time) departure = refl
 
-module _ (times : List StopTimeRow) (text : ℕ → List ℕ) where
-  -- the number of a row's trip, and its sequence
-  abbrev pub trip : ℕ → ℕ
-  trip row = (numbered_at times row).trip.0
+module _ (times : List TripTime) (text : ℕ → List ℕ) where
+  -- a row's trip, and its sequence
+  abbrev pub trip : ℕ → Option TripId
+  trip row = trip_at times row
 
   abbrev pub sequence : ℕ → ℕ
   sequence row = (numbered_at times row).sequence
@@ -39,26 +54,26 @@ module _ (times : List StopTimeRow) (text : ℕ → List ℕ) where
       at_and-list_below (length times) (named_time times text) a (λ x. at_and (named_times times text) b (λ y. test x y)) la
       ∙ at_and-list_below (length times) (named_time times text) b (λ y. test (named_time times text a) y) lb
 
-  pub timed_alike : (a : ℕ) → has_time (named_time times text a) ≡ is_set (numbered_at times a)
+  pub timed_alike : (a : ℕ) → has_time (named_time times text a) ≡ is_timed (numbered_at times a)
   timed_alike a = some_time (numbered_at times a).arrival (numbered_at times a).departure
 
-  pub timed : (a : ℕ) → a < length times → at_and (named_times times text) a has_time ≡ is_set (numbered_at times a)
+  pub timed : (a : ℕ) → a < length times → at_and (named_times times text) a has_time ≡ is_timed (numbered_at times a)
   timed a lt = at_and-list_below (length times) (named_time times text) a has_time lt ∙ timed_alike a
 
   module _ (row : ℕ) (within : row < length times) (one : IsOneTrip times text row) where
     -- a row of the trip has its text
     of_trip : (a : ℕ) → a < length times → trip a ≡ trip row → text a ≡ text row
-    of_trip a la e = bytes_eq-true (text a) (text row) (one a la ∙ eq-eqb (trip a) (trip row) e)
+    of_trip a la e = bytes_eq-true (text a) (text row) (one a la ∙ one_hit (trip a) (trip row) e)
 
     -- two rows have one text, of which one is of the trip by its number
     pub text_from : (a b : ℕ) → a < length times → b < length times → trip a ≡ trip row → trip b ≡ trip row → bytes_eq (text a) (text b) ≡ true
     text_from a b la lb ea eb = eq-bytes_eq (text a) (text b) (of_trip a la ea ∙ sym (of_trip b lb eb))
 
     pub trip_from_first : (a b : ℕ) → a < length times → b < length times → trip a ≡ trip row → bytes_eq (text a) (text b) ≡ true → trip b ≡ trip row
-    trip_from_first a b la lb ea e = eqb-true (trip b) (trip row) (sym (one b lb) ∙ eq-bytes_eq (text b) (text row) (sym (bytes_eq-true (text a) (text b) e) ∙ of_trip a la ea))
+    trip_from_first a b la lb ea e = one_told (trip b) (trip row) (sym (one b lb) ∙ eq-bytes_eq (text b) (text row) (sym (bytes_eq-true (text a) (text b) e) ∙ of_trip a la ea))
 
     pub trip_from_last : (a b : ℕ) → a < length times → b < length times → trip b ≡ trip row → bytes_eq (text a) (text b) ≡ true → trip a ≡ trip row
-    trip_from_last a b la lb eb e = eqb-true (trip a) (trip row) (sym (one a la) ∙ eq-bytes_eq (text a) (text row) (bytes_eq-true (text a) (text b) e ∙ of_trip b lb eb))
+    trip_from_last a b la lb eb e = one_told (trip a) (trip row) (sym (one a la) ∙ eq-bytes_eq (text a) (text row) (bytes_eq-true (text a) (text b) e ∙ of_trip b lb eb))
 
     -- a row comes before another, both of the trip
     pub comes_hit : (a b : ℕ) → a < length times → b < length times → trip a ≡ trip row → trip b ≡ trip row → Before (sequence a) (sequence b) a b → comes_before (named_times times text) a b ≡ true

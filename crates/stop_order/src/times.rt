@@ -1,82 +1,58 @@
 //! What is wrong with a stop time, as its neighbours tell it in an order: that of the file, or of sorted keys.
-ghost use Rattle.std.specs.Prelude.{◌≡◌, ◌<◌, ◌+◌, ◌^◌, ℕ, List, length, OnOk};
-ghost use Rattle.feed_rows.specs.declared.rows.StopTimeRow.{StopTimeRow};
+ghost use Rattle.std.specs.Prelude.{◌≡◌, ◌<◌, ◌+◌, List, length, map, OnOk};
 ghost use Rattle.feed_faults.specs.StopTimeRelations.{is_earlier};
-ghost use Rattle.trip_order.specs.Order.{AreSorted, key_at, numbered_at};
-ghost use Rattle.stop_order.specs.Order.{continues_trip, time_before, place_faults, AreTold};
+ghost use Rattle.stop_order.specs.declared.times.TripTime.{TripTime};
+ghost use Rattle.stop_order.specs.Numbered.{numbered_at, time_of_row};
+ghost use Rattle.stop_order.specs.Order.{row_at, continues_trip, ArePlaced, AreTold};
 
-use feed_rows::StopTimeRow;
+use crate::keys::PlaceKey;
+use feed_rows::{CallTime, StopTimeRow};
 use std::alloc::AllocError;
-use trip_order::{PlaceKey, first_time, is_timed, last_time};
+use transit_base::TripId;
 
-/// Stop times in an order, which has a row of the file at each place.
-pub trait StopTimeOrder {
-    /// The rows of the file.
-    ghost rows: { Self → List StopTimeRow };
-
-    /// The row at each place.
-    ghost row_at: { Self → ℕ → ℕ };
-
-    /// The rows of the file.
-    fn times(&self) -> &[StopTimeRow]
-        ensures { result.now ≡ rows self.now };
-
-    /// The row at a place, which no place before has.
-    fn row(&self, place: usize) -> usize
-        requires { place < length (rows self.now) }
-        ensures is { result ≡ row_at self.now place }
-        ensures within { result < length (rows self.now) }
-        ensures apart { (before : ℕ) → before < place → row_at self.now before ≡ result → ⊥ };
-
-    /// The stop time at a place.
-    #[inline(always)]
-    fn time(&self, place: usize) -> StopTimeRow
-        requires { place < length (rows self.now) }
-        ensures is { result ≡ numbered_at (rows self.now) (row_at self.now place) }
-        ensures next { place + 1 < 2 ^ 64 }
-    {
-        self.times()[self.row(place)]
-    }
+/// A stop time among those of its trip, which may not be there.
+#[derive(Clone, Copy)]
+pub struct TripTime {
+    pub trip: Option<TripId>,
+    /// The `stop_sequence`.
+    pub sequence: u32,
+    pub arrival: CallTime,
+    pub departure: CallTime,
 }
 
-// The order of the file.
-impl<'t> StopTimeOrder for &'t [StopTimeRow] {
-    ghost rows = { λ times. times.now };
+/// The stop times of a file, in its order.
+pub trait StopTimes {
+    /// All of them.
+    ghost times: { Self → List TripTime };
 
-    ghost row_at = { λ times place. place };
+    /// How many there are.
+    fn len(&self) -> usize
+        ensures { result ≡ length (times self.now) };
 
-    #[inline(always)]
-    fn times(&self) -> &[StopTimeRow] {
-        *self
-    }
-
-    #[inline(always)]
-    fn row(&self, place: usize) -> usize {
-        place
-    }
+    /// The stop time of a row.
+    fn time(&self, row: usize) -> TripTime
+        requires { row < length (times self.now) }
+        ensures { result ≡ numbered_at (times self.now) row };
 }
 
-/// Stop times in the order of their sorted keys.
-#[derive(Drop)]
-pub struct SortedTimes<'t> {
-    pub times: &'t [StopTimeRow],
-    pub keys: &'t [PlaceKey],
-    ghost sorted: { ∥ AreSorted times.now keys.now ∥₁ },
-}
-
-impl<'t> StopTimeOrder for SortedTimes<'t> {
-    ghost rows = { λ sorted. sorted.times.now };
-
-    ghost row_at = { λ sorted place. (key_at sorted.keys.now place).row };
+// Rows, whose trips are all there.
+impl<'t> StopTimes for &'t [StopTimeRow] {
+    ghost times = { λ rows. map time_of_row rows.now };
 
     #[inline(always)]
-    fn times(&self) -> &[StopTimeRow] {
-        self.times
+    fn len(&self) -> usize {
+        <[StopTimeRow]>::len(self)
     }
 
     #[inline(always)]
-    fn row(&self, place: usize) -> usize {
-        self.keys[place].row as usize
+    fn time(&self, row: usize) -> TripTime {
+        let row = self[row];
+        TripTime {
+            trip: Some(row.trip),
+            sequence: row.sequence,
+            arrival: row.arrival,
+            departure: row.departure,
+        }
     }
 }
 
@@ -101,48 +77,77 @@ fn is_earlier(a: Option<u32>, b: Option<u32>) -> bool
     }
 }
 
-/// Whether a place goes on with the trip of the one before it.
-#[inline(always)]
-#[tactic(auto, unfolding(crate::specs::Order::continues_trip))]
-pub fn goes_on<O: StopTimeOrder>(order: &O, place: usize) -> bool
-    ensures { result ≡ continues_trip (O.rows order.now) (O.row_at order.now) place }
-{
-    place > 0
-        && place < order.times().len()
-        && order.time(place - 1).trip.0 == order.time(place).trip.0
+/// Stop times in the order of keys, or of their file where there are no keys.
+#[derive(Drop)]
+pub struct OrderedTimes<'t, T: StopTimes> {
+    pub times: &'t T,
+    pub keys: &'t [PlaceKey],
+    ghost placed: { ArePlaced (length (T.times times.now)) (row_at keys.now) },
 }
 
-/// Puts what is wrong at a place into the list, at its row, if anything is. The latest time is that of the trip of the place
-/// before, and then that of this place's trip.
-///
-/// # Errors
-/// Want of memory.
-#[inline(always)]
-#[tactic(auto, unfolding(crate::specs::Order::continues_trip, crate::specs::Order::place_faults))]
-pub fn judge<O: StopTimeOrder>(
-    order: &O,
-    place: usize,
-    latest: &mut Option<u32>,
-    faults: &mut Vec<OrderFaults>,
-) -> Result<(), AllocError>
-    requires within { place < length (O.rows order.now) }
-    requires told { AreTold (O.rows order.now) (O.row_at order.now) place latest.old faults.old.items }
-    ensures { OnOk result (AreTold (O.rows order.now) (O.row_at order.now) (place + 1) latest.new faults.new.items) }
-{
-    let row = order.row(place);
-    let time = order.time(place);
-    let does_go_on = goes_on(order, place);
-    let before = if does_go_on { *latest } else { None };
-    let found = OrderFaults {
-        is_repeated: does_go_on && order.time(place - 1).sequence == time.sequence,
-        is_end_time_missing: !is_timed(time) && !(does_go_on && goes_on(order, place + 1)),
-        do_times_decrease: is_earlier(last_time(time), first_time(time))
-            || is_earlier(first_time(time), before),
-    };
-    if found != OrderFaults::default() {
-        faults.resize(order.times().len(), OrderFaults::default())?;
-        faults[row] = found;
+impl<'t, T: StopTimes> OrderedTimes<'t, T> {
+    // The row at a place.
+    #[inline(always)]
+    fn row(&self, place: usize) -> usize
+        ensures { result ≡ row_at self.now.keys.now place }
+    {
+        match self.keys.get(place) {
+            Some(key) => key.row as usize,
+            None => place,
+        }
     }
-    *latest = last_time(time).or(before);
-    Ok(())
+
+    // The stop time at a place.
+    #[inline(always)]
+    fn time(&self, place: usize) -> TripTime
+        requires { place < length (T.times self.now.times.now) }
+        ensures { result ≡ numbered_at (T.times self.now.times.now) (row_at self.now.keys.now place) }
+    {
+        self.times.time(self.row(place))
+    }
+
+    /// Whether a place goes on with the trip of the one before it.
+    #[inline(always)]
+    #[tactic(auto, unfolding(crate::specs::Order::continues_trip))]
+    pub fn goes_on(&self, place: usize) -> bool
+        ensures { result ≡ continues_trip (T.times self.now.times.now) (row_at self.now.keys.now) place }
+    {
+        place > 0 && place < self.times.len() && self.time(place - 1).trip == self.time(place).trip
+    }
+
+    /// Puts what is wrong at a place into the list, at its row, if anything is. The latest time is that of the trip of the
+    /// place before, and then that of this place's trip.
+    ///
+    /// # Errors
+    /// Want of memory.
+    #[inline(always)]
+    #[tactic(auto, unfolding(crate::specs::Order::continues_trip, crate::specs::Order::place_faults))]
+    pub fn judge(
+        &self,
+        place: usize,
+        latest: &mut Option<u32>,
+        faults: &mut Vec<OrderFaults>,
+    ) -> Result<(), AllocError>
+        requires within { place < length (T.times self.now.times.now) }
+        requires told { AreTold (T.times self.now.times.now) (row_at self.now.keys.now) place latest.old faults.old.items }
+        ensures { OnOk result (AreTold (T.times self.now.times.now) (row_at self.now.keys.now) (place + 1) latest.new faults.new.items) }
+    {
+        let count = self.times.len();
+        let time = self.time(place);
+        let first = time.arrival.seconds().or(time.departure.seconds());
+        let last = time.departure.seconds().or(time.arrival.seconds());
+        let does_go_on = self.goes_on(place);
+        let before = if does_go_on { *latest } else { None };
+        let found = OrderFaults {
+            is_repeated: does_go_on && self.time(place - 1).sequence == time.sequence,
+            is_end_time_missing: first.is_none() && !(does_go_on && self.goes_on(place + 1)),
+            do_times_decrease: is_earlier(last, first) || is_earlier(first, before),
+        };
+        if found != OrderFaults::default() {
+            faults.resize(count, OrderFaults::default())?;
+            faults[self.row(place)] = found;
+        }
+        *latest = last.or(before);
+        Ok(())
+    }
 }
