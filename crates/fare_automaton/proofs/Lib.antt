@@ -8,3 +8,4 @@ pub mod ReadLaws
 pub mod KnownLaws
 pub mod PairLaws
 pub mod StateLaws
+pub mod AddedLaws

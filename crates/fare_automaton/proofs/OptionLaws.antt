@@ -22,6 +22,7 @@ use Rattle.feed_rows.specs.FareChoices.{is_open, open_rows, is_leg_choice, is_ch
 use Rattle.feed_rows.specs.FareSteps.{is_arranged_after, is_row_after, is_place_after}
 use Rattle.plain_laws.specs.Plain.{at_and, filled_and, joined_below}
 use Rattle.plain_laws.proofs.Laws.{Contains-joined_below, joined_below-tells, AllPairs-joined_below, joined_below-same, joined_below-none, joined_below-picks, All-from, filled_and-true, list_any-place}
+use Rattle.fare_automaton.specs.Compiled.{is_chosen}
 use Rattle.fare_automaton.specs.Options.{ArePicks, pick_of, is_row_of, pick_if, rule_picks, picks_if, ArePlaces, place_of, place_if, product_places, row_places, chosen_places, place_list}
 use Rattle.fare_automaton.proofs.JudgeLaws.{leg_choice_parts}
 use Rattle.fare_automaton.proofs.PickedLaws.{flat_map-picks, map-picks}
@@ -336,6 +337,16 @@ unfolding rule_picks
 rule_picks-past feed rider rule before none =
     sym (ap (λ xs. before ++ xs) (joined_below-none (length feed.products) (pick_if feed rider rule.0) (λ i lt. rw none refl)) ∙ append-nil before)
 
+-- a row that is there gives its places where it is chosen
+pub chosen_places-where : (feed : FeedRows) (rider : Option RiderId) (change : AskedChange) (least : Option (Option ℕ)) (rule : XferId)
+    (row : TransferRuleRow) (b : Bool) (before : List (Option ChangeChoice)) → slice_get feed.transfer_rules rule.0 ≡ Some row
+    → b ≡ is_chosen change least row
+    → before ++ (if b then product_places feed rider rule.0 row.product else []) ≡ before ++ chosen_places feed rider change least rule
+chosen_places-where feed rider change least rule row b before at is =
+    ap (λ (c : Bool). before ++ (if c then product_places feed rider rule.0 row.product else [])) is
+    ∙ ap (λ (o : Option TransferRuleRow). before ++ option_map_or (λ r. if is_chosen change least r then product_places feed rider rule.0 r.product else []) o []) (sym at)
+
+-- past the rows there is nothing to add
 pub chosen_places-past : (feed : FeedRows) (rider : Option RiderId) (change : AskedChange) (least : Option (Option ℕ)) (rule : XferId)
     (before : List (Option ChangeChoice)) → slice_get feed.transfer_rules rule.0 ≡ None → before ≡ before ++ chosen_places feed rider change least rule
 chosen_places-past feed rider change least rule before none = rw none (sym (append-nil before))

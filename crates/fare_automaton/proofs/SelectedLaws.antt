@@ -6,6 +6,7 @@ use Rattle.std.specs.List.{list_any, list_all}
 use Rattle.std.proofs.lemmas.List.Folds.{list_all_more, list_any_more}
 use Rattle.std.proofs.Common.{◌+◌, ◌<◌, take, get_or}
 use Rattle.transit_base.specs.declared.numbers.RiderId.{RiderId}
+use Rattle.transit_base.specs.declared.numbers.XferId.{XferId}
 use Rattle.feed_rows.specs.declared.rows.TransferRuleRow.{TransferRuleRow}
 use Rattle.feed_rows.specs.FeedRows.{FeedRows}
 use Rattle.feed_rows.specs.TransferRules.{AskedChange, group_matches, is_candidate, suffices, count_le, is_least_count, is_selected}
@@ -35,6 +36,50 @@ least_more feed change among i d least new lt before within some =
           some ∙ ap (λ b. b || suits_at feed change (get_or among i d).row) before.some
           ∙ sym (list_any_more (λ (r : ClassedRow). suits_at feed change r.row) among i d lt);
     }
+
+-- what a row that suits or not adds to the least count
+module _ (feed : FeedRows) (change : AskedChange) (least : Option (Option ℕ)) (row : XferId) where
+  pub not_above_where : (count : Option ℕ) (own : TransferRuleRow) (b : Bool)
+      → slice_get feed.transfer_rules row.0 ≡ Some own → b ≡ suits change own
+      → (if b then is_within least count && count_le count own.count else is_within least count)
+      ≡ (is_within least count && not_above_at feed change count row)
+  not_above_where count own b at is =
+      parts b (is_within least count) (count_le count own.count)
+      ∙ ap (λ t. is_within least count && (not t || count_le count own.count)) is
+      ∙ ap (λ o. is_within least count && empty_or o (not_above change count)) (sym at)
+    where
+      parts : (b x y : Bool) → (if b then x && y else x) ≡ (x && (not b || y))
+      parts true x y = refl
+      parts false true y = refl
+      parts false false y = refl
+
+  pub some_where : (own : TransferRuleRow) (b : Bool) → slice_get feed.transfer_rules row.0 ≡ Some own → b ≡ suits change own
+      → (if b then true else is_some least) ≡ (is_some least || suits_at feed change row)
+  some_where own b at is =
+      parts b (is_some least) ∙ ap (λ t. is_some least || t) is ∙ ap (λ o. is_some least || filled_and o (suits change)) (sym at)
+    where
+      parts : (b x : Bool) → (if b then true else x) ≡ (x || b)
+      parts true true = refl
+      parts true false = refl
+      parts false true = refl
+      parts false false = refl
+
+  -- and one that isn't there adds nothing
+  pub none_within : (count : Option ℕ) → slice_get feed.transfer_rules row.0 ≡ None
+      → is_within least count ≡ (is_within least count && not_above_at feed change count row)
+  none_within count none =
+      same (is_within least count) ∙ ap (λ o. is_within least count && empty_or o (not_above change count)) (sym none)
+    where
+      same : (x : Bool) → x ≡ (x && true)
+      same true = refl
+      same false = refl
+
+  pub none_some : slice_get feed.transfer_rules row.0 ≡ None → is_some least ≡ (is_some least || suits_at feed change row)
+  none_some none = same (is_some least) ∙ ap (λ o. is_some least || filled_and o (suits change)) (sym none)
+    where
+      same : (x : Bool) → x ≡ (x || false)
+      same true = refl
+      same false = refl
 
 module _ (feed : FeedRows) (change : AskedChange) (among : List ClassedRow) (are : AreRowsBetween feed change.from change.to among)
     (least : Option (Option ℕ)) (is_least : AreLeast feed change among least) where
@@ -78,8 +123,19 @@ module _ (feed : FeedRows) (change : AskedChange) (among : List ClassedRow) (are
       ∙ sym (is_selected-some feed change)
 
   -- a row that suffices is selected exactly where it has the least count
-  pub selected_is : (row : TransferRuleRow) → (suffices feed change row && is_within least row.count) ≡ is_selected feed change row
+  selected_is : (row : TransferRuleRow) → (suffices feed change row && is_within least row.count) ≡ is_selected feed change row
   selected_is row = ap (λ b. suffices feed change row && b) (within_is row.count)
+
+  -- that is one between the groups that is chosen
+  pub chosen_is : (row : TransferRuleRow) (a b : Bool) → a ≡ is_between feed change.from change.to row
+      → b ≡ is_chosen change least row → (a && b) ≡ is_selected feed change row
+  chosen_is row a b is_a is_b =
+      rw (is_a, is_b) (turned (is_between feed change.from change.to row) (suits change row) (is_within least row.count)
+      ∙ ap (λ s. s && is_within least row.count) (sym (suffices_is row)) ∙ selected_is row)
+    where
+      turned : (x y z : Bool) → (x && (y && z)) ≡ ((x && y) && z)
+      turned true y z = refl
+      turned false y z = refl
 
   -- the rows that are chosen give the places of those that are selected
   pub places_are : (rider : Option RiderId) → flat_map (λ (r : ClassedRow). chosen_places feed rider change least r.row) among

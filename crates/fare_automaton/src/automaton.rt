@@ -1,9 +1,11 @@
 //! The automaton of a feed and a rider.
-ghost use Rattle.std.specs.Prelude.{◌≡◌, ◌<◌, ◌^◌, length, IfOk};
+ghost use Rattle.std.specs.Prelude.{◌≡◌, slice_get, IfOk, IfSome};
+ghost use Rattle.std.specs.Option.{option_copied};
 ghost use Rattle.feed_rows.specs.FareChoices.{open_rows};
 ghost use Rattle.feed_rows.specs.FareFloor.{fare_floor};
 ghost use Rattle.feed_rows.specs.SoundFeed.{IsSoundFeed};
 ghost use Rattle.fare_transfer_rules.specs.BuiltTransferRules.{AreRowsBetween};
+ghost use Rattle.fare_automaton.specs.Changes.{IsLow};
 ghost use Rattle.fare_automaton.specs.Compiled.{reads_of};
 ghost use Rattle.fare_automaton.specs.Terms.{terms};
 
@@ -17,7 +19,7 @@ use feed_rows::{Feed, LegRuleRow, ProductRow, TransferRuleRow};
 use plain_laws::Groups;
 use std::alloc::{AllocError, Global};
 use std::marker::Model;
-use transit_base::{LegGroupId, Money, ProductId, ProductRowId, RiderId};
+use transit_base::{LegGroupId, Money, ProductId, ProductRowId, RiderId, RuleId, XferId};
 
 /// The fare rules of a feed for one rider, as moves from fare state to fare state. Contracts see it as the feed and the rider.
 pub struct Automaton<'f> {
@@ -120,34 +122,26 @@ impl<'f> Automaton<'f> {
         self.rider
     }
 
-    /// The rows of `fare_leg_rules.txt`.
-    pub(crate) fn leg_rows(&self) -> &'f [LegRuleRow]
-        ensures value { result.now ≡ self.now.feed.leg_rules }
-        ensures few { length result.now < 2 ^ 32 }
+    /// The row of `fare_leg_rules.txt` with this number.
+    pub(crate) fn leg_row(&self, rule: RuleId) -> Option<&'f LegRuleRow>
+        ensures { option_copied result ≡ slice_get self.now.feed.leg_rules rule.0 }
     {
-        // A sound feed has few rows.
-        let _sound = self.feed();
-        self.feed().leg_rules.items()
+        self.feed().leg_rules.items().get(rule.0 as usize)
     }
 
-    /// The rows of `fare_transfer_rules.txt`.
-    pub(crate) fn transfer_rows(&self) -> &'f [TransferRuleRow]
-        ensures value { result.now ≡ self.now.feed.transfer_rules }
-        ensures few { length result.now < 2 ^ 32 }
+    /// The row of `fare_transfer_rules.txt` with this number.
+    pub(crate) fn transfer_row(&self, rule: XferId) -> Option<&'f TransferRuleRow>
+        ensures { option_copied result ≡ slice_get self.now.feed.transfer_rules rule.0 }
     {
-        // A sound feed has few rows.
-        let _sound = self.feed();
-        self.feed().transfer_rules.items()
+        self.feed().transfer_rules.items().get(rule.0 as usize)
     }
 
-    /// The rows of `fare_products.txt`.
-    pub(crate) fn product_rows(&self) -> &'f [ProductRow]
-        ensures value { result.now ≡ self.now.feed.products }
-        ensures few { length result.now < 2 ^ 32 }
+    /// The row of `fare_products.txt` with this number.
+    pub(crate) fn product_row(&self, row: ProductRowId) -> Option<&'f ProductRow>
+        ensures value { option_copied result ≡ slice_get self.now.feed.products row.0 }
+        ensures low { IfSome result (λ row. IsLow row.now.amount.0) }
     {
-        // A sound feed has few rows.
-        let _sound = self.feed();
-        self.feed().products.items()
+        self.feed().products.items().get(row.0 as usize)
     }
 
     /// The rows of the product that are open to the rider, in file order.

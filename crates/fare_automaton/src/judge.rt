@@ -16,8 +16,7 @@ impl<'f> Automaton<'f> {
     pub(crate) fn chosen_leg(&self, leg: &LegFacts, pick: &LegChoice) -> Option<GroupedLeg>
         ensures { option_map leg_of result ≡ chosen_leg self.now.feed leg.now pick.now }
     {
-        let rows = self.leg_rows();
-        let rule = rows.get(pick.rule.0 as usize)?;
+        let rule = self.leg_row(pick.rule)?;
         Some(GroupedLeg {
             group: rule.group,
             departure: leg.departure,
@@ -43,7 +42,7 @@ impl<'f> Automaton<'f> {
     pub(crate) fn is_row_of_rule(&self, rule: RuleId, row: ProductRowId) -> bool
         ensures { result ≡ at_and self.now.feed.leg_rules rule.0 (λ r. at_and self.now.feed.products row.0 (is_open r.product self.now.rider)) }
     {
-        match self.leg_rows().get(rule.0 as usize) {
+        match self.leg_row(rule) {
             Some(own) => self.is_open_row(own.product, row),
             None => false,
         }
@@ -53,7 +52,7 @@ impl<'f> Automaton<'f> {
     pub(crate) fn is_open_row(&self, product: ProductId, row: ProductRowId) -> bool
         ensures { result ≡ at_and self.now.feed.products row.0 (is_open product self.now.rider) }
     {
-        match self.product_rows().get(row.0 as usize) {
+        match self.product_row(row) {
             Some(priced) => is_open(product, self.rider(), priced),
             None => false,
         }
@@ -76,7 +75,7 @@ impl<'f> Automaton<'f> {
     fn is_row_after(&self, change: &Change, pick: &ChangeChoice) -> bool
         ensures { result ≡ is_row_after self.now.feed self.now.rider (asked_of change.now) pick.now }
     {
-        match self.transfer_rows().get(pick.rule.0 as usize) {
+        match self.transfer_row(pick.rule) {
             Some(row) => {
                 self.selects(change, row) && self.is_change_product(row.product, pick.product)
             }

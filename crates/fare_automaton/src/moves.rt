@@ -178,7 +178,7 @@ impl<'f> Automaton<'f> {
         ensures { result ≡ place_kind self.now.feed place }
     {
         let pick = place?;
-        let row = self.transfer_rows().get(pick.rule.0 as usize)?;
+        let row = self.transfer_row(pick.rule)?;
         Some(row.kind)
     }
 
@@ -202,8 +202,7 @@ impl<'f> Automaton<'f> {
         ensures value { result ≡ amount_of self.now.feed row }
         ensures low { IsLow result }
     {
-        let rows = self.feed().products.items();
-        match rows.get(row.0 as usize) {
+        match self.product_row(row) {
             Some(priced) => priced.amount.0,
             None => 0,
         }

@@ -1,18 +1,17 @@
 //! What can be paid for a leg, and what may fill the place of a change.
-ghost use Rattle.std.specs.Prelude.{◌≡◌, ◌++◌, [], if◌then◌else◌, flat_map, map, option_map, IfOk, OnOk, Some};
+ghost use Rattle.std.specs.Prelude.{◌≡◌, ◌++◌, flat_map, map, option_map, IfOk, OnOk, Some};
 ghost use Rattle.transit_base.specs.declared.numbers.ProductRowId.{ProductRowId};
 ghost use Rattle.transit_base.specs.declared.numbers.RuleId.{RuleId};
 ghost use Rattle.fare_transfer_rules.specs.declared.groups.ClassedRow.{ClassedRow};
 ghost use Rattle.feed_rows.specs.LegRules.{selected_rules};
 ghost use Rattle.fare_automaton.specs.Changes.{asked_of};
-ghost use Rattle.fare_automaton.specs.Compiled.{is_chosen};
 ghost use Rattle.fare_automaton.specs.Options.{ArePicks, pick_of, rule_picks, place_of, product_places, chosen_places, place_list};
 
 use crate::automaton::Automaton;
 use crate::changes::Change;
 use crate::rows::is_chosen;
 use fare_transfer_rules::ClassedRow;
-use feed_rows::{ChangeChoice, LegChoice, LegFacts, RuleList, TransferRuleRow};
+use feed_rows::{ChangeChoice, LegChoice, LegFacts, RuleList};
 use std::alloc::{AllocError, Global};
 use transit_base::{ProductId, ProductRowId, RuleId, XferId};
 
@@ -52,7 +51,7 @@ impl<'f> Automaton<'f> {
     fn push_rule(&self, rule: RuleId, picks: &mut Vec<LegChoice>) -> Result<(), AllocError>
         ensures { OnOk result (picks.new.items ≡ picks.old.items ++ rule_picks self.now.feed self.now.rider rule.0) }
     {
-        match self.leg_rows().get(rule.0 as usize) {
+        match self.leg_row(rule) {
             Some(own) => push_rows(rule, self.open_rows(own.product), picks),
             None => Ok(()),
         }
@@ -125,27 +124,11 @@ impl<'f> Automaton<'f> {
     ) -> Result<(), AllocError>
         ensures { OnOk result (places.new.items ≡ places.old.items ++ chosen_places self.now.feed self.now.rider (asked_of change.now) least rule) }
     {
-        match self.transfer_rows().get(rule.0 as usize) {
-            Some(row) => self.push_row(change, least, rule, row, places),
-            None => Ok(()),
-        }
-    }
-
-    /// Adds the row with this number with each open row of its product, where it is chosen.
-    fn push_row(
-        &self,
-        change: &Change,
-        least: Option<Option<u32>>,
-        rule: XferId,
-        row: &TransferRuleRow,
-        places: &mut Vec<Option<ChangeChoice>>,
-    ) -> Result<(), AllocError>
-        ensures { OnOk result (places.new.items ≡ places.old.items ++ (if is_chosen (asked_of change.now) least row.now then product_places self.now.feed self.now.rider rule.0 row.now.product else [])) }
-    {
-        if is_chosen(change, least, row) {
-            self.push_product(rule, row.product, places)
-        } else {
-            Ok(())
+        match self.transfer_row(rule) {
+            Some(row) if is_chosen(change, least, row) => {
+                self.push_product(rule, row.product, places)
+            }
+            _ => Ok(()),
         }
     }
 

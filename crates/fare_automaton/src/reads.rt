@@ -1,5 +1,6 @@
 //! What the rows of `fare_transfer_rules.txt` read of changes from each leg group, found once.
-ghost use Rattle.std.specs.Prelude.{◌≡◌, IfOk, fold, map, max};
+ghost use Rattle.std.specs.Prelude.{◌≡◌, IfOk, fold, map, max, slice_get};
+ghost use Rattle.std.specs.Option.{option_copied};
 ghost use Rattle.feed_rows.specs.FareStates.{greatest_count, is_clock_read};
 ghost use Rattle.plain_laws.specs.Plain.{at_and, filled_and};
 ghost use Rattle.fare_transfer_rules.specs.declared.groups.ClassedRow.{ClassedRow};
@@ -85,7 +86,7 @@ fn greatest_among(rows: &[TransferRuleRow], among: &[ClassedRow]) -> u32
 fn count_at(rows: &[TransferRuleRow], row: XferId) -> u32
     ensures { result ≡ count_at rows.now row }
 {
-    match rows.get(row.0 as usize) {
+    match row_at(rows, row) {
         Some(own) => own.count.unwrap_or(0),
         None => 0,
     }
@@ -112,7 +113,7 @@ fn some_limit(rows: &[TransferRuleRow], among: &[ClassedRow], clock: Clock) -> b
 fn limit_at(rows: &[TransferRuleRow], row: XferId, clock: Clock) -> bool
     ensures { result ≡ at_and rows.now row.0 (has_limit (counts_from clock)) }
 {
-    match rows.get(row.0 as usize) {
+    match row_at(rows, row) {
         Some(own) => has_limit(own.limit, clock),
         None => false,
     }
@@ -136,6 +137,13 @@ fn counts_from(kind: u8, clock: Clock) -> bool
         Clock::Departure => counts_from_departure(kind),
         Clock::Arrival => !counts_from_departure(kind),
     }
+}
+
+/// The row with this number.
+fn row_at(rows: &[TransferRuleRow], row: XferId) -> Option<&TransferRuleRow>
+    ensures { option_copied result ≡ slice_get rows.now row.0 }
+{
+    rows.get(row.0 as usize)
 }
 
 /// The rows of `fare_transfer_rules.txt`.

@@ -2,8 +2,9 @@
 //! that suffices.
 ghost use Rattle.std.specs.Prelude.{◌≡◌, ℕ, Option, ◌&&◌, ◌||◌, ◌==◌, is_some, nat_le};
 ghost use Rattle.plain_laws.specs.Plain.{empty_or};
-ghost use Rattle.feed_rows.specs.TransferRules.{group_matches, is_candidate, suffices, is_selected};
+ghost use Rattle.feed_rows.specs.TransferRules.{is_selected};
 ghost use Rattle.feed_rows.specs.FareSteps.{is_arranged_after};
+ghost use Rattle.fare_transfer_rules.specs.BuiltTransferRules.{is_between};
 ghost use Rattle.fare_transfer_rules.specs.Counts.{is_within};
 ghost use Rattle.fare_automaton.specs.Changes.{asked_of};
 ghost use Rattle.fare_automaton.specs.Compiled.{suits, suits_at, not_above_at, is_chosen, AreLeast};
@@ -12,7 +13,7 @@ use crate::automaton::Automaton;
 use crate::changes::Change;
 use fare_transfer_rules::{ClassedRow, is_within, lesser};
 use feed_rows::{Limit, TransferRuleRow};
-use transit_base::{LegGroupId, XferId};
+use transit_base::XferId;
 
 impl<'f> Automaton<'f> {
     /// The least count of those among the rows that suit the change; none where none does.
@@ -36,7 +37,7 @@ impl<'f> Automaton<'f> {
         ensures within { (count : Option ℕ) → is_within result count ≡ (is_within least count && not_above_at self.now.feed (asked_of change.now) count row) }
         ensures some { is_some result ≡ (is_some least || suits_at self.now.feed (asked_of change.now) row) }
     {
-        match self.transfer_rows().get(row.0 as usize) {
+        match self.transfer_row(row) {
             Some(own) if suits(change, own) => Some(lesser(least, own.count)),
             _ => least,
         }
@@ -47,7 +48,7 @@ impl<'f> Automaton<'f> {
         ensures { result ≡ is_selected self.now.feed (asked_of change.now) row.now }
     {
         let least = self.least_count(change, self.rows_between(change.from, change.to));
-        self.suffices(change, row) && is_within(least, row.count)
+        self.is_between(change, row) && is_chosen(change, least, row)
     }
 
     /// Whether some row is selected for the change: that is where some row suffices.
@@ -58,36 +59,12 @@ impl<'f> Automaton<'f> {
             .is_some()
     }
 
-    /// Whether the row's groups match the change, its limit is empty or holds, and its count is at least the change's.
-    #[tactic(auto, unfolding(feed_rows::specs::TransferRules::suffices))]
-    fn suffices(&self, change: &Change, row: &TransferRuleRow) -> bool
-        ensures { result ≡ suffices self.now.feed (asked_of change.now) row.now }
+    /// Whether the row is for changes between the two groups of the change.
+    fn is_between(&self, change: &Change, row: &TransferRuleRow) -> bool
+        ensures { result ≡ is_between self.now.feed change.now.from change.now.to row.now }
     {
-        self.is_candidate(change, row) && count_fits(change.count, row.count)
-    }
-
-    /// Whether the row's groups match the change, and its limit is empty or holds.
-    #[tactic(auto, unfolding(feed_rows::specs::TransferRules::is_candidate))]
-    fn is_candidate(&self, change: &Change, row: &TransferRuleRow) -> bool
-        ensures { result ≡ is_candidate self.now.feed (asked_of change.now) row.now }
-    {
-        self.matches_from(row, change.from)
-            && self.matches_to(row, change.to)
-            && limit_fits(change, row.limit)
-    }
-
-    /// Whether the leg group from which the row is for changes is this one.
-    fn matches_from(&self, row: &TransferRuleRow, group: LegGroupId) -> bool
-        ensures { result ≡ group_matches self.now.feed (λ r. r.from) row.now.from group }
-    {
-        self.transfer_rules.matches_from(row.from, group)
-    }
-
-    /// Whether the leg group to which the row is for changes is this one.
-    fn matches_to(&self, row: &TransferRuleRow, group: LegGroupId) -> bool
-        ensures { result ≡ group_matches self.now.feed (λ r. r.to) row.now.to group }
-    {
-        self.transfer_rules.matches_to(row.to, group)
+        self.transfer_rules.matches_from(row.from, change.from)
+            && self.transfer_rules.matches_to(row.to, change.to)
     }
 }
 

@@ -1,5 +1,5 @@
 -- What is kept of offers that are made one after another.
-use Rattle.std.proofs.Common.{◌≡◌, refl, subst, append_assoc, sym, ◌∙◌, ap, ℕ, ◌+◌, ◌<◌, ◌⊎◌, inl, inr, Bool, true, List, [], ◌∷◌, ◌++◌, length, get_or, take, map, Contains}
+use Rattle.std.proofs.Common.{◌≡◌, refl, subst, append_assoc, sym, ◌∙◌, ap, ℕ, ◌+◌, ◌<◌, ◌≤◌, ◌⊎◌, inl, inr, Bool, true, List, [], ◌∷◌, ◌++◌, length, get_or, take, take_all, map, Contains}
 use Rattle.std.specs.List.{flat_map, filter_map}
 use Rattle.std.specs.Prelude.{Option, Some, None, slice_get, option_to_list, Result, Ok, Err, OnOk}
 use Rattle.plain_laws.specs.Plain.{joined_below}
@@ -58,6 +58,15 @@ module _ {X : Type 0} (at_most : X → X → Bool) where
       ∙ ap (λ xs. flat_map f (take i ys) ++ xs) (append-nil (f (get_or ys i d)))))
       (gathers_then old mid new (flat_map f (take i ys)) (f (get_or ys i d)) before last)
 
+  -- the offers of all items
+  pub gathers_map-all : {Y : Type 0} (f : Y → X) (ys : List Y) (i : ℕ) (old new : List X) → length ys ≤ i →
+      Gathers at_most old (map f (take i ys)) new → Gathers at_most old (map f ys) new
+  gathers_map-all f ys i old new past made = subst (λ zs. Gathers at_most old (map f zs) new) (take_all i ys past) made
+
+  pub gathers_flat-all : {Y : Type 0} (f : Y → List X) (ys : List Y) (i : ℕ) (old new : List X) → length ys ≤ i →
+      Gathers at_most old (flat_map f (take i ys)) new → Gathers at_most old (flat_map f ys) new
+  gathers_flat-all f ys i old new past made = subst (λ zs. Gathers at_most old (flat_map f zs) new) (take_all i ys past) made
+
 -- ---- lists of what is found item by item
 
 -- one item more that may give something
@@ -77,6 +86,11 @@ filter_more {Y = Y} h xs i d old mid new o lt before is more =
     single : (p : Option Y) → h (get_or xs i d) ≡ p → option_to_list p ≡ filter_map h (get_or xs i d ∷ [])
     single None e = rw e refl
     single (Some y) e = rw e refl
+
+-- all items
+pub filter_taken : {X Y : Type 0} (h : X → Option Y) (xs : List X) (i : ℕ) (old new : List Y) → length xs ≤ i →
+    new ≡ old ++ filter_map h (take i xs) → new ≡ old ++ filter_map h xs
+filter_taken h xs i old new past made = made ∙ ap (λ ys. old ++ filter_map h ys) (take_all i xs past)
 
 -- the first items, with one more
 pub take_next : {X : Type 0} (xs : List X) (i : ℕ) (x : X) → slice_get xs i ≡ Some x →

@@ -1,9 +1,9 @@
 -- What can be paid for legs is decided by all but their moments, and is kept under numbers.
-use Rattle.std.proofs.Common.{◌≡◌, refl, sym, ◌∙◌, ap, ℕ, zero, suc, ◌-◌, ◌<◌, ◌⊎◌, inl, inr, List, [], ◌∷◌, ◌++◌, length, length-append, take, get_or, ◌≤◌, All, Option, Some, None, arith}
+use Rattle.std.proofs.Common.{◌≡◌, refl, sym, ◌∙◌, ap, subst, ℕ, zero, suc, ◌+◌, ◌-◌, ◌<◌, ◌⊎◌, inl, inr, List, [], ◌∷◌, ◌++◌, length, length-append, take, get_or, ◌≤◌, All, Option, Some, None, arith}
 use Rattle.std.specs.Option.{option_map_or}
 use Rattle.std.specs.Prelude.{slice_get, option_map}
 use Rattle.std.proofs.lemmas.Bool.{cases_lt}
-use Rattle.std.proofs.lemmas.List.{length_push, length-take}
+use Rattle.std.proofs.lemmas.List.{length_push, length-take, take_more}
 use Rattle.std.proofs.lemmas.Option.{same_Some, slice_get_within, slice_get-get_or}
 use Rattle.transit_base.specs.declared.numbers.RiderId.{RiderId}
 use Rattle.feed_rows.specs.declared.journeys.LegFacts.{LegFacts}
@@ -89,6 +89,16 @@ one_more_kept known legs numbers leg number are new =
 pub still_kept : (known more : Known) (legs : List LegFacts) (numbers : List ℕ)
     → ((leg : LegFacts) (number : ℕ) → IsKept known leg number → IsKept more leg number) → AreKept known legs numbers → AreKept more legs numbers
 still_kept known more legs numbers still are = record { many = are.many; each = λ i leg number at to. still leg number (are.each i leg number at to) }
+
+-- one leg more of those in a list, where what was kept is kept on
+pub more_kept : (known more : Known) (legs : List LegFacts) (i : ℕ) (leg : LegFacts) (numbers both : List ℕ) (number : ℕ)
+    → i < length legs → leg ≡ get_or legs i leg → AreKept known (take i legs) numbers
+    → ((other : LegFacts) (n : ℕ) → IsKept known other n → IsKept more other n) → IsKept more leg number
+    → both ≡ numbers ++ number ∷ [] → AreKept more (take (i + 1) legs) both
+more_kept known more legs i leg numbers both number lt item are still new push =
+    subst (λ (ls : List LegFacts). AreKept more ls both) (sym (take_more legs i leg lt ∙ ap (λ l. take i legs ++ l ∷ []) (sym item)))
+    (subst (AreKept more (take i legs ++ leg ∷ [])) (sym push)
+    (one_more_kept more (take i legs) numbers leg number (still_kept known more (take i legs) numbers still are) new))
 
 -- one leg less
 pub one_less_kept : (known : Known) (legs all : List LegFacts) (numbers both : List ℕ) (leg : LegFacts) → AreKept known all both

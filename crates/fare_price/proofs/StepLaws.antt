@@ -1,7 +1,8 @@
 -- What one step does to where fares stand: what is below stays below, and amounts stay bounded.
-use Rattle.std.proofs.Common.{◌≡◌, refl, sym, ◌∙◌, ap, ℕ, ◌+◌, ◌*◌, ◌^◌, ◌<◌, ◌≤◌, Bool, true, false, ◌&&◌, ◌||◌, arith, cond}
+use Rattle.std.proofs.Common.{◌≡◌, ◌≢◌, refl, sym, ◌∙◌, ap, ℕ, ◌+◌, ◌*◌, ◌^◌, ◌<◌, ◌≤◌, Bool, true, false, ◌&&◌, ◌||◌, arith, cond}
 use Rattle.std.specs.Prelude.{◌==◌, Option, Some, None, is_none, ℤ, pos, ◌+ℤ◌, ◌≤ℤ◌, nat_abs, if◌then◌else◌}
 use Rattle.std.specs.Option.{is_some}
+use Rattle.std.proofs.lemmas.Bool.Decides.{nat_tests}
 use Rattle.std.proofs.lemmas.Int.{ints}
 use Rattle.feed_rows.specs.declared.fares.LegChoice.{LegChoice}
 use Rattle.feed_rows.specs.declared.fares.ChangeChoice.{ChangeChoice}
@@ -147,6 +148,10 @@ bounded_price stand b = sum stand.paid stand.held b.paid b.held
 -- a sum that is another
 pub with_sum : (a b z : ℤ) → b ≡ z → a ≡ b → a ≡ z
 with_sum a b z e f = f ∙ e
+
+-- numbers that aren't equal
+pub unlike : (a b : ℕ) → a ≢ b → (a == b) ≡ false
+unlike a b apart = grind (arith, nat_tests, apart)
 
 -- what is paid by a change that includes the next leg
 pub paid_before : (p h a c : ℤ) (code : ℕ) → code ≡ 0 → p +ℤ h +ℤ c ≡ next_paid p h (Some code) a c

@@ -123,8 +123,7 @@ impl<'f> Fares<'f> {
     fn chosen_leg(&self, leg: &LegFacts, pick: &LegChoice) -> Option<GroupedLeg>
         ensures { option_map leg_of result ≡ chosen_leg self.now leg.now pick.now }
     {
-        let rows = self.feed().leg_rules.items();
-        let rule = rows.get(pick.rule.0 as usize)?;
+        let rule = self.leg_row(pick.rule)?;
         Some(GroupedLeg {
             group: rule.group,
             departure: leg.departure,
@@ -136,8 +135,7 @@ impl<'f> Fares<'f> {
     fn is_leg_choice(&self, rider: Option<RiderId>, leg: &LegFacts, pick: &LegChoice) -> bool
         ensures { result ≡ is_leg_choice self.now rider leg.now pick.now }
     {
-        let rows = self.feed().leg_rules.items();
-        match rows.get(pick.rule.0 as usize) {
+        match self.leg_row(pick.rule) {
             Some(rule) => {
                 self.leg_rules.selects(leg, pick.rule)
                     && self.is_open(rule.product, rider, pick.product)
@@ -151,8 +149,7 @@ impl<'f> Fares<'f> {
     fn is_open(&self, product: ProductId, rider: Option<RiderId>, row: ProductRowId) -> bool
         ensures { result ≡ at_and self.now.products row.0 (is_open product rider) }
     {
-        let rows = self.feed().products.items();
-        match rows.get(row.0 as usize) {
+        match self.product_row(row) {
             Some(priced) => priced.product.0 == product.0 && opens(priced.rider, rider),
             None => false,
         }
@@ -184,8 +181,7 @@ impl<'f> Fares<'f> {
     ) -> bool
         ensures { result ≡ is_transfer_choice self.now rider change.now pick.now }
     {
-        let rows = self.feed().transfer_rules.items();
-        match rows.get(pick.rule.0 as usize) {
+        match self.transfer_row(pick.rule) {
             Some(row) => {
                 self.transfer_rules.selects(change, pick.rule)
                     && self.is_change_product(rider, row.product, pick.product)
@@ -215,8 +211,7 @@ impl<'f> Fares<'f> {
         ensures { result ≡ place_kind self.now place }
     {
         let pick = place?;
-        let rows = self.feed().transfer_rules.items();
-        let row = rows.get(pick.rule.0 as usize)?;
+        let row = self.transfer_row(pick.rule)?;
         Some(row.kind)
     }
 
@@ -240,8 +235,7 @@ impl<'f> Fares<'f> {
         ensures value { result ≡ amount_of self.now row }
         ensures low { IsLow result }
     {
-        let rows = self.feed().products.items();
-        match rows.get(row.0 as usize) {
+        match self.product_row(row) {
             Some(priced) => priced.amount.0,
             None => 0,
         }

@@ -1,5 +1,6 @@
 //! The fares of a feed, and those for one rider.
-ghost use Rattle.std.specs.Prelude.{◌≡◌, ◌++◌, All, IfOk, OnOk, option_to_list};
+ghost use Rattle.std.specs.Prelude.{◌≡◌, ◌++◌, All, IfOk, IfSome, OnOk, option_to_list, slice_get};
+ghost use Rattle.std.specs.Option.{option_copied};
 ghost use Rattle.std.specs.List.{filter_map};
 ghost use Rattle.feed_rows.specs.SoundFeed.{IsSoundFeed};
 ghost use Rattle.fare_price.specs.Prices.{terms};
@@ -10,10 +11,12 @@ use crate::offers::{ChangeOffer, LegOffer, unarranged};
 use fare_leg_rules::LegRules;
 use fare_products::{LeastRows, Priced1, Products};
 use fare_transfer_rules::XferRules;
-use feed_rows::{ChangeChoice, Feed, LegChoice, LegFacts, TransferFacts};
+use feed_rows::{
+    ChangeChoice, Feed, LegChoice, LegFacts, LegRuleRow, ProductRow, TransferFacts, TransferRuleRow,
+};
 use std::alloc::{AllocError, Global};
 use std::marker::Model;
-use transit_base::{ProductId, RiderId, RuleId, XferId};
+use transit_base::{ProductId, ProductRowId, RiderId, RuleId, XferId};
 
 /// The products, leg rules and transfer rules of a feed. Contracts see it as the rows of its feed.
 pub struct Fares<'f> {
@@ -76,6 +79,28 @@ impl<'f> Fares<'f> {
         let feed = self.feed;
         let _rows = &feed.products;
         feed
+    }
+
+    /// The row of `fare_leg_rules.txt` with this number.
+    pub(crate) fn leg_row(&self, rule: RuleId) -> Option<&'f LegRuleRow>
+        ensures { option_copied result ≡ slice_get self.now.leg_rules rule.0 }
+    {
+        self.feed().leg_rules.items().get(rule.0 as usize)
+    }
+
+    /// The row of `fare_transfer_rules.txt` with this number.
+    pub(crate) fn transfer_row(&self, rule: XferId) -> Option<&'f TransferRuleRow>
+        ensures { option_copied result ≡ slice_get self.now.transfer_rules rule.0 }
+    {
+        self.feed().transfer_rules.items().get(rule.0 as usize)
+    }
+
+    /// The row of `fare_products.txt` with this number.
+    pub(crate) fn product_row(&self, row: ProductRowId) -> Option<&'f ProductRow>
+        ensures value { option_copied result ≡ slice_get self.now.products row.0 }
+        ensures low { IfSome result (λ row. IsLow row.now.amount.0) }
+    {
+        self.feed().products.items().get(row.0 as usize)
     }
 }
 
@@ -148,8 +173,8 @@ impl<'s, 'f> RiderFares<'s, 'f> {
     fn leg_offer(&self, rule: RuleId) -> Option<LegOffer>
         ensures { result ≡ leg_offer self.now.feed self.now.rider rule }
     {
-        let rows = self.feed().leg_rules.items();
-        let row = rows.get(rule.0 as usize)?;
+        let fares = self.fares;
+        let row = fares.leg_row(rule)?;
         let least = self.least(row.product)?;
         Some(LegOffer {
             pick: LegChoice {
@@ -192,8 +217,8 @@ impl<'s, 'f> RiderFares<'s, 'f> {
     fn change_offer(&self, id: XferId) -> Option<ChangeOffer>
         ensures { result ≡ change_offer self.now.feed self.now.rider id }
     {
-        let rows = self.feed().transfer_rules.items();
-        let row = rows.get(id.0 as usize)?;
+        let fares = self.fares;
+        let row = fares.transfer_row(id)?;
         let kind = Some(row.kind);
         match row.product {
             None => Some(ChangeOffer {

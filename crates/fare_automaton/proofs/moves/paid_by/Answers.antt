@@ -12,3 +12,12 @@ returns-else-code-eq0 c =
     (paid_both c.args.held c.args.amount c.args.charge c.args.code
     (grind (arith, nat_tests, c.if-code-eq2.false)) (grind (arith, nat_tests, c.if-code-eq0.false)))
     (omega (arith, ints, c.requires.held, c.requires.charge, c.requires.amount))
+
+pub overflow_add-result : goal.overflow_add-result
+overflow_add-result c = omega (arith, ints, c.requires.held, c.requires.charge)
+
+pub overflow_add-result-else-code-eq0 : goal.overflow_add-result-else-code-eq0
+overflow_add-result-else-code-eq0 c = omega (arith, ints, c.requires.held, c.requires.charge)
+
+pub overflow_add-result-else-code-eq0-2 : goal.overflow_add-result-else-code-eq0-2
+overflow_add-result-else-code-eq0-2 c = omega (arith, ints, c.requires.held, c.requires.charge, c.requires.amount)

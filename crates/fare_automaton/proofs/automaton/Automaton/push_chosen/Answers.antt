@@ -1,14 +1,27 @@
--- Past the rows there is nothing to add.
-use Rattle.std.proofs.Common.{◌∙◌, sym, ap, List}
-use Rattle.std.specs.Prelude.{slice_get}
-use Rattle.std.proofs.lemmas.Option.{slice_get_past}
-use Rattle.feed_rows.specs.declared.rows.TransferRuleRow.{TransferRuleRow}
+-- A row that is chosen, one that isn't, and none.
+use Rattle.std.proofs.Common.{sym, ◌∙◌, ap, true, false}
+use Rattle.std.specs.Option.{option_copied}
+use Rattle.std.proofs.lemmas.List.{append-nil}
+use Rattle.std.proofs.lemmas.Result.{on_ok_weaker}
 use Rattle.fare_automaton.specs.Changes.{asked_of}
-use Rattle.fare_automaton.proofs.OptionLaws.{chosen_places-past}
+use Rattle.fare_automaton.proofs.OptionLaws.{chosen_places-where, chosen_places-past}
 use Rattle.fare_automaton.proofs.automaton.Automaton.push_chosen.Goals as goal
 
-pub returns-in-None : goal.returns-in-None
-returns-in-None c =
+pub returns-in-Some : goal.returns-in-Some
+returns-in-Some c =
+    on_ok_weaker c.push_product.result
+    (λ is. is
+    ∙ chosen_places-where c.args.self.now.feed c.args.self.now.rider (asked_of c.args.change.now) c.args.least c.args.rule c.in-Some.row.now true
+    c.args.places.now.items (sym c.in-Some.ensures) c.if-is_chosen.ensures)
+    c.push_product.ensures
+
+pub returns-in_default : goal.returns-in_default
+returns-in_default c =
+    sym (append-nil c.args.places.now.items)
+    ∙ chosen_places-where c.args.self.now.feed c.args.self.now.rider (asked_of c.args.change.now) c.args.least c.args.rule c.in-Some.row.now false
+    c.args.places.now.items (sym c.in-Some.ensures) c.if-is_chosen.ensures
+
+pub returns-in_default-2 : goal.returns-in_default-2
+returns-in_default-2 c =
     chosen_places-past c.args.self.now.feed c.args.self.now.rider (asked_of c.args.change.now) c.args.least c.args.rule c.args.places.now.items
-    (sym (ap (λ (rs : List TransferRuleRow). slice_get rs c.args.rule.0) c.transfer_rows.ensures.value)
-    ∙ slice_get_past c.transfer_rows.result.now c.args.rule.0 c.in-None.ensures.lookup.3)
+    (sym c.transfer_row.ensures ∙ ap option_copied c.in_default.is)

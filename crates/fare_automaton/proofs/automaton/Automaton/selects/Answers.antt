@@ -1,14 +1,17 @@
--- A row that suffices is selected where its count is the least.
-use Rattle.std.proofs.Common.{◌∙◌, ap, ◌&&◌}
-use Rattle.fare_transfer_rules.specs.Counts.{is_within}
+-- A row between the groups is selected where it is chosen.
+use Rattle.std.proofs.Common.{◌∙◌, refl, true, false}
 use Rattle.fare_automaton.specs.Changes.{asked_of}
-use Rattle.fare_automaton.proofs.SelectedLaws.{selected_is}
+use Rattle.fare_automaton.proofs.SelectedLaws.{chosen_is}
 use Rattle.fare_automaton.proofs.automaton.Automaton.selects.Goals as goal
 
-pub returns-then-suffices : goal.returns-then-suffices
-returns-then-suffices c =
-    let least = c.least_count-least.result in
-    c.is_within.ensures
-    ∙ ap (λ b. b && is_within least c.args.row.now.count) c.if-suffices.ensures
-    ∙ selected_is c.args.self.now.feed (asked_of c.args.change.now) c.rows_between.result.now c.rows_between.ensures least
-    c.least_count-least.ensures c.args.row.now
+pub returns-then-is_between : goal.returns-then-is_between
+returns-then-is_between c =
+    chosen_is c.args.self.now.feed (asked_of c.args.change.now) c.rows_between.result.now c.rows_between.ensures
+    c.least_count-least.result c.least_count-least.ensures c.args.row.now true c.is_chosen.result c.if-is_between.ensures
+    c.is_chosen.ensures
+
+pub returns-else-is_between : goal.returns-else-is_between
+returns-else-is_between c =
+    c.if-is_between.false
+    ∙ chosen_is c.args.self.now.feed (asked_of c.args.change.now) c.rows_between.result.now c.rows_between.ensures
+    c.least_count-least.result c.least_count-least.ensures c.args.row.now false _ c.if-is_between.ensures refl

@@ -1,7 +1,4 @@
-use Rattle.std.proofs.Common.{◌≡◌, refl, sym, ◌∙◌, ap, true, false, List}
-use Rattle.std.specs.Prelude.{Some, slice_get}
-use Rattle.std.proofs.lemmas.Option.{slice_get-get_or, slice_get_past}
-use Rattle.feed_rows.specs.declared.rows.LegRuleRow.{LegRuleRow}
+use Rattle.std.proofs.Common.{refl, sym, ◌∙◌, ap, true, false}
 use Rattle.feed_rows.specs.FeedRows.{FeedRows}
 use Rattle.feed_rows.specs.LegRules.{is_selected_rule}
 use Rattle.plain_laws.specs.Plain.{at_and}
@@ -10,41 +7,20 @@ use Rattle.fare_price.proofs.fares.Fares.is_leg_choice.Goals as goal
 
 pub returns-then-selects : goal.returns-then-selects
 returns-then-selects c =
-    let feed = c.args.self.now in
-    let i = c.args.pick.now.rule.0 in
-    let found = c.in-Some.ensures.lookup in
-    let same : c.items-rows.result.now ≡ feed.leg_rules =
-    c.items-rows.ensures.value ∙ ap (λ (f : FeedRows). f.leg_rules) (c.behind-self.view_is ∙ c.feed.ensures.value) in
-    let at : slice_get feed.leg_rules i ≡ Some c.in-Some.rule.now =
-    sym (ap (λ (rs : List LegRuleRow). slice_get rs i) same)
-    ∙ slice_get-get_or c.items-rows.result.now i c.in-Some.rule.now found.3.0 ∙ ap Some (sym found.1) in
-    leg_choice_where feed c.args.rider c.args.leg.now c.args.pick.now c.in-Some.rule.now true c.is_open.result at
+    leg_choice_where c.args.self.now c.args.rider c.args.leg.now c.args.pick.now c.in-Some.rule.now true c.is_open.result
+    (sym c.in-Some.ensures)
     (c.if-selects.ensures c.self.inside.feed.now c.self.invariant.1
-    ∙ ap (λ (f : FeedRows). at_and f.leg_rules i (is_selected_rule f c.args.leg.now)) c.self.view_is)
+    ∙ ap (λ (f : FeedRows). at_and f.leg_rules c.args.pick.now.rule.0 (is_selected_rule f c.args.leg.now)) c.self.view_is)
     c.is_open.ensures
 
 pub returns-else-selects : goal.returns-else-selects
 returns-else-selects c =
-    let feed = c.args.self.now in
-    let i = c.args.pick.now.rule.0 in
-    let found = c.in-Some.ensures.lookup in
-    let same : c.items-rows.result.now ≡ feed.leg_rules =
-    c.items-rows.ensures.value ∙ ap (λ (f : FeedRows). f.leg_rules) (c.behind-self.view_is ∙ c.feed.ensures.value) in
-    let at : slice_get feed.leg_rules i ≡ Some c.in-Some.rule.now =
-    sym (ap (λ (rs : List LegRuleRow). slice_get rs i) same)
-    ∙ slice_get-get_or c.items-rows.result.now i c.in-Some.rule.now found.3.0 ∙ ap Some (sym found.1) in
     c.if-selects.false
-    ∙ leg_choice_where feed c.args.rider c.args.leg.now c.args.pick.now c.in-Some.rule.now false _ at
+    ∙ leg_choice_where c.args.self.now c.args.rider c.args.leg.now c.args.pick.now c.in-Some.rule.now false _
+    (sym c.in-Some.ensures)
     (c.if-selects.ensures c.self.inside.feed.now c.self.invariant.1
-    ∙ ap (λ (f : FeedRows). at_and f.leg_rules i (is_selected_rule f c.args.leg.now)) c.self.view_is)
+    ∙ ap (λ (f : FeedRows). at_and f.leg_rules c.args.pick.now.rule.0 (is_selected_rule f c.args.leg.now)) c.self.view_is)
     refl
 
 pub returns-in-None : goal.returns-in-None
-returns-in-None c =
-    let feed = c.args.self.now in
-    let i = c.args.pick.now.rule.0 in
-    let same : c.items-rows.result.now ≡ feed.leg_rules =
-    c.items-rows.ensures.value ∙ ap (λ (f : FeedRows). f.leg_rules) (c.behind-self.view_is ∙ c.feed.ensures.value) in
-    leg_choice_without feed c.args.rider c.args.leg.now c.args.pick.now
-    (sym (ap (λ (rs : List LegRuleRow). slice_get rs i) same)
-    ∙ slice_get_past c.items-rows.result.now i c.in-None.ensures.lookup.3)
+returns-in-None c = leg_choice_without c.args.self.now c.args.rider c.args.leg.now c.args.pick.now (sym c.in-None.ensures)

@@ -1,7 +1,10 @@
-use Rattle.std.proofs.Common.{refl, sym, ◌∙◌, ◌+◌, length, arith}
+use Rattle.std.proofs.Common.{◌≡◌, refl, sym, ◌∙◌, subst, ℕ, ◌+◌, length, arith}
+use Rattle.std.specs.Prelude.{Some}
 use Rattle.std.proofs.lemmas.Option.{slice_get_read, slice_get-get_or}
 use Rattle.feed_rows.specs.declared.fares.Choice.{Choice}
 use Rattle.fare_price.specs.Stands.{stand_of}
+use Rattle.feed_rows.specs.FareStands.{stand_at}
+use Rattle.fare_price.proofs.StepLaws.{bounded_more}
 use Rattle.fare_price.proofs.CheckLaws.{stand_at-first, stand_at-next, stand_at-none}
 use Rattle.fare_price.proofs.fares.Fares.last_stand.Goals as goal
 
@@ -42,3 +45,25 @@ loop-number-preserved c =
           (slice_get-get_or c.args.places.now number _ (omega arith))
           ∙ sym c.in-Some-next_stand.ensures.value;
     }
+
+pub bounds-picks-number : goal.bounds-picks-number
+bounds-picks-number c = omega arith
+
+pub bounds-legs-number : goal.bounds-legs-number
+bounds-legs-number c = omega arith
+
+pub next_stand-requires : goal.next_stand-requires
+next_stand-requires c = record {
+  bounded = bounded_more (c.loop-number.number + 1) 11 c.loop-number.stand (omega arith) c.loop-number.invariant.bounded;
+}
+
+pub returns-clause-value : goal.returns-clause-value
+returns-clause-value c =
+    let choice : Choice = record { legs = c.args.picks.now; changes = c.args.places.now } in
+    let all : c.loop-number.number ≡ length c.args.places.now = omega arith in
+    subst (λ (n : ℕ). Some (stand_of c.loop-number.stand) ≡ stand_at c.args.self.now c.args.rider c.args.legs.now choice n) all
+    (sym c.loop-number.invariant.is)
+
+pub returns-clause-bounded : goal.returns-clause-bounded
+returns-clause-bounded c =
+    bounded_more (c.loop-number.number + 1) 12 c.loop-number.stand (omega arith) c.loop-number.invariant.bounded

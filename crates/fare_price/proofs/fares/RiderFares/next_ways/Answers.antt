@@ -4,7 +4,7 @@ use Rattle.std.specs.Option.{option_map_or}
 use Rattle.label_bag.specs.Bags.{Gathers}
 use Rattle.plain_laws.specs.Plain.{joined_below}
 use Rattle.fare_price.specs.Ways.{is_as_good, ways_by, ways_from, ways_at, next_ways}
-use Rattle.fare_price.proofs.GatherLaws.{gathers_joined}
+use Rattle.fare_price.proofs.GatherLaws.{gathers_none, gathers_joined}
 use Rattle.fare_price.proofs.fares.RiderFares.next_ways.Goals as goal
 
 pub loop-number-preserved : goal.loop-number-preserved
@@ -27,3 +27,6 @@ returns c =
     subst (λ n. Gathers is_as_good []
     (joined_below n (ways_at c.args.self.now.feed c.args.self.now.rider c.args.leg.now c.args.base c.args.ways.now))
     c.loop-number.next) all c.loop-number.invariant
+
+pub loop-number-init : goal.loop-number-init
+loop-number-init c = subst (Gathers is_as_good [] []) (sym c.empty-next.ensures) (gathers_none is_as_good [])

@@ -57,3 +57,9 @@ returns c =
     c.loop-number.ways) last
     (subst (λ (legs : List LegFacts). AreWaysOf c.args.self.now.feed c.args.self.now.rider legs c.loop-number.steps.items
     c.loop-number.number c.loop-number.ways) all c.loop-number.invariant)
+
+pub offers_at-requires : goal.offers_at-requires
+offers_at-requires c = omega (arith, c.requires.kept.many)
+
+pub offers_at-offers-requires : goal.offers_at-offers-requires
+offers_at-offers-requires c = omega (arith, c.requires.kept.many)

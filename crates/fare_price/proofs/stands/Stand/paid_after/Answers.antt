@@ -13,3 +13,9 @@ returns-in-None c =
     with_sum _ (c.args.self.now.paid +ℤ c.args.self.now.held +ℤ c.args.charge) _
     (none_sum c.args.self.now.paid c.args.self.now.held c.args.amount c.args.charge c.args.kind c.in-None.is)
     (omega (arith, ints, c.requires.bounded.paid, c.requires.bounded.held, c.requires.charge))
+
+pub overflow_add-result : goal.overflow_add-result
+overflow_add-result c = omega (arith, ints, c.requires.bounded.paid, c.requires.bounded.held)
+
+pub overflow_add-result-in-None : goal.overflow_add-result-in-None
+overflow_add-result-in-None c = omega (arith, ints, c.requires.bounded.paid, c.requires.bounded.held, c.requires.charge)

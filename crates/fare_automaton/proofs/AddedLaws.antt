@@ -1,0 +1,19 @@
+-- Lists to which a loop adds what each item gives.
+use Rattle.std.proofs.Common.{◌≡◌, sym, ◌∙◌, ap, ℕ, ◌+◌, ◌<◌, List, [], ◌∷◌, ◌++◌, take, get_or, length, map, append_assoc}
+use Rattle.std.specs.Prelude.{flat_map}
+use Rattle.std.proofs.lemmas.List.{take_more, map_more, flat_map_more}
+
+-- one item more gives one thing
+pub map_added : {X Y : Type 0} (f : X → Y) (xs : List X) (i : ℕ) (d : X) (old before now : List Y) → i < length xs
+    → before ≡ old ++ map f (take i xs) → now ≡ before ++ f (get_or xs i d) ∷ [] → now ≡ old ++ map f (take (i + 1) xs)
+map_added f xs i d old before now lt is made =
+    made ∙ ap (λ ys. ys ++ f (get_or xs i d) ∷ []) is ∙ append_assoc old (map f (take i xs)) (f (get_or xs i d) ∷ [])
+    ∙ ap (λ ys. old ++ ys) (sym (map_more f xs i d lt))
+
+-- and one item more gives some
+pub flat_added : {X Y : Type 0} (f : X → List Y) (xs : List X) (i : ℕ) (d : X) (old before now : List Y) → i < length xs
+    → before ≡ old ++ flat_map f (take i xs) → now ≡ before ++ f (get_or xs i d)
+    → now ≡ old ++ flat_map f (take (i + 1) xs)
+flat_added f xs i d old before now lt is made =
+    made ∙ ap (λ ys. ys ++ f (get_or xs i d)) is ∙ flat_map_more f old (take i xs) (get_or xs i d)
+    ∙ ap (λ ys. old ++ flat_map f ys) (sym (take_more xs i d lt))
