@@ -4,6 +4,8 @@ ghost use Rattle.feed_rows.specs.JourneyEntries.{CoversOffers, IsExactAnswer};
 ghost use Rattle.plan_rides.specs.InTime.{IsUsualQuery};
 ghost use Rattle.feed_rows.specs.ClosedTable.{IsClosedTable};
 ghost use Rattle.feed_rows.specs.SoundTable.{IsSoundTable};
+ghost use Rattle.plan_rides.specs.Asked.{asked};
+ghost use Rattle.plan_rounds.specs.Searched.{searched};
 ghost use Rattle.plan_rounds.specs.Tables.{CoversAllOffers, IsTableOf, table_by};
 
 use crate::search::Search;
@@ -24,6 +26,22 @@ impl<'s, 'f> Search<'s, 'f> {
     }
 }
 
+/// The table of the query's rounds: of all labels, or of those alone that matter for the answer.
+///
+/// # Errors
+/// Want of memory; so counts that there would be 2^32 labels or more.
+fn table_of(
+    alloc: Global,
+    timetable: &Timetable,
+    query: &Query,
+    whole: bool,
+) -> Result<RoundTable, AllocError>
+    requires { IsUsualQuery query.now }
+    ensures { IfOk result (λ table. IsTableOf (searched (asked timetable.now query.now) whole) (table_by table)) }
+{
+    Search::new(alloc, timetable, query, whole)?.table(alloc)
+}
+
 /// The labels of a query, round by round: they are real, none is in excess or outdone by a final with fewer rides, they
 /// cover all partial journeys of the query but those that a final outdoes, of which all is found that they lead to, and
 /// what they end in is the exact answer. That nothing is lacking shows by the table alone: it is closed under rides.
@@ -36,7 +54,7 @@ pub fn rounds(alloc: Global, timetable: &Timetable, query: &Query) -> Result<Rou
     ensures closed { IfOk result (λ table. IsClosedTable timetable.now query.now (table_by table)) }
     ensures offers { IfOk result (λ table. CoversAllOffers timetable.now query.now (table_by table)) }
 {
-    Search::new(alloc, timetable, query, true)?.table(alloc)
+    table_of(alloc, timetable, query, true)
 }
 
 /// The exact answer to a query, found by rounds: of the labels, those alone are kept that matter for it.
@@ -52,7 +70,5 @@ pub fn round_entries(
     ensures exact { IfOk result (λ entries. IsExactAnswer timetable.now query.now entries.items) }
     ensures covers { IfOk result (λ entries. CoversOffers timetable.now query.now entries.items) }
 {
-    Search::new(alloc, timetable, query, false)?
-        .table(alloc)?
-        .entries(alloc)
+    table_of(alloc, timetable, query, false)?.entries(alloc)
 }
