@@ -1,5 +1,7 @@
-use Rattle.std.proofs.Common.{sym, ◌∙◌, ap, subst, ◌+◌, length}
+use Rattle.std.proofs.Common.{sym, ◌∙◌, ap, subst, ◌+◌, List, length}
+use Rattle.std.specs.Prelude.{Option}
 use Rattle.std.proofs.lemmas.List.{length_push}
+use Rattle.transit_base.specs.declared.moments.Moment.{Moment}
 use Rattle.plan_rounds.specs.Prospects.{AreEnds, IsEndBy}
 use Rattle.plan_rounds.proofs.ProspectLaws.{no_ends, ends_more}
 use Rattle.plan_rounds.proofs.prospects.ends_of.Goals as goal
@@ -21,7 +23,7 @@ loop-stop-preserved c =
     subst (λ f. IsEndBy f query (record { 0 = c.loop-stop.stop }) deadline c.end_from.result) c.timetable-timetable.ensures
     (subst (λ q. IsEndBy c.timetable-timetable.result.now q (record { 0 = c.loop-stop.stop }) deadline c.end_from.result) c.query-query.ensures.is c.end_from.ensures) in
     record {
-      are = subst (AreEnds feed query deadline) (sym pushed)
+      are = subst (AreEnds feed query deadline) (sym {A = List (Option Moment)} pushed)
           (ends_more feed query deadline c.loop-stop.ends.items (record { 0 = c.loop-stop.stop }) c.end_from.result was.many by was.are);
       many = ap length pushed ∙ length_push c.loop-stop.ends.items c.end_from.result ∙ ap (λ n. n + 1) was.many;
     }
