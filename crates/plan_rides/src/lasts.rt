@@ -25,7 +25,7 @@ fn run_in<'t, 'f>(timetable: &'t Timetable<'f>, held: &plan_patterns::Run) -> Ru
 
 // Whether riders may board the run at the call, no earlier than the query departs.
 #[tactic(auto, unfolding(crate::specs::Lasts::boards_since))]
-fn boards_since(query: &Query, run: &Run, call: &Call) -> bool
+fn boards_since(run: &Run, query: &Query, call: &Call) -> bool
     requires { call.now.departure ≤ most_time }
     ensures { result ≡ boards_since query.now run.now call.now }
 {
@@ -34,7 +34,7 @@ fn boards_since(query: &Query, run: &Run, call: &Call) -> bool
 
 // Whether riders may alight from the run at the call, no later than the query's window ends, and early enough.
 #[tactic(auto, unfolding(crate::specs::Lasts::alights_early))]
-fn alights_early(query: &Query, latest: &[Option<Moment>], run: &Run, call: &Call) -> bool
+fn alights_early(run: &Run, query: &Query, latest: &[Option<Moment>], call: &Call) -> bool
     requires usual { IsUsualQuery query.now }
     requires time { call.now.arrival ≤ most_time }
     ensures { result ≡ alights_early query.now latest.now run.now call.now }
@@ -44,21 +44,21 @@ fn alights_early(query: &Query, latest: &[Option<Moment>], run: &Run, call: &Cal
 }
 
 // Whether riders may alight early enough at the call, or at a later one, where it is known whether there.
-fn leads_from(leads: bool, query: &Query, latest: &[Option<Moment>], run: &Run, call: &Call) -> bool
+fn leads_from(leads: bool, run: &Run, query: &Query, latest: &[Option<Moment>], call: &Call) -> bool
     requires usual { IsUsualQuery query.now }
     requires time { call.now.arrival ≤ most_time }
     ensures { result ≡ (leads || alights_early query.now latest.now run.now call.now) }
 {
-    leads || alights_early(query, latest, run, call)
+    leads || alights_early(run, query, latest, call)
 }
 
 // Whether a ride by the run that boards at the call gets somewhere early enough, where it is known whether riders may
 // alight so at a later call.
-fn leads_at(leads: bool, query: &Query, run: &Run, call: &Call) -> bool
+fn leads_at(leads: bool, run: &Run, query: &Query, call: &Call) -> bool
     requires { call.now.departure ≤ most_time }
     ensures { result ≡ (leads && boards_since query.now run.now call.now) }
 {
-    leads && boards_since(query, run, call)
+    leads && boards_since(run, query, call)
 }
 
 // Has the last moment at the stop be no earlier than this one.
@@ -71,12 +71,12 @@ fn put_last(lasts: &mut [Option<Moment>], stop: StopId, at: Moment)
 }
 
 // Has the last moment at the call's stop be no earlier than the run's departure there, where that leads on.
-fn put_departure(leads: bool, query: &Query, run: &Run, call: &Call, lasts: &mut [Option<Moment>])
+fn put_departure(leads: bool, run: &Run, query: &Query, call: &Call, lasts: &mut [Option<Moment>])
     requires time { call.now.departure ≤ most_time }
     requires stop { call.now.stop.0 < length lasts.old }
     ensures { PutsLast (leads && boards_since query.now run.now call.now) call.now.stop.0 (departure_of run.now call.now) lasts.old lasts.new }
 {
-    if !leads_at(leads, query, run, call) {
+    if !leads_at(leads, run, query, call) {
         return;
     }
     put_last(lasts, call.stop, run.moment(call.departure));
@@ -101,8 +101,8 @@ fn add_run(
     let mut leads = false;
     for k in (0..calls.len()).rev() {
         let call = calls.at(k);
-        put_departure(leads, query, &run, &call, lasts);
-        leads = leads_from(leads, query, latest, &run, &call);
+        put_departure(leads, &run, query, &call, lasts);
+        leads = leads_from(leads, &run, query, latest, &call);
     }
 }
 
@@ -126,9 +126,9 @@ fn add_runs(
 
 // The same of the runs of all patterns.
 fn add_patterns(
+    patterns: &Patterns,
     timetable: &Timetable,
     sought: &Sought,
-    patterns: &Patterns,
     latest: &[Option<Moment>],
     lasts: &mut [Option<Moment>],
 )
@@ -150,9 +150,9 @@ fn add_patterns(
 /// Want of memory.
 pub fn last_departures(
     alloc: Global,
+    patterns: &Patterns,
     timetable: &Timetable,
     sought: &Sought,
-    patterns: &Patterns,
     latest: &[Option<Moment>],
 ) -> Result<Vec<Option<Moment>>, AllocError>
     requires usual { IsUsualQuery sought.now.query }
@@ -161,6 +161,6 @@ pub fn last_departures(
 {
     let stops = timetable.feed().stops.items().len();
     let mut lasts = vec![in alloc; None; stops]?;
-    add_patterns(timetable, sought, patterns, latest, &mut lasts);
+    add_patterns(patterns, timetable, sought, latest, &mut lasts);
     Ok(lasts)
 }

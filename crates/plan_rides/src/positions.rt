@@ -1,11 +1,11 @@
 //! Where riders may board the runs of a query's patterns, and which rides they can catch there.
-ghost use Rattle.std.specs.Prelude.{◌≡◌, ◌<◌, ◌≤◌, ◌^◌, All, OnOk, Some, length, slice_get};
+ghost use Rattle.std.specs.Prelude.{◌≡◌, ◌<◌, ◌≤◌, ◌^◌, All, IfOk, OnOk, Some, length, slice_get};
 ghost use Rattle.feed_rows.specs.Calls.{calls_of};
 ghost use Rattle.feed_rows.specs.declared.journeys.Call.{Call};
 ghost use Rattle.feed_timetable.specs.Standings.{stand_of};
 ghost use Rattle.plan_rides.specs.Boarding.{AreMarks, MayRide};
 ghost use Rattle.plan_rides.specs.Departures.{BoardsAt, IsBy, IsByTo, IsDeparture, Serves, facts_in_time};
-ghost use Rattle.plan_rides.specs.InTime.{AreLastDepartures, IsUsualQuery, IsWithinWindow};
+ghost use Rattle.plan_rides.specs.InTime.{AreLastDepartures, HasCaught, IsRight, IsUsualQuery, IsWithinWindow};
 ghost use Rattle.plan_rides.specs.Reached.{AddsFound, AddsReached, IsAny, IsFromReached, positioned};
 ghost use Rattle.plan_rides.specs.Served.{AreTimedStops};
 ghost use Rattle.plan_rides.specs.Travelling.{IsBarred};
@@ -20,7 +20,7 @@ use feed_rows::{Call, Query, RideFacts};
 use feed_timetable::{Calls, Standing, Timetable};
 use plain_laws::Groups;
 use plan_patterns::{Patterns, Serving};
-use std::alloc::AllocError;
+use std::alloc::{AllocError, Global};
 use std::marker::Model;
 use transit_base::{Moment, Secs, StopId};
 
@@ -255,5 +255,32 @@ impl<'s, 'f> Positions<'s, 'f> {
             self.add_departure(latest, &departures.at(k), rides)?;
         }
         Ok(())
+    }
+
+    /// The rides that are caught from where one stands and end within the window.
+    ///
+    /// # Errors
+    /// Want of memory.
+    pub(crate) fn next(
+        &self,
+        alloc: Global,
+        standing: Standing,
+    ) -> Result<Vec<CaughtRide>, AllocError>
+        requires within { IsWithinWindow self.now.query standing.at.0 }
+        requires may { MayRide self.now.feed self.now.query (stand_of standing) }
+        ensures all { IfOk result (λ rides. HasCaught self.now.feed self.now.query (stand_of standing) rides.items) }
+        ensures right { IfOk result (λ rides. All (IsRight self.now.feed self.now.query (stand_of standing)) rides.items) }
+    {
+        let who = Traveller {
+            standing,
+            number: 0,
+        };
+        let mut reached = Vec::new(alloc);
+        self.reach(&[], &who, &mut reached)?;
+        let mut rides = Vec::new(alloc);
+        for k in 0..reached.len() {
+            self.add_rides(&[], &[], &reached[k], &mut rides)?;
+        }
+        Ok(rides)
     }
 }

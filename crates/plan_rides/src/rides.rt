@@ -12,7 +12,7 @@ use crate::caught::CaughtRide;
 use crate::departures::{deadline, patterns_of};
 use crate::lasts::last_departures;
 use crate::latest::latest_before;
-use crate::positions::{Positions, Traveller};
+use crate::positions::Positions;
 use crate::servings::{TimedServing, served_stops};
 use crate::sought::Sought;
 use feed_rows::Query;
@@ -162,7 +162,7 @@ impl<'s, 'f> Rides<'s, 'f> {
         requires { 1 < self.now.query.rides }
         ensures { IfOk result (λ lasts. AreLasts self.now.feed self.now.query latest.now lasts.items) }
     {
-        last_departures(alloc, self.timetable, &self.sought, &self.patterns, latest)
+        last_departures(alloc, &self.patterns, self.timetable, &self.sought, latest)
     }
 
     /// How late one may stand at each stop, where one may be as late as this, or take one more ride first: by these last
@@ -195,17 +195,6 @@ impl<'s, 'f> Rides<'s, 'f> {
         ensures right { IfOk result (λ rides. All (IsRight self.now.feed self.now.query (stand_of standing)) rides.items) }
         ensures sound { IsSoundFeed self.now.feed }
     {
-        let positions = self.positions();
-        let who = Traveller {
-            standing,
-            number: 0,
-        };
-        let mut reached = Vec::new(alloc);
-        positions.reach(&[], &who, &mut reached)?;
-        let mut rides = Vec::new(alloc);
-        for k in 0..reached.len() {
-            positions.add_rides(&[], &[], &reached[k], &mut rides)?;
-        }
-        Ok(rides)
+        self.positions().next(alloc, standing)
     }
 }

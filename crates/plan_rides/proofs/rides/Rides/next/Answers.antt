@@ -1,61 +1,31 @@
-use Rattle.std.proofs.Common.{◌<◌, ◌≤◌, ◌∙◌, ap, arith, length, subst, sym, []}
-use Rattle.std.specs.Prelude.{All, Some}
-use Rattle.std.proofs.lemmas.List.Elements.{Contains-get_or}
-use Rattle.std.proofs.lemmas.Option.{slice_get-get_or}
+use Rattle.std.proofs.Common.{subst, sym}
+use Rattle.std.specs.Prelude.{All, IfOk}
 use Rattle.feed_timetable.specs.Standings.{stand_of}
+use Rattle.plan_rides.specs.Boarding.{MayRide}
 use Rattle.plan_rides.specs.InTime.{HasCaught, IsRight, IsWithinWindow}
-use Rattle.plan_rides.specs.Reached.{AddsReached, IsAny, IsReachedFrom}
-use Rattle.plan_rides.proofs.LatestLaws.{no_lasts}
-use Rattle.plan_rides.proofs.FoundLaws.{HasFoundBelow, all_caught, all_right, below_more, below_none}
-use Rattle.plan_rides.proofs.ReachLaws.{reached_only}
 use Rattle.plan_rides.proofs.rides.Rides.next.Goals as goal
 
-pub loop-k-init : goal.loop-k-init
-loop-k-init c =
-    subst (HasFoundBelow c.positions-positions.result (stand_of c.args.standing) c.reach.new.reached.items 0) (sym c.new-rides.ensures.items)
-    (below_none _ _ _)
+pub next-requires-clause-within : goal.next-requires-clause-within
+next-requires-clause-within c =
+    subst (λ q. IsWithinWindow q c.args.standing.at.0) (sym c.positions.ensures.query) c.requires.within
 
-pub add_rides-requires-clause-lasts : goal.add_rides-requires-clause-lasts
-add_rides-requires-clause-lasts c = no_lasts c.positions-positions.result.feed c.positions-positions.result.query
-
-pub add_rides-requires-clause-serves : goal.add_rides-requires-clause-serves
-add_rides-requires-clause-serves c =
-    let me = c.positions-positions.result in
+pub next-requires-clause-may : goal.next-requires-clause-may
+next-requires-clause-may c =
     let stand = stand_of c.args.standing in
-    let list = c.reach.new.reached.items in
-    let reach = subst (λ old. AddsReached me [] stand 0 IsAny old list) c.new-reached.ensures.items c.in_ok-reach.ensures in
-    let has = Contains-get_or list c.loop-k.k c.index.result.now (omega (arith, c.loop-k-test.true, c.len-k-end.ensures, c.reach.new.reached.ok.0)) in
-    let is = subst (IsReachedFrom me stand) (sym c.index.ensures) (reached_only me [] stand 0 IsAny list reach _ has).1 in
-    is.serves
-
-pub loop-k-preserved : goal.loop-k-preserved
-loop-k-preserved c =
-    let me = c.positions-positions.result in
-    let stand = stand_of c.args.standing in
-    let list = c.reach.new.reached.items in
-    let x = c.index.result.now in
-    let lt : c.loop-k.k < length list = omega (arith, c.loop-k-test.true, c.len-k-end.ensures, c.reach.new.reached.ok.0) in
-    let reach = subst (λ old. AddsReached me [] stand 0 IsAny old list) c.new-reached.ensures.items c.in_ok-reach.ensures in
-    let is = subst (IsReachedFrom me stand) (sym c.index.ensures) (reached_only me [] stand 0 IsAny list reach _ (Contains-get_or list c.loop-k.k x lt)).1 in
-    let within = subst (λ q. IsWithinWindow q c.args.standing.at.0) (sym c.positions-positions.ensures.query) c.requires.within in
-    below_more me stand list c.loop-k.k x _ _ within (slice_get-get_or list c.loop-k.k x lt ∙ ap Some (sym c.index.ensures)) is
-    c.loop-k.invariant c.in_ok-add_rides.ensures
+    subst (λ f. MayRide f c.positions.result.query stand) (sym c.positions.ensures.feed)
+    (subst (λ q. MayRide c.args.self.now.feed q stand) (sym c.positions.ensures.query) c.requires.may)
 
 pub returns-clause-all : goal.returns-clause-all
 returns-clause-all c =
-    let me = c.positions-positions.result in
     let stand = stand_of c.args.standing in
-    let list = c.reach.new.reached.items in
-    let reach = subst (λ old. AddsReached me [] stand 0 IsAny old list) c.new-reached.ensures.items c.in_ok-reach.ensures in
-    let whole : length list ≤ c.loop-k.k = omega (arith, c.loop-k-test.false, c.len-k-end.ensures, c.reach.new.reached.ok.0) in
-    subst (λ q. HasCaught c.args.self.now.feed q stand c.loop-k.rides.items) c.positions-positions.ensures.query
-    (subst (λ f. HasCaught f me.query stand c.loop-k.rides.items) c.positions-positions.ensures.feed
-    (all_caught me stand 0 c.loop-k.k list c.loop-k.rides.items reach whole c.loop-k.invariant))
+    subst (λ q. IfOk c.next.result (λ rides. HasCaught c.args.self.now.feed q stand rides.items)) c.positions.ensures.query
+    (subst (λ f. IfOk c.next.result (λ rides. HasCaught f c.positions.result.query stand rides.items))
+    c.positions.ensures.feed c.next.ensures.all)
 
 pub returns-clause-right : goal.returns-clause-right
 returns-clause-right c =
-    let me = c.positions-positions.result in
     let stand = stand_of c.args.standing in
-    subst (λ q. All (IsRight c.args.self.now.feed q stand) c.loop-k.rides.items) c.positions-positions.ensures.query
-    (subst (λ f. All (IsRight f me.query stand) c.loop-k.rides.items) c.positions-positions.ensures.feed
-    (all_right me stand c.loop-k.k c.reach.new.reached.items c.loop-k.rides.items c.loop-k.invariant))
+    subst (λ q. IfOk c.next.result (λ rides. All (IsRight c.args.self.now.feed q stand) rides.items))
+    c.positions.ensures.query
+    (subst (λ f. IfOk c.next.result (λ rides. All (IsRight f c.positions.result.query stand) rides.items))
+    c.positions.ensures.feed c.next.ensures.right)
