@@ -14,8 +14,8 @@ use Rattle.plain_laws.specs.Plain.{collect_below}
 use Rattle.plain_laws.proofs.Laws.{collect_below_more, collect_below_tells}
 use Rattle.plan_rounds.specs.declared.finals.Final.{Final}
 use Rattle.plan_rounds.specs.Finals.{final_of, finals_of}
-use Rattle.plan_rounds.specs.declared.label.Label.{Label}
-use Rattle.plan_rounds.specs.Labels.{label_of, labels_of}
+use Rattle.round_labels.specs.declared.label.Label.{Label}
+use Rattle.round_labels.specs.Labels.{label_of, labels_of}
 
 -- a label that leads back leads to its parent, which leads back by one ride less
 pub traced_parent : (labels : List Label) (rides number : ℕ) (label : Label) (parent : ℕ) (ride : Ride) (taken : Move) →

@@ -21,15 +21,15 @@ use Rattle.round_laws.specs.LabelSteps.{facts_after, IsStated}
 use Rattle.round_laws.proofs.BoundLaws.{ahead_of_ride}
 use Rattle.round_laws.proofs.OutdoneLaws.{ahead_of_outdone, ahead_lacks, lack_below}
 use Rattle.plan_rounds.specs.declared.finals.Final.{Final}
-use Rattle.plan_rounds.specs.declared.label.Label.{Label}
+use Rattle.round_labels.specs.declared.label.Label.{Label}
 use Rattle.plan_rounds.specs.Finals.{HasEnds, is_bettered}
-use Rattle.plan_rounds.specs.Labels.{facts_of, stand_of_label}
+use Rattle.round_labels.specs.Labels.{facts_of, stand_of_label}
 use Rattle.plan_rounds.specs.Searched.{Searched, Lacks, has_ahead, is_overtaken_by}
 use Rattle.plan_rounds.specs.Stores.{IsHeldBelow, IsPrunedBy, StepsBy}
 use Rattle.plan_rounds.specs.declared.search.Source.{Source}
 use Rattle.plan_rounds.specs.Moves.{betters, HasBetter}
-use Rattle.plan_rounds.specs.CoverLaws.{same_parts-equal}
-use Rattle.plan_rounds.specs.Labels.{same_parts}
+use Rattle.round_labels.specs.CoverLaws.{same_parts-equal}
+use Rattle.round_labels.specs.Labels.{same_parts}
 use Rattle.plan_rounds.specs.Sources.{SpreadsFrom, LeadsByFirst}
 use Rattle.plan_rounds.proofs.FinalSteps.{bettered_up}
 use Rattle.round_laws.proofs.CoverLaws.{covers-trans}

@@ -11,10 +11,10 @@ use Rattle.plan_rides.specs.InTime.{IsWithinWindow, deadline, is_early}
 use Rattle.round_laws.specs.Futility.{IsFutile, MayLack, is_within, least_end}
 use Rattle.round_laws.proofs.BoundLaws.{Ahead, ahead_leads, ahead_of_ride, ahead_passes, ahead_tells}
 use Rattle.plan_rounds.specs.declared.finals.Final.{Final}
-use Rattle.plan_rounds.specs.declared.label.Label.{Label}
+use Rattle.round_labels.specs.declared.label.Label.{Label}
 use Rattle.plan_rounds.specs.Finals.{is_bettered}
 use Rattle.plan_rounds.specs.Horizons.{HorizonParts, IsFair, IsHorizon, is_beyond}
-use Rattle.plan_rounds.specs.Labels.{facts_of}
+use Rattle.round_labels.specs.Labels.{facts_of}
 use Rattle.plan_rounds.specs.Prospects.{AreProspects, ProspectLists, latest_of, no_prospects}
 use Rattle.plan_rounds.specs.Searched.{Searched, Lacks}
 use Rattle.plan_rounds.specs.Stores.{StepsTo}

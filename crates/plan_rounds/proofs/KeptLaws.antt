@@ -16,9 +16,9 @@ use Rattle.feed_laws.proofs.SoundTrips.{sound_trip}
 use Rattle.plan_rides.specs.InTime.{IsRight, IsUsualQuery, IsWithinWindow, deadline}
 use Rattle.plan_rides.specs.declared.caught.CaughtRide.{CaughtRide}
 use Rattle.plan_rides.proofs.CaughtLaws.{caught_ride}
-use Rattle.plan_rounds.specs.declared.label.Label.{Label}
-use Rattle.plan_rounds.specs.Labels.{started, went_on}
-use Rattle.plan_rounds.specs.Kept.{IsKeepable, IsNarrow}
+use Rattle.round_labels.specs.declared.label.Label.{Label}
+use Rattle.round_labels.specs.Labels.{started, went_on}
+use Rattle.round_labels.specs.Kept.{IsKeepable, IsNarrow}
 
 -- ---- the rides of a search
 
@@ -70,7 +70,7 @@ pub keep_start : (query : Query) (stop : StopId) → IsKeepable (started query s
 keep_start query stop = inl (record { none = refl; state = refl; parent = refl; ride = refl; taken = refl })
 
 pub keep_after : (x : Label) (number : ℕ) (caught : CaughtRide) (taken : Move) → IsNarrow caught.ride →
-    IsKeepable (went_on x number caught taken)
+    IsKeepable (went_on x number caught.ride caught.facts taken)
 keep_after x number caught taken narrow =
     inr (record {
       before = x.rides;

@@ -1,9 +1,7 @@
-pub mod BagLaws
 pub mod EntryLaws
 pub mod FinalSteps
 pub mod FutileLaws
 pub mod HorizonLaws
-pub mod KeptBagLaws
 pub mod KeptLaws
 pub mod MoveBounds
 pub mod MoveLaws

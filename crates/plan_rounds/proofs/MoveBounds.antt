@@ -18,7 +18,7 @@ use Rattle.feed_rows.specs.FareSums.{amount_of}
 use Rattle.feed_rows.specs.FareStands.{place_kind, place_charge, frees_first, frees_next}
 use Rattle.feed_rows.specs.FareSteps.{leg_taken, place_taken, move_of_first, move_of_next, move_after}
 use Rattle.plain_laws.proofs.Laws.{All-slice_get, chain_gives}
-use Rattle.plan_rounds.specs.Labels.{IsSmall}
+use Rattle.round_labels.specs.Labels.{IsSmall}
 
 -- an amount of a sound feed
 abbrev IsLow : ℤ → Type 0

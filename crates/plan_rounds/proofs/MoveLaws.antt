@@ -10,8 +10,8 @@ use Rattle.feed_rows.specs.FeedRows.{FeedRows}
 use Rattle.feed_rows.specs.SoundFeed.{IsSoundFeed}
 use Rattle.fare_automaton.specs.Terms.{FareTerms, terms}
 use Rattle.fare_automaton.specs.Steps.{AreStarts, AreSteps}
-use Rattle.plan_rounds.specs.declared.label.Label.{Label}
-use Rattle.plan_rounds.specs.Labels.{IsBounded}
+use Rattle.round_labels.specs.declared.label.Label.{Label}
+use Rattle.round_labels.specs.Labels.{IsBounded}
 use Rattle.plan_rounds.specs.Moves.{AreMovesOf}
 use Rattle.plan_rounds.proofs.MoveBounds.{move_small}
 

@@ -25,9 +25,9 @@ use Rattle.plan_rides.proofs.DepartureLaws.{ride_end}
 use Rattle.plan_rides.proofs.MarkLaws.{member_of_stands_for}
 use Rattle.plan_rides.proofs.CaughtLaws.{caught_ride, caught_within}
 use Rattle.round_laws.specs.LabelSteps.{IsCaughtRide, facts_after, start_facts}
-use Rattle.plan_rounds.specs.declared.label.Label.{Label}
+use Rattle.round_labels.specs.declared.label.Label.{Label}
 use Rattle.plan_rounds.specs.declared.search.Source.{Source}
-use Rattle.plan_rounds.specs.Labels.{IsBounded, facts_of, label_of, stand_of_label, started, went_on}
+use Rattle.round_labels.specs.Labels.{IsBounded, facts_of, label_of, stand_of_label, started, went_on}
 use Rattle.plan_rounds.specs.Moves.{AreMovesOf}
 use Rattle.plan_rounds.specs.Sources.{IsSource, StepsByFirst, LeadsByFirst}
 use Rattle.plan_rounds.specs.Stores.{IsFresh, IsPrunedBy, StepsBy, IsStartOf, IsStartAmong}
@@ -73,9 +73,9 @@ module _ (feed : FeedRows) (query : Query) (source : Source) (is : IsSource feed
   leg = leg_facts feed caught.facts
 
   pub fresh_after : (taken : Move) → IsSoundFeed feed →
-      move_after feed query.rider from.state from.held.0 leg taken ≡ Some taken → IsBounded (went_on from source.number caught taken) →
-      IsPrunedBy feed query source.labels.now (went_on from source.number caught taken) →
-      IsFresh feed query source.labels.now (from.rides + 1) (went_on from source.number caught taken)
+      move_after feed query.rider from.state from.held.0 leg taken ≡ Some taken → IsBounded (went_on from source.number caught.ride caught.facts taken) →
+      IsPrunedBy feed query source.labels.now (went_on from source.number caught.ride caught.facts taken) →
+      IsFresh feed query source.labels.now (from.rides + 1) (went_on from source.number caught.ride caught.facts taken)
   fresh_after taken sound pays bounded pruned = record {
     inside = ride_end feed caught.ride caught.facts sound right.facts;
     counts = refl;

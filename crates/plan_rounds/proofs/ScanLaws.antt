@@ -17,11 +17,11 @@ use Rattle.plan_rides.specs.InTime.{AreLastDepartures, IsRight, IsWithinWindow, 
 use Rattle.plan_rides.specs.Reached.{AddsReached, HoldsFrom, IsAny, IsReachedFrom, Positioned}
 use Rattle.plan_rides.proofs.FoundLaws.{has_kept, kept_never, kept_right}
 use Rattle.round_laws.specs.LabelSteps.{IsLabelStep}
-use Rattle.plan_rounds.specs.declared.label.Label.{Label}
+use Rattle.round_labels.specs.declared.label.Label.{Label}
 use Rattle.plan_rounds.specs.declared.scan.Round.{Round}
 use Rattle.plan_rounds.specs.declared.search.Source.{Source}
 use Rattle.plan_rounds.specs.Horizons.{IsFair}
-use Rattle.plan_rounds.specs.Labels.{facts_of, stand_of_label}
+use Rattle.round_labels.specs.Labels.{facts_of, stand_of_label}
 use Rattle.plan_rounds.specs.Prospects.{ProspectLists, latest_of, lasts_of}
 use Rattle.plan_rounds.specs.Scans.{AddsMarks, AreFairFor, AreReached, HasLasts, IsFairIn, IsNear, IsRound, StepsAmong, StepsAt, StepsAtFirst, StepsFromPosition}
 use Rattle.plan_rounds.specs.Searched.{Searched, Lacks}

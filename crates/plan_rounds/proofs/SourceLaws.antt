@@ -14,11 +14,11 @@ use Rattle.plain_laws.proofs.Laws.{All-slice_get, slice_get-Contains}
 use Rattle.plan_rides.specs.InTime.{IsUsualQuery, IsWithinWindow}
 use Rattle.round_laws.specs.LabelSteps.{stand_of_facts}
 use Rattle.round_laws.specs.LinkedTables.{IsLinked}
-use Rattle.plan_rounds.specs.declared.kept_label.KeptLabel.{KeptLabel}
-use Rattle.plan_rounds.specs.declared.label.Label.{Label}
+use Rattle.round_labels.specs.declared.kept_label.KeptLabel.{KeptLabel}
+use Rattle.round_labels.specs.declared.label.Label.{Label}
 use Rattle.plan_rounds.specs.declared.search.Source.{Source}
-use Rattle.plan_rounds.specs.Kept.{IsKeptAt, whole_by}
-use Rattle.plan_rounds.specs.Labels.{IsBounded, facts_of, label_of, labels_of, stand_of_label}
+use Rattle.round_labels.specs.Kept.{IsKeptAt, whole_by}
+use Rattle.round_labels.specs.Labels.{IsBounded, facts_of, label_of, labels_of, stand_of_label}
 use Rattle.plan_rounds.specs.Scans.{AreOrigins, IsOrigin}
 use Rattle.plan_rounds.specs.Sources.{IsSource}
 use Rattle.plan_rounds.specs.Stores.{AreStored, StepsTo, StepsFrom, StepsFromFirst}

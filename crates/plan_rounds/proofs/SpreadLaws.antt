@@ -11,10 +11,11 @@ use Rattle.feed_rows.specs.LabelCover.{Covers, price_so_far}
 use Rattle.feed_rows.specs.PartialJourneys.{LabelFacts}
 use Rattle.label_bag.specs.Bags.{covers as has_cover}
 use Rattle.plain_laws.proofs.Laws.{list_any_tells, Contains-cons_cases, Contains-cons_first}
-use Rattle.plan_rounds.specs.declared.label.Label.{Label}
-use Rattle.plan_rounds.specs.Labels.{facts_of, covers}
-use Rattle.plan_rounds.specs.CoverLaws.{cover_laws, covers-tells}
-use Rattle.plan_rounds.specs.Stores.{Takes, IsHeldBelow, IsFresh, Spreads}
+use Rattle.round_labels.specs.declared.label.Label.{Label}
+use Rattle.round_labels.specs.Labels.{facts_of, covers}
+use Rattle.round_labels.specs.CoverLaws.{cover_laws, covers-tells}
+use Rattle.round_labels.specs.Bags.{Takes}
+use Rattle.plan_rounds.specs.Stores.{IsHeldBelow, IsFresh, Spreads}
 
 -- ---- one offer
 

@@ -16,11 +16,12 @@ use Rattle.plain_laws.proofs.Laws.{Contains-map, map-tells, Contains-filter, Con
 use Rattle.plan_rides.specs.InTime.{IsUsualQuery, IsWithinWindow}
 use Rattle.round_laws.specs.LabelSteps.{start_facts}
 use Rattle.round_laws.specs.LinkedTables.{IsLinked, AreLinked, IsCoveredBy, CoversStarts, CoversSteps}
-use Rattle.plan_rounds.specs.declared.label.Label.{Label}
-use Rattle.plan_rounds.specs.Labels.{facts_of, label_of, labels_of, covers, IsBounded}
-use Rattle.plan_rounds.specs.CoverLaws.{cover_laws}
+use Rattle.round_labels.specs.declared.label.Label.{Label}
+use Rattle.round_labels.specs.Labels.{facts_of, label_of, labels_of, covers, IsBounded}
+use Rattle.round_labels.specs.CoverLaws.{cover_laws}
 use Rattle.plan_rounds.specs.Sources.{AreEnding}
-use Rattle.plan_rounds.specs.Stores.{has_rides, gathered, IsHeldBelow, IsFresh, Spreads, StepsFrom, IsStartOf, AreStored, AreClosedTo, ArePruned, AreWhole, IsNever}
+use Rattle.round_labels.specs.Bags.{has_rides, gathered}
+use Rattle.plan_rounds.specs.Stores.{IsHeldBelow, IsFresh, Spreads, StepsFrom, IsStartOf, AreStored, AreClosedTo, ArePruned, AreWhole, IsNever}
 
 -- ---- what is gathered
 

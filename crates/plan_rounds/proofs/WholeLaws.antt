@@ -26,10 +26,10 @@ use Rattle.round_laws.proofs.AnswerLaws.{exact_entries, ends_exactly}
 use Rattle.round_laws.proofs.ClosedLaws.{covers_journeys, closed_table}
 use Rattle.round_laws.proofs.TableLaws.{are_real}
 use Rattle.plan_rounds.specs.declared.finals.Final.{Final}
-use Rattle.plan_rounds.specs.declared.label.Label.{Label}
-use Rattle.plan_rounds.specs.CoverLaws.{covers-holds}
+use Rattle.round_labels.specs.declared.label.Label.{Label}
+use Rattle.round_labels.specs.CoverLaws.{covers-holds}
 use Rattle.plan_rounds.specs.Finals.{final_of, finals_of, is_bettered}
-use Rattle.plan_rounds.specs.Labels.{facts_of, label_of, labels_of, covers}
+use Rattle.round_labels.specs.Labels.{facts_of, label_of, labels_of, covers}
 use Rattle.plan_rounds.specs.Stores.{ArePruned, AreWhole}
 use Rattle.plan_rounds.specs.Tables.{numbered, table_in, IsExactTable}
 use Rattle.plan_rounds.proofs.TableLaws.{are_bags, option_map-tells}

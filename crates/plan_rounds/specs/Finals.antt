@@ -10,8 +10,8 @@ use Rattle.feed_rows.specs.RoundTables.{Final as KeptFinal}
 use Rattle.round_laws.specs.LabelSteps.{IsLabelEnd}
 use Rattle.round_laws.specs.LinkedTables.{IsFinal}
 use Rattle.plan_rounds.specs.declared.finals.Final.{Final}
-use Rattle.plan_rounds.specs.declared.label.Label.{Label}
-use Rattle.plan_rounds.specs.Labels.{facts_of, labels_of}
+use Rattle.round_labels.specs.declared.label.Label.{Label}
+use Rattle.round_labels.specs.Labels.{facts_of, labels_of}
 
 -- the final as tables have it
 abbrev pub final_of : Final → KeptFinal

@@ -1,12 +1,7 @@
-pub mod CoverLaws
 pub mod Entries
 pub mod FinalLaws
 pub mod Finals
 pub mod Horizons
-pub mod Kept
-pub mod LastMoveLaws
-pub mod LastMoves
-pub mod Labels
 pub mod Moves
 pub mod Prospects
 pub mod Scans

@@ -6,10 +6,10 @@ use Rattle.feed_rows.specs.declared.states.Move.{Move}
 use Rattle.feed_rows.specs.FareSteps.{AreMovesAfter}
 use Rattle.feed_rows.specs.FeedRows.{FeedRows}
 use Rattle.fare_automaton.specs.Terms.{terms}
-use Rattle.plan_rounds.specs.declared.label.Label.{Label}
+use Rattle.round_labels.specs.declared.label.Label.{Label}
 use Rattle.plan_rounds.specs.declared.search.Found.{Found}
 use Rattle.plan_rounds.specs.Searched.{Searched}
-use Rattle.plan_rounds.specs.Labels.{IsSmall, same_parts}
+use Rattle.round_labels.specs.Labels.{IsSmall, same_parts}
 
 -- all that there are, each once, with amounts that one ride can cost
 pub record AreMovesOf (feed : FeedRows) (query : Query) (label : Label) (leg : LegFacts) (moves : List Move) : Type 0 where

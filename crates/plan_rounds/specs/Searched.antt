@@ -7,9 +7,9 @@ use Rattle.std.specs.List.{list_any}
 use Rattle.plan_rides.specs.Asked.{Asked}
 use Rattle.round_laws.specs.Futility.{MayLack, is_within, least_end}
 use Rattle.plan_rounds.specs.declared.finals.Final.{Final}
-use Rattle.plan_rounds.specs.declared.label.Label.{Label}
+use Rattle.round_labels.specs.declared.label.Label.{Label}
 use Rattle.plan_rounds.specs.Finals.{is_bettered}
-use Rattle.plan_rounds.specs.Labels.{facts_of}
+use Rattle.round_labels.specs.Labels.{facts_of}
 
 -- a feed and a query over it, and whether the labels are to cover all partial journeys but those that a final outdoes,
 -- or those alone that matter for the answer

@@ -9,9 +9,9 @@ use Rattle.plan_rides.specs.InTime.{IsUsualQuery, IsWithinWindow}
 use Rattle.plan_rides.specs.declared.caught.CaughtRide.{CaughtRide}
 use Rattle.round_laws.specs.LabelSteps.{facts_after}
 use Rattle.plan_rounds.specs.declared.finals.Final.{Final}
-use Rattle.plan_rounds.specs.declared.label.Label.{Label}
+use Rattle.round_labels.specs.declared.label.Label.{Label}
 use Rattle.plan_rounds.specs.declared.search.Source.{Source}
-use Rattle.plan_rounds.specs.Labels.{IsBounded, facts_of, stand_of_label}
+use Rattle.round_labels.specs.Labels.{IsBounded, facts_of, stand_of_label}
 use Rattle.plan_rounds.specs.Searched.{Searched, Lacks}
 use Rattle.plan_rounds.specs.Stores.{Spreads, StepsBy}
 

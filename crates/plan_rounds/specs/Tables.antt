@@ -11,9 +11,9 @@ use Rattle.feed_rows.specs.ClosedTable.{IsClosedTable}
 use Rattle.feed_rows.specs.SoundTable.{AreReal, AreBags, IsWithoutExcess, CoversJourneys, EndsExactly, IsPruned}
 use Rattle.plain_laws.specs.declared.groups.Grouped.{Grouped}
 use Rattle.plan_rounds.specs.declared.finals.Final.{Final}
-use Rattle.plan_rounds.specs.declared.label.Label.{Label}
+use Rattle.round_labels.specs.declared.label.Label.{Label}
 use Rattle.plan_rounds.specs.Finals.{finals_of}
-use Rattle.plan_rounds.specs.Labels.{labels_of}
+use Rattle.round_labels.specs.Labels.{labels_of}
 use Rattle.plan_rounds.specs.Searched.{Searched}
 
 -- where labels with so many rides stand that are at the stop, among groups for each number of rides and each of so many

@@ -4,17 +4,17 @@ ghost use Rattle.feed_rows.specs.FareFloor.{fare_floor};
 ghost use Rattle.feed_rows.specs.PartialJourneys.{LabelFacts};
 ghost use Rattle.plan_rides.specs.InTime.{IsRight};
 ghost use Rattle.round_laws.specs.Futility.{is_within, least_end, least_price, some_takes_back};
-ghost use Rattle.plan_rounds.specs.Labels.{facts_of, stand_of_label};
+ghost use Rattle.round_labels.specs.Labels.{facts_of, stand_of_label};
 ghost use Rattle.plan_rounds.specs.Searched.{Lacks, has_ahead, is_overtaken_by};
 ghost use Rattle.plan_rounds.specs.Sources.{IsSource};
 ghost use Rattle.plan_rounds.specs.Stores.{StepsBy};
 
 use crate::finals::Final;
-use crate::label::Label;
 use crate::search::{Search, Source};
 use feed_rows::Feed;
 use feed_timetable::Standing;
 use plan_rides::CaughtRide;
+use round_labels::Label;
 use transit_base::{Moment, Money, StopId};
 
 /// The `fare_transfer_type` by which the change alone is paid, and not the leg before it.

@@ -5,15 +5,15 @@ ghost use Rattle.feed_rows.specs.RoundTables.{entries_of, entry_of_final, start_
 ghost use Rattle.plan_rounds.specs.Entries.{part_of};
 ghost use Rattle.plan_rounds.specs.Finals.{final_of};
 ghost use Rattle.plan_rounds.specs.Tables.{table_by};
-ghost use Rattle.plan_rounds.specs.Labels.{labels_of};
+ghost use Rattle.round_labels.specs.Labels.{labels_of};
 
 use crate::finals::Final;
-use crate::label_list::LabelList;
 use crate::table::RoundTable;
 use feed_rows::{
     ChangeChoice, ChangeChoices, Choice, Entry, Journey, LegChoice, LegChoices, Move, Ride,
     RideList,
 };
+use round_labels::LabelList;
 use std::alloc::{AllocError, Global};
 use transit_base::StopId;
 

@@ -3,14 +3,14 @@ ghost use Rattle.std.specs.Prelude.{◌<◌, ◌^◌, [], length, IsTrue, OnOk};
 ghost use Rattle.feed_rows.specs.Journeys.{stands_for};
 ghost use Rattle.feed_rows.specs.declared.fares.Triple.{Triple};
 ghost use Rattle.plan_rounds.specs.Finals.{AddsEnds, EndsBelow, EndsIn, is_bettered};
-ghost use Rattle.plan_rounds.specs.Labels.{facts_of};
+ghost use Rattle.round_labels.specs.Labels.{facts_of};
 ghost use Rattle.plan_rounds.specs.Sources.{AreEnding, IsEnding};
 ghost use Rattle.round_laws.specs.LabelSteps.{IsLabelEnd};
 
-use crate::label_list::LabelList;
 use crate::search::{Search, Source};
 use feed_rows::Triple;
 use pareto_front::{Front, Ranked};
+use round_labels::LabelList;
 use std::alloc::{AllocError, Global};
 use transit_base::StopId;
 use triple_order::{is_at_most, is_before};

@@ -2,8 +2,8 @@
 ghost use Rattle.std.specs.Prelude.{◌≡◌, ◌<◌, true, length, ◌+ℤ◌};
 ghost use Rattle.plan_rounds.specs.Moves.{HasBetter, betters};
 
-use crate::label::same_parts;
 use feed_rows::Move;
+use round_labels::same_parts;
 
 /// Whether the one leads to the same state of fares as the other, and neither pays more nor costs more.
 #[tactic(auto, unfolding(crate::specs::Moves::betters))]

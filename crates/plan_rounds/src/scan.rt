@@ -2,20 +2,19 @@
 ghost use Rattle.std.specs.Prelude.{◌≡◌, true, Some, int_le, slice_get, IfOk, OnOk};
 ghost use Rattle.std.specs.List.Sorted.{IsNonDecreasingBy, IsPermutation};
 ghost use Rattle.plan_rides.specs.Reached.{HoldsFrom, IsReachedFrom};
-ghost use Rattle.plan_rounds.specs.Labels.{stand_of_label};
+ghost use Rattle.round_labels.specs.Labels.{stand_of_label};
 ghost use Rattle.plan_rounds.specs.Moves.{HasFares};
 ghost use Rattle.plan_rounds.specs.Scans.{AddsMarks, AreFairFor, AreMarks, HasLasts, IsFairIn, IsMarked, IsNear, IsRound, SpreadsIn, StepsAt, StepsFromPosition, place_of};
 ghost use Rattle.plan_rounds.specs.Sources.{IsSource, SpreadsFrom};
 ghost use Rattle.plan_rounds.specs.Stores.{StepsFrom};
-ghost use Rattle.plan_rounds.specs.declared.label.Label.{Label};
+ghost use Rattle.round_labels.specs.declared.label.Label.{Label};
 
 use crate::finals::Final;
 use crate::horizon::Horizon;
-use crate::label_list::LabelList;
 use crate::prospects::Prospects;
 use crate::search::{Found, Search, Source};
-use crate::stop_bags::StopBags;
 use plan_rides::{CaughtRide, KeptRides, Positions, Reached, Traveller};
+use round_labels::{LabelList, StopBags};
 use std::alloc::AllocError;
 use std::mem;
 

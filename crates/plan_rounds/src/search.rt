@@ -8,7 +8,7 @@ ghost use Rattle.feed_rows.specs.SoundFeed.{IsSoundFeed};
 ghost use Rattle.feed_rows.specs.StopLinks.{stop_set};
 ghost use Rattle.plan_rides.specs.Asked.{asked};
 ghost use Rattle.plan_rides.specs.InTime.{IsRight, IsUsualQuery, deadline};
-ghost use Rattle.plan_rounds.specs.Labels.{IsBounded, IsSmall, facts_of, stand_of_label};
+ghost use Rattle.round_labels.specs.Labels.{IsBounded, IsSmall, facts_of, stand_of_label};
 ghost use Rattle.plan_rounds.specs.Moves.{AreMovesOf, HasFares};
 ghost use Rattle.feed_rows.specs.declared.fares.Triple.{Triple};
 ghost use Rattle.plan_rounds.specs.Finals.{AddsEnds, EndsBelow, HasEnds, is_bettered};
@@ -18,24 +18,23 @@ ghost use Rattle.plan_rounds.specs.Horizons.{IsHorizon};
 ghost use Rattle.plan_rounds.specs.Prospects.{AreProspects, no_prospects};
 ghost use Rattle.plan_rounds.specs.Sources.{AreEnding, IsSource, SpreadsFrom, StepsByFirst};
 ghost use Rattle.label_bag.specs.Bags.{AreApart};
-ghost use Rattle.plan_rounds.specs.Labels.{covers};
-ghost use Rattle.plan_rounds.specs.Stores.{AreStored, AreWhole, IsNever, gathered, IsStartOf, Spreads, StepsBy, StepsFrom, StepsTo};
+ghost use Rattle.round_labels.specs.Labels.{covers};
+ghost use Rattle.round_labels.specs.Bags.{gathered};
+ghost use Rattle.plan_rounds.specs.Stores.{AreStored, AreWhole, IsNever, IsStartOf, Spreads, StepsBy, StepsFrom, StepsTo};
 
 use crate::bounds::takes_back;
 use crate::finals::Final;
 use crate::horizon::Horizon;
-use crate::label::Label;
-use crate::label_list::LabelList;
 use crate::moves::is_bettered;
 use crate::prospects::Prospects;
 use crate::scan::{Marks, Round};
-use crate::stop_bags::StopBags;
 use fare_automaton::{Automaton, KnownOptions};
 use fare_timeframes::{Timeframes, blank_leg};
 use feed_rows::{ChangeChoice, Feed, LegFacts, Move, Query};
 use feed_timetable::Timetable;
 use pareto_front::Front;
 use plan_rides::{CaughtRide, Rides};
+use round_labels::{Label, LabelList, StopBags};
 use std::alloc::{AllocError, Global};
 use std::marker::Model;
 use transit_base::{Moment, StopId};
@@ -318,7 +317,9 @@ impl<'s, 'f> Search<'s, 'f> {
         ensures { OnOk result (SpreadsFrom self.now finals.now source.now (λ b. b ≡ facts_after (facts_of source.now.label.now) caught.now.facts taken.now) bags.old bags.new) }
     {
         let _feed = self.feed();
-        let label = source.label.after(source.number, caught, taken);
+        let label = source
+            .label
+            .after(source.number, &caught.ride, &caught.facts, taken);
         if self.is_overtaken(&label, finals) {
             return Ok(());
         }

@@ -2,14 +2,12 @@
 ghost use Rattle.std.specs.Prelude.{◌≡◌, ◌+◌, ◌*◌, ◌<◌, ◌≤◌, ◌^◌, length, slice_get, All, IfOk, Some};
 ghost use Rattle.plain_laws.specs.Plain.{groups_below, list_below};
 ghost use Rattle.plan_rounds.specs.Finals.{finals_of};
-ghost use Rattle.plan_rounds.specs.Labels.{label_of, labels_of};
+ghost use Rattle.round_labels.specs.Labels.{label_of, labels_of};
 ghost use Rattle.plan_rounds.specs.Tables.{group_at, numbered, table_by, table_in};
 
 use crate::finals::Final;
-use crate::kept_label::KeptLabel;
-use crate::label::Label;
-use crate::label_list::LabelList;
 use plain_laws::{Grouped, Groups};
+use round_labels::{KeptLabel, Label, LabelList};
 use std::alloc::{AllocError, Global};
 use std::marker::Model;
 use transit_base::StopId;

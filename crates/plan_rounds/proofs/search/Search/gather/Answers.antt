@@ -1,7 +1,7 @@
 use Rattle.std.proofs.Common.{sym, subst, [], length}
 use Rattle.plan_rounds.specs.Finals.{AddsEnds, EndsBelow}
 use Rattle.plan_rounds.specs.Sources.{AreEnding}
-use Rattle.plan_rounds.specs.Stores.{gathered}
+use Rattle.round_labels.specs.Bags.{gathered}
 use Rattle.plan_rounds.proofs.FinalSteps.{ends_longer}
 use Rattle.plan_rounds.proofs.search.Search.gather.Goals as goal
 

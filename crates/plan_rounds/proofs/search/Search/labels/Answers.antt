@@ -1,13 +1,14 @@
 use Rattle.std.proofs.Common.{refl, sym, ◌∙◌, ap, subst, List, ◌+◌, ◌++◌, [], arith}
 use Rattle.plan_rounds.specs.declared.finals.Final.{Final}
 use Rattle.plan_rounds.specs.Finals.{HasEnds, is_bettered}
-use Rattle.plan_rounds.specs.Labels.{labels_of}
+use Rattle.round_labels.specs.Labels.{labels_of}
 use Rattle.round_laws.proofs.FutilityLaws.{lack_more}
 use Rattle.fare_automaton.specs.Known.{KnownPicks}
 use Rattle.fare_automaton.specs.Terms.{terms}
 use Rattle.plan_rounds.specs.Searched.{Searched, Lacks}
 use Rattle.plan_rounds.specs.Sources.{AreEnding}
-use Rattle.plan_rounds.specs.Stores.{AreStored, AreClosedTo, Spreads, StepsFrom, IsNever, IsStartOf, gathered}
+use Rattle.round_labels.specs.Bags.{gathered}
+use Rattle.plan_rounds.specs.Stores.{AreStored, AreClosedTo, Spreads, StepsFrom, IsNever, IsStartOf}
 use Rattle.round_laws.specs.LinkedTables.{CoversStarts}
 use Rattle.plan_rounds.proofs.FinalSteps.{ends_start}
 use Rattle.plan_rounds.proofs.StoreLaws.{stored_none, stored_more, ending_more, closed_more, closed_weaker, starts_more, starts_covered, whole_of}

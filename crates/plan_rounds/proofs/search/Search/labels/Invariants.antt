@@ -3,7 +3,7 @@ use Rattle.plan_rounds.specs.Finals.{AddsEnds, EndsBelow}
 use Rattle.plan_rounds.specs.Moves.{HasFares}
 use Rattle.plan_rounds.specs.Searched.{Lacks}
 use Rattle.label_bag.specs.Bags.{AreApart}
-use Rattle.plan_rounds.specs.Labels.{covers, labels_of}
+use Rattle.round_labels.specs.Labels.{covers, labels_of}
 use Rattle.plan_rounds.specs.Stores.{AreStored, AreClosedTo}
 use Rattle.round_laws.specs.LinkedTables.{CoversStarts}
 use Rattle.plan_rounds.proofs.search.Search.labels.Given as goal

@@ -1,6 +1,6 @@
 use Rattle.std.proofs.Common.{◌≡◌, ◌∙◌, ap, refl, subst, sym, arith, length, true, false}
 use Rattle.std.proofs.lemmas.List.{length_push}
-use Rattle.plan_rounds.specs.Kept.{whole_by}
+use Rattle.round_labels.specs.Kept.{whole_by}
 use Rattle.plan_rounds.specs.Scans.{AreReached}
 use Rattle.plan_rounds.proofs.ScanLaws.{AreNear, label_passed, label_reached, near_more, reached_moved}
 use Rattle.plan_rounds.proofs.SourceLaws.{rides_kept, source_of}

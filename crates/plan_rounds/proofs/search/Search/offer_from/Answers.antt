@@ -4,7 +4,7 @@ use Rattle.std.proofs.lemmas.Result.{on_ok_weaker}
 use Rattle.plan_rides.specs.InTime.{is_early}
 use Rattle.plan_rounds.specs.Scans.{StepsAt}
 use Rattle.plan_rounds.specs.Searched.{Lacks}
-use Rattle.plan_rounds.specs.declared.label.Label.{Label}
+use Rattle.round_labels.specs.declared.label.Label.{Label}
 use Rattle.plan_rounds.proofs.SourceLaws.{source_of}
 use Rattle.plan_rounds.proofs.SpreadLaws.{spreads_at, spreads_same}
 use Rattle.plan_rounds.proofs.search.Search.offer_from.Goals as goal

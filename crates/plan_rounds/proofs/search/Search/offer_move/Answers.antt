@@ -1,7 +1,7 @@
 use Rattle.std.proofs.Common.{◌≡◌, ◌∙◌, true, false, sym, subst}
-use Rattle.plan_rounds.specs.declared.label.Label.{Label}
-use Rattle.plan_rounds.specs.Kept.{IsKeepable}
-use Rattle.plan_rounds.specs.Labels.{IsBounded, stand_of_label, went_on}
+use Rattle.round_labels.specs.declared.label.Label.{Label}
+use Rattle.round_labels.specs.Kept.{IsKeepable}
+use Rattle.round_labels.specs.Labels.{IsBounded, stand_of_label, went_on}
 use Rattle.plan_rounds.proofs.KeptLaws.{keep_after, narrow_caught}
 use Rattle.plan_rounds.specs.Searched.{Lacks, is_overtaken_by}
 use Rattle.plan_rounds.proofs.FutileLaws.{overtaken, not_outdone}
@@ -25,7 +25,7 @@ returns-then-is_overtaken c =
     (Lacks c.args.self.now c.args.finals.now) c.args.source.now.labels.now _ _
     c.args.bags.now (λ b same.
     overtaken c.args.self.now c.args.finals.now
-    (went_on c.args.source.now.label.now c.args.source.now.number c.args.caught.now c.args.taken.now)
+    (went_on c.args.source.now.label.now c.args.source.now.number c.args.caught.now.ride c.args.caught.now.facts c.args.taken.now)
     b c.feed-feed.ensures.sound same
     (subst (λ (x : Label). is_overtaken_by c.args.self.now c.args.finals.now x ≡ true) c.after-label.ensures.value
     (sym c.is_overtaken.ensures ∙ c.if-is_overtaken.true)))
@@ -37,10 +37,10 @@ returns c =
     let taken = c.args.taken.now in
     spreads_taken c.args.self.now.feed c.args.self.now.query
     (Lacks c.args.self.now c.args.finals.now) source.labels.now _ c.offer.result c.args.bags.now c.offer.new.self c.after-label.result
-    (went_on source.label.now source.number caught taken) c.offer.ensures c.after-label.ensures.value
+    (went_on source.label.now source.number caught.ride caught.facts taken) c.offer.ensures c.after-label.ensures.value
     (fresh_after c.args.self.now.feed c.args.self.now.query source c.requires.source caught c.requires.right taken c.feed-feed.ensures.sound
     c.requires.pays (subst IsBounded c.after-label.ensures.value c.after-label.ensures.bounded)
     (not_outdone c.args.self.now c.args.finals.now source.labels.now
-    (went_on source.label.now source.number caught taken)
+    (went_on source.label.now source.number caught.ride caught.facts taken)
     c.requires.ended (subst (λ (x : Label). is_overtaken_by c.args.self.now c.args.finals.now x ≡ false) c.after-label.ensures.value
     (sym c.is_overtaken.ensures ∙ c.if-is_overtaken.false))))

@@ -2,8 +2,8 @@ use Rattle.std.proofs.Common.{◌∙◌, ap, subst, sym}
 use Rattle.feed_rows.specs.declared.journeys.Query.{Query}
 use Rattle.plan_rounds.specs.Searched.{Searched}
 use Rattle.plan_rounds.specs.Stores.{IsNever}
-use Rattle.plan_rounds.specs.Kept.{IsKeepable}
-use Rattle.plan_rounds.specs.Labels.{started}
+use Rattle.round_labels.specs.Kept.{IsKeepable}
+use Rattle.round_labels.specs.Labels.{started}
 use Rattle.plan_rounds.proofs.KeptLaws.{keep_start}
 use Rattle.plan_rounds.proofs.RideSteps.{fresh_start}
 use Rattle.plan_rounds.proofs.SpreadLaws.{spreads_taken}
