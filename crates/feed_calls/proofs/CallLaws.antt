@@ -1,22 +1,31 @@
 -- The rows of stop times, one record after another.
 use Rattle.std.proofs.Common.{◌≡◌, refl, sym, ap, ◌∙◌, ℕ, zero, suc, ◌+◌, ◌<◌, ◌≤◌, ◌++◌, List, [], ◌∷◌, length, get_or, true, false, nat_lt, Option, Some, None, add-one, arith}
-use Rattle.std.specs.Prelude.{is_some}
+use Rattle.std.specs.Prelude.{Bool, is_some, option_map, not, ◌==◌}
 use Rattle.std.specs.Option.{option_or, option_map_or}
 use Rattle.std.proofs.lemmas.Bool.Decides.{nat_tests}
 use Rattle.std.proofs.lemmas.List.{length-append, get_or-append-add}
 use Rattle.std.proofs.lemmas.Option.{none-some}
 use Rattle.std.proofs.Math.ListN.{get_or-append}
+use Rattle.transit_base.specs.Limits.{most_time}
+use Rattle.transit_base.specs.declared.numbers.StopId.{StopId}
+use Rattle.transit_base.specs.declared.numbers.TripId.{TripId}
 use Rattle.feed_rows.specs.Limits.{most_rows}
+use Rattle.feed_rows.specs.TimeGrammar.{time_value}
+use Rattle.feed_rows.specs.declared.names.ColumnName.TheVariants as column
 use Rattle.feed_rows.specs.declared.names.FileName.TheVariants as file
 use Rattle.feed_rows.specs.declared.faults.FaultKind.TheVariants as kind
 use Rattle.feed_rows.specs.declared.faults.FeedFault.{FeedFault}
 use Rattle.plain_laws.specs.Plain.{list_below, first_below}
 use Rattle.plain_laws.proofs.Laws.{list_below-same, option_or-assoc}
-use Rattle.feed_faults.specs.Records.{FileTable, table_of_bytes, header, row_count, column_of, field, is_long}
+use Rattle.feed_faults.specs.declared.columns.ColumnRule.{ColumnRule}
+use Rattle.feed_faults.specs.declared.columns.Grammar.TheVariants.{Id}
+use Rattle.feed_faults.specs.FieldGrammars.{is_id, most_int}
+use Rattle.feed_faults.specs.FieldValues.{int_or_zero}
+use Rattle.feed_faults.specs.Records.{FileTable, Fields, table_of_bytes, header, row_count, column_of, field, is_long}
 use Rattle.feed_faults.specs.FaultPlaces.{file_fault}
-use Rattle.feed_faults.specs.FormFaults.{header_fault, doubled_column, missing_column, is_twice, form_fault_of_row, form_fault_of_rows, form_fault_of_table}
+use Rattle.feed_faults.specs.FormFaults.{header_fault, field_misfit, fault_of_field, doubled_column, missing_column, is_twice, form_fault_of_row, form_fault_of_rows, form_fault_of_table}
 use Rattle.feed_tables.specs.declared.ids.CallIds.{CallIds}
-use Rattle.feed_tables.specs.ReadCalls.{read_call, read_calls}
+use Rattle.feed_tables.specs.ReadCalls.{trip_of, stop_of, row_in, read_call, read_calls}
 use Rattle.feed_calls.specs.CallRows.{call_fault, calls_fault, fields_behind}
 use Rattle.feed_text.specs.Reader.{StandsBehind, IsTableOf}
 use Rattle.feed_text.specs.declared.records.Records.{Records}
@@ -27,6 +36,28 @@ use Rattle.feed_calls.specs.declared.calls.StopTimes.{StopTimes}
 use Rattle.feed_calls.specs.declared.calls.CallError.TheVariants.{Fault, Record}
 use Rattle.feed_calls.specs.CallRows.{HasCalls, IsOwnFault}
 use Rattle.feed_calls.specs.declared.calls.CallRows.{CallRows}
+
+no_id : is_id [] ≡ true → ⊥
+unfolding is_id
+no_id e = absurd (cc)
+
+-- a field that is an id has no fault in a column of ids
+pub found_sound : (row : ℕ) (at : Fields) (rule : ColumnRule) (id : List ℕ) → rule.grammar ≡ Id → id ≡ at rule.name → is_id id ≡ true
+    → fault_of_field file.StopTimes row at rule ≡ None
+unfolding field_misfit
+found_sound row at rule [] grammar same sound = absurd (no_id sound)
+found_sound row at rule (b ∷ rest) grammar same sound = rw (← same, grammar, sound) refl
+
+-- the stop time that a record makes, by what its fields tell
+pub made_call : (ids : CallIds) (at : Fields) (trip : Option TripId) (stop : Option StopId) (sequence : ℕ) (arrival departure : Option ℕ) (pickup drop_off : Bool)
+    → trip ≡ option_map trip_of (row_in ids.trips (at column.TripId)) → stop ≡ option_map stop_of (row_in ids.stops (at column.StopId))
+    → sequence ≡ int_or_zero 0 most_int (at column.StopSequence)
+    → arrival ≡ time_value most_time (at column.ArrivalTime) → departure ≡ time_value most_time (at column.DepartureTime)
+    → pickup ≡ not (int_or_zero 0 3 (at column.PickupType) == 1) → drop_off ≡ not (int_or_zero 0 3 (at column.DropOffType) == 1)
+    → record { trip = trip; stop = stop; sequence = sequence; arrival = arrival; departure = departure; pickup = pickup; drop_off = drop_off } ≡ read_call ids at
+unfolding read_call
+made_call ids at trip stop sequence arrival departure pickup drop_off trip_is stop_is sequence_is arrival_is departure_is pickup_is drop_off_is =
+    rw (trip_is, stop_is, sequence_is, arrival_is, departure_is, pickup_is, drop_off_is) refl
 
 -- one record more
 module _ (rs : List (List (List ℕ))) (r : List (List ℕ)) where

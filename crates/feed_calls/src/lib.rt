@@ -1,4 +1,5 @@
-//! Stop times, judged and made rows as their records are read, by the ids of trips and stops. Nothing else of their file is kept.
+//! Stop times, judged and made rows as their records are read, by the ids of trips and stops. Nothing of their file is kept
+//! but what they tell.
 #![tactic(auto)]
 
 mod calls;

@@ -1,11 +1,12 @@
 -- Slots hold ids of a column.
-use Rattle.std.proofs.Common.{◌≡◌, refl, sym, ◌∙◌, ap, subst, ℕ, ◌-◌, ◌^◌, ◌<◌, ◌≤◌, ⊎_elim, List, length, get_or, arith}
+use Rattle.std.proofs.Common.{◌≡◌, refl, sym, ◌∙◌, ap, subst, ℕ, ◌-◌, ◌^◌, ◌<◌, ◌≤◌, ⊎_elim, List, length, get_or, true, arith}
 use Rattle.std.specs.Prelude.{replicate, slice_index, Some, Any}
 use Rattle.std.proofs.lemmas.Bool.{cases_eq}
 use Rattle.std.proofs.lemmas.List.{get_or_default, get_or-replicate, get_or-set_same, get_or-set_other, length-replicate, length-set}
 use Rattle.std.proofs.lemmas.List.Elements.{All-contains}
 use Rattle.std.proofs.Math.ListN.{set}
 use Rattle.feed_rows.specs.declared.names.ColumnName.{ColumnName}
+use Rattle.feed_faults.specs.FieldGrammars.{is_id}
 use Rattle.feed_faults.specs.Records.{FileTable, row_count, field}
 use Rattle.feed_faults.specs.RowKeys.{row_of}
 use Rattle.feed_text.specs.RowLimits.{row_limit}
@@ -30,9 +31,9 @@ free_slots rows slots count some le one pilots keys free = record {
 
 -- they stay right where one gets an id
 pub put_id : (rows : List IdRow) (before after : Slots) (place slot : ℕ) (entry : IdRow) → AreSlots rows before
-    → place < length rows → get_or rows place entry ≡ entry → after.pilots ≡ before.pilots
+    → place < length rows → get_or rows place entry ≡ entry → is_id entry.id.now ≡ true → after.pilots ≡ before.pilots
     → after.keys.items ≡ set before.keys.items slot entry.key → after.rows.items ≡ set before.rows.items slot entry.row → AreSlots rows after
-put_id rows before after place slot entry was lt is same keys made = record {
+put_id rows before after place slot entry was lt is sound same keys made = record {
   piloted = rw same was.piloted;
   some = rw (made, length-set before.rows.items slot entry.row) was.some;
   keyed = rw (keys, made, length-set before.rows.items slot entry.row, length-set before.keys.items slot entry.key) was.keyed;
@@ -43,13 +44,17 @@ put_id rows before after place slot entry was lt is same keys made = record {
       (λ (hit : k ≡ slot).
       let row_is : slice_index after.rows.items k ≡ entry.row = rw (made, hit) (get_or-set_same before.rows.items slot entry.row 0 (rw hit at row_there)) in
       let key_is : slice_index after.keys.items k ≡ entry.key = rw (keys, hit) (get_or-set_same before.keys.items slot entry.key 0 (rw hit at key_there)) in
-      (place, entry, lt, is, (sym key_is, sym row_is)))
+      (place, entry, lt, is, (sym key_is, sym row_is, sound)))
       (λ (other : k ≡ slot → ⊥).
       let row_is : slice_index after.rows.items k ≡ slice_index before.rows.items k = rw made (get_or-set_other before.rows.items slot k entry.row 0 other) in
       let key_is : slice_index after.keys.items k ≡ slice_index before.keys.items k = rw keys (get_or-set_other before.keys.items slot k entry.key 0 other) in
       rw (row_is, key_is) (was.are k row_there (rw row_is at taken)))
       (cases_eq k slot);
 }
+
+-- the earliest row with a text is this one, and the text is an id by the grammar
+abbrev pub IsFound : FileTable → ColumnName → ℕ → List ℕ → Type 0
+IsFound table name row text = (row_of table name text ≡ Some row) × (is_id text ≡ true)
 
 -- the row in a slot, where the table has one
 module _ (table : FileTable) (name : ColumnName) (rows : List IdRow) (slots : Slots) (right : AreSlots rows slots) (ids : AreIdRows table name rows)
@@ -63,13 +68,15 @@ module _ (table : FileTable) (name : ColumnName) (rows : List IdRow) (slots : Sl
   found : row_of table name there.1.id.now ≡ Some row
   found = All-contains (λ (x : IdRow). row_of table name x.id.now ≡ Some x.row) rows there.1 ids.earliest (there.0, there.2, there.3) ∙ ap Some there.4.1
 
+  own : IsFound table name row there.1.id.now
+  own = (found, there.4.2)
+
   -- is found by its id
-  pub by_text : field table row name ≡ id → row_of table name id ≡ Some row
-  by_text same = subst (λ text. row_of table name text ≡ Some row) (field_there table name there.1.id.now row found ∙ same) found
+  pub by_text : field table row name ≡ id → IsFound table name row id
+  by_text same = subst (IsFound table name row) (field_there table name there.1.id.now row found ∙ same) own
 
   -- and, where this is short, by its key
-  pub by_key : (of : ℕ) → key ≡ of → IsKeyOf of id → length id ≤ 7 → row_of table name id ≡ Some row
+  pub by_key : (of : ℕ) → key ≡ of → IsKeyOf of id → length id ≤ 7 → IsFound table name row id
   by_key of same is short =
-      let own : IsKeyOf there.1.key there.1.id.now = All-contains (λ (x : IdRow). IsKeyOf x.key x.id.now) rows there.1 ids.keyed (there.0, there.2, there.3) in
-      let one = same_id there.1.id.now id of (subst (λ k. IsKeyOf k there.1.id.now) (there.4.0 ∙ same) own) is short in
-      subst (λ text. row_of table name text ≡ Some row) one found
+      let keyed : IsKeyOf there.1.key there.1.id.now = All-contains (λ (x : IdRow). IsKeyOf x.key x.id.now) rows there.1 ids.keyed (there.0, there.2, there.3) in
+      subst (IsFound table name row) (same_id there.1.id.now id of (subst (λ k. IsKeyOf k there.1.id.now) (there.4.0 ∙ same) keyed) is short) own

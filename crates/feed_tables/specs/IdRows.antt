@@ -1,10 +1,11 @@
 -- The ids of a column: their keys, the earliest row with each, and the slots in which they are looked for first.
-use Rattle.std.specs.Prelude.{◌≡◌, ℕ, zero, suc, ◌+◌, ◌*◌, ◌<◌, ◌≤◌, ◌^◌, ◌-◌, List, length, slice_index, min, Some, All, Any}
+use Rattle.std.specs.Prelude.{◌≡◌, ℕ, zero, suc, ◌+◌, ◌*◌, ◌<◌, ◌≤◌, ◌^◌, ◌-◌, List, length, slice_index, min, true, Some, All, Any}
 use Rattle.std.specs.Cmp.Lexicographic.{slice_cmp}
 use Rattle.std.specs.List.Sorted.{IsStrictlySortedBy}
 use Rattle.std.specs.Ordering.{nat_cmp, ordering_then}
 use Rattle.std.specs.declared.cmp.Ordering.{Ordering}
 use Rattle.feed_rows.specs.declared.names.ColumnName.{ColumnName}
+use Rattle.feed_faults.specs.FieldGrammars.{is_id}
 use Rattle.feed_faults.specs.Records.{FileTable, row_count, field}
 use Rattle.feed_faults.specs.RowKeys.{row_of}
 use Rattle.feed_text.specs.RowLimits.{row_limit}
@@ -33,9 +34,9 @@ pub record AreIdRows (table : FileTable) (name : ColumnName) (rows : List IdRow)
   pub all : (row : ℕ) → row < row_count table → Any (λ (entry : IdRow). entry.id.now ≡ field table row name) rows
   pub few : length rows ≤ row_limit
 
--- an id with this key and this row
+-- an id of the grammar of ids with this key and this row
 abbrev pub IsEntry : ℕ → ℕ → IdRow → Type 0
-IsEntry key row entry = (entry.key ≡ key) × (entry.row ≡ row)
+IsEntry key row entry = (entry.key ≡ key) × (entry.row ≡ row) × (is_id entry.id.now ≡ true)
 
 -- there are buckets and slots, and a slot that isn't free has the key and the row of an id
 pub record AreSlots (rows : List IdRow) (slots : Slots) : Type 0 where

@@ -1,5 +1,6 @@
 //! The rows of a table by their ids.
-ghost use Rattle.std.specs.Prelude.{◌≡◌, ◌<◌, IfOk, IfSome};
+ghost use Rattle.std.specs.Prelude.{◌≡◌, ◌<◌, true, IfOk, IfSome};
+ghost use Rattle.feed_faults.specs.FieldGrammars.{is_id};
 ghost use Rattle.feed_faults.specs.Records.{row_count};
 ghost use Rattle.feed_faults.specs.RowKeys.{row_of, is_unknown, is_doubled};
 ghost use Rattle.feed_faults.specs.AcceptedFeed.{row_number};
@@ -79,14 +80,16 @@ impl<'t> IdIndex<'t> {
         }
     }
 
-    // The row in a slot, where it has this id, which has this key. One of at most seven bytes is told by its key alone,
-    // so that none of the table's text is read.
+    /// The earliest row with an id, where the slot in which it is looked for first has it; then the id is one by the grammar
+    /// of ids. One of at most seven bytes is told by its key alone, so that none of the table's text is read.
     #[inline(always)]
-    fn row_in(&self, slot: usize, key: u64, id: &[u8]) -> Option<u32>
-        requires { IsKeyOf key id.now }
-        ensures { IfSome result (λ row. row_of self.now.table self.now.name id.now ≡ Some row) }
+    pub fn row_at(&self, start: IdStart, id: &[u8]) -> Option<u32>
+        requires { IsKeyOf start.key id.now }
+        ensures row { IfSome result (λ row. row_of self.now.table self.now.name id.now ≡ Some row) }
+        ensures sound { IfSome result (λ row. is_id id.now ≡ true) }
     {
-        if slot >= self.slots.rows.len() || self.slots.keys[slot] != key {
+        let slot = start.slot;
+        if slot >= self.slots.rows.len() || self.slots.keys[slot] != start.key {
             return None;
         }
         let row = self.slots.rows[slot];
@@ -113,11 +116,11 @@ impl<'t> IdIndex<'t> {
         ensures { IsKeyOf result.key id.now }
     {
         let key = key_of(id);
-        let slot = if self.row_in(last, key, id).is_some() {
-            last
-        } else {
-            self.slots.slot_of(key, id)
-        };
+        let start = IdStart { slot: last, key };
+        if self.row_at(start, id).is_some() {
+            return start;
+        }
+        let slot = self.slots.slot_of(key, id);
         IdStart { slot, key }
     }
 
@@ -128,7 +131,7 @@ impl<'t> IdIndex<'t> {
         ensures row { result ≡ row_of self.now.table self.now.name id.now }
         ensures within { IfSome result (λ row. row < row_count self.now.table) }
     {
-        match self.row_in(start.slot, start.key, id) {
+        match self.row_at(start, id) {
             Some(row) => Some(row),
             None => self.searched_row(start.key, id),
         }

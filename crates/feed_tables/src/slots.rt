@@ -1,11 +1,13 @@
 //! Where an id is looked for first: one slot of a table that is hashed. The ids are parted into buckets of a few, and
 //! each bucket has a pilot, a number that is mixed into the hashes of its ids and chosen so that each has a slot of its
-//! own. So one slot alone is read, and the table is so full that what is read at random takes little memory.
+//! own. So one slot alone is read, and the table is so full that what is read at random takes little memory. Ids of the
+//! grammar of ids alone have slots, so that one that is found there needs no judgement.
 ghost use Rattle.std.specs.Prelude.{◌≡◌, ◌≤◌, ◌<◌, length, IfOk};
 ghost use Rattle.feed_text.specs.RowLimits.{row_limit};
 ghost use Rattle.feed_tables.specs.IdRows.{AreSlots};
 
 use crate::id_rows::IdRow;
+use feed_text::id_ok;
 use plain_laws::{Grouped, Groups};
 use std::alloc::{AllocError, Global};
 
@@ -106,10 +108,13 @@ impl Slots {
         };
         self.pilots[bucket] = pilot;
         for member in members {
-            if let Some(entry) = rows.get(member.place) {
-                let slot = slot_by(member.hash, pilot, self.rows.len());
-                self.keys[slot] = entry.key;
-                self.rows[slot] = entry.row;
+            match rows.get(member.place) {
+                Some(entry) if id_ok(entry.id) => {
+                    let slot = slot_by(member.hash, pilot, self.rows.len());
+                    self.keys[slot] = entry.key;
+                    self.rows[slot] = entry.row;
+                }
+                _ => {}
             }
         }
     }
