@@ -1,5 +1,5 @@
 //! The rows of a feed, each made of the tables of its files.
-ghost use Rattle.std.specs.Prelude.{◌≡◌, ◌==◌, ◌<◌, ◌≤◌, not, false, IfOk};
+ghost use Rattle.std.specs.Prelude.{◌≡◌, ◌==◌, ◌<◌, ◌≤◌, not, true, false, IfOk};
 ghost use Rattle.plain_laws.specs.Plain.{picks_below};
 ghost use Rattle.feed_rows.specs.declared.names.FileName.TheVariants as file;
 ghost use Rattle.feed_faults.specs.Records.{field, row_count};
@@ -52,7 +52,7 @@ fn is_code(number: Option<i64>, code: u32) -> bool
 
 /// A row of a feed that a row of one file gives.
 pub trait FileRow: Drop {
-    ghost use Rattle.std.specs.Prelude.{◌≡◌, ◌<◌, ℕ, IfOk};
+    ghost use Rattle.std.specs.Prelude.{◌≡◌, ◌<◌, ℕ, Bool, true, IfOk, OnErr};
     ghost use Rattle.feed_rows.specs.declared.names.FileName.{FileName};
     ghost use Rattle.feed_faults.specs.Records.{row_count};
     ghost use Rattle.feed_faults.specs.FeedTables.{FeedTables, table_in};
@@ -65,13 +65,17 @@ pub trait FileRow: Drop {
     /// What a row of the file gives.
     ghost row_in: { FeedTables → ℕ → Self };
 
+    /// Whether it has a copy of a text.
+    ghost copies: { Bool };
+
     /// The row of a number.
     ///
     /// # Errors
-    /// Want of memory.
+    /// Want of memory, for a copy.
     fn of<C: CallTable>(source: &Source<C>, row: u32) -> Result<Self, AllocError>
         requires { row < row_count (table_in source.now FILE) }
-        ensures { IfOk result (λ made. made ≡ row_in source.now row) };
+        ensures row { IfOk result (λ made. made ≡ row_in source.now row) }
+        ensures memory { OnErr result (copies ≡ true) };
 }
 
 // A row of `stops.txt`. A platform alone has the station that it names.
@@ -81,6 +85,8 @@ impl FileRow for StopRow {
     const FILE: FileName = FileName::Stops;
 
     ghost row_in = { stop_row };
+
+    ghost copies = { true };
 
     #[tactic(auto, unfolding(feed_faults::specs::AcceptedFeed::stop_row, feed_faults::specs::AcceptedFeed::accepted_parent), using(feed_soundness::proofs::IdColumns::stop_id, crate::proofs::ValueLaws::values))]
     fn of<C: CallTable>(source: &Source<C>, row: u32) -> Result<StopRow, AllocError> {
@@ -108,6 +114,8 @@ impl FileRow for RouteRow {
 
     ghost row_in = { route_row };
 
+    ghost copies = { true };
+
     #[tactic(auto, unfolding(feed_faults::specs::AcceptedFeed::route_row), using(feed_soundness::proofs::IdColumns::route_id))]
     fn of<C: CallTable>(source: &Source<C>, row: u32) -> Result<RouteRow, AllocError> {
         let routes = source.tables.get(FileName::Routes);
@@ -126,6 +134,8 @@ impl FileRow for TripRow {
     const FILE: FileName = FileName::Trips;
 
     ghost row_in = { trip_row };
+
+    ghost copies = { true };
 
     #[tactic(auto, unfolding(feed_faults::specs::AcceptedFeed::trip_row), using(feed_soundness::proofs::IdColumns::trip_id))]
     fn of<C: CallTable>(source: &Source<C>, row: u32) -> Result<TripRow, AllocError> {
@@ -146,6 +156,8 @@ impl FileRow for ServiceRow {
     const FILE: FileName = FileName::Calendar;
 
     ghost row_in = { service_row };
+
+    ghost copies = { false };
 
     #[tactic(auto, unfolding(feed_faults::specs::AcceptedFeed::service_row, feed_faults::specs::FieldValues::int_or_zero, feed_faults::specs::FieldValues::day_or_zero))]
     fn of<C: CallTable>(source: &Source<C>, row: u32) -> Result<ServiceRow, AllocError> {
@@ -188,6 +200,8 @@ impl FileRow for ExceptionRow {
 
     ghost row_in = { exception_row };
 
+    ghost copies = { false };
+
     #[tactic(auto, unfolding(feed_faults::specs::AcceptedFeed::exception_row, feed_faults::specs::FieldValues::int_or_zero, feed_faults::specs::FieldValues::day_or_zero))]
     fn of<C: CallTable>(source: &Source<C>, row: u32) -> Result<ExceptionRow, AllocError> {
         let dates = source.tables.get(FileName::CalendarDates);
@@ -208,6 +222,8 @@ impl FileRow for FrequencyRow {
     const FILE: FileName = FileName::Frequencies;
 
     ghost row_in = { frequency_row };
+
+    ghost copies = { false };
 
     #[tactic(auto, unfolding(feed_faults::specs::AcceptedFeed::frequency_row), using(crate::proofs::ValueLaws::values))]
     fn of<C: CallTable>(source: &Source<C>, row: u32) -> Result<FrequencyRow, AllocError> {
@@ -231,6 +247,8 @@ impl FileRow for AreaRow {
 
     ghost row_in = { area_row };
 
+    ghost copies = { true };
+
     #[tactic(auto, unfolding(feed_faults::specs::AcceptedFeed::area_row), using(crate::proofs::IdLaws::area_ids))]
     fn of<C: CallTable>(source: &Source<C>, row: u32) -> Result<AreaRow, AllocError> {
         let areas = source.tables.get(FileName::Areas);
@@ -247,6 +265,8 @@ impl FileRow for StopAreaRow {
     const FILE: FileName = FileName::StopAreas;
 
     ghost row_in = { stop_area_row };
+
+    ghost copies = { false };
 
     #[tactic(auto, unfolding(feed_faults::specs::AcceptedFeed::stop_area_row))]
     fn of<C: CallTable>(source: &Source<C>, row: u32) -> Result<StopAreaRow, AllocError> {
@@ -265,6 +285,8 @@ impl FileRow for TimeframeRow {
     const FILE: FileName = FileName::Timeframes;
 
     ghost row_in = { timeframe_row };
+
+    ghost copies = { false };
 
     #[tactic(auto, unfolding(feed_faults::specs::AcceptedFeed::timeframe_row), using(crate::proofs::ValueLaws::values))]
     fn of<C: CallTable>(source: &Source<C>, row: u32) -> Result<TimeframeRow, AllocError> {
@@ -289,6 +311,8 @@ impl FileRow for RiderRow {
 
     ghost row_in = { rider_row };
 
+    ghost copies = { true };
+
     #[tactic(auto, unfolding(feed_faults::specs::AcceptedFeed::rider_row), using(crate::proofs::IdLaws::rider_ids, crate::proofs::ValueLaws::values))]
     fn of<C: CallTable>(source: &Source<C>, row: u32) -> Result<RiderRow, AllocError> {
         let riders = source.tables.get(FileName::RiderCategories);
@@ -308,6 +332,8 @@ impl FileRow for MediumRow {
 
     ghost row_in = { medium_row };
 
+    ghost copies = { true };
+
     #[tactic(auto, unfolding(feed_faults::specs::AcceptedFeed::medium_row), using(crate::proofs::IdLaws::medium_ids))]
     fn of<C: CallTable>(source: &Source<C>, row: u32) -> Result<MediumRow, AllocError> {
         let media = source.tables.get(FileName::FareMedia);
@@ -324,6 +350,8 @@ impl FileRow for ProductRow {
     const FILE: FileName = FileName::FareProducts;
 
     ghost row_in = { product_row };
+
+    ghost copies = { false };
 
     #[tactic(auto, unfolding(feed_faults::specs::AcceptedFeed::product_row, feed_faults::specs::FieldValues::amount_or_zero))]
     fn of<C: CallTable>(source: &Source<C>, row: u32) -> Result<ProductRow, AllocError> {
@@ -351,6 +379,8 @@ impl FileRow for LegRuleRow {
     const FILE: FileName = FileName::FareLegRules;
 
     ghost row_in = { leg_rule_row };
+
+    ghost copies = { false };
 
     #[tactic(auto, unfolding(feed_faults::specs::AcceptedFeed::leg_rule_row), using(crate::proofs::ValueLaws::values))]
     fn of<C: CallTable>(source: &Source<C>, row: u32) -> Result<LegRuleRow, AllocError> {
@@ -385,6 +415,8 @@ impl FileRow for TransferRuleRow {
     const FILE: FileName = FileName::FareTransferRules;
 
     ghost row_in = { transfer_rule_row };
+
+    ghost copies = { false };
 
     #[tactic(auto, unfolding(feed_faults::specs::AcceptedFeed::transfer_rule_row, feed_faults::specs::AcceptedFeed::limit_of), using(crate::proofs::ValueLaws::values))]
     fn of<C: CallTable>(source: &Source<C>, row: u32) -> Result<TransferRuleRow, AllocError> {

@@ -11,7 +11,7 @@ loop-row-preserved g c =
     let more : list_below row row_in ++ row_in row ∷ [] ≡ list_below (row + 1) row_in = rw add-one refl in
     c.in_ok-push.ensures.ok
     ∙ ap (λ rows. rows ++ c.in_ok-of.field-0 ∷ []) c.loop-row.invariant
-    ∙ ap (λ made. list_below row row_in ++ made ∷ []) c.in_ok-of.ensures
+    ∙ ap (λ made. list_below row row_in ++ made ∷ []) c.in_ok-of.ensures.row
     ∙ more
 
 pub returns : goal.returns
