@@ -1,11 +1,13 @@
 #!/usr/bin/env python3
 """Makes a whole feed without fault, of any number of stop times, and times commands over it.
 
-  whole_feed.py FOLDER ROWS [--prefix BYTES] [--names COUNT] [COMMAND ..]
+  whole_feed.py FOLDER ROWS [--prefix BYTES] [--names COUNT] [--lines] [COMMAND ..]
 
 All eighteen files have rows. Trips have 25 calls, an eighth of them without a time; platforms are a fiftieth of the stop
 times, half of them in stations of four; and rows of trips and stops are shuffled. --prefix puts so many equal bytes before each
-id, so that ids differ only at their ends. --names gives the feed so many services. Without a command the files are read by
+id, so that ids differ only at their ends. --names gives the feed so many services. Each trip calls at stops of its own, drawn
+at random; with --lines all trips of a route in one direction call at the same stops and follow one another, as in most real
+feeds. Without a command the files are read by
 Python's csv.reader alone.
 """
 import csv
@@ -30,17 +32,21 @@ def write(folder, name, header, rows):
         file.writelines(row + "\n" for row in rows)
 
 
-def timetable(folder, rows, prefix, names):
+def timetable(folder, rows, prefix, names, lines):
     rng = random.Random(1)
     platforms = [f"{prefix}S{n:06}" for n in range(max(CALLS, rows // 50))]
     trips = [f"{prefix}T{n:06}" for n in range(rows // CALLS)]
     shuffled = trips[:]
     rng.shuffle(shuffled)
+    # The stops of each route in each direction, and which of them a trip has.
+    patterns = [rng.sample(platforms, CALLS) for _ in range(2 * ROUTES)] if lines else []
+    pattern_of = {it: n * len(patterns) // len(trips) for n, it in enumerate(trips)}
 
     def times():
         for trip in trips:
             second = rng.randrange(5 * 3600, 20 * 3600)
-            for call, stop in enumerate(rng.sample(platforms, CALLS)):
+            stops = patterns[pattern_of[trip]] if lines else rng.sample(platforms, CALLS)
+            for call, stop in enumerate(stops):
                 # An eighth of the calls has no time of its own.
                 at = clock(second), clock(second + 20)
                 arrival, departure = ("", "") if call % 8 == 5 else at
@@ -55,7 +61,8 @@ def timetable(folder, rows, prefix, names):
     stops = [f"{it},Stop {n},0,{parents[n]}" for n, it in enumerate(platforms)] + [f"{it},Station {n},1," for n, it in enumerate(stations)]
     rng.shuffle(stops)
     write(folder, "stops.txt", "stop_id,stop_name,location_type,parent_station", stops)
-    write(folder, "trips.txt", "route_id,service_id,trip_id", (f"R{n % ROUTES},{'MW'[n % 2]},{it}" for n, it in enumerate(shuffled)))
+    routes = [pattern_of[it] // 2 if lines else n % ROUTES for n, it in enumerate(shuffled)]
+    write(folder, "trips.txt", "route_id,service_id,trip_id", (f"R{routes[n]},{'MW'[n % 2]},{it}" for n, it in enumerate(shuffled)))
     write(folder, "routes.txt", "route_id,route_type", (f"R{n},3" for n in range(ROUTES)))
     write(folder, "calendar.txt", "service_id,monday,tuesday,wednesday,thursday,friday,saturday,sunday,start_date,end_date", ["M,1,1,1,1,1,0,0,20250101,20251231"])
     services = ["W"] + [f"{prefix}service {n:07}" for n in range(1, names)]
@@ -86,9 +93,9 @@ def fares(folder, platforms):
     write(folder, "fare_transfer_rules.txt", "from_leg_group_id,to_leg_group_id,transfer_count,duration_limit,duration_limit_type,fare_transfer_type,fare_product_id", changes)
 
 
-def make(folder, rows, prefix, names):
+def make(folder, rows, prefix, names, lines=False):
     os.makedirs(folder, exist_ok=True)
-    fares(folder, timetable(folder, rows, prefix, names))
+    fares(folder, timetable(folder, rows, prefix, names, lines))
 
 
 def read_all(folder):
@@ -106,7 +113,10 @@ def main():
     names = 1
     if words[:1] == ["--names"]:
         names, words = int(words[1]), words[2:]
-    make(folder, rows, prefix, names)
+    lines = words[:1] == ["--lines"]
+    if lines:
+        words = words[1:]
+    make(folder, rows, prefix, names, lines)
     size = sum(os.path.getsize(f"{folder}/{it}") for it in os.listdir(folder))
     start = time.perf_counter()
     if words:
