@@ -5,5 +5,5 @@ use plan_main::run_program;
 use std::process::ExitCode;
 
 fn main(rt: HostRuntime) -> ExitCode {
-    ExitCode::from(run_program(rt))
+    run_program(rt)
 }

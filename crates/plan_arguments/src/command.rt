@@ -1,8 +1,8 @@
 //! What the arguments of the program name.
 ghost use Rattle.std.specs.Prelude.{◌≡◌, IfOk, map, string_bytes};
-ghost use Rattle.plan_main.specs.Arguments.{path_in, words_in};
+ghost use Rattle.plan_arguments.specs.Arguments.{path_in, words_in};
 
-use plan_app::WordList;
+use plan_words::WordList;
 use std::alloc::{AllocError, Global};
 
 /// The folder's path, and the words of the command behind it.
