@@ -19,13 +19,13 @@ use Rattle.plain_laws.proofs.Laws.{int_le-true, le-int_le, slice_get-Contains}
 use Rattle.feed_laws.proofs.RideLaws.{IsRideWith, ride_facts_tells}
 use Rattle.plan_patterns.specs.declared.runs.Run.{Run}
 use Rattle.plan_patterns.specs.Grouping.{PatternOf, PatternsOf, runs_at}
+use Rattle.plan_patterns.specs.Runs.{IsNear, moment_of}
 use Rattle.plan_rides.specs.declared.departures.Departure.{Departure}
 use Rattle.plan_rides.specs.Boarding.{Seeking}
 use Rattle.plan_rides.specs.Departures.{HoldsRuns, IsDeparture, IsRunOf, departure_from, facts_in_time, facts_to, ride_to, run_by, run_in}
-use Rattle.plan_rides.specs.InTime.{deadline, departure_of, is_by, is_early}
-use Rattle.plan_rides.specs.Lasts.{AddsLasts, AreAllLast, IsEarlyRide, IsOfPatterns, IsOfRun, IsOfRunFrom, IsOfRuns, LeadsFrom, PutsLast, alights_early, arrival_of, boards_since}
+use Rattle.plan_rides.specs.InTime.{deadline, is_by, is_early}
+use Rattle.plan_rides.specs.Lasts.{AddsLasts, AreAllLast, IsEarlyRide, IsOfPatterns, IsOfRun, IsOfRunFrom, IsOfRuns, LeadsFrom, PutsLast, alights_early, boards_since}
 use Rattle.plan_rides.specs.Latest.{HasEarlyRide, latest_at}
-use Rattle.plan_rides.specs.Runs.{RunOf}
 use Rattle.plan_rides.proofs.CaughtLaws.{caught_facts}
 
 -- ---- what is put
@@ -90,7 +90,7 @@ puts_later old stop at before one lt was still other either = record {
 -- ---- one call more
 
 -- whether riders may alight early enough at a call or at a later one
-pub leads_more : (query : Query) (latest : List (Option Moment)) (run : RunOf) (calls : List Call) (p k : ℕ) (call :
+pub leads_more : (query : Query) (latest : List (Option Moment)) (run : Run) (calls : List Call) (p k : ℕ) (call :
     Call)
     (leads : Bool) → k ≡ p + 1 → slice_get calls p ≡ Some call →
     ((to : ℕ) (c : Call) → k ≤ to → slice_get calls to ≡ Some c → alights_early query latest run c ≡ true → leads ≡
@@ -106,7 +106,7 @@ leads_more query latest run calls p k call leads next is all to c from at early 
     (λ later. or_left leads (alights_early query latest run call) (all to c later at early))
     (cases_lt to k)
 
-pub leads_only : (query : Query) (latest : List (Option Moment)) (run : RunOf) (calls : List Call) (p k : ℕ) (call :
+pub leads_only : (query : Query) (latest : List (Option Moment)) (run : Run) (calls : List Call) (p k : ℕ) (call :
     Call)
     (leads : Bool) → k ≡ p + 1 → slice_get calls p ≡ Some call →
     (leads ≡ true → LeadsFrom query latest run calls k) →
@@ -125,12 +125,12 @@ leads_only query latest run calls p k call leads next is only lead = step leads 
 record IsLeading (feed : FeedRows) (query : Query) (latest : List (Option Moment)) (held : Run) (p : ℕ) (call : Call)
     (ride : Ride) (facts : RideFacts) : Type 0 where
   pub stop : call.stop.0 ≡ facts.from.0
-  pub departs : departure_of (run_in feed held) call ≡ facts.departure.0
-  pub boards : boards_since query (run_in feed held) call ≡ true
+  pub departs : moment_of held call.departure ≡ facts.departure.0
+  pub boards : boards_since query held call ≡ true
   pub later : p < ride.to
   pub alighting : Call
   pub alights : slice_get (calls_of feed held.trip) ride.to ≡ Some alighting
-  pub early : alights_early query latest (run_in feed held) alighting ≡ true
+  pub early : alights_early query latest held alighting ≡ true
 
 leading : (feed : FeedRows) (query : Query) (latest : List (Option Moment)) (held : Run) (p : ℕ) (call : Call)
     (ride : Ride) (facts : RideFacts) → slice_get (calls_of feed held.trip) p ≡ Some call →
@@ -140,19 +140,19 @@ unfolding boards_since alights_early
 leading feed query latest held p call ride facts is e of from = record {
   stop = ap (λ (c : Call). c.stop.0) (sym same) ∙ ap (λ (f : RideFacts). f.from.0) r.facts_are;
   departs = departs;
-  boards = and_from call.pickup (int_le query.departure.0 (departure_of (run_in feed held) call))
+  boards = and_from call.pickup (int_le query.departure.0 (moment_of held call.departure))
       (ap (λ (c : Call). c.pickup) (sym same) ∙ r.pickup)
-      (le-int_le query.departure.0 (departure_of (run_in feed held) call)
+      (le-int_le query.departure.0 (moment_of held call.departure)
       (subst (λ z. query.departure.0 ≤ℤ z) (sym departs) e.since));
   later = subst (λ n. n < ride.to) from r.forward;
   alighting = r.alighting;
   alights = ap (λ (x : Run). slice_get (calls_of feed x.trip) ride.to) (sym of) ∙ r.alights;
-  early = and_from (r.alighting.drop_off && int_le (arrival_of (run_in feed held) r.alighting) (deadline query))
-      (is_early latest r.alighting.stop.0 (arrival_of (run_in feed held) r.alighting))
-      (and_from r.alighting.drop_off (int_le (arrival_of (run_in feed held) r.alighting) (deadline query)) r.drop_off
-      (le-int_le (arrival_of (run_in feed held) r.alighting) (deadline query)
+  early = and_from (r.alighting.drop_off && int_le (moment_of held r.alighting.arrival) (deadline query))
+      (is_early latest r.alighting.stop.0 (moment_of held r.alighting.arrival))
+      (and_from r.alighting.drop_off (int_le (moment_of held r.alighting.arrival) (deadline query)) r.drop_off
+      (le-int_le (moment_of held r.alighting.arrival) (deadline query)
       (subst (λ z. z ≤ℤ deadline query) (sym arrives) e.until)))
-      (subst (λ n. is_early latest n (arrival_of (run_in feed held) r.alighting) ≡ true)
+      (subst (λ n. is_early latest n (moment_of held r.alighting.arrival) ≡ true)
       (sym (ap (λ (f : RideFacts). f.to.0) r.facts_are))
       (subst (λ z. is_early latest facts.to.0 z ≡ true) (sym arrives) e.early));
 }
@@ -164,21 +164,21 @@ leading feed query latest held p call ride facts is e of from = record {
     same = same_Some _ _ (sym r.boards ∙ ap (slice_get (calls_of feed ride.trip)) from
         ∙ ap (λ (x : Run). slice_get (calls_of feed x.trip) p) of ∙ is)
 
-    departs : departure_of (run_in feed held) call ≡ facts.departure.0
-    departs = ap (departure_of (run_in feed held)) (sym same)
-        ∙ ap (λ (x : Run). departure_of (run_in feed x) r.boarding) (sym of)
+    departs : moment_of held call.departure ≡ facts.departure.0
+    departs = ap (λ (c : Call). moment_of held c.departure) (sym same)
+        ∙ ap (λ (x : Run). moment_of x r.boarding.departure) (sym of)
         ∙ ap (λ (f : RideFacts). f.departure.0) r.facts_are
 
-    arrives : arrival_of (run_in feed held) r.alighting ≡ facts.arrival.0
-    arrives = ap (λ (x : Run). arrival_of (run_in feed x) r.alighting) (sym of)
+    arrives : moment_of held r.alighting.arrival ≡ facts.arrival.0
+    arrives = ap (λ (x : Run). moment_of x r.alighting.arrival) (sym of)
         ∙ ap (λ (f : RideFacts). f.arrival.0) r.facts_are
 
 -- where riders may board a run at a call and alight early enough at a later one, a ride departs then
 has_early : (feed : FeedRows) (query : Query) (latest : List (Option Moment)) (held : Run) (p k : ℕ) (call : Call)
     (stop : ℕ) (moment : Moment) → k ≡ p + 1 → slice_get (calls_of feed held.trip) p ≡ Some call → IsRunOf feed held →
-    LeadsFrom query latest (run_in feed held) (calls_of feed held.trip) k →
-    boards_since query (run_in feed held) call ≡ true → stop ≡ call.stop.0 →
-    moment.0 ≡ departure_of (run_in feed held) call → HasEarlyRide feed query latest stop moment
+    LeadsFrom query latest held (calls_of feed held.trip) k →
+    boards_since query held call ≡ true → stop ≡ call.stop.0 →
+    moment.0 ≡ moment_of held call.departure → HasEarlyRide feed query latest stop moment
 unfolding boards_since alights_early facts_in_time
 has_early feed query latest held p k call stop moment next is runs leads boards at when_is =
     let from = leads.1 in
@@ -189,34 +189,34 @@ has_early feed query latest held p k call stop moment next is runs leads boards 
           (ap (λ b. when b (facts_to d leads.2)) alights.0);
       from = sym at;
       leaves = ap (λ z. record { 0 = z }) (sym when_is);
-      since = int_le-true query.departure.0 (departure_of (run_in feed held) call) boarded.1;
-      until = int_le-true (arrival_of (run_in feed held) leads.2) (deadline query) (and_parts _ _ alights.0).1;
+      since = int_le-true query.departure.0 (moment_of held call.departure) boarded.1;
+      until = int_le-true (moment_of held leads.2.arrival) (deadline query) (and_parts _ _ alights.0).1;
       early = alights.1;
     }
   where
     d : Departure
     d = departure_from (run_in feed held) call p
 
-    boarded : (call.pickup ≡ true) × (int_le query.departure.0 (departure_of (run_in feed held) call) ≡ true)
-    boarded = and_parts call.pickup (int_le query.departure.0 (departure_of (run_in feed held) call)) boards
+    boarded : (call.pickup ≡ true) × (int_le query.departure.0 (moment_of held call.departure) ≡ true)
+    boarded = and_parts call.pickup (int_le query.departure.0 (moment_of held call.departure)) boards
 
     departs : IsDeparture feed d
     departs = record { run = runs; call = call; is = is; pickup = boarded.0; made = refl }
 
-    alights : ((leads.2.drop_off && int_le (arrival_of (run_in feed held) leads.2) (deadline query)) ≡ true)
-        × (is_early latest leads.2.stop.0 (arrival_of (run_in feed held) leads.2) ≡ true)
-    alights = and_parts (leads.2.drop_off && int_le (arrival_of (run_in feed held) leads.2) (deadline query))
-        (is_early latest leads.2.stop.0 (arrival_of (run_in feed held) leads.2)) leads.4
+    alights : ((leads.2.drop_off && int_le (moment_of held leads.2.arrival) (deadline query)) ≡ true)
+        × (is_early latest leads.2.stop.0 (moment_of held leads.2.arrival) ≡ true)
+    alights = and_parts (leads.2.drop_off && int_le (moment_of held leads.2.arrival) (deadline query))
+        (is_early latest leads.2.stop.0 (moment_of held leads.2.arrival)) leads.4
 
 -- one call more of a run
 pub call_more : (feed : FeedRows) (query : Query) (latest : List (Option Moment)) (held : Run) (p k : ℕ) (call : Call)
     (leads : Bool) (old mid new : List (Option Moment)) → k ≡ p + 1 →
     slice_get (calls_of feed held.trip) p ≡ Some call → IsRunOf feed held →
     ((to : ℕ) (c : Call) → k ≤ to → slice_get (calls_of feed held.trip) to ≡ Some c →
-    alights_early query latest (run_in feed held) c ≡ true → leads ≡ true) →
-    (leads ≡ true → LeadsFrom query latest (run_in feed held) (calls_of feed held.trip) k) →
+    alights_early query latest held c ≡ true → leads ≡ true) →
+    (leads ≡ true → LeadsFrom query latest held (calls_of feed held.trip) k) →
     AddsLasts feed query latest (IsOfRunFrom held k) old mid →
-    PutsLast (leads && boards_since query (run_in feed held) call) call.stop.0 (departure_of (run_in feed held) call)
+    PutsLast (leads && boards_since query held call) call.stop.0 (moment_of held call.departure)
     mid new →
     AddsLasts feed query latest (IsOfRunFrom held p) old new
 call_more feed query latest held p k call leads old mid new next is runs all only before puts = record {
@@ -231,35 +231,36 @@ call_more feed query latest held p k call leads old mid new next is runs all onl
       let led = all ride.to l.alighting (omega (arith, later, next)) l.alights l.early in
       subst (λ n. is_by (latest_at new n) facts.departure.0 ≡ true) l.stop
       (subst (λ z. is_by (latest_at new call.stop.0) z ≡ true) l.departs
-      (puts.here (and_from leads (boards_since query (run_in feed held) call) led l.boards))))
+      (puts.here (and_from leads (boards_since query held call) led l.boards))))
       (λ later. puts.still facts.from.0 facts.departure.0 (before.all ride facts e (part.0, later)))
       (cases_lt ride.from k);
   attained = λ were s moment e. ⊎_elim
       (λ kept. before.attained were s moment kept)
       (λ put.
-      let both = and_parts leads (boards_since query (run_in feed held) call) put.0 in
+      let both = and_parts leads (boards_since query held call) put.0 in
       has_early feed query latest held p k call s moment next is runs (only both.0) both.1 put.1 put.2)
       (puts.only s moment e);
 }
 
--- the same of a run and its calls that are told otherwise
-pub call_step : (feed : FeedRows) (query : Query) (latest : List (Option Moment)) (held : Run) (run : RunOf)
-    (calls : List Call) (p k : ℕ) (call : Call) (leads : Bool) (old mid new : List (Option Moment)) →
-    run ≡ run_in feed held → calls ≡ calls_of feed held.trip → k ≡ p + 1 → slice_get calls p ≡ Some call →
-    IsRunOf feed held →
-    ((to : ℕ) (c : Call) → k ≤ to → slice_get calls to ≡ Some c → alights_early query latest run c ≡ true →
+-- the same of calls that are told otherwise
+pub call_step : (feed : FeedRows) (query : Query) (latest : List (Option Moment)) (held : Run) (calls : List Call)
+    (p k : ℕ) (call : Call) (leads : Bool) (old mid new : List (Option Moment)) → calls ≡ calls_of feed held.trip →
+    k ≡ p + 1 → slice_get calls p ≡ Some call → IsRunOf feed held →
+    ((to : ℕ) (c : Call) → k ≤ to → slice_get calls to ≡ Some c → alights_early query latest held c ≡ true →
     leads ≡ true) →
-    (leads ≡ true → LeadsFrom query latest run calls k) → AddsLasts feed query latest (IsOfRunFrom held k) old mid →
-    PutsLast (leads && boards_since query run call) call.stop.0 (departure_of run call) mid new →
+    (leads ≡ true → LeadsFrom query latest held calls k) → AddsLasts feed query latest (IsOfRunFrom held k) old mid →
+    PutsLast (leads && boards_since query held call) call.stop.0 (moment_of held call.departure) mid new →
     AddsLasts feed query latest (IsOfRunFrom held p) old new
-call_step feed query latest held run calls p k call leads old mid new same are next is runs all only before puts =
+call_step feed query latest held calls p k call leads old mid new are next is runs all only before puts =
     call_more feed query latest held p k call leads old mid new next (ap (λ cs. slice_get cs p) (sym are) ∙ is) runs
-    (λ to c le at early. all to c le (ap (λ cs. slice_get cs to) are ∙ at)
-    (subst (λ r. alights_early query latest r c ≡ true) (sym same) early))
-    (λ lead. subst (λ cs. LeadsFrom query latest (run_in feed held) cs k) are
-    (subst (λ r. LeadsFrom query latest r calls k) same (only lead)))
-    before
-    (subst (λ r. PutsLast (leads && boards_since query r call) call.stop.0 (departure_of r call) mid new) same puts)
+    (λ to c le at early. all to c le (ap (λ cs. slice_get cs to) are ∙ at) early)
+    (λ lead. subst (λ cs. LeadsFrom query latest held cs k) are (only lead))
+    before puts
+
+-- a run of the feed lies within the bounds of days and shifts
+pub run_near : (feed : FeedRows) (run : Run) → IsRunOf feed run → IsNear run
+run_near feed run is =
+    record { day_low = is.served.low; day_high = is.served.high; shift_low = is.low; shift_high = is.high }
 
 -- no call of it yet
 pub run_none : (feed : FeedRows) (query : Query) (latest : List (Option Moment)) (held : Run) (k : ℕ)

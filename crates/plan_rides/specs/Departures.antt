@@ -165,6 +165,10 @@ pub record IsBy (feed : FeedRows) (d : Departure) (ride : Ride) : Type 0 where
   pub is : ride_facts feed ride ≡ Some facts
   pub made : departure_with ride facts ≡ d
 
+-- the run of a departure
+abbrev pub run_with : Departure → Run
+run_with d = record { trip = d.trip; day = d.day; shift = d.shift }
+
 -- the ride by the departure to the call at this place
 abbrev pub ride_to : Departure → ℕ → Ride
 ride_to d to = record { trip = d.trip; day = d.day; shift = d.shift; from = d.from; to = to }

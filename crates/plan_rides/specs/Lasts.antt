@@ -1,6 +1,5 @@
 -- The last departures from stops of rides that get somewhere early enough.
-use Rattle.std.specs.Prelude.{◌≡◌, ◌⊎◌, ℕ, ◌<◌, ◌≤◌, Bool, true, ◌&&◌, List, Option, Some, length, slice_get, Contains, ℤ, pos, ◌+ℤ◌, ◌≤ℤ◌, int_le}
-use Rattle.transit_base.specs.Moments.{moment_at}
+use Rattle.std.specs.Prelude.{◌≡◌, ◌⊎◌, ℕ, ◌<◌, ◌≤◌, Bool, true, ◌&&◌, List, Option, Some, length, slice_get, Contains, ℤ, ◌≤ℤ◌, int_le}
 use Rattle.transit_base.specs.declared.moments.Moment.{Moment}
 use Rattle.feed_rows.specs.declared.journeys.Call.{Call}
 use Rattle.feed_rows.specs.declared.journeys.Query.{Query}
@@ -10,27 +9,23 @@ use Rattle.feed_rows.specs.FeedRows.{FeedRows}
 use Rattle.feed_rows.specs.Rides.{ride_facts}
 use Rattle.plan_patterns.specs.declared.runs.Run.{Run}
 use Rattle.plan_patterns.specs.Grouping.{PatternOf, runs_at}
+use Rattle.plan_patterns.specs.Runs.{moment_of}
 use Rattle.plan_rides.specs.Boarding.{Seeking}
 use Rattle.plan_rides.specs.Departures.{IsSpanned, run_by}
-use Rattle.plan_rides.specs.InTime.{deadline, departure_of, is_by, is_early}
+use Rattle.plan_rides.specs.InTime.{deadline, is_by, is_early}
 use Rattle.plan_rides.specs.Latest.{HasEarlyRide, latest_at}
-use Rattle.plan_rides.specs.Runs.{RunOf}
-
--- when a run arrives at a call
-abbrev pub arrival_of : RunOf → Call → ℤ
-arrival_of run call = moment_at run.day.0 (run.shift +ℤ pos call.arrival)
 
 -- riders may board the run at the call, no earlier than the query departs
-unfoldable pub boards_since : Query → RunOf → Call → Bool
-boards_since query run call = call.pickup && int_le query.departure.0 (departure_of run call)
+unfoldable pub boards_since : Query → Run → Call → Bool
+boards_since query run call = call.pickup && int_le query.departure.0 (moment_of run call.departure)
 
 -- riders may alight from the run at the call, no later than the query's window ends, and early enough
-unfoldable pub alights_early : Query → List (Option Moment) → RunOf → Call → Bool
+unfoldable pub alights_early : Query → List (Option Moment) → Run → Call → Bool
 alights_early query latest run call =
-    call.drop_off && int_le (arrival_of run call) (deadline query) && is_early latest call.stop.0 (arrival_of run call)
+    call.drop_off && int_le (moment_of run call.arrival) (deadline query) && is_early latest call.stop.0 (moment_of run call.arrival)
 
 -- so they may at the k-th of these calls of the run, or at a later one
-abbrev pub LeadsFrom : Query → List (Option Moment) → RunOf → List Call → ℕ → Type 0
+abbrev pub LeadsFrom : Query → List (Option Moment) → Run → List Call → ℕ → Type 0
 LeadsFrom query latest run calls k =
     (to : ℕ) × (k ≤ to) × (call : Call) × (slice_get calls to ≡ Some call) × (alights_early query latest run call ≡
     true)

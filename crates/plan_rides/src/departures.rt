@@ -1,19 +1,18 @@
 //! The departures of a query's window, and the patterns whose runs they are of.
 ghost use Rattle.std.specs.Prelude.{◌≡◌, ◌<◌, ◌≤◌, length, IfOk, OnOk, slice_index_or};
+ghost use Rattle.plan_patterns.specs.Runs.{IsNear};
 ghost use Rattle.plan_rides.specs.Boarding.{is_boarding};
 ghost use Rattle.plan_rides.specs.Departures.{AddsTrip, AreBoarded, AreDepartures, AreListed, AreServed, AreSince, DoRise, HoldsRuns};
-ghost use Rattle.plan_rides.specs.Departures.{IsDeparture, IsFirstLate, Serves, departure_by, facts_in_time, ride_to};
+ghost use Rattle.plan_rides.specs.Departures.{IsFirstLate, Serves, departure_by, facts_in_time, ride_to, run_with};
 ghost use Rattle.plan_rides.specs.InTime.{deadline, IsUsualQuery};
-ghost use Rattle.plan_rides.specs.Runs.{run_of};
 ghost use Rattle.plan_rides.specs.declared.departures.Departure.{Departure};
 ghost use Rattle.transit_base.specs.Limits.{most_time};
 
 use crate::latest::is_early;
-use crate::runs::Run;
 use crate::sought::Sought;
 use feed_rows::{Call, Query, Ride, RideFacts, StopTimeRow};
 use feed_timetable::Timetable;
-use plan_patterns::{Boarding, Patterns, Serving};
+use plan_patterns::{Boarding, Patterns, Run, Serving};
 use std::alloc::{AllocError, Global};
 use std::marker::Model;
 use transit_base::{Day, Moment, NetworkId, Secs, StopId, TripId};
@@ -33,29 +32,21 @@ pub struct Departure {
 }
 
 impl Departure {
-    /// Its run.
-    pub fn run<'t, 'f>(&self, timetable: &'t Timetable<'f>) -> Run<'t, 'f>
-        requires { IsDeparture timetable.now self.now }
-        ensures { result ≡ run_of timetable.now self.now.trip self.now.day self.now.shift }
-    {
-        Run::new(timetable, self.trip, self.day, self.shift)
-    }
-
     /// Where and when the ride by it goes that alights at the call; none where riders may not alight there, or it ends
     /// past the window.
     #[tactic(auto, unfolding(crate::specs::Departures::facts_in_time))]
-    pub fn facts_in_time(
-        &self,
-        timetable: &Timetable,
-        query: &Query,
-        call: &Call,
-    ) -> Option<RideFacts>
+    pub fn facts_in_time(&self, query: &Query, call: &Call) -> Option<RideFacts>
         requires usual { IsUsualQuery query.now }
-        requires right { IsDeparture timetable.now self.now }
+        requires near { IsNear (run_with self.now) }
         requires time { call.now.arrival ≤ most_time }
         ensures { result ≡ facts_in_time query.now self.now call.now }
     {
-        let arrival = self.run(timetable).moment(call.arrival);
+        let run = Run {
+            trip: self.trip,
+            day: self.day,
+            shift: self.shift,
+        };
+        let arrival = run.moment(call.arrival);
         if !call.drop_off || arrival.0 > deadline(query).0 {
             return None;
         }
@@ -182,7 +173,7 @@ fn departure_by(
     timetable: &Timetable,
     stop: StopId,
     position: u32,
-    run: &plan_patterns::Run,
+    run: &Run,
     at: Moment,
 ) -> Departure
     requires { run.now.trip.0 < length timetable.now.trips }
@@ -206,7 +197,7 @@ pub struct Departures<'t, 'f> {
     timetable: &'t Timetable<'f>,
     stop: StopId,
     position: u32,
-    runs: &'t [plan_patterns::Run],
+    runs: &'t [Run],
     boardings: &'t [Boarding],
 }
 

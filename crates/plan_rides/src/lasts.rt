@@ -1,32 +1,25 @@
 //! When the last rides depart from stops that get somewhere early enough: run by run, from the last call of each.
 ghost use Rattle.std.specs.Prelude.{◌≡◌, ◌<◌, ◌≤◌, ◌||◌, ◌&&◌, length, All, Contains, IfOk, true};
-ghost use Rattle.plan_rides.specs.Departures.{HoldsRuns, IsRunOf, run_in};
-ghost use Rattle.plan_rides.specs.InTime.{IsUsualQuery, departure_of};
+ghost use Rattle.plan_patterns.specs.Runs.{IsNear, moment_of};
+ghost use Rattle.plan_rides.specs.Departures.{HoldsRuns, IsRunOf};
+ghost use Rattle.plan_rides.specs.InTime.{IsUsualQuery};
 ghost use Rattle.plan_rides.specs.Lasts.{AddsLasts, AreAllLast, IsOfPatterns, IsOfRun, IsOfRuns, PutsLast, alights_early, boards_since};
 ghost use Rattle.transit_base.specs.Limits.{most_time};
 
 use crate::departures::deadline;
 use crate::latest::{is_early, later};
-use crate::runs::Run;
 use crate::sought::Sought;
 use feed_rows::{Call, Query};
 use feed_timetable::Timetable;
-use plan_patterns::Patterns;
+use plan_patterns::{Patterns, Run};
 use std::alloc::{AllocError, Global};
 use transit_base::{Moment, StopId};
-
-// A run of a pattern, in its timetable.
-fn run_in<'t, 'f>(timetable: &'t Timetable<'f>, held: &plan_patterns::Run) -> Run<'t, 'f>
-    requires { IsRunOf timetable.now held.now }
-    ensures { result ≡ run_in timetable.now held.now }
-{
-    Run::new(timetable, held.trip, held.day, held.shift)
-}
 
 // Whether riders may board the run at the call, no earlier than the query departs.
 #[tactic(auto, unfolding(crate::specs::Lasts::boards_since))]
 fn boards_since(run: &Run, query: &Query, call: &Call) -> bool
-    requires { call.now.departure ≤ most_time }
+    requires near { IsNear run.now }
+    requires time { call.now.departure ≤ most_time }
     ensures { result ≡ boards_since query.now run.now call.now }
 {
     call.pickup && query.departure.0 <= run.moment(call.departure).0
@@ -36,6 +29,7 @@ fn boards_since(run: &Run, query: &Query, call: &Call) -> bool
 #[tactic(auto, unfolding(crate::specs::Lasts::alights_early))]
 fn alights_early(run: &Run, query: &Query, latest: &[Option<Moment>], call: &Call) -> bool
     requires usual { IsUsualQuery query.now }
+    requires near { IsNear run.now }
     requires time { call.now.arrival ≤ most_time }
     ensures { result ≡ alights_early query.now latest.now run.now call.now }
 {
@@ -46,6 +40,7 @@ fn alights_early(run: &Run, query: &Query, latest: &[Option<Moment>], call: &Cal
 // Whether riders may alight early enough at the call, or at a later one, where it is known whether there.
 fn leads_from(leads: bool, run: &Run, query: &Query, latest: &[Option<Moment>], call: &Call) -> bool
     requires usual { IsUsualQuery query.now }
+    requires near { IsNear run.now }
     requires time { call.now.arrival ≤ most_time }
     ensures { result ≡ (leads || alights_early query.now latest.now run.now call.now) }
 {
@@ -55,7 +50,8 @@ fn leads_from(leads: bool, run: &Run, query: &Query, latest: &[Option<Moment>], 
 // Whether a ride by the run that boards at the call gets somewhere early enough, where it is known whether riders may
 // alight so at a later call.
 fn leads_at(leads: bool, run: &Run, query: &Query, call: &Call) -> bool
-    requires { call.now.departure ≤ most_time }
+    requires near { IsNear run.now }
+    requires time { call.now.departure ≤ most_time }
     ensures { result ≡ (leads && boards_since query.now run.now call.now) }
 {
     leads && boards_since(run, query, call)
@@ -72,9 +68,10 @@ fn put_last(lasts: &mut [Option<Moment>], stop: StopId, at: Moment)
 
 // Has the last moment at the call's stop be no earlier than the run's departure there, where that leads on.
 fn put_departure(leads: bool, run: &Run, query: &Query, call: &Call, lasts: &mut [Option<Moment>])
+    requires near { IsNear run.now }
     requires time { call.now.departure ≤ most_time }
     requires stop { call.now.stop.0 < length lasts.old }
-    ensures { PutsLast (leads && boards_since query.now run.now call.now) call.now.stop.0 (departure_of run.now call.now) lasts.old lasts.new }
+    ensures { PutsLast (leads && boards_since query.now run.now call.now) call.now.stop.0 (moment_of run.now call.now.departure) lasts.old lasts.new }
 {
     if !leads_at(leads, run, query, call) {
         return;
@@ -87,22 +84,21 @@ fn add_run(
     timetable: &Timetable,
     query: &Query,
     latest: &[Option<Moment>],
-    held: &plan_patterns::Run,
+    run: &Run,
     lasts: &mut [Option<Moment>],
 )
     requires usual { IsUsualQuery query.now }
-    requires run { IsRunOf timetable.now held.now }
+    requires run { IsRunOf timetable.now run.now }
     requires many { length lasts.old ≡ length timetable.now.stops }
-    ensures { AddsLasts timetable.now query.now latest.now (IsOfRun held.now) lasts.old lasts.new }
+    ensures { AddsLasts timetable.now query.now latest.now (IsOfRun run.now) lasts.old lasts.new }
 {
     let _feed = timetable.feed();
-    let run = run_in(timetable, held);
-    let calls = run.calls();
+    let calls = timetable.calls_of(run.trip);
     let mut leads = false;
     for k in (0..calls.len()).rev() {
         let call = calls.at(k);
-        put_departure(leads, &run, query, &call, lasts);
-        leads = leads_from(leads, &run, query, latest, &call);
+        put_departure(leads, run, query, &call, lasts);
+        leads = leads_from(leads, run, query, latest, &call);
     }
 }
 
@@ -111,7 +107,7 @@ fn add_runs(
     timetable: &Timetable,
     query: &Query,
     latest: &[Option<Moment>],
-    runs: &[plan_patterns::Run],
+    runs: &[Run],
     lasts: &mut [Option<Moment>],
 )
     requires usual { IsUsualQuery query.now }

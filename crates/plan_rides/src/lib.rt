@@ -8,7 +8,6 @@ mod lasts;
 mod latest;
 mod positions;
 mod rides;
-mod runs;
 mod servings;
 mod sought;
 

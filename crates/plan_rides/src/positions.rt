@@ -170,7 +170,7 @@ impl<'s, 'f> Positions<'s, 'f> {
         ensures times { All (λ (c : Call). (c.arrival ≤ most_time) × (c.departure ≤ most_time)) result }
         ensures few { length result < 2 ^ 32 }
     {
-        departure.run(self.timetable).calls()
+        self.timetable.calls_of(departure.trip)
     }
 
     // Where and when the ride by the departure goes that alights at the call, if it ends in time.
@@ -179,7 +179,7 @@ impl<'s, 'f> Positions<'s, 'f> {
         requires time { call.now.arrival ≤ most_time }
         ensures { result ≡ facts_in_time self.now.query departure.now call.now }
     {
-        departure.facts_in_time(self.timetable, self.query, call)
+        departure.facts_in_time(self.query, call)
     }
 
     // Adds the ride by the departure that alights at the call.

@@ -9,5 +9,5 @@ invariant-loop-k l = record {
   all : (to : ℕ) (call : Call) → l.k ≤ to → slice_get l.calls to ≡ Some call →
       alights_early l.query l.latest l.run call ≡ true → l.leads ≡ true;
   only : l.leads ≡ true → LeadsFrom l.query l.latest l.run l.calls l.k;
-  adds : AddsLasts l.timetable l.query l.latest (IsOfRunFrom l.held l.k) l.fn.lasts l.lasts;
+  adds : AddsLasts l.timetable l.query l.latest (IsOfRunFrom l.run l.k) l.fn.lasts l.lasts;
 }

@@ -1,5 +1,5 @@
 use Rattle.std.proofs.Common.{◌≡◌, ◌∙◌, ◌&&◌, subst, sym, true}
-use Rattle.plan_rides.specs.InTime.{departure_of}
+use Rattle.plan_patterns.specs.Runs.{moment_of}
 use Rattle.plan_rides.specs.Lasts.{PutsLast, boards_since}
 use Rattle.plan_rides.proofs.LastLaws.{puts_none}
 use Rattle.plan_rides.proofs.lasts.put_departure.Goals as goal
@@ -13,5 +13,5 @@ returns c =
     let call = c.args.call.now in
     let is : (c.args.leads && boards_since c.args.query.now run call) ≡ true =
     sym c.leads_at.ensures ∙ c.if-not-leads_at.false in
-    subst (λ b. PutsLast b call.stop.0 (departure_of run call) c.args.lasts.now c.put_last.new.lasts) (sym is)
+    subst (λ b. PutsLast b call.stop.0 (moment_of run call.departure) c.args.lasts.now c.put_last.new.lasts) (sym is)
     (subst (λ z. PutsLast true call.stop.0 z c.args.lasts.now c.put_last.new.lasts) c.moment.ensures c.put_last.ensures)
