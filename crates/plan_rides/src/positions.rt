@@ -1,10 +1,11 @@
 //! Where riders may board the runs of a query's patterns, and which rides they can catch there.
-ghost use Rattle.std.specs.Prelude.{◌≡◌, ◌<◌, ◌≤◌, ◌^◌, All, IfOk, OnOk, Some, length, slice_get};
+ghost use Rattle.std.specs.Prelude.{◌≡◌, ◌<◌, ◌≤◌, All, IfOk, OnOk, Some, slice_get};
 ghost use Rattle.feed_rows.specs.Calls.{calls_of};
-ghost use Rattle.feed_rows.specs.declared.journeys.Call.{Call};
+ghost use Rattle.feed_rows.specs.FeedRows.{FeedRows};
 ghost use Rattle.feed_timetable.specs.Standings.{stand_of};
+ghost use Rattle.plan_patterns.specs.Runs.{IsNear};
 ghost use Rattle.plan_rides.specs.Boarding.{AreMarks, MayRide};
-ghost use Rattle.plan_rides.specs.Departures.{BoardsAt, IsBy, IsByTo, IsDeparture, Serves, facts_in_time};
+ghost use Rattle.plan_rides.specs.Departures.{BoardsAt, IsBy, IsByTo, IsDeparture, Serves, run_with};
 ghost use Rattle.plan_rides.specs.InTime.{AreLastDepartures, HasCaught, IsRight, IsUsualQuery, IsWithinWindow};
 ghost use Rattle.plan_rides.specs.Reached.{AddsFound, AddsReached, IsAny, IsFromReached, positioned};
 ghost use Rattle.plan_rides.specs.Served.{AreTimedStops};
@@ -16,8 +17,8 @@ use crate::departures::{Departure, Departures};
 use crate::latest::is_early;
 use crate::servings::TimedServing;
 use crate::sought::Sought;
-use feed_rows::{Call, Query, RideFacts};
-use feed_timetable::{Calls, Standing, Timetable};
+use feed_rows::{Call, Query};
+use feed_timetable::{Standing, Timetable};
 use plain_laws::Groups;
 use plan_patterns::{Patterns, Serving};
 use std::alloc::{AllocError, Global};
@@ -40,6 +41,53 @@ pub struct Reached {
     /// The earliest moment at which they are there.
     pub earliest: Moment,
     pub number: u32,
+}
+
+// Adds the ride by the departure that alights at the call.
+fn add_ride(
+    query: &Query,
+    latest: &[Option<Moment>],
+    departure: &Departure,
+    to: u32,
+    call: &Call,
+    rides: &mut Vec<CaughtRide>,
+) -> Result<(), AllocError>
+    requires usual { IsUsualQuery query.now }
+    requires near { IsNear (run_with departure.now) }
+    requires later { departure.now.from < to }
+    requires time { call.now.arrival ≤ most_time }
+    ensures { (feed : FeedRows) → IsDeparture feed departure.now → slice_get (calls_of feed departure.now.trip) to ≡ Some call.now → OnOk result (AddsFound feed query.now latest.now departure.now.stop.0 departure.now.at.0 (IsByTo feed departure.now to) rides.old.items rides.new.items) }
+{
+    let Some(facts) = departure.facts_in_time(query, call) else {
+        return Ok(());
+    };
+    if !is_early(latest, facts.to, facts.arrival) {
+        return Ok(());
+    }
+    rides.push(CaughtRide {
+        ride: departure.ride_to(to),
+        facts,
+    })?;
+    Ok(())
+}
+
+// Adds the rides by a departure.
+fn add_departure(
+    timetable: &Timetable,
+    query: &Query,
+    latest: &[Option<Moment>],
+    departure: &Departure,
+    rides: &mut Vec<CaughtRide>,
+) -> Result<(), AllocError>
+    requires usual { IsUsualQuery query.now }
+    requires right { IsDeparture timetable.now departure.now }
+    ensures { OnOk result (AddsFound timetable.now query.now latest.now departure.now.stop.0 departure.now.at.0 (IsBy timetable.now departure.now) rides.old.items rides.new.items) }
+{
+    let calls = timetable.calls_of(departure.trip);
+    for to in departure.from + 1..calls.len() as u32 {
+        add_ride(query, latest, departure, to, &calls.at(to as usize), rides)?;
+    }
+    Ok(())
 }
 
 /// Where riders may board the runs of a query's patterns. Contracts see the feed, the query and the patterns.
@@ -163,70 +211,6 @@ impl<'s, 'f> Positions<'s, 'f> {
         Ok(())
     }
 
-    // The calls of the departure's trip.
-    fn calls_of(&self, departure: &Departure) -> Calls<'s>
-        requires { IsDeparture self.now.feed departure.now }
-        ensures value { result ≡ calls_of self.now.feed departure.now.trip }
-        ensures times { All (λ (c : Call). (c.arrival ≤ most_time) × (c.departure ≤ most_time)) result }
-        ensures few { length result < 2 ^ 32 }
-    {
-        self.timetable.calls_of(departure.trip)
-    }
-
-    // Where and when the ride by the departure goes that alights at the call, if it ends in time.
-    fn facts_in_time(&self, departure: &Departure, call: &Call) -> Option<RideFacts>
-        requires right { IsDeparture self.now.feed departure.now }
-        requires time { call.now.arrival ≤ most_time }
-        ensures { result ≡ facts_in_time self.now.query departure.now call.now }
-    {
-        departure.facts_in_time(self.query, call)
-    }
-
-    // Adds the ride by the departure that alights at the call.
-    fn add_ride(
-        &self,
-        latest: &[Option<Moment>],
-        departure: &Departure,
-        to: u32,
-        call: &Call,
-        rides: &mut Vec<CaughtRide>,
-    ) -> Result<(), AllocError>
-        requires right { IsDeparture self.now.feed departure.now }
-        requires later { departure.now.from < to }
-        requires is { slice_get (calls_of self.now.feed departure.now.trip) to ≡ Some call.now }
-        requires time { call.now.arrival ≤ most_time }
-        ensures { OnOk result (AddsFound self.now.feed self.now.query latest.now departure.now.stop.0 departure.now.at.0 (IsByTo self.now.feed departure.now to) rides.old.items rides.new.items) }
-    {
-        let Some(facts) = self.facts_in_time(departure, call) else {
-            return Ok(());
-        };
-        if !is_early(latest, facts.to, facts.arrival) {
-            return Ok(());
-        }
-        rides.push(CaughtRide {
-            ride: departure.ride_to(to),
-            facts,
-        })?;
-        Ok(())
-    }
-
-    // Adds the rides by a departure.
-    fn add_departure(
-        &self,
-        latest: &[Option<Moment>],
-        departure: &Departure,
-        rides: &mut Vec<CaughtRide>,
-    ) -> Result<(), AllocError>
-        requires right { IsDeparture self.now.feed departure.now }
-        ensures { OnOk result (AddsFound self.now.feed self.now.query latest.now departure.now.stop.0 departure.now.at.0 (IsBy self.now.feed departure.now) rides.old.items rides.new.items) }
-    {
-        let calls = self.calls_of(departure);
-        for to in departure.from + 1..calls.len() as u32 {
-            self.add_ride(latest, departure, to, &calls.at(to as usize), rides)?;
-        }
-        Ok(())
-    }
-
     /// Appends the rides from the position that depart no earlier than one is there, end within the window and arrive at a stop
     /// no later than the latest moment there: at none where that is none, and at any at a stop past their end. `lasts` says when
     /// the last of them departs from each stop, so that no later ones are looked at.
@@ -244,15 +228,17 @@ impl<'s, 'f> Positions<'s, 'f> {
         requires lasts { AreLastDepartures self.now.feed self.now.query latest.now lasts.now }
         ensures { OnOk result (AddsFound self.now.feed self.now.query latest.now reached.now.stop.0 reached.now.earliest.0 (IsFromReached self.now reached.now) rides.old.items rides.new.items) }
     {
+        let timetable = self.timetable;
+        let query = self.query;
         let departures = Departures::since(
-            self.timetable,
+            timetable,
             self.patterns,
             reached.stop,
             &reached.serving,
             reached.earliest,
         );
         for k in 0..departures.first_late(lasts, reached.stop) {
-            self.add_departure(latest, &departures.at(k), rides)?;
+            add_departure(timetable, query, latest, &departures.at(k), rides)?;
         }
         Ok(())
     }
