@@ -38,7 +38,7 @@ use Rattle.plan_patterns.specs.Runs.{IsHeld, IsHeldOf, IsKnown, moment_of}
 use Rattle.plan_patterns.specs.Servings.{boards_at, list_at, serving_of, servings_at}
 use Rattle.plan_rides.specs.declared.departures.Departure.{Departure}
 use Rattle.plan_rides.specs.Boarding.{Seeking, is_boarding, is_marked}
-use Rattle.plan_rides.specs.Departures.{IsSpanned, AddsTrip, AreBoarded, AreListed, departure_with, IsDeparture, IsFromStop, DoRise, AreDepartures, AreServed, AreSince, HoldsRuns, IsRunOf, Serves, StopsAt, TakesOneOf, TakesServing, run_by, no_run, departure_by, departure_at}
+use Rattle.plan_rides.specs.Departures.{IsSpanned, AddsTrip, AreBoarded, AreListed, departure_with, IsDeparture, IsFromStop, DoRise, AreDepartures, AreSince, HoldsRuns, IsRunOf, Serves, StopsAt, TakesOneOf, TakesServing, run_by, no_run, departure_by, departure_at}
 use Rattle.plan_rides.specs.Runs.{run_of, IsRun}
 
 -- the trip of a number
@@ -412,14 +412,6 @@ are_departures feed sought trips patterns boarded of are = record {
         (takes_one feed sought trips patterns.patterns ride facts boarded are e);
     right = serves_stop feed sought.query trips patterns.patterns stop are;
   };
-}
-
--- where there is no such stop, nothing departs
-pub none_served : (feed : FeedRows) (sought : Seeking) (patterns : List PatternOf) (stop : ℕ) → IsSoundFeed feed →
-    length feed.stops ≤ stop → AreServed feed sought patterns stop []
-none_served feed sought patterns stop sound past = record {
-  all = λ ride facts e from. let lt = ride_stop feed ride facts sound e.is in absurd (omega (arith, lt, from, past));
-  right = All-nil (Serves feed patterns stop);
 }
 
 -- one position more

@@ -2,7 +2,7 @@
 ghost use Rattle.std.specs.Prelude.{◌≡◌, ◌<◌, ◌≤◌, length, IfOk, OnOk, slice_index_or};
 ghost use Rattle.plan_patterns.specs.Runs.{IsNear};
 ghost use Rattle.plan_rides.specs.Boarding.{is_boarding};
-ghost use Rattle.plan_rides.specs.Departures.{AddsTrip, AreBoarded, AreDepartures, AreListed, AreServed, AreSince, DoRise, HoldsRuns};
+ghost use Rattle.plan_rides.specs.Departures.{AddsTrip, AreBoarded, AreDepartures, AreListed, AreSince, DoRise, HoldsRuns};
 ghost use Rattle.plan_rides.specs.Departures.{IsFirstLate, Serves, departure_by, facts_in_time, ride_to, run_with};
 ghost use Rattle.plan_rides.specs.InTime.{deadline, IsUsualQuery};
 ghost use Rattle.plan_rides.specs.declared.departures.Departure.{Departure};
@@ -151,23 +151,6 @@ pub fn patterns_of<'t, 'f>(
     Ok(patterns)
 }
 
-/// The positions of patterns at which riders may board at the stop; none where there is no such stop.
-pub fn servings_of<'p>(
-    timetable: &Timetable,
-    sought: &Sought,
-    patterns: &'p Patterns,
-    stop: StopId,
-) -> &'p [Serving]
-    requires { AreDepartures timetable.now sought.now patterns.now }
-    ensures { AreServed timetable.now sought.now patterns.now.patterns stop.0 result.now }
-{
-    let feed = timetable.feed();
-    if stop.0 as usize >= feed.stops.items().len() {
-        return &[];
-    }
-    patterns.serving(stop)
-}
-
 // Where a run departs from the stop, which is at this position, at the moment.
 fn departure_by(
     timetable: &Timetable,
@@ -217,9 +200,9 @@ impl<'t, 'f> Model for Departures<'t, 'f> {
 
 impl<'t, 'f> Departures<'t, 'f> {
     /// The departures from the stop at the position at which a pattern serves it, at the moment or later.
-    pub fn since(
+    pub fn since<'p>(
+        patterns: &'t Patterns<'p, 'f>,
         timetable: &'t Timetable<'f>,
-        patterns: &'t Patterns<'t, 'f>,
         stop: StopId,
         serving: &Serving,
         from: Moment,

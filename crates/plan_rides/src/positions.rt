@@ -231,8 +231,8 @@ impl<'s, 'f> Positions<'s, 'f> {
         let timetable = self.timetable;
         let query = self.query;
         let departures = Departures::since(
-            timetable,
             self.patterns,
+            timetable,
             reached.stop,
             &reached.serving,
             reached.earliest,

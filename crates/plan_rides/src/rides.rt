@@ -79,7 +79,7 @@ impl<'s, 'f> Rides<'s, 'f> {
     {
         let sought = Sought::new(alloc, timetable, query)?;
         let patterns = patterns_of(alloc, timetable, &sought)?;
-        let served = served_stops(alloc, timetable, &sought, &patterns)?;
+        let served = served_stops(alloc, &patterns, timetable, &sought)?;
         Ok(Rides {
             timetable,
             query,

@@ -1,12 +1,12 @@
 //! Where and when patterns serve stops: the moments of the first and of the last departure from each position since the
 //! query departs, which tell without a look into the pattern whether one can be caught there.
-ghost use Rattle.std.specs.Prelude.{◌≡◌, IfOk, OnOk};
+ghost use Rattle.std.specs.Prelude.{◌≡◌, ◌<◌, IfOk, OnOk, length};
 ghost use Rattle.plan_rides.specs.Departures.{AreDepartures, Serves};
 ghost use Rattle.plan_rides.specs.Served.{AddsTimed, AreTimed, AreTimedStops, is_open};
 
-use crate::departures::servings_of;
 use crate::latest::is_early;
 use crate::sought::Sought;
+use feed_rows::Query;
 use feed_timetable::Timetable;
 use plain_laws::Groups;
 use plan_patterns::{Patterns, Serving};
@@ -33,19 +33,16 @@ impl TimedServing {
 
 // Appends the position with its moments; nothing where no run departs since the query does.
 fn add_serving(
-    timetable: &Timetable,
-    sought: &Sought,
     patterns: &Patterns,
+    query: &Query,
     stop: StopId,
     serving: &Serving,
     served: &mut Vec<TimedServing>,
 ) -> Result<(), AllocError>
-    requires feed { patterns.now.feed ≡ timetable.now }
-    requires serves { Serves timetable.now patterns.now.patterns stop.0 serving.now }
-    ensures { OnOk result (AddsTimed timetable.now sought.now.query patterns.now.patterns stop.0 serving.now served.old.items served.new.items) }
+    requires { Serves patterns.now.feed patterns.now.patterns stop.0 serving.now }
+    ensures { OnOk result (AddsTimed patterns.now.feed query.now patterns.now.patterns stop.0 serving.now served.old.items served.new.items) }
 {
-    let from = sought.query().departure;
-    let boardings = patterns.boardable(serving.pattern, serving.position, from);
+    let boardings = patterns.boardable(serving.pattern, serving.position, query.departure);
     if boardings.is_empty() {
         return Ok(());
     }
@@ -59,19 +56,20 @@ fn add_serving(
 
 // Replaces what `served` holds by the positions at the stop from which a run departs since the query does.
 fn serve_stop(
-    timetable: &Timetable,
-    sought: &Sought,
     patterns: &Patterns,
+    sought: &Sought,
     stop: StopId,
     served: &mut Vec<TimedServing>,
 ) -> Result<(), AllocError>
-    requires { AreDepartures timetable.now sought.now patterns.now }
-    ensures { OnOk result (AreTimed timetable.now sought.now patterns.now.patterns stop.0 served.new.items) }
+    requires departures { AreDepartures patterns.now.feed sought.now patterns.now }
+    requires inside { stop.0 < length patterns.now.feed.stops }
+    ensures { OnOk result (AreTimed patterns.now.feed sought.now patterns.now.patterns stop.0 served.new.items) }
 {
     served.clear();
-    let servings = servings_of(timetable, sought, patterns, stop);
+    let query = sought.query();
+    let servings = patterns.serving(stop);
     for k in 0..servings.len() {
-        add_serving(timetable, sought, patterns, stop, &servings[k], served)?;
+        add_serving(patterns, query, stop, &servings[k], served)?;
     }
     Ok(())
 }
@@ -82,9 +80,9 @@ fn serve_stop(
 /// Want of memory; so counts that there would be 2^32 of them or more.
 pub fn served_stops(
     alloc: Global,
+    patterns: &Patterns,
     timetable: &Timetable,
     sought: &Sought,
-    patterns: &Patterns,
 ) -> Result<Groups<TimedServing>, AllocError>
     requires { AreDepartures timetable.now sought.now patterns.now }
     ensures { IfOk result (λ by_stop. AreTimedStops timetable.now sought.now patterns.now by_stop) }
@@ -92,13 +90,7 @@ pub fn served_stops(
     let mut by_stop = Groups::empty(alloc);
     let mut served = Vec::new(alloc);
     for stop in 0..timetable.feed().stops.items().len() {
-        serve_stop(
-            timetable,
-            sought,
-            patterns,
-            StopId(stop as u32),
-            &mut served,
-        )?;
+        serve_stop(patterns, sought, StopId(stop as u32), &mut served)?;
         by_stop.push(&served)?;
     }
     Ok(by_stop)
