@@ -23,7 +23,7 @@ use Rattle.plan_rounds.specs.declared.search.Source.{Source}
 use Rattle.plan_rounds.specs.Horizons.{IsFair}
 use Rattle.round_labels.specs.Labels.{facts_of, stand_of_label}
 use Rattle.plan_rounds.specs.Prospects.{ProspectLists, latest_of, lasts_of}
-use Rattle.plan_rounds.specs.Scans.{AddsMarks, AreFairFor, AreReached, HasLasts, IsFairIn, IsNear, IsRound, StepsAmong, StepsAt, StepsAtFirst, StepsFromPosition}
+use Rattle.plan_rounds.specs.Scans.{AddsMarks, AreFairFor, AreFairIn, AreReached, HasLasts, IsFairIn, IsNear, IsRound, StepsAmong, StepsAt, StepsAtFirst, StepsFromPosition}
 use Rattle.plan_rounds.specs.Searched.{Searched, Lacks}
 use Rattle.plan_rounds.specs.Sources.{IsSource, StepsByFirst}
 use Rattle.plan_rounds.specs.Stores.{StepsBy, StepsTo}
@@ -40,12 +40,6 @@ step_caught task me x b feed query to =
     (in_time_of task.feed task.query (facts_of x) to.0 to.2.facts to.2.rides))
 
 -- ---- prospects
-
--- the prospects are fair to the labels with so many rides, of which they are near where only such are meant
-abbrev pub AreFairIn : Searched → Round → Bool → List (Option Moment) → Type 0
-AreFairIn task round near latest =
-    (number : ℕ) (x : Label) → slice_get round.labels.now number ≡ Some x → x.rides ≡ round.count →
-    (near ≡ true → IsNear task round.horizon.now x) → IsFairIn task round x latest
 
 pub fair_in : (task : Searched) (round : Round) (near : Bool) (lists : ProspectLists) (more : ℕ) (latest : List (Option Moment)) →
     IsRound task round → AreFairFor task round.horizon.now near lists → round.count + 1 + more ≡ task.query.rides →

@@ -128,6 +128,12 @@ IsFairIn task round x latest =
     (b : LabelFacts) (to : StepsTo task.feed task.query (facts_of x) b) → x.rides ≡ round.count →
     is_early latest to.2.facts.to.0 to.2.facts.arrival.0 ≡ false → Lacks task round.finals.now b
 
+-- the prospects are fair to the labels with so many rides, of which they are near where only such are meant
+abbrev pub AreFairIn : Searched → Round → Bool → List (Option Moment) → Type 0
+AreFairIn task round near latest =
+    (number : ℕ) (x : Label) → slice_get round.labels.now number ≡ Some x → x.rides ≡ round.count →
+    (near ≡ true → IsNear task round.horizon.now x) → IsFairIn task round x latest
+
 -- the labels with one ride more gain those that cover this part, but for what the search may lack
 abbrev pub SpreadsIn : Searched → Round → (LabelFacts → Type 0) → List Label → List Label → Type 0
 SpreadsIn task round Part old new =

@@ -4,7 +4,7 @@ ghost use Rattle.std.specs.List.Sorted.{IsNonDecreasingBy, IsPermutation};
 ghost use Rattle.plan_rides.specs.Reached.{HoldsFrom, IsReachedFrom};
 ghost use Rattle.round_labels.specs.Labels.{stand_of_label};
 ghost use Rattle.plan_rounds.specs.Moves.{HasFares};
-ghost use Rattle.plan_rounds.specs.Scans.{AddsMarks, AreFairFor, AreMarks, HasLasts, IsFairIn, IsMarked, IsNear, IsRound, SpreadsIn, StepsAt, StepsFromPosition, place_of};
+ghost use Rattle.plan_rounds.specs.Scans.{AddsMarks, AreFairFor, AreFairIn, AreMarks, HasLasts, IsFairIn, IsMarked, IsNear, IsRound, SpreadsIn, StepsAt, StepsFromPosition, place_of};
 ghost use Rattle.plan_rounds.specs.Sources.{IsSource, SpreadsFrom};
 ghost use Rattle.plan_rounds.specs.Stores.{StepsFrom};
 ghost use Rattle.round_labels.specs.declared.label.Label.{Label};
@@ -110,6 +110,27 @@ impl<'s, 'f> Search<'s, 'f> {
         }
     }
 
+    /// No rides yet, to be kept for labels that are near or for the others, with the room of this list, whose rides are lost.
+    fn kept_for<'p>(
+        &'p self,
+        round: &'p Round<'p, 'f>,
+        near: bool,
+        room: Vec<CaughtRide>,
+    ) -> KeptRides<'p, 'f>
+        requires { IsRound self.now round.now }
+        ensures positions { result.positions ≡ round.now.positions.now }
+        ensures fair { AreFairIn self.now round.now near result.latest }
+    {
+        let more = usize::from(self.limit() - round.count - 1);
+        let prospects = self.prospects_for(round.horizon, near);
+        KeptRides::none(
+            round.positions,
+            prospects.latest(more),
+            prospects.lasts(more),
+            room,
+        )
+    }
+
     /// Appends the positions that the label reaches.
     fn reach(
         &self,
@@ -162,12 +183,12 @@ impl<'s, 'f> Search<'s, 'f> {
     /// Offers what the rides lead to from the label that depart no earlier than it gets to the position.
     fn offer_rides(
         &self,
+        found: &mut Found<'_, 'f>,
+        bags: &mut StopBags,
         round: &Round<'_, 'f>,
         source: &Source,
         reached: &Reached,
         kept: &KeptRides,
-        found: &mut Found<'_, 'f>,
-        bags: &mut StopBags,
     ) -> Result<(), AllocError>
         requires round { IsRound self.now round.now }
         requires source { IsSource self.now.feed self.now.query source.now }
@@ -183,7 +204,7 @@ impl<'s, 'f> Search<'s, 'f> {
         let rides = kept.rides();
         for k in 0..rides.len() {
             if departs_since(&rides[k], reached) {
-                self.offer_ride(source, round.finals, &rides[k], found, bags)?;
+                self.offer_ride(found, bags, source, round.finals, &rides[k])?;
             }
         }
         Ok(())
@@ -192,11 +213,11 @@ impl<'s, 'f> Search<'s, 'f> {
     /// Offers what one more ride from the position leads to, from the label that reaches it. `kept` then has the rides from there.
     fn offer_from(
         &self,
+        found: &mut Found<'_, 'f>,
+        bags: &mut StopBags,
         round: &Round<'_, 'f>,
         reached: &Reached,
         kept: &mut KeptRides,
-        found: &mut Found<'_, 'f>,
-        bags: &mut StopBags,
     ) -> Result<(), AllocError>
         requires round { IsRound self.now round.now }
         requires marked { IsMarked round.now reached.now }
@@ -215,16 +236,16 @@ impl<'s, 'f> Search<'s, 'f> {
             number: reached.number,
             label: &label,
         };
-        self.offer_rides(round, &source, reached, kept, found, bags)
+        self.offer_rides(found, bags, round, &source, reached, kept)
     }
 
     /// Offers what one more ride leads to from the labels of the last round, position by position. What `marks` holds is lost.
     pub(crate) fn scan(
         &self,
-        round: &Round<'_, 'f>,
-        marks: &mut Marks,
         found: &mut Found<'_, 'f>,
         bags: &mut StopBags,
+        round: &Round<'_, 'f>,
+        marks: &mut Marks,
     ) -> Result<(), AllocError>
         requires round { IsRound self.now round.now }
         requires fares { HasFares self.now found.old }
@@ -232,27 +253,17 @@ impl<'s, 'f> Search<'s, 'f> {
         ensures spreads { OnOk result (SpreadsIn self.now round.now (StepsFrom self.now.feed self.now.query round.now.labels.now round.now.count) bags.old bags.new) }
     {
         self.mark(round, marks)?;
-        let more = usize::from(self.limit() - round.count - 1);
-        let soon = self.prospects_for(round.horizon, true);
-        let all = self.prospects_for(round.horizon, false);
-        let mut by_soon = KeptRides::none(
-            round.positions,
-            soon.latest(more),
-            soon.lasts(more),
-            mem::replace(&mut found.soon, Vec::new(self.alloc)),
-        );
-        let mut by_all = KeptRides::none(
-            round.positions,
-            all.latest(more),
-            all.lasts(more),
-            mem::replace(&mut found.all, Vec::new(self.alloc)),
-        );
+        let alloc = self.alloc;
+        let soon = mem::replace(&mut found.soon, Vec::new(alloc));
+        let mut by_soon = self.kept_for(round, true, soon);
+        let all = mem::replace(&mut found.all, Vec::new(alloc));
+        let mut by_all = self.kept_for(round, false, all);
         for k in 0..marks.reached.len() {
             let reached = &marks.reached[k];
             if marks.near[reached.number as usize] {
-                self.offer_from(round, reached, &mut by_soon, found, bags)?;
+                self.offer_from(found, bags, round, reached, &mut by_soon)?;
             } else {
-                self.offer_from(round, reached, &mut by_all, found, bags)?;
+                self.offer_from(found, bags, round, reached, &mut by_all)?;
             }
         }
         found.soon = by_soon.into_room();

@@ -43,6 +43,8 @@ use transit_base::{Moment, StopId};
 /// cover all partial journeys but those that a final outdoes, or those alone that matter for the answer.
 pub struct Search<'s, 'f> {
     pub(crate) alloc: Global,
+    /// That of the rides.
+    timetable: &'s Timetable<'f>,
     rides: Rides<'s, 'f>,
     timeframes: Timeframes,
     /// The fares for the query's rider.
@@ -59,6 +61,7 @@ impl<'s, 'f> Drop for Search<'s, 'f> {
     fn drop(self) {
         let Search {
             alloc: _,
+            timetable: _,
             rides: _,
             timeframes: _,
             automaton: _,
@@ -82,7 +85,7 @@ impl<'s, 'f> Model for Search<'s, 'f> {
 
     ghost view = { λ s. searched s.rides s.whole };
 
-    ghost invariant = { λ s. AreTimeframesOf s.rides.feed s.timeframes × (s.automaton ≡ terms s.rides.feed s.rides.query.rider) × (s.takes_back ≡ some_takes_back s.rides.feed) × AreProspects s.rides.feed s.rides.query (deadline s.rides.query) s.prospects × (s.whole ≡ true → s.prospects ≡ no_prospects) };
+    ghost invariant = { λ s. AreTimeframesOf s.rides.feed s.timeframes × (s.automaton ≡ terms s.rides.feed s.rides.query.rider) × (s.takes_back ≡ some_takes_back s.rides.feed) × AreProspects s.rides.feed s.rides.query (deadline s.rides.query) s.prospects × (s.whole ≡ true → s.prospects ≡ no_prospects) × (s.timetable.now ≡ s.rides.feed) };
 }
 
 /// A label with its number among those so far, from which a round goes on.
@@ -158,22 +161,19 @@ impl<'s, 'f> Search<'s, 'f> {
         requires { IsUsualQuery query.now }
         ensures { IfOk result (λ search. search ≡ searched (asked timetable.now query.now) whole) }
     {
+        let feed = timetable.feed();
         let rides = Rides::of(alloc, timetable, query)?;
-        let timeframes = Timeframes::between(
-            alloc,
-            timetable.feed(),
-            query.departure,
-            rides.deadline(),
-        )?;
-        let automaton = Automaton::compile(alloc, timetable.feed(), query.rider)?;
+        let timeframes = Timeframes::between(alloc, feed, query.departure, rides.deadline())?;
+        let automaton = Automaton::compile(alloc, feed, query.rider)?;
         let prospects = first_prospects(alloc, &rides, whole)?;
         Ok(Search {
             alloc,
+            timetable,
             rides,
             timeframes,
             automaton,
             prospects,
-            takes_back: takes_back(timetable.feed()),
+            takes_back: takes_back(feed),
             whole,
         })
     }
@@ -199,14 +199,14 @@ impl<'s, 'f> Search<'s, 'f> {
         ensures sound { IsSoundFeed self.now.feed }
     {
         let _feed = self.feed();
-        self.rides.timetable().members(self.rides.query().from)
+        self.timetable.members(self.rides.query().from)
     }
 
     /// The stops at which journeys end.
     pub(crate) fn lasts(&self) -> &'s [StopId]
         ensures { result.now ≡ stop_set self.now.feed self.now.query.to }
     {
-        self.rides.timetable().members(self.rides.query().to)
+        self.timetable.members(self.rides.query().to)
     }
 
     /// How many stops the feed has.
@@ -223,7 +223,7 @@ impl<'s, 'f> Search<'s, 'f> {
         ensures value { result.now ≡ self.now.feed }
         ensures sound { IsSoundFeed self.now.feed }
     {
-        self.rides.timetable().feed()
+        self.timetable.feed()
     }
 
     /// Offers the label without rides at a first stop.
@@ -246,7 +246,7 @@ impl<'s, 'f> Search<'s, 'f> {
     }
 
     /// Replaces what is found of moves by those of the leg that is found, after the label: all that there are, each once.
-    fn find_moves(&self, label: &Label, found: &mut Found) -> Result<(), AllocError>
+    fn find_moves(&self, found: &mut Found, label: &Label) -> Result<(), AllocError>
         requires bounded { IsBounded label.now }
         requires fares { HasFares self.now found.old }
         ensures moves { OnOk result (AreMovesOf self.now.feed self.now.query label.now found.old.leg found.new.moves.items) }
@@ -273,11 +273,11 @@ impl<'s, 'f> Search<'s, 'f> {
     /// Offers what the ride leads to from the label.
     pub(crate) fn offer_ride(
         &self,
+        found: &mut Found<'_, 'f>,
+        bags: &mut StopBags,
         source: &Source,
         finals: &[Final],
         caught: &CaughtRide,
-        found: &mut Found<'_, 'f>,
-        bags: &mut StopBags,
     ) -> Result<(), AllocError>
         requires source { IsSource self.now.feed self.now.query source.now }
         requires right { IsRight self.now.feed self.now.query (stand_of_label source.now.label.now) caught.now }
@@ -291,10 +291,10 @@ impl<'s, 'f> Search<'s, 'f> {
         }
         self.timeframes
             .leg_facts_into(&caught.facts, &mut found.leg)?;
-        self.find_moves(source.label, found)?;
+        self.find_moves(found, source.label)?;
         for k in 0..found.moves.len() {
             if !is_bettered(&found.moves, k) {
-                self.offer_move(source, finals, caught, &found.moves[k], bags)?;
+                self.offer_move(bags, source, finals, caught, &found.moves[k])?;
             }
         }
         Ok(())
@@ -303,11 +303,11 @@ impl<'s, 'f> Search<'s, 'f> {
     /// Offers what the ride leads to from the label by the move.
     fn offer_move(
         &self,
+        bags: &mut StopBags,
         source: &Source,
         finals: &[Final],
         caught: &CaughtRide,
         taken: &Move,
-        bags: &mut StopBags,
     ) -> Result<(), AllocError>
         requires source { IsSource self.now.feed self.now.query source.now }
         requires right { IsRight self.now.feed self.now.query (stand_of_label source.now.label.now) caught.now }
@@ -347,12 +347,12 @@ impl<'s, 'f> Search<'s, 'f> {
     /// Offers what one more ride leads to from the labels with so many rides. What `marks` holds is lost.
     fn spread(
         &self,
+        found: &mut Found<'_, 'f>,
+        bags: &mut StopBags,
         labels: &LabelList,
         count: u8,
         finals: &[Final],
         marks: &mut Marks,
-        found: &mut Found<'_, 'f>,
-        bags: &mut StopBags,
     ) -> Result<(), AllocError>
         requires few { count < self.now.query.rides }
         requires numbers { length labels.now < 2 ^ 32 }
@@ -372,7 +372,7 @@ impl<'s, 'f> Search<'s, 'f> {
             finals,
             horizon: &horizon,
         };
-        self.scan(&round, marks, found, bags)
+        self.scan(found, bags, &round, marks)
     }
 
     /// Adds the labels that have so many rides, and what they end in.
@@ -411,32 +411,33 @@ impl<'s, 'f> Search<'s, 'f> {
         ensures numbers { IfOk result (λ all. length all.0 < 2 ^ 32) }
         ensures ended { IfOk result (λ all. AddsEnds self.now.feed self.now.query all.0 (EndsBelow self.now.feed self.now.query all.0 (length all.0)) [] all.1) }
     {
+        let alloc = self.alloc;
         let limit = self.limit();
-        let mut bags = StopBags::empty(self.alloc);
+        let mut bags = StopBags::empty(alloc);
         self.offer_starts(&mut bags)?;
-        let mut labels = LabelList::empty(self.alloc);
-        let mut front = Front::empty(self.alloc);
+        let mut labels = LabelList::empty(alloc);
+        let mut front = Front::empty(alloc);
         self.gather(0, &bags, &mut labels, &mut front)?;
         let mut found = Found {
-            known: KnownOptions::of(self.alloc, &self.automaton),
-            leg: blank_leg(self.alloc),
-            places: Vec::new(self.alloc),
-            moves: Vec::new(self.alloc),
-            soon: Vec::new(self.alloc),
-            all: Vec::new(self.alloc),
+            known: KnownOptions::of(alloc, &self.automaton),
+            leg: blank_leg(alloc),
+            places: Vec::new(alloc),
+            moves: Vec::new(alloc),
+            soon: Vec::new(alloc),
+            all: Vec::new(alloc),
         };
         let mut marks = Marks {
-            reached: Vec::new(self.alloc),
-            near: Vec::new(self.alloc),
+            reached: Vec::new(alloc),
+            near: Vec::new(alloc),
         };
         for count in 0..limit {
             self.spread(
+                &mut found,
+                &mut bags,
                 &labels,
                 count,
                 front.items(),
                 &mut marks,
-                &mut found,
-                &mut bags,
             )?;
             self.gather(count + 1, &bags, &mut labels, &mut front)?;
         }

@@ -2,45 +2,27 @@ use Rattle.std.proofs.Common.{◌≡◌, ◌∙◌, ◌+◌, ◌<◌, ◌≤◌,
 use Rattle.std.specs.Prelude.{Some}
 use Rattle.std.proofs.lemmas.List.Elements.{Contains-get_or}
 use Rattle.std.proofs.lemmas.Option.{slice_get_read, slice_get_within}
-use Rattle.plan_rides.specs.Reached.{Keeping}
-use Rattle.plan_rounds.specs.Scans.{IsMarked, StepsAtFirst}
+use Rattle.plan_rounds.specs.Scans.{AreFairIn, IsMarked, StepsAtFirst}
 use Rattle.plan_rounds.specs.Searched.{Lacks}
-use Rattle.plan_rounds.proofs.ScanLaws.{AreFairIn, fair_in, lasts_in, steps_all, steps_more, steps_none}
+use Rattle.plan_rounds.proofs.ScanLaws.{steps_all, steps_more, steps_none}
 use Rattle.plan_rounds.proofs.SourceLaws.{from_all}
 use Rattle.plan_rounds.proofs.SpreadLaws.{spreads_but, spreads_more, spreads_none}
 use Rattle.plan_rounds.proofs.search.Search.scan.Goals as goal
 use Rattle.plan_rounds.proofs.search.Search.scan.Goals.{then-index+in_ok-offer_from, else-index+in_ok-offer_from-2}
 
-pub none-by_soon-requires : goal.none-by_soon-requires
-none-by_soon-requires c =
-    lasts_in c.args.self.now c.args.round.now c.prospects_for-soon.result.now c.from-more.result _ _ c.requires.round
-    c.prospects_for-soon.ensures.lasts c.latest.ensures c.lasts.ensures
-
-pub none-by_all-requires : goal.none-by_all-requires
-none-by_all-requires c =
-    lasts_in c.args.self.now c.args.round.now c.prospects_for-all.result.now c.from-more.result _ _ c.requires.round
-    c.prospects_for-all.ensures.lasts c.latest-2.ensures c.lasts-2.ensures
-
 pub loop-k-init : goal.loop-k-init
 loop-k-init c =
     let me = c.args.self.now in
     let round = c.args.round.now in
-    let more = c.from-more.result in
-    let from = c.from-more.ensures in
-    let limit = c.limit.ensures.is in
-    let few = c.requires.round.few in
-    let left : round.count + 1 + more ≡ me.query.rides = omega (arith, from, limit, few) in
     record {
       spreads = spreads_none me.feed me.query (Lacks me round.finals.now) round.labels.now (round.count + 1)
           (StepsAtFirst me round c.mark.new.marks.reached.items 0) c.args.bags.now
           (λ b steps. absurd (steps_none me round c.mark.new.marks.reached.items b steps));
       fares = c.requires.fares;
-      soon = ap (λ (k : Keeping). k.positions) c.none-by_soon.ensures;
-      soon_fair = fair_in me round true c.prospects_for-soon.result.now more _ c.requires.round c.prospects_for-soon.ensures.fair left
-          (ap (λ (k : Keeping). k.latest) c.none-by_soon.ensures ∙ c.latest.ensures);
-      all = ap (λ (k : Keeping). k.positions) c.none-by_all.ensures;
-      all_fair = fair_in me round false c.prospects_for-all.result.now more _ c.requires.round c.prospects_for-all.ensures.fair left
-          (ap (λ (k : Keeping). k.latest) c.none-by_all.ensures ∙ c.latest-2.ensures);
+      soon = c.kept_for-by_soon.ensures.positions;
+      soon_fair = c.kept_for-by_soon.ensures.fair;
+      all = c.kept_for-by_all.ensures.positions;
+      all_fair = c.kept_for-by_all.ensures.fair;
     }
 
 pub index-requires : goal.index-requires

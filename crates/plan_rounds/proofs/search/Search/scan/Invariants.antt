@@ -1,7 +1,6 @@
 use Rattle.std.proofs.Common.{◌≡◌, true, false}
 use Rattle.plan_rounds.specs.Moves.{HasFares}
-use Rattle.plan_rounds.specs.Scans.{SpreadsIn, StepsAtFirst}
-use Rattle.plan_rounds.proofs.ScanLaws.{AreFairIn}
+use Rattle.plan_rounds.specs.Scans.{AreFairIn, SpreadsIn, StepsAtFirst}
 use Rattle.plan_rounds.proofs.search.Search.scan.Given as goal
 
 abbrev pub invariant-loop-k : goal.invariant-loop-k
