@@ -54,10 +54,12 @@ impl Prospects {
     pub fn of(alloc: Global, rides: &Rides, deadline: Moment) -> Result<Prospects, AllocError>
         ensures { IfOk result (AreProspects rides.now.feed rides.now.query deadline.0) }
     {
-        let _feed = rides.timetable().feed();
-        let limit = rides.query().rides;
+        let timetable = rides.timetable();
+        let _feed = timetable.feed();
+        let query = rides.query();
+        let limit = query.rides;
         let mut prospects = Prospects::none(alloc);
-        let mut latest = ends_of(alloc, rides, deadline)?;
+        let mut latest = ends_of(alloc, timetable, query, deadline)?;
         for _more in 1..limit {
             let lasts = rides.last_departures(alloc, latest.as_slice())?;
             prospects.push(latest.as_slice(), lasts.as_slice())?;
@@ -100,14 +102,14 @@ impl Prospects {
 /// Want of memory.
 fn ends_of(
     alloc: Global,
-    rides: &Rides,
+    timetable: &Timetable,
+    query: &Query,
     deadline: Moment,
 ) -> Result<Vec<Option<Moment>>, AllocError>
-    ensures stops { IfOk result (λ ends. length ends.items ≡ length rides.now.feed.stops) }
-    ensures ends { IfOk result (λ ends. AreEnds rides.now.feed rides.now.query deadline.0 ends.items) }
+    requires usual { IsUsualQuery query.now }
+    ensures stops { IfOk result (λ ends. length ends.items ≡ length timetable.now.stops) }
+    ensures ends { IfOk result (λ ends. AreEnds timetable.now query.now deadline.0 ends.items) }
 {
-    let query = rides.query();
-    let timetable = rides.timetable();
     let stops = timetable.feed().stops.items().len();
     let mut ends = Vec::with_capacity(alloc, stops)?;
     for stop in 0..stops {
