@@ -6,15 +6,17 @@ ghost use Rattle.fare_price.specs.Prices.{IsLeastOrNone};
 
 use crate::Priced;
 use crate::fares::RiderFares;
-use crate::known::KnownOffers;
+use crate::offers::LegOffer;
 use feed_rows::LegFacts;
+use leg_kinds::KindTable;
 use std::alloc::{AllocError, Global};
 use std::marker::Model;
 
 /// Legs in order, with the number under which it is kept what can be paid for each. What was once asked is kept while
 /// legs come and go. Contracts see the feed and the rider, and the legs.
 pub struct KnownLegs<'r, 's, 'f> {
-    known: KnownOffers<'r, 's, 'f>,
+    fares: &'r RiderFares<'s, 'f>,
+    kept: KindTable<LegOffer>,
     legs: Vec<LegFacts>,
     numbers: Vec<usize>,
 }
@@ -23,7 +25,8 @@ pub struct KnownLegs<'r, 's, 'f> {
 impl<'r, 's, 'f> Drop for KnownLegs<'r, 's, 'f> {
     fn drop(self) {
         let KnownLegs {
-            known: _,
+            fares: _,
+            kept: _,
             legs: _,
             numbers: _,
         } = self;
@@ -31,13 +34,14 @@ impl<'r, 's, 'f> Drop for KnownLegs<'r, 's, 'f> {
 }
 
 impl<'r, 's, 'f> Model for KnownLegs<'r, 's, 'f> {
-    ghost use Rattle.fare_price.specs.Known.{FareLegs, legs_with, AreKept};
+    ghost use Rattle.std.specs.Prelude.{All};
+    ghost use Rattle.fare_price.specs.Known.{FareLegs, legs_with, known_of, HasOffers, AreKept};
 
     ghost Value = { FareLegs };
 
-    ghost view = { λ s. legs_with s.known.terms s.legs.items };
+    ghost view = { λ s. legs_with s.fares.now s.legs.items };
 
-    ghost invariant = { λ s. AreKept s.known s.legs.items s.numbers.items };
+    ghost invariant = { λ s. All (HasOffers s.fares.now) s.kept × AreKept (known_of s.fares.now s.kept) s.legs.items s.numbers.items };
 }
 
 impl<'r, 's, 'f> KnownLegs<'r, 's, 'f> {
@@ -46,7 +50,8 @@ impl<'r, 's, 'f> KnownLegs<'r, 's, 'f> {
         ensures { result ≡ legs_with fares.now [] }
     {
         KnownLegs {
-            known: KnownOffers::of(alloc, fares),
+            fares,
+            kept: KindTable::empty(alloc),
             legs: Vec::new(alloc),
             numbers: Vec::new(alloc),
         }
@@ -60,7 +65,7 @@ impl<'r, 's, 'f> KnownLegs<'r, 's, 'f> {
     pub fn push(&mut self, alloc: Global, leg: LegFacts) -> Result<(), AllocError>
         ensures { OnOk result (self.new ≡ legs_with self.old.terms (self.old.legs ++ leg ∷ [])) }
     {
-        let number = self.known.know(alloc, &leg)?;
+        let number = self.fares.know(alloc, &leg, &mut self.kept)?;
         push_both(&mut self.legs, leg, &mut self.numbers, number)
     }
 
@@ -80,7 +85,8 @@ impl<'r, 's, 'f> KnownLegs<'r, 's, 'f> {
         requires { length self.now.legs ≤ 12 }
         ensures { IfOk result (IsLeastOrNone self.now.terms.feed self.now.legs self.now.terms.rider) }
     {
-        self.known.price(alloc, &self.legs, &self.numbers)
+        self.fares
+            .price_kept(alloc, &self.legs, &self.numbers, &self.kept)
     }
 }
 

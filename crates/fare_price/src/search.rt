@@ -10,7 +10,7 @@ ghost use Rattle.fare_price.specs.Ways.{is_as_good, first_way, next_way, ways_by
 
 use crate::Priced;
 use crate::fares::{Fares, RiderFares};
-use crate::known::{KnownOffers, offers_at};
+use crate::known::offers_at;
 use crate::offers::{ChangeOffer, LegOffer};
 use crate::stands::Stand;
 use crate::ways::{Way, Ways};
@@ -51,9 +51,9 @@ impl<'s, 'f> RiderFares<'s, 'f> {
         requires few { length legs.now ≤ 12 }
         ensures { IfOk result (IsLeastOrNone self.now.feed legs.now self.now.rider) }
     {
-        let mut known = KnownOffers::of(alloc, self);
-        let numbers = known.know_all(alloc, legs)?;
-        known.price(alloc, legs, &numbers)
+        let mut kept = KindTable::empty(alloc);
+        let numbers = self.know_all(alloc, legs, &mut kept)?;
+        self.price_kept(alloc, legs, &numbers, &kept)
     }
 
     /// The same, where what can be paid for each leg is kept under its number.
