@@ -1,4 +1,4 @@
-use Rattle.std.proofs.Common.{◌≡◌, refl, sym, subst, ◌+◌, ◌-◌, ℕ, List, All, length, take, take_all, arith}
+use Rattle.std.proofs.Common.{◌≡◌, refl, sym, subst, ◌+◌, ◌-◌, ℕ, List, All, length, length-append, take, take_all, ap, ◌∙◌, arith}
 use Rattle.std.proofs.lemmas.Option.{slice_get_read}
 use Rattle.feed_rows.specs.declared.journeys.LegFacts.{LegFacts}
 use Rattle.fare_price.specs.declared.offers.LegOffer.{LegOffer}
@@ -37,6 +37,12 @@ next_ways-requires-clause-low c =
 pub next_ways-requires-clause-bounded : goal.next_ways-requires-clause-bounded
 next_ways-requires-clause-bounded c =
     ways_bounded _ _ _ _ _ c.loop-number.number 11 c.loop-number.invariant (omega arith)
+
+pub next_ways-requires-clause-numbers : goal.next_ways-requires-clause-numbers
+next_ways-requires-clause-numbers c =
+    let long : length c.keep.new.steps.items ≡ length c.loop-number.steps.items + length c.loop-number.ways =
+    ap length c.in_ok-keep.ensures ∙ length-append c.loop-number.steps.items c.loop-number.ways in
+    omega (arith, long, c.len-base.ensures, c.keep.new.steps.ok.0)
 
 pub loop-number-preserved : goal.loop-number-preserved
 loop-number-preserved c =
