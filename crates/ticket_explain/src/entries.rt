@@ -3,7 +3,7 @@ ghost use Rattle.std.specs.Prelude.{◌≡◌, ◌++◌, IfOk, OnOk};
 ghost use Rattle.feed_rows.specs.EntryText.{journey_line, entry_lines, lines_of_entries};
 
 use crate::line::Line;
-use crate::lookups::currency;
+use crate::prices::write_sum;
 use crate::text::Text;
 use crate::tickets::push_fare_lines;
 use crate::travel::push_travel_lines;
@@ -19,9 +19,7 @@ fn write_journey(feed: &Feed, line: &mut Line, triple: &Triple) -> Result<(), Al
     line.start(b"journey")?;
     line.moment(triple.arrival)?;
     line.number(u64::from(triple.rides))?;
-    line.money(triple.price, feed.decimals)?;
-    line.field(currency(feed))?;
-    line.end()
+    write_sum(feed, line, triple.price)
 }
 
 // Adds the lines of an entry: its head, its way, and its fares.

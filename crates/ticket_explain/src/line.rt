@@ -125,8 +125,7 @@ impl Line {
     pub fn moment(&mut self, moment: Moment) -> Result<(), AllocError>
         ensures { OnOk result (self.new ≡ self.old ++ 9 ∷ moment_text moment.0) }
     {
-        self.bytes.push(b'\t')?;
-        self.push_date(moment.day())?;
+        self.date(moment.day())?;
         self.bytes.push(b' ')?;
         self.push_time(moment.time_of_day())
     }

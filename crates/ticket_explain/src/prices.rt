@@ -1,6 +1,8 @@
 //! The lines of a price.
-ghost use Rattle.std.specs.Prelude.{◌≡◌, IfOk, OnOk};
+ghost use Rattle.std.specs.Prelude.{◌≡◌, ◌++◌, ◌∷◌, [], IfOk, OnOk};
 ghost use Rattle.std.specs.List.{concat};
+ghost use Rattle.feed_rows.specs.Lines.{fields_text};
+ghost use Rattle.feed_rows.specs.EntryText.{amount_text, currency_text};
 ghost use Rattle.feed_rows.specs.PriceTexts.{price_text, uncovered_text};
 ghost use Rattle.ticket_explain.specs.CommandLines.{price_line, price_lines, uncovered_lines};
 
@@ -12,15 +14,25 @@ use feed_rows::{Choice, Feed};
 use std::alloc::{AllocError, Global};
 use transit_base::Money;
 
+/// Adds an amount and the feed's currency, and ends the line.
+///
+/// # Errors
+/// Want of memory.
+pub fn write_sum(feed: &Feed, line: &mut Line, sum: Money) -> Result<(), AllocError>
+    ensures { OnOk result (line.new ≡ line.old ++ fields_text (amount_text feed.now sum.0 ∷ currency_text feed.now ∷ [])) }
+{
+    line.money(sum, feed.decimals)?;
+    line.field(currency(feed))?;
+    line.end()
+}
+
 // Writes the line of the price of so many rides.
 fn write_price(feed: &Feed, line: &mut Line, rides: usize, price: Money) -> Result<(), AllocError>
     ensures { OnOk result (line.new ≡ price_line feed.now rides price.0) }
 {
     line.start(b"price")?;
     line.number(rides as u64)?;
-    line.money(price, feed.decimals)?;
-    line.field(currency(feed))?;
-    line.end()
+    write_sum(feed, line, price)
 }
 
 /// The lines of the price of so many rides, and of the tickets of the choice that pays them.
