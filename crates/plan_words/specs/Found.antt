@@ -33,13 +33,17 @@ plain_command =
     with_rule (on_top (λ s. record s { disable_help_flag = true; disable_version_flag = true })
     (new_app (codes "farewise"))) words_rule
 
--- the command as `clap` knows it
-abbrev pub known_as : Form → App
-known_as form.Plan =
-    with_rule (with_rule (with_rule (with_rule plain_command (option_rule (codes "--rides") (codes "rides")))
+-- a command with the options of a plan
+abbrev pub with_plan_rules : App → App
+with_plan_rules app =
+    with_rule (with_rule (with_rule (with_rule app (option_rule (codes "--rides") (codes "rides")))
     (option_rule (codes "--rider") (codes "rider")))
     (option_rule (codes "--within") (codes "within")))
     (flag_rule (codes "--stats") (codes "stats"))
+
+-- the command as `clap` knows it
+abbrev pub known_as : Form → App
+known_as form.Plan = with_plan_rules plain_command
 known_as form.Price = with_rule plain_command (option_rule (codes "--rider") (codes "rider"))
 known_as form.Check = plain_command
 known_as form.Gen = plain_command

@@ -6,7 +6,7 @@ ghost use Rattle.std.specs.Option.{option_copied};
 ghost use Rattle.clap.specs.Matches.{found_of, first_value};
 ghost use Rattle.clap.specs.Simple.{app_of, with_rule};
 ghost use Rattle.feed_rows.specs.CommandWords.{fits_form, word_at};
-ghost use Rattle.plan_words.specs.Found.{flag_rule, option_rule, known_as, named_in, IsFound};
+ghost use Rattle.plan_words.specs.Found.{flag_rule, option_rule, plain_command, with_plan_rules, known_as, named_in, IsFound};
 ghost use Rattle.plan_words.specs.Rides.{texts_of};
 ghost use Rattle.plan_words.specs.Words.{behind, form_of};
 
@@ -46,22 +46,34 @@ fn with_flag<'a>(
     command.arg(flag)
 }
 
+// A command without options, help and version.
+fn plain_command<'a>(alloc: Global) -> Result<Command<'a>, AllocError>
+    ensures { IfOk result (λ command. app_of command ≡ plain_command) }
+{
+    let words = Arg::new(alloc, "WORDS").action(ArgAction::Append);
+    Command::new(alloc, "farewise")
+        .disable_help_flag(true)
+        .disable_version_flag(true)
+        .arg(words)
+}
+
+// The command with the options of a plan.
+fn with_plan_options<'a>(command: Command<'a>, alloc: Global) -> Result<Command<'a>, AllocError>
+    ensures { IfOk result (λ more. app_of more ≡ with_plan_rules (app_of command.entry)) }
+{
+    let command = with_option(command, alloc, "--rides", "rides")?;
+    let command = with_option(command, alloc, "--rider", "rider")?;
+    let command = with_option(command, alloc, "--within", "within")?;
+    with_flag(command, alloc, "--stats", "stats")
+}
+
 // The command as `clap` knows it.
 fn command_of<'a>(alloc: Global, form: Form) -> Result<Command<'a>, AllocError>
     ensures { IfOk result (λ command. app_of command ≡ known_as form) }
 {
-    let words = Arg::new(alloc, "WORDS").action(ArgAction::Append);
-    let command = Command::new(alloc, "farewise")
-        .disable_help_flag(true)
-        .disable_version_flag(true)
-        .arg(words)?;
+    let command = plain_command(alloc)?;
     match form {
-        Form::Plan => {
-            let command = with_option(command, alloc, "--rides", "rides")?;
-            let command = with_option(command, alloc, "--rider", "rider")?;
-            let command = with_option(command, alloc, "--within", "within")?;
-            with_flag(command, alloc, "--stats", "stats")
-        }
+        Form::Plan => with_plan_options(command, alloc),
         Form::Price => with_option(command, alloc, "--rider", "rider"),
         Form::Check | Form::Gen => Ok(command),
     }
