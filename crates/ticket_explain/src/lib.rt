@@ -14,5 +14,6 @@ mod travel;
 pub use entries::text_of;
 pub use generated::gen_lines_of;
 pub use line::Line;
+pub use lookups::facts_of;
 pub use prices::{price_lines_of, uncovered_lines_of};
 pub use text::Text;

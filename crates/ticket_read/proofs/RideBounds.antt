@@ -1,13 +1,9 @@
--- The rides of a feed without faults are of its trips, and their days and shifts are small.
-use Rattle.std.proofs.Common.{◌≡◌, refl, sym, ◌∙◌, subst, ℕ, ◌<◌, Bool, true, false, ◌&&◌, nat_lt, ◌==◌, length, arith, ℤ, pos, negsuc, ◌≤ℤ◌, ◌<ℤ◌, ◌-ℤ◌, ◌+ℤ◌, ◌*ℤ◌, ◌*◌}
-use Rattle.std.specs.Prelude.{Option, Some, None, slice_get, int_le}
-use mathlib.Core.Bool.{true≢false}
+-- The rides of a feed without faults run on days that have a date, and arrive near these.
+use Rattle.std.proofs.Common.{◌≡◌, refl, subst, Bool, true, false, ◌&&◌, ◌==◌, arith, ℤ, pos, negsuc, ◌≤ℤ◌, ◌+ℤ◌, ◌*ℤ◌, ◌*◌}
+use Rattle.std.specs.Prelude.{Some, slice_get, int_le}
 use Rattle.std.proofs.lemmas.Bool.{and_parts}
-use Rattle.std.proofs.lemmas.Bool.Decides.{nat_tests}
 use Rattle.std.proofs.lemmas.Int.{ints}
-use Rattle.std.proofs.lemmas.Option.{slice_get_within}
 use Rattle.std.proofs.lemmas.List.Elements.{All-contains}
-use Rattle.feed_rows.specs.Limits.{least_shift, most_shift}
 use Rattle.transit_base.specs.Dates.{is_dated}
 use Rattle.transit_base.specs.Limits.{day_seconds, most_time}
 use Rattle.transit_base.specs.declared.numbers.ServiceId.{ServiceId}
@@ -21,12 +17,10 @@ use Rattle.feed_rows.specs.SoundTimetable.{IsCalendarDay}
 use Rattle.plain_laws.specs.Plain.{int_same}
 use Rattle.feed_rows.specs.ServiceDays.{covers, is_covered, is_added, is_active}
 use Rattle.feed_rows.specs.Rides.{ride_facts}
-use Rattle.feed_laws.proofs.CallTimes.{first_departure_most}
 use Rattle.feed_laws.proofs.RideLaws.{ride_facts_tells, ride_facts_timed}
 use Rattle.plain_laws.proofs.Laws.{list_any_tells, int_same-true, filled_and-true}
-use Rattle.feed_laws.proofs.ShiftLaws.{is_shift_bounds}
 use Rattle.feed_laws.proofs.SoundTrips.{sound_trip}
-use Rattle.ticket_read.specs.Judgement.{is_near, IsNearMoment}
+use Rattle.ticket_read.specs.Judgement.{IsNearMoment}
 
 -- a day that has a date
 record IsDatedDay (day : ℤ) : Type 0 where
@@ -64,33 +58,6 @@ near_active feed service day sound e = step (is_added feed service day) refl
     step : (b : Bool) → is_added feed service day ≡ b → IsDatedDay day
     step true added = near_added feed service day sound added
     step false none = near_covered feed service day sound (and_parts _ _ (rw none at e)).0
-
--- a ride with facts is near
-near_ride : (feed : FeedRows) (ride : Ride) (facts : RideFacts) → IsSoundFeed feed → ride_facts feed ride ≡ Some facts → is_near feed ride ≡ true
-near_ride feed ride facts sound e =
-    let is = ride_facts_tells feed ride facts e in
-    let row = filled_and-true (slice_get feed.trips ride.trip.0) _ is.runs in
-    let within : ride.trip.0 < length feed.trips = slice_get_within feed.trips ride.trip.0 row.value row.is in
-    let day = near_active feed row.value.service ride.day.0 sound row.passes in
-    let timed = sound_trip feed ride.trip sound in
-    let begins = first_departure_most feed ride.trip most_time timed.ends timed.times in
-    let bounds = is_shift_bounds feed ride.trip ride.shift most_time (omega arith) timed.runs begins is.shift in
-    tests ride.trip.0 (length feed.trips) ride.day.0 ride.shift within day.low day.high bounds.0 bounds.1
-  where
-    tests : (trip trips : ℕ) (day shift : ℤ) → trip < trips → negsuc 719_161 ≤ℤ day → day ≤ℤ pos 2_932_896 → (pos 0 -ℤ pos most_time) ≤ℤ shift → shift <ℤ pos most_time
-        → (nat_lt trip trips && int_le (negsuc 799_999) day && int_le day (pos 3_000_000) && int_le least_shift shift && int_le shift most_shift) ≡ true
-    tests trip trips day shift a b c d e =
-        let low : least_shift ≤ℤ shift = omega (arith, ints) in
-        let high : shift ≤ℤ most_shift = omega (arith, ints) in
-        grind (arith, ints, nat_tests)
-
--- so one that isn't has none
-pub far_ride : (feed : FeedRows) (ride : Ride) → IsSoundFeed feed → is_near feed ride ≡ false → None ≡ ride_facts feed ride
-far_ride feed ride sound far = step (ride_facts feed ride) refl
-  where
-    step : (o : Option RideFacts) → ride_facts feed ride ≡ o → None ≡ o
-    step None e = refl
-    step (Some facts) e = absurd (true≢false (sym (near_ride feed ride facts sound e) ∙ far))
 
 -- a ride with facts arrives within 2^50 seconds of 1970
 pub near_arrival : (feed : FeedRows) (ride : Ride) (facts : RideFacts) → IsSoundFeed feed → ride_facts feed ride ≡ Some facts → IsNearMoment facts.arrival.0

@@ -1,9 +1,7 @@
 -- The entry of a journey and a choice, where they are ones of a query.
-use Rattle.std.specs.Prelude.{Bool, ◌&&◌, nat_le, nat_lt, if◌then◌else◌, ◌^◌, ◌≤◌, length, Option, None, ℤ, pos, negsuc, ◌+ℤ◌, ◌≤ℤ◌, int_le}
-use Rattle.feed_rows.specs.Limits.{least_shift, most_shift}
+use Rattle.std.specs.Prelude.{Bool, ◌&&◌, nat_le, if◌then◌else◌, ◌^◌, ◌≤◌, length, Option, None, ℤ, pos, negsuc, ◌+ℤ◌, ◌≤ℤ◌, int_le}
 use Rattle.feed_rows.specs.declared.journeys.Query.{Query}
 use Rattle.feed_rows.specs.declared.journeys.Journey.{Journey}
-use Rattle.feed_rows.specs.declared.journeys.Ride.{Ride}
 use Rattle.feed_rows.specs.declared.fares.Choice.{Choice}
 use Rattle.feed_rows.specs.declared.fares.Entry.{Entry}
 use Rattle.feed_rows.specs.FeedRows.{FeedRows}
@@ -30,13 +28,6 @@ pub record IsNearMoment (moment : ℤ) : Type 0 where
 pub record IsNearQuery (query : Query) : Type 0 where
   pub departs : IsNearMoment query.departure.0
   pub few : query.rides ≤ 12
-
--- the ride is of a trip of the feed, and its day and shift are small
-abbrev pub is_near : FeedRows → Ride → Bool
-is_near feed ride =
-    nat_lt ride.trip.0 (length feed.trips)
-    && int_le (negsuc 799_999) ride.day.0 && int_le ride.day.0 (pos 3_000_000)
-    && int_le least_shift ride.shift && int_le ride.shift most_shift
 
 -- the journey starts and ends where the query says, with no more rides than it says
 abbrev pub is_asked : FeedRows → Query → Journey → Bool

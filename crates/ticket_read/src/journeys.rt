@@ -7,36 +7,22 @@ ghost use Rattle.feed_rows.specs.Legs.{legs_of};
 ghost use Rattle.feed_rows.specs.declared.journeys.LegFacts.{LegFacts};
 ghost use Rattle.feed_timetable.specs.Standings.{stand_of, IsNear};
 ghost use Rattle.fare_timeframes.specs.BuiltTimeframes.{AreTimeframesOf};
-ghost use Rattle.ticket_read.specs.Judgement.{is_near, IsNearMoment, IsNearQuery, is_asked, journey_arrival};
+ghost use Rattle.ticket_read.specs.Judgement.{IsNearMoment, IsNearQuery, is_asked, journey_arrival};
 
 use fare_timeframes::Timeframes;
-use feed_rows::{Journey, LEAST_SHIFT, LegFacts, MOST_SHIFT, Query, Ride, RideFacts};
+use feed_rows::{Journey, LegFacts, Query, Ride, RideFacts};
 use feed_timetable::{Standing, Timetable};
 use std::alloc::{AllocError, Global};
 use transit_base::Moment;
 
-// Whether the ride is of a trip of the feed, and its day and shift are small: no others are rides of a feed.
-fn is_near(timetable: &Timetable, ride: &Ride) -> bool
-    ensures { result ≡ is_near timetable.now ride.now }
-{
-    ride.trip.0 < timetable.trips()
-        && -800_000 <= ride.day.0
-        && ride.day.0 <= 3_000_000
-        && LEAST_SHIFT <= ride.shift
-        && ride.shift <= MOST_SHIFT
-}
-
 /// Where and when a ride goes. None exactly where it is no ride of the feed.
-#[tactic(auto, using(crate::proofs::RideBounds::far_ride, crate::proofs::RideBounds::near_arrival))]
+#[tactic(auto, using(crate::proofs::RideBounds::near_arrival))]
 pub fn facts_of(timetable: &Timetable, ride: &Ride) -> Option<RideFacts>
     ensures value { result ≡ ride_facts timetable.now ride.now }
     ensures near { IfSome result (λ facts. IsNearMoment facts.arrival.0) }
 {
     let _feed = timetable.feed();
-    if !is_near(timetable, ride) {
-        return None;
-    }
-    timetable.facts(ride)
+    ticket_explain::facts_of(timetable, ride)
 }
 
 // Where one stands after the ride; none where it is no ride of the feed, or is not caught.
