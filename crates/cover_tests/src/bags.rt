@@ -2,7 +2,6 @@
 use label_bag::{Bag, ListBag, NoRoom, Offered, StairBag, offer_all};
 use label_order::{Both, LabelOrder, Least, Stair};
 use std::alloc::AllocError;
-use std::process::Abort;
 use std::test::Fail;
 use transit_base::{Moment, Money};
 
@@ -42,66 +41,57 @@ fn has<L: LabelOrder, B: Bag<L>>(bag: &B, label: &L) -> bool {
     false
 }
 
-fn expect_two<B: Bag<Pair>>(rt: &impl Abort, bag: &B) {
-    assert_eq!(rt; bag.len(), 2);
-    assert!(rt; has(bag, &pair(1, 3)) && has(bag, &pair(2, 1)));
+// Whether the bag has two members, which are these offers.
+fn has_two<B: Bag<Pair>>(bag: &B) -> bool {
+    bag.len() == 2 && has(bag, &pair(1, 3)) && has(bag, &pair(2, 1))
 }
 
-fn offer_six<B: Bag<Pair>>(rt: &impl Abort, bag: &mut B) -> Result<(), Fail> {
+// Whether the offers are answered as they should, one by one, and two members are left.
+fn keeps_two<B: Bag<Pair> + Drop>(mut bag: B) -> Result<bool, AllocError> {
     for (arrival, price, kept, members) in OFFERS {
         let answer = cover(bag.offer(pair(arrival, price)))?;
-        assert_eq!(rt; answer.is_none(), kept, "({arrival}, {price})");
-        assert_eq!(rt; bag.len(), members, "after ({arrival}, {price})");
+        if answer.is_none() != kept || bag.len() != members {
+            return Ok(false);
+        }
     }
-    expect_two(rt, bag);
-    Ok(())
+    Ok(has_two(&bag))
+}
+
+// Whether two members are left of the offers at once.
+fn keeps_two_at_once<B: Bag<Pair> + Drop>(mut bag: B) -> Result<bool, AllocError> {
+    let labels = OFFERS.map(|(arrival, price, _, _)| pair(arrival, price));
+    offer_all(&mut bag, &labels)?;
+    Ok(has_two(&bag))
 }
 
 #[test]
 fn six_offers(rt: HostRuntime) -> Result<(), Fail> {
-    offer_six(&rt, &mut ListBag::new(rt.alloc()))?;
-    offer_six(&rt, &mut StairBag::new(rt.alloc()))
-}
-
-fn offer_six_at_once<B: Bag<Pair>>(rt: &impl Abort, bag: &mut B) -> Result<(), Fail> {
-    let labels = OFFERS.map(|(arrival, price, _, _)| pair(arrival, price));
-    offer_all(bag, &labels)?;
-    expect_two(rt, bag);
+    assert!(rt; keeps_two(ListBag::new(rt.alloc()))?);
+    assert!(rt; keeps_two(StairBag::new(rt.alloc()))?);
+    assert!(rt; keeps_two_at_once(ListBag::new(rt.alloc()))?);
+    assert!(rt; keeps_two_at_once(StairBag::new(rt.alloc()))?);
     Ok(())
 }
 
-#[test]
-fn six_offers_at_once(rt: HostRuntime) -> Result<(), Fail> {
-    offer_six_at_once(&rt, &mut ListBag::new(rt.alloc()))?;
-    offer_six_at_once(&rt, &mut StairBag::new(rt.alloc()))
-}
-
-// The first of two equal labels is kept, and covers the second.
-fn offer_twice<L: LabelOrder + Copy, B: Bag<L>>(
-    rt: &impl Abort,
-    bag: &mut B,
+// Whether the first of two equal labels is kept, and covers the second.
+fn covers_itself<L: LabelOrder + Copy, B: Bag<L> + Drop>(
+    mut bag: B,
     label: L,
-) -> Result<(), Fail> {
+) -> Result<bool, AllocError> {
     bag.reserve(2)?;
-    assert_eq!(rt; cover(bag.offer(label))?, None);
-    assert_eq!(rt; cover(bag.offer(label))?, Some(0));
-    assert_eq!(rt; bag.len(), 1);
-    Ok(())
+    let first = cover(bag.offer(label))?;
+    let second = cover(bag.offer(label))?;
+    Ok(first == None && second == Some(0) && bag.len() == 1)
 }
 
 #[test]
 fn twice_the_same(rt: HostRuntime) -> Result<(), Fail> {
     let rest = Both(Least(2_u8), Least(Money(300)));
-    offer_twice(
-        &rt,
-        &mut ListBag::new(rt.alloc()),
-        Both(Least(Moment(30_600)), rest),
-    )?;
-    offer_twice(
-        &rt,
-        &mut StairBag::new(rt.alloc()),
-        Both(Least(30_600), rest),
-    )
+    let label = Both(Least(Moment(30_600)), rest);
+    assert!(rt; covers_itself(ListBag::new(rt.alloc()), label)?);
+    let label = Both(Least(30_600), rest);
+    assert!(rt; covers_itself(StairBag::new(rt.alloc()), label)?);
+    Ok(())
 }
 
 // An arrival and a price in a network: those of two networks aren't compared.
@@ -180,24 +170,33 @@ const MEMBERS: [InNetwork; 3] = [
     },
 ];
 
-#[test]
-fn stairs_of_two_networks(rt: HostRuntime) -> Result<(), Fail> {
-    let mut bag = StairBag::new(rt.alloc());
+// Whether the offers are covered as they should, and these members are left, in order.
+fn keeps_stairs(mut bag: StairBag<InNetwork>) -> Result<bool, AllocError> {
     for (network, arrival, price, covered_by) in NETWORKS {
         let label = InNetwork {
             network,
             arrival,
             price,
         };
-        let answer = cover(bag.offer(label))?;
-        assert_eq!(rt; answer, covered_by, "({network}, {arrival}, {price})");
+        if cover(bag.offer(label))? != covered_by {
+            return Ok(false);
+        }
     }
-    assert_eq!(rt; bag.len(), 3);
+    Ok(has_stairs(&bag))
+}
+
+// Whether the members are as good as these, in order.
+fn has_stairs(bag: &StairBag<InNetwork>) -> bool {
     for (number, label) in MEMBERS.iter().enumerate() {
-        assert!(rt;
-            number < bag.len() && bag.member(number).leq(label),
-            "{number}"
-        );
+        if number >= bag.len() || !bag.member(number).leq(label) {
+            return false;
+        }
     }
+    bag.len() == MEMBERS.len()
+}
+
+#[test]
+fn stairs_of_two_networks(rt: HostRuntime) -> Result<(), Fail> {
+    assert!(rt; keeps_stairs(StairBag::new(rt.alloc()))?);
     Ok(())
 }

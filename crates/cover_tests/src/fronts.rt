@@ -1,7 +1,7 @@
 // The members that are left of offers of an arrival and a price each.
 use feed_rows::{ChangeChoices, Choice, Entry, Journey, LegChoices, RideList, Triple};
 use pareto_front::Front;
-use std::alloc::Global;
+use std::alloc::{AllocError, Global};
 use std::test::Fail;
 use transit_base::{Moment, Money, StopId};
 
@@ -25,19 +25,38 @@ fn entry(alloc: Global, arrival: i64, price: i64) -> Entry {
     }
 }
 
-#[test]
-fn six_offers(rt: HostRuntime) -> Result<(), Fail> {
-    let alloc = rt.alloc();
+// What is left of six offers.
+fn front_of_six(alloc: Global) -> Result<Front<Entry>, AllocError> {
     let mut front = Front::empty(alloc);
     for (arrival, price) in [(3, 1), (1, 3), (2, 2), (2, 1), (2, 1), (5, 5)] {
         front.offer(entry(alloc, arrival, price))?;
     }
-    assert!(rt; front.covers(&entry(alloc, 2, 1)) && !front.covers(&entry(alloc, 1, 2)));
+    Ok(front)
+}
+
+// Whether a member is as good as an entry of that arrival and price.
+fn covers(alloc: Global, front: &Front<Entry>, arrival: i64, price: i64) -> bool {
+    front.covers(&entry(alloc, arrival, price))
+}
+
+// Whether these are two members, one at 1 and one at 2 for 1.
+fn are_left(members: &[Entry]) -> bool {
+    match members {
+        [first, second] => {
+            first.triple.arrival == Moment(1)
+                && second.triple.arrival == Moment(2)
+                && second.triple.price == Money(1)
+        }
+        _ => false,
+    }
+}
+
+#[test]
+fn six_offers(rt: HostRuntime) -> Result<(), Fail> {
+    let alloc = rt.alloc();
+    let front = front_of_six(alloc)?;
+    assert!(rt; covers(alloc, &front, 2, 1) && !covers(alloc, &front, 1, 2));
     assert_eq!(rt; front.items().len(), 2);
-    let members = front.into_items();
-    assert_eq!(rt; members.len(), 2);
-    assert_eq!(rt; members[0].triple.arrival, Moment(1));
-    assert_eq!(rt; members[1].triple.arrival, Moment(2));
-    assert_eq!(rt; members[1].triple.price, Money(1));
+    assert!(rt; are_left(front.into_items().as_slice()));
     Ok(())
 }
