@@ -2,7 +2,6 @@
 use label_bag::{Bag, ListBag, NoRoom, Offered, StairBag, offer_all};
 use label_order::{Both, LabelOrder, Least, Stair};
 use std::alloc::AllocError;
-use std::test::Fail;
 use transit_base::{Moment, Money};
 
 type Pair = Both<Least<i64>, Least<i64>>;
@@ -65,7 +64,7 @@ fn keeps_two_at_once<B: Bag<Pair> + Drop>(mut bag: B) -> Result<bool, AllocError
 }
 
 #[test]
-fn six_offers(rt: HostRuntime) -> Result<(), Fail> {
+fn six_offers(rt: HostRuntime) -> Result<(), AllocError> {
     assert!(rt; keeps_two(ListBag::new(rt.alloc()))?);
     assert!(rt; keeps_two(StairBag::new(rt.alloc()))?);
     assert!(rt; keeps_two_at_once(ListBag::new(rt.alloc()))?);
@@ -85,7 +84,7 @@ fn covers_itself<L: LabelOrder + Copy, B: Bag<L> + Drop>(
 }
 
 #[test]
-fn twice_the_same(rt: HostRuntime) -> Result<(), Fail> {
+fn twice_the_same(rt: HostRuntime) -> Result<(), AllocError> {
     let rest = Both(Least(2_u8), Least(Money(300)));
     let label = Both(Least(Moment(30_600)), rest);
     assert!(rt; covers_itself(ListBag::new(rt.alloc()), label)?);
@@ -196,7 +195,7 @@ fn has_stairs(bag: &StairBag<InNetwork>) -> bool {
 }
 
 #[test]
-fn stairs_of_two_networks(rt: HostRuntime) -> Result<(), Fail> {
+fn stairs_of_two_networks(rt: HostRuntime) -> Result<(), AllocError> {
     assert!(rt; keeps_stairs(StairBag::new(rt.alloc()))?);
     Ok(())
 }

@@ -2,7 +2,6 @@
 use feed_rows::{ChangeChoices, Choice, Entry, Journey, LegChoices, RideList, Triple};
 use pareto_front::Front;
 use std::alloc::{AllocError, Global};
-use std::test::Fail;
 use transit_base::{Moment, Money, StopId};
 
 // An entry without rides.
@@ -52,7 +51,7 @@ fn are_left(members: &[Entry]) -> bool {
 }
 
 #[test]
-fn six_offers(rt: HostRuntime) -> Result<(), Fail> {
+fn six_offers(rt: HostRuntime) -> Result<(), AllocError> {
     let alloc = rt.alloc();
     let front = front_of_six(alloc)?;
     assert!(rt; covers(alloc, &front, 2, 1) && !covers(alloc, &front, 1, 2));

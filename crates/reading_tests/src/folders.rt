@@ -10,11 +10,10 @@ use folder_io::{
 use std::alloc::{AllocError, Global};
 use std::fmt::Display;
 use std::io::ErrorKind;
-use std::test::Fail;
 use std::{fs, io};
 
 // What a read gave.
-#[derive(Clone, Copy, Debug, PartialEq, Eq)]
+#[derive(Clone, Copy, PartialEq, Eq)]
 enum Read {
     Wanted,
     Others,
@@ -53,6 +52,9 @@ fn read_of<F: Folder>(
     }
 }
 
+// The stops of a feed.
+const STOPS: &[u8] = b"stop_id\nA\n";
+
 // A feed that has these stops and nothing else.
 fn stops_of(alloc: Global, bytes: &[u8]) -> Result<Files, AllocError>
     ensures { IfOk result (λ files. IsTrue (are_whole files)) }
@@ -65,35 +67,50 @@ fn stops_of(alloc: Global, bytes: &[u8]) -> Result<Files, AllocError>
     Ok(files)
 }
 
+// Whether the read of a file of at most so many bytes gives this, in a folder that has these stops.
+fn is_read<F: Folder + Drop>(
+    alloc: Global,
+    mut folder: F,
+    name: FileName,
+    limit: u32,
+    want: Read,
+) -> Result<bool, AllocError> {
+    Ok(read_of(alloc, &mut folder, name, limit, STOPS)? == want)
+}
+
+// A folder with these stops.
+fn folder(alloc: Global) -> Result<MemFolder, AllocError> {
+    MemFolder::new(alloc, stops_of(alloc, STOPS)?, &[], &[])
+}
+
 #[test]
-fn limits(rt: HostRuntime) -> Result<(), Fail> {
+fn limits(rt: HostRuntime) -> Result<(), AllocError> {
     let alloc = rt.alloc();
-    let stops = b"stop_id\nA\nB\nC\nD\n";
-    let mut folder = MemFolder::new(alloc, stops_of(alloc, stops)?, &[], &[])?;
     for (name, limit, want) in [
-        (FileName::Stops, 16, Read::Wanted),
-        (FileName::Stops, 15, Read::TooLarge),
-        (FileName::Routes, 15, Read::Absent),
+        (FileName::Stops, 10, Read::Wanted),
+        (FileName::Stops, 9, Read::TooLarge),
+        (FileName::Routes, 9, Read::Absent),
     ] {
-        assert_eq!(rt; read_of(alloc, &mut folder, name, limit, stops)?, want);
+        assert!(rt; is_read(alloc, folder(alloc)?, name, limit, want)?);
     }
+    let sure = SureFolder::new(stops_of(alloc, STOPS)?);
+    assert!(rt; is_read(alloc, sure, FileName::Stops, 100, Read::Wanted)?);
     Ok(())
 }
 
 // What the read of all files gives of the stops, where these calls fail.
 fn read_all(alloc: Global, opens: &[u32], reads: &[u32]) -> Result<Read, AllocError> {
-    let stops = b"stop_id\nA\n";
-    let mut folder = MemFolder::new(alloc, stops_of(alloc, stops)?, opens, reads)?;
+    let mut folder = MemFolder::new(alloc, stops_of(alloc, STOPS)?, opens, reads)?;
     let mut files = Files::empty();
     match read_files(alloc, &mut folder, &mut files, 0, 18) {
-        Ok(()) => Ok(read_bytes(files.get(FileName::Stops), stops)),
+        Ok(()) => Ok(read_bytes(files.get(FileName::Stops), STOPS)),
         Err(ReadError::ReadFault) => Ok(Read::Failed),
         Err(ReadError::NoMemory) => Err(AllocError),
     }
 }
 
 #[test]
-fn failing_opens_and_reads(rt: HostRuntime) -> Result<(), Fail> {
+fn failing_opens_and_reads(rt: HostRuntime) -> Result<(), AllocError> {
     let cases: [(&[u32], &[u32], Read); 7] = [
         (&[], &[], Read::Wanted),
         (&[1], &[], Read::Failed),
@@ -104,23 +121,23 @@ fn failing_opens_and_reads(rt: HostRuntime) -> Result<(), Fail> {
         (&[], &[3], Read::Wanted),
     ];
     for (opens, reads, want) in cases {
-        assert_eq!(rt; read_all(rt.alloc(), opens, reads)?, want);
+        assert!(rt; read_all(rt.alloc(), opens, reads)? == want);
     }
     Ok(())
 }
 
-#[test]
-fn sure_folder(rt: HostRuntime) -> Result<(), Fail> {
-    let alloc = rt.alloc();
-    let stops = b"stop_id\nA\n";
-    let mut folder = SureFolder::new(stops_of(alloc, stops)?);
-    let found = read_of(alloc, &mut folder, FileName::Stops, 100, stops)?;
-    assert_eq!(rt; found, Read::Wanted);
-    Ok(())
+// Whether each piece is answered so, and the sink then holds these bytes.
+fn are_answered(sink: &mut MemSink, cases: &[(&[u8], Wrote, &[u8])]) -> bool {
+    for (piece, answer, written) in cases {
+        if sink.write(piece) != *answer || sink.bytes() != *written {
+            return false;
+        }
+    }
+    true
 }
 
 #[test]
-fn failing_writes(rt: HostRuntime) -> Result<(), Fail> {
+fn failing_writes(rt: HostRuntime) -> Result<(), AllocError> {
     let cuts = [Cut { call: 3, kept: 1 }, Cut { call: 5, kept: 9 }];
     let mut sink = MemSink::new(rt.alloc(), 6, &cuts)?;
     let cases: [(&[u8], Wrote, &[u8]); 6] = [
@@ -131,18 +148,19 @@ fn failing_writes(rt: HostRuntime) -> Result<(), Fail> {
         (b"f", Wrote::Failed, b"abcdef"),
         (b"", Wrote::All, b"abcdef"),
     ];
-    for (piece, answer, written) in cases {
-        assert_eq!(rt; sink.write(piece), answer);
-        assert_eq!(rt; sink.bytes(), written);
-    }
+    assert!(rt; are_answered(&mut sink, &cases));
     Ok(())
 }
 
+// Whether a sink with room for three bytes takes three and no more.
+fn takes_three(alloc: Global) -> Result<bool, AllocError> {
+    let mut sink = SureSink::new(alloc, 3)?;
+    Ok(sink.write(b"abc") == Wrote::All && sink.write(b"d") == Wrote::Failed)
+}
+
 #[test]
-fn sure_sink(rt: HostRuntime) -> Result<(), Fail> {
-    let mut sink = SureSink::new(rt.alloc(), 3)?;
-    assert_eq!(rt; sink.write(b"abc"), Wrote::All);
-    assert_eq!(rt; sink.write(b"d"), Wrote::Failed);
+fn sure_sink(rt: HostRuntime) -> Result<(), AllocError> {
+    assert!(rt; takes_three(rt.alloc())?);
     Ok(())
 }
 
@@ -173,52 +191,25 @@ impl Print for NarrowOutput {
     }
 }
 
+// What is answered to three bytes for such an output.
+fn answer_of(fails_at: usize) -> Wrote {
+    StdSink::new(NarrowOutput { fails_at }).write(b"abc")
+}
+
 #[test]
 fn outputs_that_fail(rt: HostRuntime) {
     // At once, after one byte, before the last byte, and never.
-    for (fails_at, want) in [
-        (3, Wrote::Failed),
-        (2, Wrote::Failed),
-        (1, Wrote::Failed),
-        (0, Wrote::All),
-    ] {
-        let mut sink = StdSink::new(NarrowOutput { fails_at });
-        assert_eq!(rt; sink.write(b"abc"), want);
-    }
+    assert!(rt; answer_of(3) == Wrote::Failed);
+    assert!(rt; answer_of(2) == Wrote::Failed);
+    assert!(rt; answer_of(1) == Wrote::Failed);
+    assert!(rt; answer_of(0) == Wrote::All);
 }
 
 #[test]
 fn sinks_that_tell_nothing(rt: HostRuntime) {
-    assert_eq!(rt; CountSink::new().write(b"abc"), Wrote::All);
+    assert!(rt; CountSink::new().write(b"abc") == Wrote::All);
     let line = b"a line to standard output\n";
-    assert_eq!(rt; StdSink::new(rt).write(line), Wrote::All);
-}
-
-// What the read of a file in a folder of the system gives.
-fn read_in(rt: HostRuntime, path: &str, name: FileName) -> Result<Read, AllocError> {
-    let mut folder = DirFolder::new(rt, rt.alloc(), path)?;
-    read_of(rt.alloc(), &mut folder, name, 100, b"stop_id\nA\n")
-}
-
-#[test]
-fn folder_of_the_system(rt: HostRuntime) -> Result<(), Fail> {
-    let _ = fs::remove_dir_all(&rt, "folder_io_test");
-    fs::create_dir(&rt, "folder_io_test")?;
-    fs::create_dir(&rt, "folder_io_test/trips.txt")?;
-    fs::write(&rt, "folder_io_test/stops.txt", b"stop_id\nA\n".as_slice())?;
-    for (path, name, want) in [
-        ("folder_io_test", FileName::Stops, Read::Wanted),
-        // A name that isn't found is absent, and so is a folder's every name where the folder isn't found.
-        ("folder_io_test", FileName::Routes, Read::Absent),
-        ("folder_io_test/nowhere", FileName::Stops, Read::Absent),
-        // A file that is a folder can't be read, and a path through a file that is none can't be opened.
-        ("folder_io_test", FileName::Trips, Read::Failed),
-        ("folder_io_test/stops.txt", FileName::Stops, Read::Failed),
-    ] {
-        assert_eq!(rt; read_in(rt, path, name)?, want);
-    }
-    fs::remove_dir_all(&rt, "folder_io_test")?;
-    Ok(())
+    assert!(rt; StdSink::new(rt).write(line) == Wrote::All);
 }
 
 // So many bytes, in which what one read gives starts with another byte than what the next gives.
@@ -230,16 +221,62 @@ fn many_bytes(alloc: Global, count: u32) -> Result<Vec<u8>, AllocError> {
     Ok(bytes)
 }
 
+// How long a large file is.
+const LARGE: u32 = 1_100_000;
+
+// Makes a folder of the system with a file, a folder in the place of a file, and a large file.
+fn make_folder(rt: HostRuntime) -> io::Result<()> {
+    let _ = fs::remove_dir_all(&rt, "folder_io_test");
+    fs::create_dir(&rt, "folder_io_test")?;
+    fs::create_dir(&rt, "folder_io_test/trips.txt")?;
+    fs::write(&rt, "folder_io_test/stops.txt", STOPS)?;
+    let large = many_bytes(rt.alloc(), LARGE)?;
+    fs::write(&rt, "folder_io_test/stop_times.txt", large.as_slice())
+}
+
+// What the read of a file in a folder of the system gives.
+fn read_in(
+    rt: HostRuntime,
+    path: &str,
+    name: FileName,
+    limit: u32,
+    wanted: &[u8],
+) -> Result<Read, AllocError> {
+    let mut folder = DirFolder::new(rt, rt.alloc(), path)?;
+    read_of(rt.alloc(), &mut folder, name, limit, wanted)
+}
+
+// What the reads of names in folders give.
+const READS: [(&str, FileName, Read); 5] = [
+    ("folder_io_test", FileName::Stops, Read::Wanted),
+    // A name that isn't found is absent, and so is a folder's every name where the folder isn't found.
+    ("folder_io_test", FileName::Routes, Read::Absent),
+    ("folder_io_test/nowhere", FileName::Stops, Read::Absent),
+    // A file that is a folder can't be read, and a path through a file that is none can't be opened.
+    ("folder_io_test", FileName::Trips, Read::Failed),
+    ("folder_io_test/stops.txt", FileName::Stops, Read::Failed),
+];
+
+// Whether they do.
+fn are_read(rt: HostRuntime) -> Result<bool, AllocError> {
+    for (path, name, want) in READS {
+        if read_in(rt, path, name, 100, STOPS)? != want {
+            return Ok(false);
+        }
+    }
+    Ok(true)
+}
+
+// Whether the large file is read whole.
+fn is_large_read(rt: HostRuntime) -> Result<bool, AllocError> {
+    let large = many_bytes(rt.alloc(), LARGE)?;
+    let (path, name) = ("folder_io_test", FileName::StopTimes);
+    Ok(read_in(rt, path, name, LARGE, large.as_slice())? == Read::Wanted)
+}
+
 #[test]
-fn large_file_of_the_system(rt: HostRuntime) -> Result<(), Fail> {
-    let bytes = many_bytes(rt.alloc(), 1_100_000)?;
-    let _ = fs::remove_dir_all(&rt, "large_file_test");
-    fs::create_dir(&rt, "large_file_test")?;
-    fs::write(&rt, "large_file_test/stops.txt", bytes.as_slice())?;
-    let mut folder = DirFolder::new(rt, rt.alloc(), "large_file_test")?;
-    let bytes = bytes.as_slice();
-    let found = read_of(rt.alloc(), &mut folder, FileName::Stops, 1_100_000, bytes)?;
-    fs::remove_dir_all(&rt, "large_file_test")?;
-    assert_eq!(rt; found, Read::Wanted);
-    Ok(())
+fn folder_of_the_system(rt: HostRuntime) -> io::Result<()> {
+    make_folder(rt)?;
+    assert!(rt; are_read(rt)? && is_large_read(rt)?);
+    fs::remove_dir_all(&rt, "folder_io_test")
 }

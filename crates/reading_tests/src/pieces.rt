@@ -10,7 +10,6 @@ use folder_io::{
 use std::alloc::{AllocError, Global};
 use std::io::Read;
 use std::marker::Brand;
-use std::test::Fail;
 
 // What a reading by pieces gave.
 #[derive(Drop)]
@@ -72,6 +71,16 @@ fn read_pieces(
     }))
 }
 
+// Whether a reading gave these bytes, came so far with them, and told whether they are text.
+fn is_taken(taken: &Option<Taken>, bytes: &[u8], end: PiecesEnd, is_text: bool) -> bool {
+    match taken {
+        Some(taken) => {
+            taken.bytes.as_slice() == bytes && taken.end == end && taken.is_text == is_text
+        }
+        None => false,
+    }
+}
+
 // Whether the reading of a file gives these bytes, comes so far with them, and tells whether they are text, where these
 // reads of the folder fail.
 fn gives(
@@ -84,10 +93,8 @@ fn gives(
     end: PiecesEnd,
     is_text: bool,
 ) -> Result<bool, AllocError> {
-    let Some(taken) = read_pieces(alloc, file, failing, limit, size)? else {
-        return Ok(false);
-    };
-    Ok(taken.bytes.as_slice() == bytes && taken.end == end && taken.is_text == is_text)
+    let taken = read_pieces(alloc, file, failing, limit, size)?;
+    Ok(is_taken(&taken, bytes, end, is_text))
 }
 
 // The same of the reading into room of each size, where no read fails.
@@ -108,17 +115,16 @@ fn gives_in_all(
 }
 
 #[test]
-fn limits(rt: HostRuntime) -> Result<(), Fail> {
+fn limits(rt: HostRuntime) -> Result<(), AllocError> {
     let file = b"trip_id\nA\n".as_slice();
-    let cases: [(u32, usize, PiecesEnd); 5] = [
-        (100, 10, PiecesEnd::Ended),
-        (10, 10, PiecesEnd::Ended),
-        (9, 10, PiecesEnd::TooLarge),
-        (4, 5, PiecesEnd::TooLarge),
-        (0, 1, PiecesEnd::TooLarge),
+    let cases: [(u32, &[u8], PiecesEnd); 5] = [
+        (100, file, PiecesEnd::Ended),
+        (10, file, PiecesEnd::Ended),
+        (9, file, PiecesEnd::TooLarge),
+        (4, b"trip_", PiecesEnd::TooLarge),
+        (0, b"t", PiecesEnd::TooLarge),
     ];
-    for (limit, count, end) in cases {
-        let bytes = file.get(..count).ok_or("short")?;
+    for (limit, bytes, end) in cases {
         assert!(rt; gives_in_all(rt.alloc(), file, limit, bytes, end, true)?);
     }
     assert!(rt; gives_in_all(rt.alloc(), b"", 0, b"", PiecesEnd::Ended, true)?);
@@ -126,27 +132,26 @@ fn limits(rt: HostRuntime) -> Result<(), Fail> {
 }
 
 #[test]
-fn failing_reads(rt: HostRuntime) -> Result<(), Fail> {
+fn failing_reads(rt: HostRuntime) -> Result<(), AllocError> {
     let file = b"trip_id\nA\n".as_slice();
-    let cases: [(u32, usize, usize, PiecesEnd); 6] = [
-        (1, 7, 0, PiecesEnd::Failed),
-        (3, 1, 2, PiecesEnd::Failed),
-        (3, 3, 6, PiecesEnd::Failed),
+    let cases: [(u32, usize, &[u8], PiecesEnd); 6] = [
+        (1, 7, b"", PiecesEnd::Failed),
+        (3, 1, b"tr", PiecesEnd::Failed),
+        (3, 3, b"trip_i", PiecesEnd::Failed),
         // The read that would tell the end.
-        (3, 7, 10, PiecesEnd::Failed),
-        (4, 7, 10, PiecesEnd::Ended),
+        (3, 7, file, PiecesEnd::Failed),
+        (4, 7, file, PiecesEnd::Ended),
         // No room, so that nothing is read.
-        (1, 0, 0, PiecesEnd::Going),
+        (1, 0, b"", PiecesEnd::Going),
     ];
-    for (fails, size, count, end) in cases {
-        let bytes = file.get(..count).ok_or("short")?;
+    for (fails, size, bytes, end) in cases {
         assert!(rt; gives(rt.alloc(), file, &[fails], 100, size, bytes, end, true)?);
     }
     Ok(())
 }
 
 #[test]
-fn text(rt: HostRuntime) -> Result<(), Fail> {
+fn text(rt: HostRuntime) -> Result<(), AllocError> {
     let cases: [(&[u8], bool); 11] = [
         ("Zürich, €, 𝄞".as_bytes(), true),
         (
@@ -212,10 +217,8 @@ fn read_file_since(alloc: Global, file: &[u8], limit: u32) -> Result<Option<Take
 }
 
 #[test]
-fn since(rt: HostRuntime) -> Result<(), Fail> {
-    let taken = read_file_since(rt.alloc(), b"A\xc3\xa9b", 1)?.ok_or("absent")?;
-    assert_eq!(rt; taken.bytes.as_slice(), b"A\xc3".as_slice());
-    assert_eq!(rt; taken.end, PiecesEnd::TooLarge);
-    assert!(rt; !taken.is_text);
+fn since(rt: HostRuntime) -> Result<(), AllocError> {
+    let taken = read_file_since(rt.alloc(), b"A\xc3\xa9b", 1)?;
+    assert!(rt; is_taken(&taken, b"A\xc3", PiecesEnd::TooLarge, false));
     Ok(())
 }
