@@ -12,6 +12,14 @@ pub struct Section {
 }
 
 impl Section {
+    // A section of that name, without lines.
+    fn named(alloc: Global, name: &str) -> Result<Section, AllocError> {
+        Ok(Section {
+            name: String::from_str(alloc, name)?,
+            lines: Vec::new(alloc),
+        })
+    }
+
     /// The name.
     pub fn name(&self) -> &str {
         self.name.as_str()
@@ -45,13 +53,9 @@ impl Archive {
     pub fn parse(alloc: Global, text: &[u8]) -> Result<Archive, AllocError> {
         let mut sections = Vec::<Section>::new(alloc);
         for line in text.lines_with_terminator() {
-            if let Some(name) = section_name(line) {
-                sections.push(Section {
-                    name: String::from_str(alloc, name)?,
-                    lines: Vec::new(alloc),
-                })?;
-            } else if let Some(section) = sections.last_mut() {
-                section.lines.extend_from_slice(line)?;
+            match section_name(line) {
+                Some(name) => sections.push(Section::named(alloc, name)?)?,
+                None => push_line(&mut sections, line)?,
             }
         }
         Ok(Archive { sections })
@@ -64,22 +68,39 @@ impl Archive {
 
     /// The text of the first section of that name, if there is one.
     pub fn text_of(&self, name: &str) -> Option<&[u8]> {
-        self.sections
-            .iter()
-            .find(|section| section.name() == name)
-            .map(|section| section.text())
+        match first_named(self.sections.as_slice(), name) {
+            Some(section) => Some(section.text()),
+            None => None,
+        }
     }
 
     /// The name of the first section whose name an earlier one has, if there is one.
     pub fn doubled_name(&self) -> Option<&str> {
         let sections = self.sections.as_slice();
         for (count, section) in sections.iter().enumerate() {
-            let is_named = |earlier: &Section| earlier.name() == section.name();
-            if sections[..count].iter().any(is_named) {
+            if first_named(&sections[..count], section.name()).is_some() {
                 return Some(section.name());
             }
         }
         None
+    }
+}
+
+// The first of the sections that has that name.
+fn first_named<'a>(sections: &'a [Section], name: &str) -> Option<&'a Section> {
+    for section in sections {
+        if section.name() == name {
+            return Some(section);
+        }
+    }
+    None
+}
+
+// Puts the line behind those of the last section, if there is one.
+fn push_line(sections: &mut Vec<Section>, line: &[u8]) -> Result<(), AllocError> {
+    match sections.last_mut() {
+        Some(section) => section.lines.extend_from_slice(line),
+        None => Ok(()),
     }
 }
 

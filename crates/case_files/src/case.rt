@@ -6,7 +6,7 @@ use crate::feed_files::FeedFiles;
 use anyhow::{Result, bail};
 use bstr::ByteSlice;
 use plan_words::WordList;
-use std::alloc::Global;
+use std::alloc::{AllocError, Global};
 use std::str;
 
 // The sections of a case that are no files.
@@ -69,21 +69,30 @@ impl Case {
     /// # Errors
     /// Want of memory, or sections that are no case.
     pub fn new(alloc: Global, archive: &Archive, mut files: FeedFiles) -> Result<Case> {
-        if let Some(name) = archive.doubled_name() {
-            bail!("there are two sections {name:?}");
-        }
+        let status = status_of(archive)?;
         files.add(alloc, archive, &SECTIONS)?;
-        let status = only_line(text_in(archive, "status")?)?;
-        let Ok(status) = status.parse::<u8>() else {
-            bail!("the status {status:?} is no number up to 255");
-        };
+        let words = words_of(alloc, text_in(archive, "words")?)?;
+        let failing_calls = failing_calls_of(alloc, archive.text_of("failing calls"))?;
+        let wanted = wanted_of(alloc, archive)?;
         Ok(Case {
-            words: words_of(alloc, text_in(archive, "words")?)?,
+            words,
             files,
-            failing_calls: failing_calls_of(alloc, archive.text_of("failing calls"))?,
+            failing_calls,
             status,
-            wanted: wanted_of(alloc, archive)?,
+            wanted,
         })
+    }
+}
+
+// The status, where no two sections have one name.
+fn status_of(archive: &Archive) -> Result<u8> {
+    if let Some(name) = archive.doubled_name() {
+        bail!("there are two sections {name:?}");
+    }
+    let status = only_line(text_in(archive, "status")?)?;
+    match status.parse::<u8>() {
+        Ok(status) => Ok(status),
+        Err(_) => bail!("the status {status:?} is no number up to 255"),
     }
 }
 
@@ -113,23 +122,35 @@ fn only_line(text: &[u8]) -> Result<&str> {
 
 // The words, one a line.
 fn words_of(alloc: Global, text: &[u8]) -> Result<WordList> {
+    Ok(lines_of(alloc, str_of(text)?)?)
+}
+
+// The lines as words.
+fn lines_of(alloc: Global, text: &str) -> Result<WordList, AllocError> {
     let mut words = WordList::empty(alloc);
-    for word in str_of(text)?.split_terminator('\n') {
+    for word in text.split_terminator('\n') {
         words.push(word)?;
     }
     Ok(words)
 }
 
-// The calls that fail, one a line.
+// The calls that fail, one a line; none without a text.
 fn failing_calls_of(alloc: Global, text: Option<&[u8]>) -> Result<Vec<FailingCall>> {
+    let Some(text) = text else {
+        return Ok(Vec::new(alloc));
+    };
+    let calls = calls_in(alloc, str_of(text)?)?;
+    if calls.is_empty() {
+        bail!("no call that fails is named");
+    }
+    Ok(calls)
+}
+
+// The calls that the lines name.
+fn calls_in(alloc: Global, text: &str) -> Result<Vec<FailingCall>> {
     let mut calls = Vec::new(alloc);
-    if let Some(text) = text {
-        for line in str_of(text)?.split_terminator('\n') {
-            calls.push(FailingCall::parse(line)?)?;
-        }
-        if calls.is_empty() {
-            bail!("no call that fails is named");
-        }
+    for line in text.split_terminator('\n') {
+        calls.push(FailingCall::parse(line)?)?;
     }
     Ok(calls)
 }
@@ -139,10 +160,14 @@ fn wanted_of(alloc: Global, archive: &Archive) -> Result<Wanted> {
     let lines = archive.text_of("lines among them");
     match (archive.text_of("stdout"), archive.text_of("journey lines")) {
         (Some(text), None) if lines.is_none() => Ok(Wanted::Text(text.to_vec(alloc)?)),
-        (None, Some(triples)) => Ok(Wanted::Journeys {
-            triples: triples.to_vec(alloc)?,
-            lines: lines.unwrap_or(&[]).to_vec(alloc)?,
-        }),
+        (None, Some(triples)) => Ok(journeys_of(alloc, triples, lines.unwrap_or(&[]))?),
         _ => bail!("what must come is neither a text nor journey lines"),
     }
+}
+
+// Journeys of these triples, and these lines.
+fn journeys_of(alloc: Global, triples: &[u8], lines: &[u8]) -> Result<Wanted, AllocError> {
+    let triples = triples.to_vec(alloc)?;
+    let lines = lines.to_vec(alloc)?;
+    Ok(Wanted::Journeys { triples, lines })
 }

@@ -59,8 +59,7 @@ impl FeedFiles {
     pub fn add(&mut self, alloc: Global, archive: &Archive, others: &[&str]) -> Result<()> {
         for section in archive.sections() {
             let name = section.name();
-            let mut known = others.iter().chain(UNOPENED.iter());
-            if known.all(|other| *other != name) {
+            if !is_among(others, name) && !is_among(&UNOPENED, name) {
                 self.add_file(alloc, section)?;
             }
         }
@@ -70,13 +69,16 @@ impl FeedFiles {
     // Adds the file that the section holds.
     fn add_file(&mut self, alloc: Global, section: &Section) -> Result<()> {
         let name = section.name();
-        let Some(file) = FileName::all().iter().find(|file| file.text() == name) else {
+        let Some(file) = file_named(name) else {
             bail!("the section {name:?} is neither known nor a file");
         };
-        self.files.push(FeedFile {
-            name: *file,
-            bytes: section.text().to_vec(alloc)?,
-        })?;
+        Ok(self.push(alloc, file, section.text())?)
+    }
+
+    // Adds the file with these bytes.
+    fn push(&mut self, alloc: Global, name: FileName, bytes: &[u8]) -> Result<(), AllocError> {
+        let bytes = bytes.to_vec(alloc)?;
+        self.files.push(FeedFile { name, bytes })?;
         Ok(())
     }
 
@@ -94,4 +96,24 @@ impl FeedFiles {
         }
         Ok(files)
     }
+}
+
+// Whether the name is one of these.
+fn is_among(names: &[&str], name: &str) -> bool {
+    for other in names {
+        if *other == name {
+            return true;
+        }
+    }
+    false
+}
+
+// The file of that name, if it is one of a feed.
+fn file_named(name: &str) -> Option<FileName> {
+    for file in FileName::all() {
+        if file.text() == name {
+            return Some(*file);
+        }
+    }
+    None
 }

@@ -29,11 +29,7 @@ impl Library {
         let mut names = Vec::new(rt.alloc());
         for entry in fs::read_dir(rt, folder.as_str()).context("reading the folder of the cases")? {
             let entry = entry?;
-            let file = entry.file_name();
-            let Some(name) = file.strip_suffix(".txtar") else {
-                bail!("{file:?} in the folder of the cases is no case");
-            };
-            names.push(String::from_str(rt.alloc(), name)?)?;
+            names.push(case_name(rt.alloc(), entry.file_name())?)?;
         }
         names.sort()?;
         Ok(names)
@@ -57,10 +53,23 @@ impl Library {
     fn archive<R: Files + AllocGlobal>(&self, rt: &R, folder: &str, name: &str) -> Result<Archive> {
         let library = self.folder.as_str();
         let path = format!(in rt.alloc(); "{library}/{folder}/{name}.txtar")?;
-        let text = fs::read(rt, path.as_str()).context(format_args!("reading {path}"))?;
-        if !text.ends_with(b"\n") {
-            bail!("{path} does not end with a line feed");
-        }
-        Ok(Archive::parse(rt.alloc(), text.as_slice())?)
+        archive_at(rt, path.as_str())
+    }
+}
+
+// The sections of the file at that path.
+fn archive_at<R: Files + AllocGlobal>(rt: &R, path: &str) -> Result<Archive> {
+    let text = fs::read(rt, path).context(format_args!("reading {path}"))?;
+    if !text.ends_with(b"\n") {
+        bail!("{path} does not end with a line feed");
+    }
+    Ok(Archive::parse(rt.alloc(), text.as_slice())?)
+}
+
+// The name of the case that the file is.
+fn case_name(alloc: Global, file: &str) -> Result<String> {
+    match file.strip_suffix(".txtar") {
+        Some(name) => Ok(String::from_str(alloc, name)?),
+        None => bail!("{file:?} in the folder of the cases is no case"),
     }
 }
