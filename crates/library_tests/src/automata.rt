@@ -1,13 +1,12 @@
 // Fare states and the moves from them, worked by hand; and runs of moves beside the least price of the same legs.
 ghost use Rattle.std.specs.Prelude.{◌≤◌, ◌^◌, nat_abs};
 
-use crate::prices::{feed_of, leg, three_legs};
+use crate::prices::{feed_with, leg, price_of, three_legs};
 use crate::readings;
 use fare_automaton::Automaton;
-use fare_price::{Fares, price};
 use fare_products::Products;
 use fare_transfer_rules::XferRules;
-use feed_rows::{FareState, LegFacts, Move, TransferFacts};
+use feed_rows::{FareState, Feed, LegFacts, Move, Moves, RowList, TransferFacts, XferList};
 use feed_text::TextError;
 use std::alloc::{AllocError, Global};
 use transit_base::{LegGroupId, Moment, Money, NetworkId, ProductId, ProductRowId, RuleId, XferId};
@@ -70,28 +69,46 @@ fn by_bus() -> Move {
     }
 }
 
+// The moves of a first leg.
+fn first_moves(alloc: Global, own: &LegFacts) -> Result<Moves, TextError> {
+    let feed = readings::feed(alloc)?;
+    let automaton = Automaton::compile(alloc, &feed, None)?;
+    Ok(automaton.start(alloc, own)?)
+}
+
 #[test]
 fn first_legs(rt: HostRuntime) -> Result<(), TextError> {
     let alloc = rt.alloc();
+    let bus = first_moves(alloc, &leg_in(alloc, 0))?;
+    // No rule is for a leg without network.
+    let none = first_moves(alloc, &leg(alloc, 28_800, 29_400))?;
+    assert!(rt; is_only(bus.items(), &by_bus()) && none.items().is_empty());
+    Ok(())
+}
+
+// Whether a leg in this network after these has one move, which is this one.
+fn is_next(
+    alloc: Global,
+    state: &FareState,
+    held: Money,
+    network: u32,
+    wanted: &Move,
+) -> Result<bool, TextError>
+    requires { nat_abs held.0 ≤ 10 ^ 16 }
+{
     let feed = readings::feed(alloc)?;
     let automaton = Automaton::compile(alloc, &feed, None)?;
-    let bus = automaton.start(alloc, &leg_in(alloc, 0))?;
-    assert!(rt; is_only(bus.items(), &by_bus()));
-    // No rule is for a leg without network.
-    let none = automaton.start(alloc, &leg(alloc, 28_800, 29_400))?;
-    assert!(rt; none.items().is_empty());
-    Ok(())
+    let moves = automaton.step(alloc, state, held, &leg_in(alloc, network))?;
+    Ok(is_only(moves.items(), wanted))
 }
 
 #[test]
 fn later_legs(rt: HostRuntime) -> Result<(), TextError> {
     let alloc = rt.alloc();
-    let feed = readings::feed(alloc)?;
-    let automaton = Automaton::compile(alloc, &feed, None)?;
+    let (bus, rail) = (state_of(0, true), state_of(1, false));
     // From bus to rail a change for 0.50 is in place of the rail ticket.
-    let rail = automaton.step(alloc, &state_of(0, true), Money(250), &leg_in(alloc, 1))?;
     let with_change = Move {
-        state: state_of(1, false),
+        state: rail,
         paid: Money(300),
         held: Money(0),
         rule: RuleId(1),
@@ -99,17 +116,15 @@ fn later_legs(rt: HostRuntime) -> Result<(), TextError> {
         xfer: Some(XferId(0)),
         xfer_product: Some(ProductRowId(2)),
     };
-    assert!(rt; is_only(rail.items(), &with_change));
+    assert!(rt; is_next(alloc, &bus, Money(250), 1, &with_change)?);
     // From bus to bus no change is arranged: what was held is paid, and the next ticket is held.
-    let bus = automaton.step(alloc, &state_of(0, true), Money(250), &leg_in(alloc, 0))?;
     let another = Move {
         paid: Money(250),
         ..by_bus()
     };
-    assert!(rt; is_only(bus.items(), &another));
+    assert!(rt; is_next(alloc, &bus, Money(250), 0, &another)?);
     // Nor is one from rail to bus; nothing is held after the change for 0.50.
-    let back = automaton.step(alloc, &state_of(1, false), Money(0), &leg_in(alloc, 0))?;
-    assert!(rt; is_only(back.items(), &by_bus()));
+    assert!(rt; is_next(alloc, &rail, Money(0), 0, &by_bus())?);
     Ok(())
 }
 
@@ -126,23 +141,27 @@ fn change(from: u32, to: u32) -> TransferFacts {
     }
 }
 
+// The rows for a change between these leg groups.
+fn rows_between(alloc: Global, from: u32, to: u32) -> Result<XferList, TextError> {
+    let feed = readings::feed(alloc)?;
+    let rules = XferRules::build(alloc, &feed)?;
+    Ok(rules.selected(alloc, &change(from, to))?)
+}
+
+// The rows of a product that are open.
+fn rows_of(alloc: Global, product: u32) -> Result<RowList, TextError> {
+    let feed = readings::feed(alloc)?;
+    let products = Products::build(alloc, &feed)?;
+    Ok(products.open_rows(alloc, ProductId(product), None)?)
+}
+
 #[test]
 fn rows_of_changes_and_products(rt: HostRuntime) -> Result<(), TextError> {
     let alloc = rt.alloc();
-    let feed = readings::feed(alloc)?;
-    let rules = XferRules::build(alloc, &feed)?;
-    let to_rail = rules.selected(alloc, &change(0, 1))?;
-    assert!(rt; only(to_rail.items()) == Some(XferId(0)));
-    assert!(rt; rules.selected(alloc, &change(1, 0))?.items().is_empty());
-    let products = Products::build(alloc, &feed)?;
-    let rows = products.open_rows(alloc, ProductId(1), None)?;
-    assert!(rt; only(rows.items()) == Some(ProductRowId(1)));
-    assert!(rt;
-        products
-            .open_rows(alloc, ProductId(3), None)?
-            .items()
-            .is_empty()
-    );
+    assert!(rt; only(rows_between(alloc, 0, 1)?.items()) == Some(XferId(0)));
+    assert!(rt; rows_between(alloc, 1, 0)?.items().is_empty());
+    assert!(rt; only(rows_of(alloc, 1)?.items()) == Some(ProductRowId(1)));
+    assert!(rt; rows_of(alloc, 3)?.items().is_empty());
     Ok(())
 }
 
@@ -211,8 +230,8 @@ fn low(held: Money) -> Money
 
 // All runs of a first leg.
 fn first_runs(
-    alloc: Global,
     automaton: &Automaton,
+    alloc: Global,
     first: &LegFacts,
 ) -> Result<Vec<Run>, AllocError> {
     let mut runs = Vec::new(alloc);
@@ -224,17 +243,15 @@ fn first_runs(
 
 // All runs with one leg more.
 fn next_runs(
-    alloc: Global,
     automaton: &Automaton,
+    alloc: Global,
     before: &[Run],
     next: &LegFacts,
 ) -> Result<Vec<Run>, AllocError> {
     let mut runs = Vec::new(alloc);
     for run in before {
-        for step in automaton
-            .step(alloc, &run.state, low(run.held), next)?
-            .items()
-        {
+        let moves = automaton.step(alloc, &run.state, low(run.held), next)?;
+        for step in moves.items() {
             runs.push(after(run.paid, step))?;
         }
     }
@@ -254,18 +271,25 @@ fn least_sum(runs: &[Run]) -> Option<Money> {
     least
 }
 
+// The least sum of the runs of three legs.
+fn least_of_runs(
+    alloc: Global,
+    feed: &Feed,
+    legs: &[LegFacts; 3],
+) -> Result<Option<Money>, AllocError> {
+    let automaton = Automaton::compile(alloc, feed, None)?;
+    let first = first_runs(&automaton, alloc, &legs[0])?;
+    let second = next_runs(&automaton, alloc, &first, &legs[1])?;
+    let third = next_runs(&automaton, alloc, &second, &legs[2])?;
+    Ok(least_sum(&third))
+}
+
 // Whether the least sum of the runs of three legs under these rows is their price.
 fn is_price(alloc: Global, rows: [usize; 3], number: u32) -> Result<bool, TextError> {
-    let feed = feed_of(alloc, &tariff(alloc, rows)?)?;
+    let feed = feed_with(alloc, &tariff(alloc, rows)?)?;
     let departure = 31_200 + i64::from(number % 15) * 420;
     let legs = three_legs(alloc, departure, departure + 600);
-    let automaton = Automaton::compile(alloc, &feed, None)?;
-    let mut runs = first_runs(alloc, &automaton, &legs[0])?;
-    runs = next_runs(alloc, &automaton, &runs, &legs[1])?;
-    runs = next_runs(alloc, &automaton, &runs, &legs[2])?;
-    let fares = Fares::build(alloc, &feed)?;
-    let priced = price(alloc, &fares, &legs, None)?;
-    Ok(least_sum(&runs).map(|sum| sum.0) == priced.map(|found| found.sum.0))
+    Ok(least_of_runs(alloc, &feed, &legs)? == price_of(alloc, &feed, &legs)?)
 }
 
 // Each three of the rows, with the third leg from twenty minutes to two hours after the second.

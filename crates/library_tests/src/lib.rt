@@ -5,6 +5,8 @@
 #[cfg(test)]
 mod automata;
 #[cfg(test)]
+mod feeds;
+#[cfg(test)]
 mod patterns;
 #[cfg(test)]
 mod prices;

@@ -1,13 +1,11 @@
 // Which runs can be boarded where, of runs that overtake each other.
-ghost use Rattle.std.specs.Prelude.{◌≡◌, OnOk, IfOk, IsTrue, true};
-ghost use Rattle.folder_io.specs.KeptFiles.{are_whole};
+ghost use Rattle.std.specs.Prelude.{IfOk};
 ghost use Rattle.plan_patterns.specs.Runs.{AreTripsOf};
 
-use feed_check::{LoadError, load};
-use feed_rows::{Feed, FileName, Query};
+use crate::feeds::feed_of;
+use feed_rows::{FileName, Query};
 use feed_text::TextError;
 use feed_timetable::Timetable;
-use folder_io::{ByteText, FileBytes, Files, MemFolder};
 use plan_patterns::Patterns;
 use std::alloc::{AllocError, Global};
 use transit_base::{Moment, StopId, TripId};
@@ -36,39 +34,16 @@ const PRODUCTS: &[u8] = b"fare_product_id,amount,currency\nsingle,2.50,EUR\n";
 
 const LEG_RULES: &[u8] = b"leg_group_id,fare_product_id\ng,single\n";
 
-// Puts the text of a file.
-fn put(alloc: Global, files: &mut Files, name: FileName, text: &[u8]) -> Result<(), AllocError>
-    ensures { are_whole files.old ≡ true → OnOk result (are_whole files.new ≡ true) }
-{
-    files.put(name, FileBytes::Bytes(ByteText::copy_of(alloc, text)?));
-    Ok(())
-}
-
-// The files of the feed.
-fn files(alloc: Global) -> Result<Files, AllocError>
-    ensures { IfOk result (λ files. IsTrue (are_whole files)) }
-{
-    let mut files = Files::empty();
-    put(alloc, &mut files, FileName::Stops, STOPS)?;
-    put(alloc, &mut files, FileName::Routes, ROUTES)?;
-    put(alloc, &mut files, FileName::Trips, TRIPS)?;
-    put(alloc, &mut files, FileName::StopTimes, STOP_TIMES)?;
-    put(alloc, &mut files, FileName::CalendarDates, DATES)?;
-    put(alloc, &mut files, FileName::Frequencies, HEADWAYS)?;
-    put(alloc, &mut files, FileName::FareProducts, PRODUCTS)?;
-    put(alloc, &mut files, FileName::FareLegRules, LEG_RULES)?;
-    Ok(files)
-}
-
-// The feed.
-fn feed(alloc: Global) -> Result<Feed, TextError> {
-    let mut folder = MemFolder::new(alloc, files(alloc)?, &[], &[])?;
-    match load(alloc, &mut folder) {
-        Ok(feed) => Ok(feed),
-        Err(LoadError::Fault(fault)) => Err(TextError::Fault(fault)),
-        Err(_) => Err(TextError::NoMemory),
-    }
-}
+const FILES: [(FileName, &[u8]); 8] = [
+    (FileName::Stops, STOPS),
+    (FileName::Routes, ROUTES),
+    (FileName::Trips, TRIPS),
+    (FileName::StopTimes, STOP_TIMES),
+    (FileName::CalendarDates, DATES),
+    (FileName::Frequencies, HEADWAYS),
+    (FileName::FareProducts, PRODUCTS),
+    (FileName::FareLegRules, LEG_RULES),
+];
 
 // All trips of the feed.
 fn all_trips(alloc: Global, timetable: &Timetable) -> Result<Vec<TripId>, AllocError>
@@ -97,8 +72,8 @@ const QUERY: Query = Query {
 // The trips of the runs that can be boarded at a position of a pattern from a moment on, and when they depart; none where there
 // is no such place.
 fn trips_at(
-    alloc: Global,
     patterns: &Patterns,
+    alloc: Global,
     pattern: u32,
     position: u32,
     from: i64,
@@ -115,26 +90,48 @@ fn trips_at(
     Ok(found)
 }
 
+// How many patterns there are, and the trips at a position of the second of them from a moment after midnight on.
+fn found_in(
+    timetable: &Timetable,
+    alloc: Global,
+    position: u32,
+    seconds: i32,
+) -> Result<(u32, Vec<(u32, i64)>), AllocError> {
+    let trips = all_trips(alloc, timetable)?;
+    let patterns = Patterns::build(alloc, timetable, &QUERY, &trips)?;
+    let from = MIDNIGHT + i64::from(seconds);
+    let found = trips_at(&patterns, alloc, 1, position, from)?;
+    Ok((patterns.count(), found))
+}
+
+// The same of the timetable of the feed.
+fn found_at(
+    alloc: Global,
+    position: u32,
+    seconds: i32,
+) -> Result<(u32, Vec<(u32, i64)>), TextError> {
+    let feed = feed_of(alloc, &FILES)?;
+    let timetable = Timetable::build(alloc, &feed)?;
+    Ok(found_in(&timetable, alloc, position, seconds)?)
+}
+
+// Whether there are three patterns, and these are the trips.
+fn are_trips(found: &(u32, Vec<(u32, i64)>), trips: &[(u32, i64)]) -> bool {
+    found.0 == 3 && found.1.as_slice() == trips
+}
+
 // At B the quick run has overtaken the others, and a departure is caught that is met exactly.
 #[test]
 fn runs_that_overtake(rt: HostRuntime) -> Result<(), TextError> {
     let alloc = rt.alloc();
-    let feed = feed(alloc)?;
-    let timetable = Timetable::build(alloc, &feed)?;
-    let trips = all_trips(alloc, &timetable)?;
-    let patterns = Patterns::build(alloc, &timetable, &QUERY, &trips)?;
-    assert_eq!(rt; patterns.count(), 3);
-    let at_a = trips_at(alloc, &patterns, 1, 0, MIDNIGHT + 28_801)?;
     let late_and_quick = [(4, MIDNIGHT + 28_860), (1, MIDNIGHT + 29_400)];
-    assert_eq!(rt; at_a.as_slice(), late_and_quick.as_slice());
-    let at_b = trips_at(alloc, &patterns, 1, 1, MIDNIGHT + 30_060)?;
+    assert!(rt; are_trips(&found_at(alloc, 0, 28_801)?, &late_and_quick));
     let quick_and_others = [
         (1, MIDNIGHT + 30_060),
         (0, MIDNIGHT + 30_660),
         (4, MIDNIGHT + 30_660),
     ];
-    assert_eq!(rt; at_b.as_slice(), quick_and_others.as_slice());
-    let later = trips_at(alloc, &patterns, 1, 1, MIDNIGHT + 30_061)?;
-    assert_eq!(rt; later.as_slice(), &quick_and_others[1..]);
+    assert!(rt; are_trips(&found_at(alloc, 1, 30_060)?, &quick_and_others));
+    assert!(rt; are_trips(&found_at(alloc, 1, 30_061)?, &quick_and_others[1..]));
     Ok(())
 }

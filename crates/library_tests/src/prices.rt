@@ -1,17 +1,12 @@
 // The least price of three legs, beside the least of the sums of all choices of rules and rows that there are.
-ghost use Rattle.std.specs.Prelude.{◌≡◌, OnOk, IfOk, IsTrue, true};
-ghost use Rattle.folder_io.specs.KeptFiles.{are_whole};
-
+use crate::feeds::feed_of;
 use fare_price::{Fares, price, verify};
-use feed_check::{LoadError, load};
 use feed_rows::{
     AreaList, ChangeChoice, ChangeChoices, Choice, Feed, FileName, FrameList, LegChoice,
     LegChoices, LegFacts,
 };
 use feed_text::TextError;
-use folder_io::{ByteText, FileBytes, Files, MemFolder};
 use std::alloc::{AllocError, Global};
-use std::process::Abort;
 use transit_base::{Moment, Money, ProductRowId, RuleId, XferId};
 
 // How many rows each tariff has in its three files.
@@ -39,64 +34,29 @@ const OPEN: &[u8] =
     b"from_leg_group_id,to_leg_group_id,duration_limit,duration_limit_type,fare_transfer_type,fare_product_id\n\
     ,,,,2,short\n,,1500,3,0,\n,land,,,1,\n";
 
-// Puts the text of a file.
-fn put(alloc: Global, files: &mut Files, name: FileName, text: &[u8]) -> Result<(), AllocError>
-    ensures { are_whole files.old ≡ true → OnOk result (are_whole files.new ≡ true) }
-{
-    files.put(name, FileBytes::Bytes(ByteText::copy_of(alloc, text)?));
-    Ok(())
-}
-
-// The files of a feed with these transfer rules.
-fn files_of(alloc: Global, transfer_rules: &[u8]) -> Result<Files, AllocError>
-    ensures { IfOk result (λ files. IsTrue (are_whole files)) }
-{
-    let mut files = Files::empty();
-    put(alloc, &mut files, FileName::Stops, b"stop_id\nA\n")?;
-    put(alloc, &mut files, FileName::Routes, b"route_id\nR\n")?;
-    put(
-        alloc,
-        &mut files,
-        FileName::Trips,
-        b"route_id,service_id,trip_id\n",
-    )?;
-    put(
-        alloc,
-        &mut files,
-        FileName::StopTimes,
-        b"trip_id,arrival_time,departure_time,stop_id,stop_sequence\n",
-    )?;
-    put(
-        alloc,
-        &mut files,
-        FileName::CalendarDates,
-        b"service_id,date,exception_type\nS,20250602,1\n",
-    )?;
-    put(
-        alloc,
-        &mut files,
-        FileName::FareMedia,
-        b"fare_media_id,fare_media_type\ncard,2\n",
-    )?;
-    put(alloc, &mut files, FileName::FareProducts, PRODUCTS)?;
-    put(alloc, &mut files, FileName::FareLegRules, TWO_GROUPS)?;
-    put(
-        alloc,
-        &mut files,
-        FileName::FareTransferRules,
-        transfer_rules,
-    )?;
-    Ok(files)
-}
-
 // The feed with these transfer rules.
-pub fn feed_of(alloc: Global, transfer_rules: &[u8]) -> Result<Feed, TextError> {
-    let mut folder = MemFolder::new(alloc, files_of(alloc, transfer_rules)?, &[], &[])?;
-    match load(alloc, &mut folder) {
-        Ok(feed) => Ok(feed),
-        Err(LoadError::Fault(fault)) => Err(TextError::Fault(fault)),
-        Err(_) => Err(TextError::NoMemory),
-    }
+pub fn feed_with(alloc: Global, transfer_rules: &[u8]) -> Result<Feed, TextError> {
+    let texts: [(FileName, &[u8]); 9] = [
+        (FileName::Stops, b"stop_id\nA\n"),
+        (FileName::Routes, b"route_id\nR\n"),
+        (FileName::Trips, b"route_id,service_id,trip_id\n"),
+        (
+            FileName::StopTimes,
+            b"trip_id,arrival_time,departure_time,stop_id,stop_sequence\n",
+        ),
+        (
+            FileName::CalendarDates,
+            b"service_id,date,exception_type\nS,20250602,1\n",
+        ),
+        (
+            FileName::FareMedia,
+            b"fare_media_id,fare_media_type\ncard,2\n",
+        ),
+        (FileName::FareProducts, PRODUCTS),
+        (FileName::FareLegRules, TWO_GROUPS),
+        (FileName::FareTransferRules, transfer_rules),
+    ];
+    feed_of(alloc, &texts)
 }
 
 // A leg without network, areas and timeframes.
@@ -161,14 +121,15 @@ fn choice_of(alloc: Global, number: u32) -> Result<Choice, AllocError> {
 // The least of all sums of choices that pay the legs.
 fn least_sum(
     alloc: Global,
-    fares: &Fares,
+    feed: &Feed,
     legs: &[LegFacts; 3],
 ) -> Result<Option<Money>, AllocError> {
+    let fares = Fares::build(alloc, feed)?;
     let mut least: Option<Money> = None;
     let all = LEG_CHOICES * LEG_CHOICES * LEG_CHOICES * CHANGE_CHOICES * CHANGE_CHOICES;
     for number in 0..all {
         let choice = choice_of(alloc, number)?;
-        if let Some(sum) = verify(fares, legs, &choice, None) {
+        if let Some(sum) = verify(&fares, legs, &choice, None) {
             least = match least {
                 Some(other) if other.0 <= sum.0 => Some(other),
                 _ => Some(sum),
@@ -176,22 +137,6 @@ fn least_sum(
         }
     }
     Ok(least)
-}
-
-// Compares the price of legs with the least sum, which is this one.
-fn compare(
-    rt: &impl Abort,
-    alloc: Global,
-    feed: &Feed,
-    legs: &[LegFacts; 3],
-    wanted: Option<Money>,
-) -> Result<(), TextError> {
-    let fares = Fares::build(alloc, feed)?;
-    let least = least_sum(alloc, &fares, legs)?;
-    let priced = price(alloc, &fares, legs, None)?;
-    assert_eq!(rt; least, wanted);
-    assert_eq!(rt; priced.map(|found| found.sum), wanted);
-    Ok(())
 }
 
 // Three legs, the first two of ten minutes at eight and twenty past, the third between these moments.
@@ -203,37 +148,45 @@ pub fn three_legs(alloc: Global, departure: i64, arrival: i64) -> [LegFacts; 3] 
     ]
 }
 
+// The price of three legs.
+pub fn price_of(
+    alloc: Global,
+    feed: &Feed,
+    legs: &[LegFacts; 3],
+) -> Result<Option<Money>, AllocError> {
+    let fares = Fares::build(alloc, feed)?;
+    match price(alloc, &fares, legs, None)? {
+        Some(priced) => Ok(Some(priced.sum)),
+        None => Ok(None),
+    }
+}
+
+// Whether, under these transfer rules, this is the least sum of three legs and their price.
+fn is_least(
+    alloc: Global,
+    transfer_rules: &[u8],
+    departure: i64,
+    arrival: i64,
+    wanted: Option<Money>,
+) -> Result<bool, TextError> {
+    let feed = feed_with(alloc, transfer_rules)?;
+    let legs = three_legs(alloc, departure, arrival);
+    let least = least_sum(alloc, &feed, &legs)?;
+    Ok(least == wanted && price_of(alloc, &feed, &legs)? == wanted)
+}
+
 // The dearer group for the first leg leads to the cheapest whole: its ticket is given back, and the third leg is free.
 #[test]
 fn counted_changes(rt: HostRuntime) -> Result<(), TextError> {
     let alloc = rt.alloc();
-    let feed = feed_of(alloc, COUNTED)?;
-    compare(
-        &rt,
-        alloc,
-        &feed,
-        &three_legs(alloc, 31_200, 31_800),
-        Some(Money(250)),
-    )?;
-    compare(
-        &rt,
-        alloc,
-        &feed,
-        &three_legs(alloc, 36_000, 36_600),
-        Some(Money(360)),
-    )
+    assert!(rt; is_least(alloc, COUNTED, 31_200, 31_800, Some(Money(250)))?);
+    assert!(rt; is_least(alloc, COUNTED, 36_000, 36_600, Some(Money(360)))?);
+    Ok(())
 }
 
 // A ticket in place of the first leg, and then a free change, since a run of another group begins with the second leg.
 #[test]
 fn open_changes(rt: HostRuntime) -> Result<(), TextError> {
-    let alloc = rt.alloc();
-    let feed = feed_of(alloc, OPEN)?;
-    compare(
-        &rt,
-        alloc,
-        &feed,
-        &three_legs(alloc, 31_200, 31_800),
-        Some(Money(180)),
-    )
+    assert!(rt; is_least(rt.alloc(), OPEN, 31_200, 31_800, Some(Money(180)))?);
+    Ok(())
 }

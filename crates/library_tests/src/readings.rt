@@ -1,18 +1,15 @@
 // Texts that are, or are nearly, those of entries of a query, read back.
-ghost use Rattle.std.specs.Prelude.{◌≡◌, OnOk, IfOk, IsTrue, true};
-ghost use Rattle.folder_io.specs.KeptFiles.{are_whole};
 ghost use Rattle.ticket_read.specs.Judgement.{IsNearQuery};
 
-use feed_check::{LoadError, load};
+use crate::feeds::feed_of;
 use feed_rows::{
     ChangeChoice, ChangeChoices, Choice, Entries, Entry, Feed, FileName, Journey, LegChoice,
     LegChoices, Query, Ride, RideList, Triple,
 };
 use feed_text::TextError;
 use feed_timetable::Timetable;
-use folder_io::{ByteText, FileBytes, Files, MemFolder};
 use std::alloc::{AllocError, Global};
-use ticket_explain::text_of;
+use ticket_explain::{Text, text_of};
 use ticket_read::entries_of;
 use transit_base::{Day, Moment, Money, ProductRowId, RuleId, StopId, TripId, XferId};
 
@@ -39,44 +36,21 @@ const LEG_RULES: &[u8] = b"leg_group_id,network_id,fare_product_id\ngb,bus,singl
 const TRANSFER_RULES: &[u8] =
     b"from_leg_group_id,to_leg_group_id,fare_transfer_type,fare_product_id\ngb,gr,0,change\n";
 
-// Puts the text of a file.
-fn put(alloc: Global, files: &mut Files, name: FileName, text: &[u8]) -> Result<(), AllocError>
-    ensures { are_whole files.old ≡ true → OnOk result (are_whole files.new ≡ true) }
-{
-    files.put(name, FileBytes::Bytes(ByteText::copy_of(alloc, text)?));
-    Ok(())
-}
-
-// The files of the feed.
-fn files(alloc: Global) -> Result<Files, AllocError>
-    ensures { IfOk result (λ files. IsTrue (are_whole files)) }
-{
-    let mut files = Files::empty();
-    put(alloc, &mut files, FileName::Stops, STOPS)?;
-    put(alloc, &mut files, FileName::Routes, ROUTES)?;
-    put(alloc, &mut files, FileName::Trips, TRIPS)?;
-    put(alloc, &mut files, FileName::StopTimes, STOP_TIMES)?;
-    put(alloc, &mut files, FileName::CalendarDates, DATES)?;
-    put(alloc, &mut files, FileName::Transfers, LINKS)?;
-    put(alloc, &mut files, FileName::FareProducts, PRODUCTS)?;
-    put(alloc, &mut files, FileName::FareLegRules, LEG_RULES)?;
-    put(
-        alloc,
-        &mut files,
-        FileName::FareTransferRules,
-        TRANSFER_RULES,
-    )?;
-    Ok(files)
-}
+const FILES: [(FileName, &[u8]); 9] = [
+    (FileName::Stops, STOPS),
+    (FileName::Routes, ROUTES),
+    (FileName::Trips, TRIPS),
+    (FileName::StopTimes, STOP_TIMES),
+    (FileName::CalendarDates, DATES),
+    (FileName::Transfers, LINKS),
+    (FileName::FareProducts, PRODUCTS),
+    (FileName::FareLegRules, LEG_RULES),
+    (FileName::FareTransferRules, TRANSFER_RULES),
+];
 
 // The feed.
 pub fn feed(alloc: Global) -> Result<Feed, TextError> {
-    let mut folder = MemFolder::new(alloc, files(alloc)?, &[], &[])?;
-    match load(alloc, &mut folder) {
-        Ok(feed) => Ok(feed),
-        Err(LoadError::Fault(fault)) => Err(TextError::Fault(fault)),
-        Err(_) => Err(TextError::NoMemory),
-    }
+    feed_of(alloc, &FILES)
 }
 
 // From A to C on 2 June 2025 at 08:00:00, within a day.
@@ -171,83 +145,127 @@ fn walk(alloc: Global) -> Entry {
     }
 }
 
+// The entries of the query that the text tells; none where it is no text of entries.
+fn read(alloc: Global, query: &Query, text: &[u8]) -> Result<Option<Entries>, TextError>
+    requires { IsNearQuery query.now }
+{
+    let feed = feed(alloc)?;
+    let timetable = Timetable::build(alloc, &feed)?;
+    Ok(entries_of(alloc, &timetable, query, text)?)
+}
+
 // How many entries of the query the texts tell, one behind the other; none where they are no text of entries.
-fn told(
-    alloc: Global,
-    timetable: &Timetable,
-    query: &Query,
-    texts: &[&[u8]],
-) -> Result<Option<usize>, AllocError>
+fn told(alloc: Global, query: &Query, texts: &[&[u8]]) -> Result<Option<usize>, TextError>
     requires { IsNearQuery query.now }
 {
     let mut text = Vec::new(alloc);
     for part in texts {
         text.extend_from_slice(part)?;
     }
-    let entries = entries_of(alloc, timetable, query, text.as_slice())?;
-    Ok(entries.map(|entries| entries.items().len()))
+    match read(alloc, query, text.as_slice())? {
+        Some(entries) => Ok(Some(entries.items().len())),
+        None => Ok(None),
+    }
 }
 
 // Texts of entries, in any order, and more than once.
 #[test]
 fn texts_of_entries(rt: HostRuntime) -> Result<(), TextError> {
     let alloc = rt.alloc();
-    let feed = feed(alloc)?;
-    let timetable = Timetable::build(alloc, &feed)?;
     for (texts, count) in [
         (&[] as &[&[u8]], 0),
         (&[TWO_RIDES, ONE_RIDE], 2),
         (&[ONE_RIDE, TWO_RIDES], 2),
         (&[ONE_RIDE, WALK, ONE_RIDE], 3),
     ] {
-        assert_eq!(rt; told(alloc, &timetable, &QUERY, texts)?, Some(count));
+        assert!(rt; told(alloc, &QUERY, texts)? == Some(count));
     }
     let stay = b"journey\t2025-06-02 08:00:00\t0\t0.00\tEUR\nstay\tA\n";
-    assert_eq!(rt; told(alloc, &timetable, &STAY, &[stay])?, Some(1));
+    assert!(rt; told(alloc, &STAY, &[stay])? == Some(1));
     Ok(())
+}
+
+// The lines, one behind the other.
+fn joined(alloc: Global, lines: &Text) -> Result<Vec<u8>, AllocError> {
+    let mut text = Vec::new(alloc);
+    for number in 0..lines.lines() {
+        text.extend_from_slice(lines.line(number))?;
+    }
+    Ok(text)
+}
+
+// The text of the entries.
+fn printed(alloc: Global, entries: &[Entry]) -> Result<Vec<u8>, TextError> {
+    let feed = feed(alloc)?;
+    let timetable = Timetable::build(alloc, &feed)?;
+    Ok(joined(alloc, &text_of(alloc, &timetable, entries)?)?)
+}
+
+// Two rides and a walk.
+fn rides_and_walk(alloc: Global) -> Result<Entries, AllocError> {
+    let mut entries = Entries::empty(alloc);
+    entries.push(two_rides(alloc)?)?;
+    entries.push(walk(alloc))?;
+    Ok(entries)
+}
+
+// Whether this is the ride that `ride` makes of the number.
+fn is_ride(found: Option<&Ride>, number: u32) -> bool {
+    match found {
+        Some(found) => {
+            found.trip.0 == number
+                && found.day.0 == 20_241
+                && found.shift == 0
+                && found.from == 0
+                && found.to == 1
+        }
+        None => false,
+    }
+}
+
+// Whether the leg is paid by the rows of that number.
+fn is_leg(found: Option<&LegChoice>, number: u32) -> bool {
+    match found {
+        Some(found) => found.rule.0 == number && found.product.0 == number,
+        None => false,
+    }
+}
+
+// Whether the change is by the first rule, for the third row.
+fn is_change(found: Option<&Option<ChangeChoice>>) -> bool {
+    match found {
+        Some(Some(found)) => found.rule.0 == 0 && found.product == Some(ProductRowId(2)),
+        Some(None) | None => false,
+    }
+}
+
+// Whether the entry is that of the text of two rides.
+fn is_two_rides(found: &Entry) -> bool {
+    let rides = found.journey.rides.items();
+    let legs = found.choice.legs.items();
+    let ends = found.journey.first == StopId(0) && found.journey.last == StopId(2);
+    ends && is_ride(rides.get(0), 0)
+        && is_ride(rides.get(1), 1)
+        && is_leg(legs.get(0), 0)
+        && is_leg(legs.get(1), 1)
+        && is_change(found.choice.changes.items().first())
 }
 
 // Entries are printed as their texts, and these tell them again.
 #[test]
 fn entries_printed_and_read(rt: HostRuntime) -> Result<(), TextError> {
     let alloc = rt.alloc();
-    let feed = feed(alloc)?;
-    let timetable = Timetable::build(alloc, &feed)?;
-    let mut entries = Entries::empty(alloc);
-    entries.push(two_rides(alloc)?)?;
-    entries.push(walk(alloc))?;
-    let lines = text_of(alloc, &timetable, entries.items())?;
-    let mut text = Vec::new(alloc);
-    for number in 0..lines.lines() {
-        text.extend_from_slice(lines.line(number))?;
-    }
+    let entries = rides_and_walk(alloc)?;
+    let text = printed(alloc, entries.items())?;
     assert!(rt; text.len() == TWO_RIDES.len() + WALK.len());
     assert!(rt; text.starts_with(TWO_RIDES) && text.ends_with(WALK));
-    let again = entries_of(alloc, &timetable, &QUERY, text.as_slice())?.expect(&rt, "entries");
-    assert_eq!(rt; again.items().len(), 2);
-    let again = &again.items()[0];
-    assert!(rt; again.triple == entries.items()[0].triple);
-    assert!(rt; again.journey.first == StopId(0) && again.journey.last == StopId(2));
-    for number in 0..2 {
-        let ride = again
-            .journey
-            .rides
-            .items()
-            .get(number)
-            .expect(&rt, "a ride");
-        let leg = again.choice.legs.items().get(number).expect(&rt, "a leg");
-        assert!(rt; ride.trip.0 as usize == number && ride.day.0 == 20_241 && ride.shift == 0);
-        assert!(rt; ride.from == 0 && ride.to == 1);
-        assert!(rt; leg.rule.0 as usize == number && leg.product.0 as usize == number);
+    let again = read(alloc, &QUERY, text.as_slice())?.expect(&rt, "entries");
+    match (entries.items(), again.items()) {
+        ([first, _], [found, _]) => assert!(rt;
+            found.triple == first.triple && is_two_rides(found)
+        ),
+        _ => assert!(rt; false),
     }
-    let change = again
-        .choice
-        .changes
-        .items()
-        .first()
-        .expect(&rt, "a change of legs")
-        .expect(&rt, "a change");
-    assert!(rt; change.rule.0 == 0 && change.product.map(|row| row.0) == Some(2));
     Ok(())
 }
 
@@ -341,11 +359,8 @@ const NEARLY: [&[u8]; 20] = [
 // None of them is read.
 #[test]
 fn texts_of_no_entries(rt: HostRuntime) -> Result<(), TextError> {
-    let alloc = rt.alloc();
-    let feed = feed(alloc)?;
-    let timetable = Timetable::build(alloc, &feed)?;
     for text in NEARLY {
-        assert_eq!(rt; told(alloc, &timetable, &QUERY, &[text])?, None);
+        assert!(rt; read(rt.alloc(), &QUERY, text)?.is_none());
     }
     Ok(())
 }

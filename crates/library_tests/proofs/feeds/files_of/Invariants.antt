@@ -1,0 +1,6 @@
+use Rattle.std.proofs.Common.{◌≡◌, true}
+use Rattle.folder_io.specs.KeptFiles.{are_whole}
+use Rattle.library_tests.proofs.feeds.files_of.Given as goal
+
+abbrev pub invariant-loop-name : goal.invariant-loop-name
+invariant-loop-name l = are_whole l.files ≡ true
