@@ -6,7 +6,6 @@ use feed_check::{LoadError, load};
 use feed_rows::{CallTime, FaultKind, Feed, FeedFault, FileName};
 use folder_io::{ByteText, FileBytes, Files, Folder, MemFolder, Opened, Piece, SureFolder};
 use std::alloc::{AllocError, Global};
-use std::test::Fail;
 
 // A folder in memory whose reads give at most so many bytes each, and one at least.
 #[derive(Drop)]
@@ -141,45 +140,70 @@ fn is_fault(outcome: &Outcome, kind: FaultKind) -> bool {
     }
 }
 
+// Whether a load gave these numbers.
+fn are_numbers(outcome: &Outcome, wanted: &[u32]) -> bool {
+    match outcome {
+        Outcome::Numbers(numbers) => numbers.as_slice() == wanted,
+        Outcome::Fault(_) | Outcome::Failed => false,
+    }
+}
+
 #[test]
-fn whole_stop_times(rt: HostRuntime) -> Result<(), Fail> {
+fn whole_stop_times(rt: HostRuntime) -> Result<(), AllocError> {
     let none = u32::MAX;
     let wanted = [
         0, 0, 1, 28_800, 28_800, 0, 1, 2, none, none, 0, 2, 3, 29_400, none, 1, 2, 1, 32_400,
         32_400, 1, 0, 2, 34_200, 34_200,
     ];
-    match outcome_by(rt.alloc(), STOP_TIMES.as_bytes(), 65_536)? {
-        Outcome::Numbers(numbers) => assert_eq!(rt; numbers.as_slice(), wanted.as_slice()),
-        Outcome::Fault(_) | Outcome::Failed => assert!(rt; false),
+    let whole = outcome_by(rt.alloc(), STOP_TIMES.as_bytes(), 65_536)?;
+    assert!(rt; are_numbers(&whole, &wanted));
+    Ok(())
+}
+
+// Whether these stop times give the same in pieces of any size.
+fn is_same_in_pieces(alloc: Global, stop_times: &[u8]) -> Result<bool, AllocError> {
+    let whole = outcome_by(alloc, stop_times, 65_536)?;
+    for most in [1, 2, 3, 7] {
+        if !are_alike(&outcome_by(alloc, stop_times, most)?, &whole) {
+            return Ok(false);
+        }
+    }
+    Ok(true)
+}
+
+// So does the file, cut after each of its bytes.
+#[test]
+fn cut_stop_times(rt: HostRuntime) -> Result<(), AllocError> {
+    let text = STOP_TIMES.as_bytes();
+    for cut in 0..text.len() + 1 {
+        assert!(rt; is_same_in_pieces(rt.alloc(), &text[..cut])?);
     }
     Ok(())
 }
 
-// Cut after each of its bytes, the file gives the same in pieces of any size.
-#[test]
-fn cut_stop_times(rt: HostRuntime) -> Result<(), Fail> {
-    let text = STOP_TIMES.as_bytes();
-    for cut in 0..text.len() + 1 {
-        let whole = outcome_by(rt.alloc(), &text[..cut], 65_536)?;
-        for most in [1, 2, 3, 7] {
-            let pieces = outcome_by(rt.alloc(), &text[..cut], most)?;
-            assert!(rt; are_alike(&pieces, &whole));
+// Whether these stop times have this fault as a whole, in pieces of any size.
+fn is_fault_in_pieces(
+    alloc: Global,
+    stop_times: &[u8],
+    kind: FaultKind,
+) -> Result<bool, AllocError> {
+    for most in [1, 2, 3, 7, 65_536] {
+        if !is_fault(&outcome_by(alloc, stop_times, most)?, kind) {
+            return Ok(false);
         }
     }
-    Ok(())
+    Ok(true)
 }
 
 // What is wrong with the file as a whole comes before what is wrong with its rows.
 #[test]
-fn wrong_stop_times(rt: HostRuntime) -> Result<(), Fail> {
-    for most in [1, 2, 3, 7, 65_536] {
-        let empty = outcome_by(rt.alloc(), b"", most)?;
-        assert!(rt; is_fault(&empty, FaultKind::MissingFile));
-        let wrong = b"trip_id,stop_id,stop_sequence,arrival_time\nT,A,1,25:61:00\nT,B,2,\xff";
-        assert!(rt; is_fault(&outcome_by(rt.alloc(), wrong, most)?, FaultKind::NotUtf8));
-        let cut = b"trip_id,stop_id,stop_sequence,arrival_time\nT,A,1,25:61:00\nT,B,2,\xe2\x82";
-        assert!(rt; is_fault(&outcome_by(rt.alloc(), cut, most)?, FaultKind::NotUtf8));
-    }
+fn wrong_stop_times(rt: HostRuntime) -> Result<(), AllocError> {
+    let alloc = rt.alloc();
+    assert!(rt; is_fault_in_pieces(alloc, b"", FaultKind::MissingFile)?);
+    let wrong = b"trip_id,stop_id,stop_sequence,arrival_time\nT,A,1,25:61:00\nT,B,2,\xff";
+    assert!(rt; is_fault_in_pieces(alloc, wrong, FaultKind::NotUtf8)?);
+    let cut = b"trip_id,stop_id,stop_sequence,arrival_time\nT,A,1,25:61:00\nT,B,2,\xe2\x82";
+    assert!(rt; is_fault_in_pieces(alloc, cut, FaultKind::NotUtf8)?);
     Ok(())
 }
 
@@ -190,19 +214,33 @@ fn outcome_with(alloc: Global, opens: &[u32], reads: &[u32]) -> Result<Outcome, 
     outcome_of(alloc, &mut folder)
 }
 
+// Whether a load fails where any one call below these numbers does.
+fn are_answered(alloc: Global, opens: u32, reads: u32) -> Result<bool, AllocError> {
+    for call in 1..opens {
+        if !are_alike(&outcome_with(alloc, &[call], &[])?, &Outcome::Failed) {
+            return Ok(false);
+        }
+    }
+    for call in 1..reads {
+        if !are_alike(&outcome_with(alloc, &[], &[call])?, &Outcome::Failed) {
+            return Ok(false);
+        }
+    }
+    Ok(true)
+}
+
+// Whether the load goes well where these calls would fail.
+fn is_whole(alloc: Global, opens: &[u32], reads: &[u32]) -> Result<bool, AllocError> {
+    let whole = outcome_with(alloc, &[], &[])?;
+    Ok(are_alike(&outcome_with(alloc, opens, reads)?, &whole))
+}
+
 // A call that fails is answered wherever it is. Seven files are there, each of which is read twice, and stop_times.txt
 // three times more for its byte order mark.
 #[test]
-fn failing_calls(rt: HostRuntime) -> Result<(), Fail> {
+fn failing_calls(rt: HostRuntime) -> Result<(), AllocError> {
     let alloc = rt.alloc();
-    for call in 1..19u32 {
-        assert!(rt; are_alike(&outcome_with(alloc, &[call], &[])?, &Outcome::Failed));
-    }
-    for call in 1..18u32 {
-        assert!(rt; are_alike(&outcome_with(alloc, &[], &[call])?, &Outcome::Failed));
-    }
-    let whole = outcome_with(alloc, &[], &[])?;
-    assert!(rt; are_alike(&outcome_with(alloc, &[19], &[])?, &whole));
-    assert!(rt; are_alike(&outcome_with(alloc, &[], &[18])?, &whole));
+    assert!(rt; are_answered(alloc, 19, 18)?);
+    assert!(rt; is_whole(alloc, &[19], &[])? && is_whole(alloc, &[], &[18])?);
     Ok(())
 }
