@@ -1,8 +1,8 @@
-//! Civil days and their dates, by jiff.
+//! Civil days and their dates, by the core of jiff.
 ghost use Rattle.std.specs.Prelude.{◌≡◌, IsTrue, ◌↔◌, IsSome, IfSome};
 ghost use Rattle.transit_base.specs.Dates.{is_date, day_number};
 
-use jiff::civil::Date;
+use jiff_core::civil::Date;
 
 /// A civil day: the number of days since 1970-01-01, negative before it.
 #[derive(Clone, Copy, Debug, PartialEq, Eq, PartialOrd, Ord)]
@@ -19,5 +19,5 @@ pub fn day_of(year: u16, month: u8, day: u8) -> Option<Day>
         return None;
     }
     let date = Date::new(year as i16, month as i8, day as i8).ok()?;
-    Some(Day(i64::from(date.to_plain().to_unix_epoch_day())))
+    Some(Day(i64::from(date.to_unix_epoch_day())))
 }

@@ -5,7 +5,7 @@ ghost use Rattle.transit_base.specs.DateTexts.{two_digits, date_text, time_text}
 
 use crate::calendar::Day;
 use crate::moments::Secs;
-use jiff_core::civil::Date as PlainDate;
+use jiff_core::civil::Date;
 use std::marker::Model;
 
 /// A time as text, `HH:MM:SS`: eight bytes below 100 hours, and nine from there on.
@@ -39,7 +39,7 @@ pub fn date_text(day: Day) -> [u8; 10]
     requires high { day.0 ≤ℤ pos 2_932_896 }
     ensures { result ≡ date_text day.0 }
 {
-    let Ok(date) = PlainDate::from_unix_epoch_day(day.0) else {
+    let Ok(date) = Date::from_unix_epoch_day(day.0) else {
         unreachable!();
     };
     let year = year_of(date);
@@ -105,7 +105,7 @@ pub fn time_text(seconds: Secs) -> TimeText
 }
 
 // The year of a date that isn't before the year 1.
-fn year_of(date: PlainDate) -> u16
+fn year_of(date: Date) -> u16
     requires { pos 1 ≤ℤ date.year }
     ensures { pos result ≡ date.year }
 {
