@@ -25,7 +25,7 @@ use Rattle.folder_io.specs.FolderCalls.{Contents, FolderState}
 use Rattle.folder_io.proofs.LogLaws.{makes_none}
 use Rattle.feed_check.specs.LoadErrors.{StopsReading}
 use Rattle.ticket_explain.specs.CommandLines.{gen_lines}
-use Rattle.plan_rounds.specs.Tables.{CoversAllOffers}
+use Rattle.round_table.specs.Tables.{CoversAllOffers}
 use Rattle.plan_app.specs.Due.{Task, task_by, task_of, ArePriceLines, AreTableLines, DoTask, IsDue}
 use Rattle.plan_app.specs.Run.{ReadsIf}
 use Rattle.plan_app.specs.declared.status.Status.{Status}

@@ -26,10 +26,10 @@ use Rattle.plan_rides.proofs.ArrivalLaws.{arrives_in_time, in_time_arrives}
 use Rattle.plan_rides.proofs.MarkLaws.{member_of_stands_for}
 use Rattle.round_laws.specs.LabelSteps.{IsLabelEnd}
 use Rattle.round_laws.specs.LinkedTables.{IsFinal, AreFinals}
-use Rattle.plan_rounds.specs.declared.finals.Final.{Final}
+use Rattle.round_table.specs.declared.finals.Final.{Final}
 use Rattle.round_labels.specs.declared.label.Label.{Label}
 use Rattle.plan_rounds.specs.declared.search.Source.{Source}
-use Rattle.plan_rounds.specs.Finals.{final_of, finals_of, is_bettered, EndsAmong, EndsIn, EndsBelow, AddsEnds}
+use Rattle.round_table.specs.Finals.{final_of, finals_of, is_bettered, EndsAmong, EndsIn, EndsBelow, AddsEnds}
 use Rattle.round_labels.specs.Labels.{IsBounded, facts_of, label_of, labels_of, stand_of_label}
 use Rattle.plan_rides.specs.InTime.{IsWithinWindow}
 use Rattle.plan_rounds.specs.Sources.{AreEnding, IsEnding}

@@ -20,9 +20,9 @@ use Rattle.round_laws.specs.Futility.{is_within, least_end}
 use Rattle.round_laws.specs.LabelSteps.{facts_after, IsStated}
 use Rattle.round_laws.proofs.BoundLaws.{ahead_of_ride}
 use Rattle.round_laws.proofs.OutdoneLaws.{ahead_of_outdone, ahead_lacks, lack_below}
-use Rattle.plan_rounds.specs.declared.finals.Final.{Final}
+use Rattle.round_table.specs.declared.finals.Final.{Final}
 use Rattle.round_labels.specs.declared.label.Label.{Label}
-use Rattle.plan_rounds.specs.Finals.{HasEnds, is_bettered}
+use Rattle.round_table.specs.Finals.{HasEnds, is_bettered}
 use Rattle.round_labels.specs.Labels.{facts_of, stand_of_label}
 use Rattle.plan_rounds.specs.Searched.{Searched, Lacks, has_ahead, is_overtaken_by}
 use Rattle.plan_rounds.specs.Stores.{IsHeldBelow, IsPrunedBy, StepsBy}

@@ -10,9 +10,9 @@ use Rattle.feed_rows.specs.SoundFeed.{IsSoundFeed}
 use Rattle.plan_rides.specs.InTime.{IsWithinWindow, deadline, is_early}
 use Rattle.round_laws.specs.Futility.{IsFutile, MayLack, is_within, least_end}
 use Rattle.round_laws.proofs.BoundLaws.{Ahead, ahead_leads, ahead_of_ride, ahead_passes, ahead_tells}
-use Rattle.plan_rounds.specs.declared.finals.Final.{Final}
+use Rattle.round_table.specs.declared.finals.Final.{Final}
 use Rattle.round_labels.specs.declared.label.Label.{Label}
-use Rattle.plan_rounds.specs.Finals.{is_bettered}
+use Rattle.round_table.specs.Finals.{is_bettered}
 use Rattle.plan_rounds.specs.Horizons.{HorizonParts, IsFair, IsHorizon, is_beyond}
 use Rattle.round_labels.specs.Labels.{facts_of}
 use Rattle.plan_rounds.specs.Prospects.{AreProspects, ProspectLists, latest_of, no_prospects}

@@ -1,4 +1,3 @@
-pub mod EntryLaws
 pub mod FinalSteps
 pub mod FutileLaws
 pub mod HorizonLaws
@@ -12,5 +11,4 @@ pub mod SourceLaws
 pub mod SpreadLaws
 pub mod StopLaws
 pub mod StoreLaws
-pub mod TableLaws
 pub mod WholeLaws

@@ -25,14 +25,14 @@ use Rattle.round_laws.specs.LinkedTables.{CoversSteps, AreFinals, IsFinal, IsFou
 use Rattle.round_laws.proofs.AnswerLaws.{exact_entries, ends_exactly}
 use Rattle.round_laws.proofs.ClosedLaws.{covers_journeys, closed_table}
 use Rattle.round_laws.proofs.TableLaws.{are_real}
-use Rattle.plan_rounds.specs.declared.finals.Final.{Final}
+use Rattle.round_table.specs.declared.finals.Final.{Final}
 use Rattle.round_labels.specs.declared.label.Label.{Label}
 use Rattle.round_labels.specs.CoverLaws.{covers-holds}
-use Rattle.plan_rounds.specs.Finals.{final_of, finals_of, is_bettered}
+use Rattle.round_table.specs.Finals.{final_of, finals_of, is_bettered}
 use Rattle.round_labels.specs.Labels.{facts_of, label_of, labels_of, covers}
 use Rattle.plan_rounds.specs.Stores.{ArePruned, AreWhole}
-use Rattle.plan_rounds.specs.Tables.{numbered, table_in, IsExactTable}
-use Rattle.plan_rounds.proofs.TableLaws.{are_bags, option_map-tells}
+use Rattle.round_table.specs.Tables.{numbered, table_in, IsExactTable}
+use Rattle.round_table.proofs.TableLaws.{are_bags, option_map-tells}
 
 -- what is bettered is found
 pub found_of : (finals : List Final) (t : Triple) → is_bettered finals t → IsFound (finals_of finals) t

@@ -3,7 +3,7 @@ use Rattle.std.specs.Prelude.{◌≡◌, ℕ, ◌+◌, Bool, false, List, Contai
 use Rattle.feed_rows.specs.PartialJourneys.{LabelFacts}
 use Rattle.plan_rides.specs.InTime.{AreLastDepartures, is_early}
 use Rattle.round_laws.specs.Futility.{is_within, least_end}
-use Rattle.plan_rounds.specs.declared.finals.Final.{Final}
+use Rattle.round_table.specs.declared.finals.Final.{Final}
 use Rattle.round_labels.specs.declared.label.Label.{Label}
 use Rattle.round_labels.specs.Labels.{facts_of}
 use Rattle.plan_rounds.specs.Prospects.{ProspectLists, AreProspects, latest_of, lasts_of}

@@ -1,6 +1,3 @@
-pub mod Entries
-pub mod FinalLaws
-pub mod Finals
 pub mod Horizons
 pub mod Moves
 pub mod Prospects
@@ -8,4 +5,3 @@ pub mod Scans
 pub mod Searched
 pub mod Sources
 pub mod Stores
-pub mod Tables

@@ -9,12 +9,12 @@ use Rattle.plan_rides.specs.Departures.{TakesServing}
 use Rattle.plan_rides.specs.InTime.{AreLastDepartures, IsUsualQuery, IsWithinWindow, is_early}
 use Rattle.plan_rides.specs.Reached.{IsReachedFrom, Positioned}
 use Rattle.plan_rides.specs.declared.positions.Reached.{Reached}
-use Rattle.plan_rounds.specs.declared.finals.Final.{Final}
+use Rattle.round_table.specs.declared.finals.Final.{Final}
 use Rattle.round_labels.specs.declared.label.Label.{Label}
 use Rattle.plan_rounds.specs.declared.scan.Marks.{Marks}
 use Rattle.plan_rounds.specs.declared.scan.Round.{Round}
 use Rattle.plan_rounds.specs.declared.search.Source.{Source}
-use Rattle.plan_rounds.specs.Finals.{HasEnds}
+use Rattle.round_table.specs.Finals.{HasEnds}
 use Rattle.plan_rounds.specs.Horizons.{HorizonParts, IsFair, IsHorizon, is_beyond}
 use Rattle.round_labels.specs.Labels.{IsBounded, facts_of, stand_of_label}
 use Rattle.plan_rounds.specs.Prospects.{ProspectLists, latest_of, lasts_of}

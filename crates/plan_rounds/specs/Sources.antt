@@ -8,7 +8,7 @@ use Rattle.plan_rides.specs.Boarding.{MayRide}
 use Rattle.plan_rides.specs.InTime.{IsUsualQuery, IsWithinWindow}
 use Rattle.plan_rides.specs.declared.caught.CaughtRide.{CaughtRide}
 use Rattle.round_laws.specs.LabelSteps.{facts_after}
-use Rattle.plan_rounds.specs.declared.finals.Final.{Final}
+use Rattle.round_table.specs.declared.finals.Final.{Final}
 use Rattle.round_labels.specs.declared.label.Label.{Label}
 use Rattle.plan_rounds.specs.declared.search.Source.{Source}
 use Rattle.round_labels.specs.Labels.{IsBounded, facts_of, stand_of_label}

@@ -21,7 +21,7 @@ use Rattle.round_labels.specs.declared.kept_label.KeptLabel.{KeptLabel}
 use Rattle.round_labels.specs.declared.label.Label.{Label}
 use Rattle.round_labels.specs.declared.label_class.LabelClass.{LabelClass}
 use Rattle.round_labels.specs.declared.last_move.LastMove.{LastMove}
-use Rattle.plan_rounds.specs.Finals.{EndsIn}
+use Rattle.round_table.specs.Finals.{EndsIn}
 use Rattle.round_labels.specs.Kept.{IsNumbered, is_as_good, whole, wholes}
 use Rattle.round_labels.specs.Labels.{facts_of, label_of, labels_of, class_of, same_class, covers, IsBounded}
 

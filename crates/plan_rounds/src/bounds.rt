@@ -9,12 +9,12 @@ ghost use Rattle.plan_rounds.specs.Searched.{Lacks, has_ahead, is_overtaken_by};
 ghost use Rattle.plan_rounds.specs.Sources.{IsSource};
 ghost use Rattle.plan_rounds.specs.Stores.{StepsBy};
 
-use crate::finals::Final;
 use crate::search::{Search, Source};
 use feed_rows::Feed;
 use feed_timetable::Standing;
 use plan_rides::CaughtRide;
 use round_labels::Label;
+use round_table::Final;
 use transit_base::{Moment, Money, StopId};
 
 /// The `fare_transfer_type` by which the change alone is paid, and not the leg before it.
@@ -41,17 +41,6 @@ fn times(amount: Money, count: u8) -> i128
         sum += i128::from(amount.0);
     }
     sum
-}
-
-impl Final {
-    /// Whether it arrives no later than this moment, with no more rides than so many, and costs no more than this.
-    pub(crate) fn is_ahead(&self, at: Moment, rides: u8, price: i128) -> bool
-        ensures { result ≡ is_within at.0 rides price self.now.triple }
-    {
-        self.triple.arrival.0 <= at.0
-            && self.triple.rides <= rides
-            && i128::from(self.triple.price.0) <= price
-    }
 }
 
 /// Whether one of the finals does.

@@ -3,11 +3,11 @@ ghost use Rattle.std.specs.Prelude.{◌≡◌, Contains, IfOk, IfSome};
 ghost use Rattle.plan_rounds.specs.Horizons.{IsHorizon, is_beyond};
 ghost use Rattle.round_labels.specs.Labels.{facts_of};
 ghost use Rattle.plan_rounds.specs.Sources.{IsSource};
-ghost use Rattle.plan_rounds.specs.declared.finals.Final.{Final};
+ghost use Rattle.round_table.specs.declared.finals.Final.{Final};
 
-use crate::finals::Final;
 use crate::prospects::Prospects;
 use crate::search::{Search, Source};
+use round_table::Final;
 use std::alloc::AllocError;
 use std::marker::Model;
 

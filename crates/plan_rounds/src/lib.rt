@@ -3,16 +3,12 @@
 #![tactic(auto)]
 
 mod bounds;
-mod entries;
-mod finals;
+mod ends;
 mod horizon;
 mod moves;
 mod plan;
 mod prospects;
 mod scan;
 mod search;
-mod table;
 
-pub use finals::Final;
 pub use plan::{round_entries, rounds};
-pub use table::RoundTable;

@@ -5,13 +5,13 @@ ghost use Rattle.plan_rides.specs.InTime.{IsUsualQuery};
 ghost use Rattle.feed_rows.specs.ClosedTable.{IsClosedTable};
 ghost use Rattle.feed_rows.specs.SoundTable.{IsSoundTable};
 ghost use Rattle.plan_rides.specs.Asked.{asked};
-ghost use Rattle.plan_rounds.specs.Searched.{searched};
-ghost use Rattle.plan_rounds.specs.Tables.{CoversAllOffers, IsTableOf, table_by};
+ghost use Rattle.plan_rounds.specs.Searched.{IsTableOf, searched};
+ghost use Rattle.round_table.specs.Tables.{CoversAllOffers, table_by};
 
 use crate::search::Search;
-use crate::table::RoundTable;
 use feed_rows::{Entry, Query};
 use feed_timetable::Timetable;
+use round_table::RoundTable;
 use std::alloc::{AllocError, Global};
 
 impl<'s, 'f> Search<'s, 'f> {

@@ -9,12 +9,12 @@ ghost use Rattle.plan_rounds.specs.Sources.{IsSource, SpreadsFrom};
 ghost use Rattle.plan_rounds.specs.Stores.{StepsFrom};
 ghost use Rattle.round_labels.specs.declared.label.Label.{Label};
 
-use crate::finals::Final;
 use crate::horizon::Horizon;
 use crate::prospects::Prospects;
 use crate::search::{Found, Search, Source};
 use plan_rides::{CaughtRide, KeptRides, Positions, Reached, Traveller};
 use round_labels::{LabelList, StopBags};
+use round_table::Final;
 use std::alloc::AllocError;
 use std::mem;
 

@@ -1,7 +1,7 @@
 use Rattle.std.proofs.Common.{◌∙◌, ap, ap₂, ℕ, List, ◌++◌, ◌∷◌, []}
 use Rattle.std.specs.Prelude.{is_some}
 use Rattle.feed_rows.specs.EntryText.{lines_of_entries}
-use Rattle.plan_rounds.specs.Tables.{table_by}
+use Rattle.round_table.specs.Tables.{table_by}
 use Rattle.plan_app.proofs.MadeLaws.{table_lines}
 use Rattle.plan_app.proofs.planning.table_text.Goals as goal
 

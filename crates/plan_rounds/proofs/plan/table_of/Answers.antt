@@ -1,7 +1,7 @@
 use Rattle.std.proofs.Common.{subst}
 use Rattle.std.specs.Prelude.{IfOk}
-use Rattle.plan_rounds.specs.Searched.{Searched}
-use Rattle.plan_rounds.specs.Tables.{IsTableOf, table_by}
+use Rattle.plan_rounds.specs.Searched.{IsTableOf, Searched}
+use Rattle.round_table.specs.Tables.{table_by}
 use Rattle.plan_rounds.proofs.plan.table_of.Goals as goal
 
 pub returns : goal.returns

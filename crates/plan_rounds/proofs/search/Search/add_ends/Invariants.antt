@@ -1,6 +1,6 @@
 use Rattle.std.proofs.Common.{[]}
 use Rattle.feed_rows.specs.declared.fares.Triple.{Triple}
-use Rattle.plan_rounds.specs.Finals.{AddsEnds, EndsBelow, is_bettered}
+use Rattle.round_table.specs.Finals.{AddsEnds, EndsBelow, is_bettered}
 use Rattle.plan_rounds.proofs.search.Search.add_ends.Given as goal
 
 abbrev pub invariant-loop-number : goal.invariant-loop-number

@@ -1,5 +1,5 @@
 use Rattle.std.proofs.Common.{sym, subst, [], length}
-use Rattle.plan_rounds.specs.Finals.{AddsEnds, EndsBelow}
+use Rattle.round_table.specs.Finals.{AddsEnds, EndsBelow}
 use Rattle.plan_rounds.specs.Sources.{AreEnding}
 use Rattle.round_labels.specs.Bags.{gathered}
 use Rattle.plan_rounds.proofs.FinalSteps.{ends_longer}

@@ -1,6 +1,6 @@
 use Rattle.std.proofs.Common.{refl, sym, ◌∙◌, ap, subst, List, ◌+◌, ◌++◌, [], arith}
-use Rattle.plan_rounds.specs.declared.finals.Final.{Final}
-use Rattle.plan_rounds.specs.Finals.{HasEnds, is_bettered}
+use Rattle.round_table.specs.declared.finals.Final.{Final}
+use Rattle.round_table.specs.Finals.{HasEnds, is_bettered}
 use Rattle.round_labels.specs.Labels.{labels_of}
 use Rattle.round_laws.proofs.FutilityLaws.{lack_more}
 use Rattle.fare_automaton.specs.Known.{KnownPicks}

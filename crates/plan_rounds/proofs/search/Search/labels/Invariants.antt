@@ -1,5 +1,5 @@
 use Rattle.std.proofs.Common.{◌+◌, ◌<◌, ◌^◌, [], length}
-use Rattle.plan_rounds.specs.Finals.{AddsEnds, EndsBelow}
+use Rattle.round_table.specs.Finals.{AddsEnds, EndsBelow}
 use Rattle.plan_rounds.specs.Moves.{HasFares}
 use Rattle.plan_rounds.specs.Searched.{Lacks}
 use Rattle.label_bag.specs.Bags.{AreApart}

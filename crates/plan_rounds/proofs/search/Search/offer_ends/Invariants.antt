@@ -1,4 +1,4 @@
-use Rattle.plan_rounds.specs.Finals.{AddsEnds, EndsAmong}
+use Rattle.round_table.specs.Finals.{AddsEnds, EndsAmong}
 use Rattle.plan_rounds.proofs.search.Search.offer_ends.Given as goal
 
 abbrev pub invariant-loop-k : goal.invariant-loop-k

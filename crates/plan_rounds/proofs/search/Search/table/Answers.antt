@@ -1,12 +1,11 @@
 use Rattle.std.proofs.Common.{sym, subst, arith, length, List, []}
 use Rattle.std.proofs.lemmas.Result.{IfOk-weaker}
-use Rattle.plan_rounds.specs.declared.finals.Final.{Final}
-use Rattle.plan_rounds.specs.Finals.{AddsEnds, EndsBelow, finals_of, is_bettered}
+use Rattle.round_table.specs.declared.finals.Final.{Final}
+use Rattle.round_table.specs.Finals.{AddsEnds, EndsBelow, finals_of, is_bettered}
 use Rattle.pareto_front.specs.Fronts.{IsFront}
 use Rattle.feed_rows.specs.ParetoTriples.{is_before}
-use Rattle.plan_rounds.specs.Searched.{Lacks}
+use Rattle.plan_rounds.specs.Searched.{IsTableOf, Lacks}
 use Rattle.plan_rounds.specs.Stores.{AreWhole}
-use Rattle.plan_rounds.specs.Tables.{IsTableOf}
 use Rattle.plan_rounds.proofs.FinalSteps.{as_good, are_finals}
 use Rattle.plan_rounds.proofs.WholeLaws.{found_of, whole_weaker, exact_table, covers_all, closed_all}
 use Rattle.round_laws.specs.Futility.{MayLack}

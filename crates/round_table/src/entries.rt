@@ -2,9 +2,9 @@
 ghost use Rattle.std.specs.Prelude.{◌≡◌, IfOk, IsSome, OnOk, Some};
 ghost use Rattle.feed_rows.specs.FareSteps.{place_taken};
 ghost use Rattle.feed_rows.specs.RoundTables.{entries_of, entry_of_final, start_at, traced, with_ride};
-ghost use Rattle.plan_rounds.specs.Entries.{part_of};
-ghost use Rattle.plan_rounds.specs.Finals.{final_of};
-ghost use Rattle.plan_rounds.specs.Tables.{table_by};
+ghost use Rattle.round_table.specs.Entries.{part_of};
+ghost use Rattle.round_table.specs.Finals.{final_of};
+ghost use Rattle.round_table.specs.Tables.{table_by};
 ghost use Rattle.round_labels.specs.Labels.{labels_of};
 
 use crate::finals::Final;

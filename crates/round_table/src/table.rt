@@ -1,9 +1,9 @@
-//! The table of a search by rounds.
+//! The labels of a table by round and stop.
 ghost use Rattle.std.specs.Prelude.{◌≡◌, ◌+◌, ◌*◌, ◌<◌, ◌≤◌, ◌^◌, length, slice_get, All, IfOk, Some};
 ghost use Rattle.plain_laws.specs.Plain.{groups_below, list_below};
-ghost use Rattle.plan_rounds.specs.Finals.{finals_of};
+ghost use Rattle.round_table.specs.Finals.{finals_of};
 ghost use Rattle.round_labels.specs.Labels.{label_of, labels_of};
-ghost use Rattle.plan_rounds.specs.Tables.{group_at, numbered, table_by, table_in};
+ghost use Rattle.round_table.specs.Tables.{group_at, numbered, table_by, table_in};
 
 use crate::finals::Final;
 use plain_laws::{Grouped, Groups};
@@ -35,7 +35,7 @@ impl Drop for RoundTable {
 }
 
 impl Model for RoundTable {
-    ghost use Rattle.plan_rounds.specs.Tables.{TableParts};
+    ghost use Rattle.round_table.specs.Tables.{TableParts};
 
     ghost Value = { TableParts };
 
@@ -47,7 +47,7 @@ impl RoundTable {
     ///
     /// # Errors
     /// Want of memory.
-    pub(crate) fn of(
+    pub fn of(
         alloc: Global,
         labels: LabelList,
         finals: Vec<Final>,

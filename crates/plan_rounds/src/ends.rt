@@ -2,46 +2,18 @@
 ghost use Rattle.std.specs.Prelude.{◌<◌, ◌^◌, [], length, IsTrue, OnOk};
 ghost use Rattle.feed_rows.specs.Journeys.{stands_for};
 ghost use Rattle.feed_rows.specs.declared.fares.Triple.{Triple};
-ghost use Rattle.plan_rounds.specs.Finals.{AddsEnds, EndsBelow, EndsIn, is_bettered};
+ghost use Rattle.round_table.specs.Finals.{AddsEnds, EndsBelow, EndsIn, is_bettered};
 ghost use Rattle.round_labels.specs.Labels.{facts_of};
 ghost use Rattle.plan_rounds.specs.Sources.{AreEnding, IsEnding};
 ghost use Rattle.round_laws.specs.LabelSteps.{IsLabelEnd};
 
 use crate::search::{Search, Source};
 use feed_rows::Triple;
-use pareto_front::{Front, Ranked};
+use pareto_front::Front;
 use round_labels::LabelList;
-use std::alloc::{AllocError, Global};
+use round_table::Final;
+use std::alloc::AllocError;
 use transit_base::StopId;
-use triple_order::{is_at_most, is_before};
-
-/// A triple that is found, and the label whose journey has it, where that ends at this stop.
-#[derive(Clone, Copy)]
-pub struct Final {
-    pub triple: Triple,
-    /// The number of the label.
-    pub label: u32,
-    pub last: StopId,
-}
-
-impl Ranked for Final {
-    ghost use Rattle.feed_rows.specs.ParetoTriples.{at_most, is_before};
-    ghost use Rattle.plan_rounds.specs.FinalLaws.{final_laws};
-
-    ghost at_most = { λ a b. at_most a.triple b.triple };
-
-    ghost before = { λ a b. is_before a.triple b.triple };
-
-    fn is_at_most(&self, other: &Self) -> bool {
-        is_at_most(self.triple, other.triple)
-    }
-
-    fn is_before(&self, other: &Self) -> bool {
-        is_before(self.triple, other.triple)
-    }
-
-    ghost laws = { final_laws };
-}
 
 impl<'s, 'f> Search<'s, 'f> {
     /// Adds what the labels from this number on end in, where what those before it end in is there.

@@ -1,7 +1,7 @@
 use Rattle.std.proofs.Common.{arith}
-use Rattle.plan_rounds.proofs.EntryLaws.{has_move, has_parent, has_ride, traced_more, traced_parent}
-use Rattle.plan_rounds.proofs.entries.Part.+of.Goals as goal
-use Rattle.plan_rounds.proofs.entries.Part.+of.Goals.{in_default-via-in-Some+in-Some+in_default, in_default-via-in-Some+in_default, in_default-via-in_default}
+use Rattle.round_table.proofs.EntryLaws.{has_move, has_parent, has_ride, traced_more, traced_parent}
+use Rattle.round_table.proofs.entries.Part.+of.Goals as goal
+use Rattle.round_table.proofs.entries.Part.+of.Goals.{in_default-via-in-Some+in-Some+in_default, in_default-via-in-Some+in_default, in_default-via-in_default}
 
 pub of-requires : goal.of-requires
 of-requires t c =

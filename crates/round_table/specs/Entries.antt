@@ -1,6 +1,6 @@
 -- Partial journeys as the program builds them.
 use Rattle.feed_rows.specs.PartialJourneys.{PartialJourney}
-use Rattle.plan_rounds.specs.declared.entries.Part.{Part}
+use Rattle.round_table.specs.declared.entries.Part.{Part}
 
 abbrev pub part_of : Part → PartialJourney
 part_of part = record { first = part.first; rides = part.rides; choice = part.choice }

@@ -2,7 +2,7 @@
 use Rattle.feed_rows.specs.ParetoTriples.{at_most, is_before}
 use Rattle.feed_laws.proofs.ParetoLaws.{at_most-refl, at_most-trans, at_most-of_level, is_before-trans, is_before-of_at_most}
 use Rattle.pareto_front.specs.Ranks.{RankLaws}
-use Rattle.plan_rounds.specs.declared.finals.Final.{Final}
+use Rattle.round_table.specs.declared.finals.Final.{Final}
 
 -- finals by their triples
 pub final_laws : RankLaws {X = Final} (λ a b. at_most a.triple b.triple) (λ a b. is_before a.triple b.triple)

@@ -1,4 +1,4 @@
-use Rattle.plan_rounds.proofs.entries.Part.+of.Given as goal
+use Rattle.round_table.proofs.entries.Part.+of.Given as goal
 
 abbrev pub decreases-of : goal.decreases-of
 decreases-of l = l.rides

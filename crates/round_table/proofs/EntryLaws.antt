@@ -12,8 +12,8 @@ use Rattle.feed_rows.specs.declared.fares.Entry.{Entry}
 use Rattle.feed_rows.specs.RoundTables.{Label as Kept, Final as KeptFinal, RoundTable, with_ride, traced, entry_of_final, entries_of}
 use Rattle.plain_laws.specs.Plain.{collect_below}
 use Rattle.plain_laws.proofs.Laws.{collect_below_more, collect_below_tells}
-use Rattle.plan_rounds.specs.declared.finals.Final.{Final}
-use Rattle.plan_rounds.specs.Finals.{final_of, finals_of}
+use Rattle.round_table.specs.declared.finals.Final.{Final}
+use Rattle.round_table.specs.Finals.{final_of, finals_of}
 use Rattle.round_labels.specs.declared.label.Label.{Label}
 use Rattle.round_labels.specs.Labels.{label_of, labels_of}
 

@@ -13,10 +13,10 @@ use Rattle.feed_rows.specs.SoundTable.{IsLabel, IsBag, AreBags}
 use Rattle.plain_laws.specs.declared.groups.Grouped.{Grouped}
 use Rattle.plain_laws.specs.Plain.{list_below, group_of, groups_below}
 use Rattle.plain_laws.proofs.Laws.{Contains-list_below, list_below_tells, AllPairs-list_below, Contains-group_of, group_of-tells, groups_below-at, groups_below-past, All-slice_get}
-use Rattle.plan_rounds.specs.declared.finals.Final.{Final}
+use Rattle.round_table.specs.declared.finals.Final.{Final}
 use Rattle.round_labels.specs.declared.label.Label.{Label}
 use Rattle.round_labels.specs.Labels.{label_of}
-use Rattle.plan_rounds.specs.Tables.{group_at, group_of_label, numbered, bag_in, table_in}
+use Rattle.round_table.specs.Tables.{group_at, group_of_label, numbered, bag_in, table_in}
 
 -- what a mapped option tells
 pub option_map-tells : {X Y : Type 0} (f : X → Y) (o : Option X) (y : Y) → option_map f o ≡ Some y → (x : X) × (o ≡ Some x) × (f x ≡ y)

@@ -7,14 +7,12 @@ use Rattle.feed_rows.specs.declared.fares.Entry.{Entry}
 use Rattle.feed_rows.specs.JourneyEntries.{CoversOffers}
 use Rattle.feed_rows.specs.FeedRows.{FeedRows}
 use Rattle.feed_rows.specs.RoundTables.{RoundTable, entries_of}
-use Rattle.feed_rows.specs.ClosedTable.{IsClosedTable}
-use Rattle.feed_rows.specs.SoundTable.{AreReal, AreBags, IsWithoutExcess, CoversJourneys, EndsExactly, IsPruned}
+use Rattle.feed_rows.specs.SoundTable.{AreReal, AreBags, IsWithoutExcess, EndsExactly, IsPruned}
 use Rattle.plain_laws.specs.declared.groups.Grouped.{Grouped}
-use Rattle.plan_rounds.specs.declared.finals.Final.{Final}
+use Rattle.round_table.specs.declared.finals.Final.{Final}
 use Rattle.round_labels.specs.declared.label.Label.{Label}
-use Rattle.plan_rounds.specs.Finals.{finals_of}
+use Rattle.round_table.specs.Finals.{finals_of}
 use Rattle.round_labels.specs.Labels.{labels_of}
-use Rattle.plan_rounds.specs.Searched.{Searched}
 
 -- where labels with so many rides stand that are at the stop, among groups for each number of rides and each of so many
 -- stops
@@ -65,10 +63,3 @@ pub record IsExactTable (feed : FeedRows) (query : Query) (table : RoundTable) :
   pub exact : EndsExactly feed query table
   pub pruned : IsPruned feed query table
   pub offers : CoversAllOffers feed query table
-
--- the table of a search: where that is to be whole, it covers all partial journeys but those of which all is found that
--- they lead to, and is closed
-pub record IsTableOf (task : Searched) (table : RoundTable) : Type 0 where
-  pub exact : IsExactTable task.feed task.query table
-  pub covers : task.whole ≡ true → CoversJourneys task.feed task.query table
-  pub closed : task.whole ≡ true → IsClosedTable task.feed task.query table

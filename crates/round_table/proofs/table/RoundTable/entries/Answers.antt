@@ -2,10 +2,10 @@ use Rattle.std.proofs.Common.{List, sym, ap, ◌∙◌}
 use Rattle.std.specs.Prelude.{Some, option_map, slice_get}
 use Rattle.std.proofs.lemmas.Option.{slice_get-map, slice_get-get_or}
 use Rattle.feed_rows.specs.RoundTables.{Final as KeptFinal}
-use Rattle.plan_rounds.specs.Finals.{final_of}
-use Rattle.plan_rounds.specs.Tables.{table_by}
-use Rattle.plan_rounds.proofs.EntryLaws.{entries_more, entry_given}
-use Rattle.plan_rounds.proofs.table.RoundTable.entries.Goals as goal
+use Rattle.round_table.specs.Finals.{final_of}
+use Rattle.round_table.specs.Tables.{table_by}
+use Rattle.round_table.proofs.EntryLaws.{entries_more, entry_given}
+use Rattle.round_table.proofs.table.RoundTable.entries.Goals as goal
 
 pub entry-requires : goal.entry-requires
 entry-requires c =

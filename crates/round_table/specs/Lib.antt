@@ -1,0 +1,4 @@
+pub mod Entries
+pub mod FinalLaws
+pub mod Finals
+pub mod Tables

@@ -1,0 +1,47 @@
+//! What is found: triples of journeys, each with the label that leads to it.
+ghost use Rattle.std.specs.Prelude.{◌≡◌};
+ghost use Rattle.round_laws.specs.Futility.{is_within};
+
+use feed_rows::Triple;
+use pareto_front::Ranked;
+use transit_base::{Moment, StopId};
+use triple_order::{is_at_most, is_before};
+
+/// A triple that is found, and the label whose journey has it, where that ends at this stop.
+#[derive(Clone, Copy)]
+pub struct Final {
+    pub triple: Triple,
+    /// The number of the label.
+    pub label: u32,
+    pub last: StopId,
+}
+
+impl Ranked for Final {
+    ghost use Rattle.feed_rows.specs.ParetoTriples.{at_most, is_before};
+    ghost use Rattle.round_table.specs.FinalLaws.{final_laws};
+
+    ghost at_most = { λ a b. at_most a.triple b.triple };
+
+    ghost before = { λ a b. is_before a.triple b.triple };
+
+    fn is_at_most(&self, other: &Self) -> bool {
+        is_at_most(self.triple, other.triple)
+    }
+
+    fn is_before(&self, other: &Self) -> bool {
+        is_before(self.triple, other.triple)
+    }
+
+    ghost laws = { final_laws };
+}
+
+impl Final {
+    /// Whether it arrives no later than this moment, with no more rides than so many, and costs no more than this.
+    pub fn is_ahead(&self, at: Moment, rides: u8, price: i128) -> bool
+        ensures { result ≡ is_within at.0 rides price self.now.triple }
+    {
+        self.triple.arrival.0 <= at.0
+            && self.triple.rides <= rides
+            && i128::from(self.triple.price.0) <= price
+    }
+}

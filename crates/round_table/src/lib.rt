@@ -1,0 +1,9 @@
+//! The table of a search by rounds: its labels by round and stop, what is found, and the entries that are read off them.
+#![tactic(auto)]
+
+mod entries;
+mod finals;
+mod table;
+
+pub use finals::Final;
+pub use table::RoundTable;
