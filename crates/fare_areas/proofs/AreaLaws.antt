@@ -25,9 +25,11 @@ use Rattle.feed_rows.specs.Legs.{is_in_area, own_areas, has_own_areas, stop_area
 use Rattle.feed_rows.specs.SoundFares.{AreSoundStopAreas}
 use Rattle.feed_rows.specs.SoundFeed.{IsSoundFeed}
 use Rattle.feed_rows.specs.StopLinks.{is_platform, is_station, parent_of}
-use Rattle.plain_laws.specs.declared.groups.Grouped.{Grouped}
-use Rattle.plain_laws.specs.Plain.{group_of, groups_below, list_below}
-use Rattle.plain_laws.proofs.Laws.{any_passes, list_any_tells, list_any-map, list_any-filter, none_of_both, number_equal, map-tells, group_of-tells, groups_below-at, groups_below-past, All-from, All-slice_get, All-list_below, length-list_below, slice_get-list_below, list_below-same, picks_below-same, picks_below-none, Contains-picks_below, AllPairs-picks_below, picks_from_ascending}
+use Rattle.item_groups.specs.declared.groups.Grouped.{Grouped}
+use Rattle.plain_laws.specs.Plain.{list_below}
+use Rattle.item_groups.specs.Groups.{group_of, groups_below}
+use Rattle.plain_laws.proofs.Laws.{any_passes, list_any_tells, list_any-map, list_any-filter, none_of_both, number_equal, map-tells, All-from, All-slice_get, All-list_below, length-list_below, slice_get-list_below, list_below-same, picks_below-same, picks_below-none, Contains-picks_below, AllPairs-picks_below, picks_from_ascending}
+use Rattle.item_groups.proofs.GroupLaws.{group_of-tells, groups_below-at, groups_below-past}
 use Rattle.fare_areas.specs.AreaRows.{by_stop, areas_at, DoRise, area_of, ordered, own_table, source_of, source_at}
 use Rattle.fare_areas.specs.AreaTables.{AreaTable}
 use Rattle.fare_areas.specs.BuiltAreas.{AreAreasOf}

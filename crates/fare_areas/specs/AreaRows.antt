@@ -11,7 +11,7 @@ use Rattle.feed_rows.specs.Codes.{platform_type, station_type}
 use Rattle.feed_rows.specs.FeedRows.{FeedRows}
 use Rattle.feed_rows.specs.Legs.{own_areas, has_own_areas}
 use Rattle.feed_rows.specs.StopLinks.{is_platform, is_station, parent_of}
-use Rattle.plain_laws.specs.declared.groups.Grouped.{Grouped}
+use Rattle.item_groups.specs.declared.groups.Grouped.{Grouped}
 use Rattle.plain_laws.specs.Plain.{list_below, picks_below}
 
 -- the area of a row, with the stop's number

@@ -4,12 +4,13 @@
 ghost use Rattle.std.specs.Prelude.{◌≡◌, ℕ, ◌<◌, ◌^◌, All, length, map, slice_get, option_and_then, IfOk};
 ghost use Rattle.feed_rows.specs.FeedRows.{FeedRows};
 ghost use Rattle.feed_rows.specs.Legs.{stop_areas};
-ghost use Rattle.plain_laws.specs.Plain.{groups_below, list_below};
+ghost use Rattle.plain_laws.specs.Plain.{list_below};
+ghost use Rattle.item_groups.specs.Groups.{groups_below};
 ghost use Rattle.fare_areas.specs.AreaRows.{by_stop, areas_at, DoRise, area_of, ordered, own_table, source_in, source_at, route_network};
 ghost use Rattle.fare_areas.specs.BuiltAreas.{AreAreasOf};
 
 use feed_rows::{Feed, PLATFORM, RouteRow, STATION, StopAreaRow, StopRow};
-use plain_laws::{Grouped, Groups};
+use item_groups::{Grouped, Groups};
 use std::alloc::{AllocError, Global};
 use std::marker::Model;
 use transit_base::{AreaId, NetworkId, RouteId, StopId};

@@ -16,7 +16,7 @@ use crate::reads::{GroupReads, reads_of, reads_of_groups};
 use fare_leg_rules::LegRules;
 use fare_transfer_rules::{ClassedRow, XferRules};
 use feed_rows::{Feed, LegRuleRow, ProductRow, TransferRuleRow};
-use plain_laws::Groups;
+use item_groups::Groups;
 use std::alloc::{AllocError, Global};
 use std::marker::Model;
 use transit_base::{LegGroupId, Money, ProductId, ProductRowId, RiderId, RuleId, XferId};

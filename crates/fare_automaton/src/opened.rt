@@ -4,7 +4,7 @@ ghost use Rattle.fare_automaton.specs.Compiled.{AreOpenRows};
 
 use fare_products::Products;
 use feed_rows::Feed;
-use plain_laws::Groups;
+use item_groups::Groups;
 use std::alloc::{AllocError, Global};
 use transit_base::{ProductId, ProductRowId, RiderId};
 

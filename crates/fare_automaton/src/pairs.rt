@@ -5,7 +5,7 @@ ghost use Rattle.fare_automaton.specs.Compiled.{ArePairRows, place_of};
 
 use fare_transfer_rules::{ClassedRow, XferRules};
 use feed_rows::Feed;
-use plain_laws::Groups;
+use item_groups::Groups;
 use std::alloc::{AllocError, Global};
 use transit_base::LegGroupId;
 

@@ -15,9 +15,11 @@ use Rattle.transit_base.specs.declared.numbers.RuleId.{RuleId}
 use Rattle.feed_rows.specs.declared.rows.LegRuleRow.{LegRuleRow}
 use Rattle.feed_rows.specs.FeedRows.{FeedRows}
 use Rattle.feed_rows.specs.SoundFares.{AreSoundLegRules}
-use Rattle.plain_laws.specs.declared.groups.Grouped.{Grouped}
-use Rattle.plain_laws.specs.Plain.{filled_and, list_below, group_of, groups_below}
-use Rattle.plain_laws.proofs.Laws.{All-slice_get, filled_and-true, groups_below-at, groups_below-past, filter_part, filter-tells, Contains-filter, Contains-filter_passes, flat_map-tells, Contains-list_below, list_below_tells}
+use Rattle.item_groups.specs.declared.groups.Grouped.{Grouped}
+use Rattle.plain_laws.specs.Plain.{filled_and, list_below}
+use Rattle.item_groups.specs.Groups.{group_of, groups_below}
+use Rattle.plain_laws.proofs.Laws.{All-slice_get, filled_and-true, filter_part, filter-tells, Contains-filter, Contains-filter_passes, flat_map-tells, Contains-list_below, list_below_tells}
+use Rattle.item_groups.proofs.GroupLaws.{groups_below-at, groups_below-past}
 use Rattle.fare_leg_rules.specs.declared.places.PlacedRule.{PlacedRule}
 use Rattle.fare_leg_rules.specs.Places.{rule_of, placed_at, is_of, passes_at, stands_at, rules_at, candidates, IsRow, HasRules, ArePlaced, AreByNetwork}
 

@@ -19,7 +19,7 @@ mod places;
 use crate::marks::{Column, is_marked, marked};
 use crate::places::{PlacedRule, at_place, common_rules, place_of, placed_rules, rules_by_network};
 use feed_rows::{Feed, LegFacts, LegRuleRow, RuleList};
-use plain_laws::Groups;
+use item_groups::Groups;
 use std::alloc::{AllocError, Global};
 use transit_base::{AreaId, FrameId, NetworkId, RuleId};
 

@@ -1,11 +1,12 @@
 //! The rules without a network, and those of each network, each by the area that it names in the column `from_area_id`.
 ghost use Rattle.std.specs.Prelude.{◌≡◌, ℕ, ◌++◌, ◌<◌, ◌^◌, ◌==◌, [], ◌∷◌, if◌then◌else◌, filter, length, IfOk, OnOk};
 ghost use Rattle.std.specs.List.Sorted.{IsNonDecreasingBy};
-ghost use Rattle.plain_laws.specs.Plain.{at_and, group_of, list_below};
+ghost use Rattle.plain_laws.specs.Plain.{at_and, list_below};
+ghost use Rattle.item_groups.specs.Groups.{group_of};
 ghost use Rattle.fare_leg_rules.specs.Places.{place_of, placed_at, is_common, is_of, passes_at, stands_at, ArePlaced, AreByNetwork};
 
 use feed_rows::LegRuleRow;
-use plain_laws::{Grouped, Groups};
+use item_groups::{Grouped, Groups};
 use std::alloc::{AllocError, Global};
 use transit_base::{AreaId, RuleId};
 

@@ -13,9 +13,11 @@ use Rattle.feed_rows.specs.declared.rows.ProductRow.{ProductRow}
 use Rattle.feed_rows.specs.FeedRows.{FeedRows}
 use Rattle.feed_rows.specs.SoundFeed.{IsSoundFeed}
 use Rattle.feed_rows.specs.FareChoices.{is_open, open_rows}
-use Rattle.plain_laws.specs.declared.groups.Grouped.{Grouped}
-use Rattle.plain_laws.specs.Plain.{at_and, filled_and, group_of, groups_below, ids_where, picks_below}
-use Rattle.plain_laws.proofs.Laws.{All-slice_get, groups_below-at, groups_below-past, picks_below-none}
+use Rattle.item_groups.specs.declared.groups.Grouped.{Grouped}
+use Rattle.plain_laws.specs.Plain.{at_and, filled_and, ids_where, picks_below}
+use Rattle.item_groups.specs.Groups.{group_of, groups_below}
+use Rattle.plain_laws.proofs.Laws.{All-slice_get, picks_below-none}
+use Rattle.item_groups.proofs.GroupLaws.{groups_below-at, groups_below-past}
 use Rattle.fare_products.specs.declared.Products.{Products}
 use Rattle.fare_products.specs.declared.offers.Offer.{Offer}
 use Rattle.fare_products.specs.Offers.{offer, offer_at, offers_at, is_of, opens, opened}

@@ -20,7 +20,7 @@ use crate::money::money_text;
 use crate::offers::{Offer, grouped_offers, least_offer};
 pub use crate::riders::chosen_rider;
 use feed_rows::{Feed, RowList};
-use plain_laws::Groups;
+use item_groups::Groups;
 use std::alloc::{AllocError, Global};
 use transit_base::{Money, ProductId, ProductRowId, RiderId};
 

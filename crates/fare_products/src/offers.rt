@@ -1,11 +1,12 @@
 //! The rows of a product, and the cheapest of them.
 ghost use Rattle.std.specs.Prelude.{◌≡◌, ℕ, ◌<◌, ◌^◌, ◌++◌, ◌∷◌, [], ◌==◌, if◌then◌else◌, length, int_lt, IfOk, OnOk};
-ghost use Rattle.plain_laws.specs.Plain.{group_of, ids_where, filled_and, empty_or};
+ghost use Rattle.plain_laws.specs.Plain.{ids_where, filled_and, empty_or};
+ghost use Rattle.item_groups.specs.Groups.{group_of};
 ghost use Rattle.fare_products.specs.Offers.{offer, offer_at, is_of, opens, cheaper, least_offer};
 
 use crate::Priced1;
 use feed_rows::ProductRow;
-use plain_laws::Grouped;
+use item_groups::Grouped;
 use std::alloc::{AllocError, Global};
 use transit_base::{Money, ProductRowId, RiderId};
 

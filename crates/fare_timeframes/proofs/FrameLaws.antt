@@ -18,9 +18,11 @@ use Rattle.feed_rows.specs.FeedRows.{FeedRows}
 use Rattle.feed_rows.specs.Legs.{is_within, holds_at}
 use Rattle.feed_rows.specs.ServiceDays.{is_active}
 use Rattle.feed_rows.specs.SoundFares.{AreSoundTimeframes}
-use Rattle.plain_laws.specs.declared.groups.Grouped.{Grouped}
-use Rattle.plain_laws.specs.Plain.{IsPastLast, group_of, groups_below}
-use Rattle.plain_laws.proofs.Laws.{list_any-map, list_any-filter, list_any_same, group_rises, groups_below-at, groups_below-past}
+use Rattle.item_groups.specs.declared.groups.Grouped.{Grouped}
+use Rattle.plain_laws.specs.Plain.{IsPastLast}
+use Rattle.item_groups.specs.Groups.{group_of, groups_below}
+use Rattle.plain_laws.proofs.Laws.{list_any-map, list_any-filter, list_any_same}
+use Rattle.item_groups.proofs.GroupLaws.{group_rises, groups_below-at, groups_below-past}
 use Rattle.fare_areas.specs.AreaRows.{DoRise}
 use Rattle.fare_timeframes.specs.declared.Timeframes.{Timeframes}
 use Rattle.fare_timeframes.specs.BuiltTimeframes.{AreTimeframesOf}

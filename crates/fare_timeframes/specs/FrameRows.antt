@@ -6,7 +6,7 @@ use Rattle.transit_base.specs.declared.numbers.FrameId.{FrameId}
 use Rattle.feed_rows.specs.declared.rows.TimeframeRow.{TimeframeRow}
 use Rattle.feed_rows.specs.FeedRows.{FeedRows}
 use Rattle.feed_rows.specs.ServiceDays.{is_active}
-use Rattle.plain_laws.specs.declared.groups.Grouped.{Grouped}
+use Rattle.item_groups.specs.declared.groups.Grouped.{Grouped}
 
 -- a row with its timeframe group
 abbrev pub by_frame : TimeframeRow → Grouped TimeframeRow

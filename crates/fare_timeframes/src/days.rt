@@ -9,7 +9,7 @@ ghost use Rattle.fare_timeframes.specs.FrameDays.{has_time, spans_after, end_aft
 
 use feed_calendar::Calendar;
 use feed_rows::TimeframeRow;
-use plain_laws::Groups;
+use item_groups::Groups;
 use std::alloc::{AllocError, Global};
 use transit_base::{Day, FrameId};
 

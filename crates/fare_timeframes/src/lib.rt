@@ -19,7 +19,7 @@ use crate::days::{FrameDay, spans_on};
 use fare_areas::Areas;
 use feed_calendar::Calendar;
 use feed_rows::{AreaList, Feed, FrameList, LegFacts, RideFacts, TimeframeRow};
-use plain_laws::{Grouped, Groups};
+use item_groups::{Grouped, Groups};
 use std::alloc::{AllocError, Global};
 use transit_base::{AreaId, Day, FrameId, Moment};
 

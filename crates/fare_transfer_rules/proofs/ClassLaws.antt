@@ -14,9 +14,11 @@ use Rattle.feed_rows.specs.declared.rows.TransferRuleRow.{TransferRuleRow}
 use Rattle.feed_rows.specs.FeedRows.{FeedRows}
 use Rattle.feed_rows.specs.SoundFares.{AreSoundTransferRules}
 use Rattle.feed_rows.specs.TransferRules.{is_listed_group, group_matches}
-use Rattle.plain_laws.specs.declared.groups.Grouped.{Grouped}
-use Rattle.plain_laws.specs.Plain.{filled_and, at_and, list_below, picks_below, ids_where, group_of, groups_below}
-use Rattle.plain_laws.proofs.Laws.{same_test, All-slice_get, filter-filter, filter-map, filter_part, group_of-append, group_rises, groups_below-at, groups_below-past, picks_below-none, list_any-place}
+use Rattle.item_groups.specs.declared.groups.Grouped.{Grouped}
+use Rattle.plain_laws.specs.Plain.{filled_and, at_and, list_below, picks_below, ids_where}
+use Rattle.item_groups.specs.Groups.{group_of, groups_below}
+use Rattle.plain_laws.proofs.Laws.{same_test, All-slice_get, filter-filter, filter-map, filter_part, picks_below-none, list_any-place}
+use Rattle.item_groups.proofs.GroupLaws.{group_of-append, group_rises, groups_below-at, groups_below-past}
 use Rattle.fare_transfer_rules.specs.declared.groups.ClassedRow.{ClassedRow}
 use Rattle.fare_transfer_rules.specs.Marks.{is_marked}
 use Rattle.fare_transfer_rules.specs.Classes.{field_class, class_of, is_of, row_to, member_at, leads_to, rows_at, IsPutByTo, AreByClasses}

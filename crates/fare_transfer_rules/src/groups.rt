@@ -9,7 +9,7 @@ ghost use Rattle.fare_transfer_rules.specs.Classes.{field_class, class_of, row_t
 
 use crate::marks::is_marked;
 use feed_rows::TransferRuleRow;
-use plain_laws::{Grouped, Groups};
+use item_groups::{Grouped, Groups};
 use std::alloc::{AllocError, Global};
 use transit_base::{LegGroupId, XferId};
 

@@ -18,7 +18,7 @@ pub use crate::groups::ClassedRow;
 use crate::groups::{class_of, rows_by_from, rows_to};
 use crate::marks::{Column, is_marked, marked};
 use feed_rows::{Feed, Limit, TransferFacts, TransferRuleRow, XferList};
-use plain_laws::Groups;
+use item_groups::Groups;
 use std::alloc::{AllocError, Global};
 use transit_base::{LegGroupId, Moment, XferId};
 

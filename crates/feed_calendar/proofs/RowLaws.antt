@@ -16,13 +16,15 @@ use Rattle.std.proofs.lemmas.List.Folds.{list_any_none}
 use Rattle.transit_base.specs.declared.numbers.ServiceId.{ServiceId}
 use Rattle.feed_rows.specs.declared.rows.ServiceRow.{ServiceRow}
 use Rattle.feed_rows.specs.declared.rows.ExceptionRow.{ExceptionRow}
-use Rattle.plain_laws.specs.declared.groups.Grouped.{Grouped}
+use Rattle.item_groups.specs.declared.groups.Grouped.{Grouped}
 use Rattle.feed_rows.specs.FeedRows.{FeedRows}
-use Rattle.plain_laws.specs.Plain.{group_of, groups_below, int_same}
+use Rattle.plain_laws.specs.Plain.{int_same}
+use Rattle.item_groups.specs.Groups.{group_of, groups_below}
 use Rattle.feed_rows.specs.ServiceDays.{covers, is_covered, is_added, is_removed, is_active}
 use Rattle.feed_rows.specs.SoundTimetable.{AreSoundServices, AreSoundExceptions}
 use Rattle.feed_laws.proofs.FeedReadings.{same_exception}
-use Rattle.plain_laws.proofs.Laws.{groups_below-at, groups_below-past, list_any-map, list_any-filter, list_any_tells, int_same-true, any_passes, none_of_both}
+use Rattle.plain_laws.proofs.Laws.{list_any-map, list_any-filter, list_any_tells, int_same-true, any_passes, none_of_both}
+use Rattle.item_groups.proofs.GroupLaws.{groups_below-at, groups_below-past}
 use Rattle.feed_rows.specs.SoundFeed.{IsSoundFeed}
 use Rattle.feed_calendar.specs.declared.Calendar.{Calendar}
 use Rattle.feed_calendar.specs.BuiltCalendar.{IsCalendarOf}

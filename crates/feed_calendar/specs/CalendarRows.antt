@@ -5,7 +5,7 @@ use Rattle.std.specs.Ordering.{nat_cmp, int_cmp, ordering_then}
 use Rattle.transit_base.specs.declared.numbers.ServiceId.{ServiceId}
 use Rattle.feed_rows.specs.declared.rows.ServiceRow.{ServiceRow}
 use Rattle.feed_rows.specs.declared.rows.ExceptionRow.{ExceptionRow}
-use Rattle.plain_laws.specs.declared.groups.Grouped.{Grouped}
+use Rattle.item_groups.specs.declared.groups.Grouped.{Grouped}
 use Rattle.plain_laws.specs.Plain.{int_same}
 
 -- a row with its service

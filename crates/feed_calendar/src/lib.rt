@@ -5,14 +5,14 @@ ghost use Rattle.std.specs.Prelude.{◌≡◌, ◌<◌, true, false, map, Contai
 ghost use Rattle.std.specs.List.{list_any};
 ghost use Rattle.std.specs.List.Sorted.{IsPermutation};
 ghost use Rattle.feed_rows.specs.FeedRows.{FeedRows};
-ghost use Rattle.plain_laws.specs.Plain.{groups_below};
+ghost use Rattle.item_groups.specs.Groups.{groups_below};
 ghost use Rattle.feed_rows.specs.ServiceDays.{weekday, covers, is_active};
 ghost use Rattle.plain_laws.specs.Plain.{at_and};
 ghost use Rattle.feed_calendar.specs.CalendarRows.{by_service, rows_of_service, is_on, AreInOrder};
 ghost use Rattle.feed_calendar.specs.BuiltCalendar.{IsCalendarOf};
 
 use feed_rows::{ExceptionRow, Feed, ServiceRow};
-use plain_laws::{Grouped, Groups};
+use item_groups::{Grouped, Groups};
 use std::alloc::{AllocError, Global};
 use transit_base::{Day, ServiceId};
 

@@ -7,10 +7,11 @@ use Rattle.std.proofs.lemmas.Bool.Decides.{nat_tests}
 use Rattle.std.proofs.lemmas.Option.{same_Some, slice_get_within, none-some, slice_get_read, slice_get-get_or, slice_get_past}
 use Rattle.transit_base.specs.declared.numbers.StopId.{StopId}
 use Rattle.feed_rows.specs.declared.rows.StopRow.{StopRow}
-use Rattle.plain_laws.specs.declared.groups.Grouped.{Grouped}
+use Rattle.item_groups.specs.declared.groups.Grouped.{Grouped}
 use Rattle.feed_rows.specs.FeedRows.{FeedRows}
 use Rattle.feed_rows.specs.SoundTimetable.{AreSoundStops}
-use Rattle.plain_laws.specs.Plain.{joined_below, list_below, at_and, filled_and, ids_where, group_of, groups_below}
+use Rattle.plain_laws.specs.Plain.{joined_below, list_below, at_and, filled_and, ids_where}
+use Rattle.item_groups.specs.Groups.{group_of, groups_below}
 use Rattle.feed_rows.specs.StopLinks.{is_member, stop_set}
 use Rattle.feed_rows.specs.StopSets.{stop_sets, row_sets, row_sets_at, own_set, station_set}
 use Rattle.feed_laws.proofs.FeedReadings.{parent_kind}

@@ -11,7 +11,7 @@ ghost use Rattle.feed_stops.specs.BuiltStops.{AreStopsOf};
 mod sets;
 
 use feed_rows::Feed;
-use plain_laws::Groups;
+use item_groups::Groups;
 pub use sets::stop_sets;
 use std::alloc::{AllocError, Global};
 use transit_base::StopId;

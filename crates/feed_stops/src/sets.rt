@@ -1,11 +1,11 @@
 //! The platforms that each stop of a feed stands for.
 ghost use Rattle.std.specs.Prelude.{◌≡◌, ℕ, ◌++◌, ◌<◌, ◌≤◌, ◌^◌, ◌==◌, if◌then◌else◌, [], ◌∷◌, length, IfOk, OnOk};
-ghost use Rattle.plain_laws.specs.Plain.{group_of};
+ghost use Rattle.item_groups.specs.Groups.{group_of};
 ghost use Rattle.feed_rows.specs.StopSets.{stop_sets, row_sets, row_sets_at};
 ghost use Rattle.plain_laws.specs.Plain.{joined_below};
 
 use feed_rows::{Feed, PLATFORM, StopRow};
-use plain_laws::{Grouped, Groups};
+use item_groups::{Grouped, Groups};
 use std::alloc::{AllocError, Global};
 use transit_base::StopId;
 

@@ -8,7 +8,7 @@ ghost use Rattle.feed_tables.specs.RowNumbers.{numbers_by_row};
 
 use feed_rows::{FaultKind, FileName};
 use feed_text::{Table, TextError, read_fields, row_fault};
-use plain_laws::Groups;
+use item_groups::Groups;
 use std::alloc::Global;
 use std::marker::Model;
 

@@ -8,7 +8,7 @@ ghost use Rattle.feed_tables.specs.IdRows.{AreSlots};
 
 use crate::id_rows::IdRow;
 use feed_text::id_ok;
-use plain_laws::{Grouped, Groups};
+use item_groups::{Grouped, Groups};
 use std::alloc::{AllocError, Global};
 
 // The row of a slot without an id: more than any table has.

@@ -3,8 +3,10 @@ use Rattle.std.proofs.Common.{◌≡◌, ℕ, ◌+◌, ◌-◌, ◌<◌, ◌≤�
 use Rattle.std.specs.Prelude.{nat_le, ◌&&◌, map, Some, None}
 use Rattle.std.specs.List.{list_any, range_with_len}
 use Rattle.std.proofs.lemmas.List.{get_or-take, get_or-drop, get_or_past}
-use Rattle.plain_laws.specs.Plain.{parts, Rise, start_of, find_below, any_below}
-use Rattle.plain_laws.proofs.Laws.{part_at, rise_at, find_below-same, find_below_tells, any_below-same}
+use Rattle.plain_laws.specs.Plain.{find_below, any_below}
+use Rattle.item_groups.specs.Parts.{parts, Rise, start_of}
+use Rattle.plain_laws.proofs.Laws.{find_below-same, find_below_tells, any_below-same}
+use Rattle.item_groups.proofs.PartLaws.{part_at, rise_at}
 use Rattle.feed_rows.specs.declared.names.ColumnName.{ColumnName}
 use Rattle.feed_rows.specs.Names.{all_columns, column_text}
 use Rattle.feed_faults.specs.Records.{header, column_of, is_filled}

@@ -1,6 +1,7 @@
 //! A file as a table, kept flat, and its rows.
 ghost use Rattle.std.specs.Prelude.{◌≡◌, ◌≤◌, ◌<◌, ◌+◌, ◌^◌, ◌++◌, ◌∷◌, [], length, get_or, map, is_some, IfOk, OnOk, Some, bytes_eq, nat_le, nat_lt, not};
-ghost use Rattle.plain_laws.specs.Plain.{when, find_below, parts, Rise};
+ghost use Rattle.plain_laws.specs.Plain.{when, find_below};
+ghost use Rattle.item_groups.specs.Parts.{parts, Rise};
 ghost use Rattle.feed_rows.specs.Names.{all_columns, column_text};
 ghost use Rattle.feed_faults.specs.Records.{table_of_bytes, header, row_count, column_of, field, is_long};
 ghost use Rattle.feed_faults.specs.FormFaults.{is_twice};
@@ -11,7 +12,7 @@ ghost use Rattle.feed_text.specs.DataRows.{one_row};
 use crate::fields::is_filled;
 use crate::records::Records;
 use feed_rows::ColumnName;
-use plain_laws::{Groups, part_of, push_end};
+use item_groups::{Groups, part_of, push_end};
 use std::alloc::{AllocError, Global};
 use std::io::Read;
 use std::marker::Model;
@@ -44,7 +45,7 @@ pub struct Table {
 
 impl Model for Table {
     ghost use Rattle.std.specs.Prelude.{◌≡◌, ◌<◌, ◌^◌, length, map};
-    ghost use Rattle.plain_laws.specs.Plain.{parts, Rise};
+    ghost use Rattle.item_groups.specs.Parts.{parts, Rise};
     ghost use Rattle.feed_rows.specs.Names.{all_columns};
     ghost use Rattle.feed_faults.specs.Records.{FileTable, column_of};
 
@@ -174,7 +175,7 @@ impl Table {
     }
 
     /// Whether there is no record, not even a header.
-    #[tactic(auto, using(plain_laws::proofs::Laws::length_parts))]
+    #[tactic(auto, using(item_groups::proofs::PartLaws::length_parts))]
     pub fn is_empty(&self) -> bool
         ensures { result ≡ not (nat_lt 0 (length self.now)) }
     {
@@ -182,7 +183,7 @@ impl Table {
     }
 
     /// How many data rows there are.
-    #[tactic(auto, using(plain_laws::proofs::Laws::length_parts))]
+    #[tactic(auto, using(item_groups::proofs::PartLaws::length_parts))]
     pub fn rows(&self) -> u32
         ensures count { result ≡ row_count self.now }
         ensures few { result ≤ row_limit }
@@ -231,7 +232,7 @@ impl Table {
     }
 
     /// A data row.
-    #[tactic(auto, using(plain_laws::proofs::Laws::length_parts))]
+    #[tactic(auto, using(item_groups::proofs::PartLaws::length_parts))]
     pub fn row(&self, row: u32) -> TableRow<'_>
         requires { row < row_count self.now }
         ensures is { result ≡ record { table = self.now; row = row } }

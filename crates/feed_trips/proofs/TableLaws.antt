@@ -15,9 +15,11 @@ use Rattle.feed_rows.specs.Calls.{calls_of}
 use Rattle.feed_rows.specs.Shifts.{trip_frequencies}
 use Rattle.feed_rows.specs.SoundFeed.{IsSoundFeed}
 use Rattle.feed_rows.specs.SoundTimetable.{AreSoundFrequencies}
-use Rattle.plain_laws.specs.declared.groups.Grouped.{Grouped}
-use Rattle.plain_laws.specs.Plain.{list_below, group_of, groups_below}
-use Rattle.plain_laws.proofs.Laws.{list_any-filter, length-list_below, slice_get-list_below, list_below-same, group_of-map}
+use Rattle.item_groups.specs.declared.groups.Grouped.{Grouped}
+use Rattle.plain_laws.specs.Plain.{list_below}
+use Rattle.item_groups.specs.Groups.{group_of, groups_below}
+use Rattle.plain_laws.proofs.Laws.{list_any-filter, length-list_below, slice_get-list_below, list_below-same}
+use Rattle.item_groups.proofs.GroupLaws.{group_of-map}
 use Rattle.feed_laws.proofs.CallTimes.{calls_of_most}
 use Rattle.feed_laws.proofs.SoundTrips.{sound_trip}
 use Rattle.feed_trips.specs.Runs.{AreRunsOf, IsSoundRun}

@@ -7,7 +7,7 @@ ghost use Rattle.feed_trips.specs.Tables.{IsInOrder, trip_calls, trip_runs};
 use crate::calls::TripCalls;
 use crate::together::together_of;
 use feed_rows::{Feed, FrequencyRow, StopTimeRow};
-use plain_laws::{Grouped, Groups};
+use item_groups::{Grouped, Groups};
 use std::alloc::{AllocError, Global};
 use std::borrow::CowSlice;
 use trip_order::sorted_keys;

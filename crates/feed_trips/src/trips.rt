@@ -15,7 +15,7 @@ use crate::ids::trip_with;
 use crate::order::{calls_by_trip, runs_by_trip};
 use crate::runs::{has_run_at, shifts_of_runs};
 use feed_rows::{Call, Feed, FrequencyRow, Ride, RideFacts, Shifts};
-use plain_laws::Groups;
+use item_groups::Groups;
 use std::alloc::{AllocError, Global};
 use std::marker::Model;
 use transit_base::{Moment, NetworkId, TripId};

@@ -8,8 +8,10 @@ use Rattle.std.proofs.lemmas.Bool.Decides.{nat_tests}
 use Rattle.std.proofs.lemmas.List.Elements.{filter-append, filter_agree, filter_passes}
 use Rattle.std.proofs.lemmas.List.Kept.{IsNonDecreasingBy-filter}
 use Rattle.feed_rows.specs.declared.rows.LinkRow.{LinkRow}
-use Rattle.plain_laws.specs.Plain.{group_of, groups_below, joined_below}
-use Rattle.plain_laws.proofs.Laws.{groups_below-at, groups_below-past, group_of-map, joined-groups_below, joined_below-same, joined_below-one, joined_below-none, AllPairs-joined_below, Contains-filter_passes, filter_none, find_none, find-filter, filter-filter}
+use Rattle.plain_laws.specs.Plain.{joined_below}
+use Rattle.item_groups.specs.Groups.{group_of, groups_below}
+use Rattle.plain_laws.proofs.Laws.{joined_below-same, joined_below-one, joined_below-none, AllPairs-joined_below, Contains-filter_passes, filter_none, find_none, find-filter, filter-filter}
+use Rattle.item_groups.proofs.GroupLaws.{groups_below-at, groups_below-past, group_of-map, joined-groups_below}
 use Rattle.feed_walks.specs.Rules.{group_at, by_start, by_end, AreRules}
 
 -- the row leads from the one stop to the other

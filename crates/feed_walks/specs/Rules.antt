@@ -6,7 +6,7 @@ use Rattle.feed_rows.specs.declared.rows.LinkRow.{LinkRow}
 use Rattle.transit_base.specs.declared.numbers.StopId.{StopId}
 use Rattle.feed_rows.specs.FeedRows.{FeedRows}
 use Rattle.feed_rows.specs.StopLinks.{is_platform, parent_of, row_between}
-use Rattle.plain_laws.specs.declared.groups.Grouped.{Grouped}
+use Rattle.item_groups.specs.declared.groups.Grouped.{Grouped}
 use Rattle.feed_walks.specs.declared.rules.Start.{Start}
 
 -- the group with this number; empty where there is none

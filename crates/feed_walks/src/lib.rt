@@ -15,8 +15,8 @@ mod steps;
 
 use feed_rows::Feed;
 use feed_stops::stop_sets;
+use item_groups::Groups;
 use near::reached_of;
-use plain_laws::Groups;
 use rules::rules_of;
 use std::alloc::{AllocError, Global};
 pub use steps::Step;

@@ -9,7 +9,7 @@ ghost use Rattle.feed_walks.specs.Near.{IsInOrder, DoesNotLead, Reaches, AreReac
 
 use crate::rules::{is_platform, row_to, station_of};
 use feed_rows::{Feed, LinkRow};
-use plain_laws::Groups;
+use item_groups::Groups;
 use std::alloc::{AllocError, Global};
 use transit_base::StopId;
 

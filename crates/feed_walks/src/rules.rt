@@ -8,7 +8,7 @@ ghost use Rattle.plain_laws.specs.Plain.{filled_and};
 ghost use Rattle.feed_walks.specs.Rules.{IsPlace, by_start, by_end, AreRowsFrom, AreRules, IsStart};
 
 use feed_rows::{Feed, LinkRow, PLATFORM, StopRow};
-use plain_laws::{Grouped, Groups};
+use item_groups::{Grouped, Groups};
 use std::alloc::{AllocError, Global};
 use transit_base::{Secs, StopId};
 

@@ -10,7 +10,7 @@ ghost use Rattle.feed_walks.specs.OutOf.{step_list, out_of, walk_steps};
 use crate::near::near_of;
 use crate::rules::Start;
 use feed_rows::{Feed, LinkRow};
-use plain_laws::Groups;
+use item_groups::Groups;
 use std::alloc::{AllocError, Global};
 use transit_base::{Secs, StopId};
 

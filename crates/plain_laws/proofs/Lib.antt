@@ -3,7 +3,6 @@ pub mod BelowLaws
 pub mod ByteMapLaws
 pub mod Decisions
 pub mod FilterLaws
-pub mod GroupLaws
 pub mod InsertLaws
 pub mod JoinedLaws
 pub mod LeastLaws
@@ -14,5 +13,4 @@ pub mod PickLaws
 pub mod PlaceLaws
 pub mod StepLaws
 pub mod TestLaws
-pub mod PartLaws
 pub mod Laws

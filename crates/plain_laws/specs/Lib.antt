@@ -1,10 +1,8 @@
 pub mod Ascending
 pub mod Below
 pub mod Given
-pub mod Groups
 pub mod Items
 pub mod Numbers
 pub mod Optional
-pub mod Parts
 pub mod Steps
 pub mod Plain

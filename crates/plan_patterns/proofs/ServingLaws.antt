@@ -2,9 +2,11 @@
 use Rattle.std.proofs.Common.{◌≡◌, refl, ◌∙◌, ap, ℕ, zero, suc, ◌<◌, Bool, true, false, List, [], ◌∷◌, ◌++◌, length}
 use Rattle.std.specs.Prelude.{if◌then◌else◌, ◌&&◌, ◌==◌}
 use Rattle.std.proofs.lemmas.Option.{slice_get-get_or}
-use Rattle.plain_laws.specs.declared.groups.Grouped.{Grouped}
-use Rattle.plain_laws.specs.Plain.{group_of, groups_below, picks_below}
-use Rattle.plain_laws.proofs.Laws.{group_of-append, group_of-joined_below, groups_below-at, joined_below-same, picks_below-same}
+use Rattle.item_groups.specs.declared.groups.Grouped.{Grouped}
+use Rattle.plain_laws.specs.Plain.{picks_below}
+use Rattle.item_groups.specs.Groups.{group_of, groups_below}
+use Rattle.plain_laws.proofs.Laws.{joined_below-same, picks_below-same}
+use Rattle.item_groups.proofs.GroupLaws.{group_of-append, group_of-joined_below, groups_below-at}
 use Rattle.plan_patterns.specs.declared.halts.Halt.{Halt}
 use Rattle.plan_patterns.specs.declared.serving.Serving.{Serving}
 use Rattle.plan_patterns.specs.Servings.{AreServings, servings_in, servings_of_first, boards_at, grouped_serving, is_pickup, list_at, serving_of}

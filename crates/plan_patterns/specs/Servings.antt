@@ -1,7 +1,7 @@
 -- Where patterns serve stops: the positions at which riders may board.
 use Rattle.std.specs.Prelude.{◌≡◌, ℕ, ◌<◌, Bool, ◌&&◌, ◌==◌, List, [], length, map, slice_get, unwrap_or}
 use Rattle.std.specs.Option.{option_map_or}
-use Rattle.plain_laws.specs.declared.groups.Grouped.{Grouped}
+use Rattle.item_groups.specs.declared.groups.Grouped.{Grouped}
 use Rattle.plain_laws.specs.Plain.{at_and, joined_below, picks_below}
 use Rattle.plan_patterns.specs.declared.pattern.Pattern.{Pattern}
 use Rattle.plan_patterns.specs.declared.halts.Halt.{Halt}

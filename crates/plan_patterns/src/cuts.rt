@@ -10,7 +10,7 @@ use crate::halts::Halt;
 use crate::pattern::Pattern;
 use crate::runs::Run;
 use feed_timetable::Timetable;
-use plain_laws::Groups;
+use item_groups::Groups;
 use std::alloc::{AllocError, Global};
 
 /// A run with the halts of its trip, by which it is sorted.

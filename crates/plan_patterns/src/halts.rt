@@ -10,7 +10,7 @@ ghost use Rattle.plan_patterns.specs.Runs.{IsKnown};
 use crate::runs::Run;
 use feed_rows::Call;
 use feed_timetable::{Calls, Timetable};
-use plain_laws::Groups;
+use item_groups::Groups;
 use std::alloc::{AllocError, Global};
 use std::cmp::Ordering;
 use transit_base::StopId;

@@ -10,7 +10,7 @@ ghost use Rattle.plan_patterns.specs.Runs.{AreHeld, AreTimed, AreTripsOf, IsNear
 use crate::runs::{Run, has_ride};
 use feed_rows::Query;
 use feed_timetable::{Calls, Timetable};
-use plain_laws::Groups;
+use item_groups::Groups;
 use std::alloc::{AllocError, Global};
 use transit_base::{DAY_SECONDS, Day, TripId};
 

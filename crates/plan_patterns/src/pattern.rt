@@ -9,7 +9,7 @@ ghost use Rattle.plan_patterns.specs.Runs.{AreTimed, IsKnown, IsNear};
 use crate::halts::Halt;
 use crate::runs::Run;
 use feed_timetable::{Calls, Timetable};
-use plain_laws::Groups;
+use item_groups::Groups;
 use std::alloc::{AllocError, Global};
 use transit_base::{Moment, StopId};
 

@@ -15,7 +15,7 @@ use crate::runs::Run;
 use crate::serving::{Serving, servings_of};
 use feed_rows::Query;
 use feed_timetable::Timetable;
-use plain_laws::Groups;
+use item_groups::Groups;
 use std::alloc::{AllocError, Global};
 use std::marker::Model;
 use transit_base::{Moment, StopId, TripId};

@@ -5,7 +5,7 @@ ghost use Rattle.plan_patterns.specs.Servings.{AreServings, servings_in, grouped
 
 use crate::halts::Halt;
 use crate::pattern::Pattern;
-use plain_laws::{Grouped, Groups};
+use item_groups::{Grouped, Groups};
 use std::alloc::{AllocError, Global};
 
 /// A position of a pattern, by their numbers.

@@ -19,7 +19,7 @@ use crate::servings::TimedServing;
 use crate::sought::Sought;
 use feed_rows::{Call, Query};
 use feed_timetable::{Standing, Timetable};
-use plain_laws::Groups;
+use item_groups::Groups;
 use plan_patterns::{Patterns, Serving};
 use std::alloc::{AllocError, Global};
 use std::marker::Model;

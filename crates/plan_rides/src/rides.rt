@@ -17,7 +17,7 @@ use crate::servings::{TimedServing, served_stops};
 use crate::sought::Sought;
 use feed_rows::Query;
 use feed_timetable::{Standing, Timetable};
-use plain_laws::Groups;
+use item_groups::Groups;
 use plan_patterns::Patterns;
 use std::alloc::{AllocError, Global};
 use std::marker::Model;

@@ -8,7 +8,7 @@ use crate::latest::is_early;
 use crate::sought::Sought;
 use feed_rows::Query;
 use feed_timetable::Timetable;
-use plain_laws::Groups;
+use item_groups::Groups;
 use plan_patterns::{Patterns, Serving};
 use std::alloc::{AllocError, Global};
 use transit_base::{Moment, StopId};

@@ -18,7 +18,8 @@ use Rattle.feed_rows.specs.RoundTables.{Label as Kept, RoundTable}
 use Rattle.feed_rows.specs.SoundFeed.{IsSoundFeed}
 use Rattle.feed_rows.specs.SoundTable.{IsWithoutExcess, CoversJourneys, IsPruned}
 use Rattle.label_bag.specs.Bags.{AreApart}
-use Rattle.plain_laws.specs.Plain.{list_below, groups_below}
+use Rattle.plain_laws.specs.Plain.{list_below}
+use Rattle.item_groups.specs.Groups.{groups_below}
 use Rattle.round_laws.specs.Futility.{MayLack}
 use Rattle.round_laws.specs.LabelSteps.{IsLabelEnd}
 use Rattle.round_laws.specs.LinkedTables.{CoversSteps, AreFinals, IsFinal, IsFound}

@@ -5,7 +5,7 @@ ghost use Rattle.plan_rounds.specs.Prospects.{AreEnds, AreProspects, IsEndBy, Is
 
 use feed_rows::Query;
 use feed_timetable::{Standing, Timetable};
-use plain_laws::Groups;
+use item_groups::Groups;
 use plan_rides::Rides;
 use std::alloc::{AllocError, Global};
 use std::marker::Model;

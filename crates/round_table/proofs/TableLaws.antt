@@ -10,9 +10,11 @@ use Rattle.std.proofs.lemmas.Option.{none-some, same_Some, slice_get-map, slice_
 use Rattle.transit_base.specs.declared.numbers.StopId.{StopId}
 use Rattle.feed_rows.specs.RoundTables.{Label as Kept, RoundTable}
 use Rattle.feed_rows.specs.SoundTable.{IsLabel, IsBag, AreBags}
-use Rattle.plain_laws.specs.declared.groups.Grouped.{Grouped}
-use Rattle.plain_laws.specs.Plain.{list_below, group_of, groups_below}
-use Rattle.plain_laws.proofs.Laws.{Contains-list_below, list_below_tells, AllPairs-list_below, Contains-group_of, group_of-tells, groups_below-at, groups_below-past, All-slice_get}
+use Rattle.item_groups.specs.declared.groups.Grouped.{Grouped}
+use Rattle.plain_laws.specs.Plain.{list_below}
+use Rattle.item_groups.specs.Groups.{group_of, groups_below}
+use Rattle.plain_laws.proofs.Laws.{Contains-list_below, list_below_tells, AllPairs-list_below, All-slice_get}
+use Rattle.item_groups.proofs.GroupLaws.{Contains-group_of, group_of-tells, groups_below-at, groups_below-past}
 use Rattle.round_table.specs.declared.finals.Final.{Final}
 use Rattle.round_labels.specs.declared.label.Label.{Label}
 use Rattle.round_labels.specs.Labels.{label_of}

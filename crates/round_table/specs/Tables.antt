@@ -8,7 +8,7 @@ use Rattle.feed_rows.specs.JourneyEntries.{CoversOffers}
 use Rattle.feed_rows.specs.FeedRows.{FeedRows}
 use Rattle.feed_rows.specs.RoundTables.{RoundTable, entries_of}
 use Rattle.feed_rows.specs.SoundTable.{AreReal, AreBags, IsWithoutExcess, EndsExactly, IsPruned}
-use Rattle.plain_laws.specs.declared.groups.Grouped.{Grouped}
+use Rattle.item_groups.specs.declared.groups.Grouped.{Grouped}
 use Rattle.round_table.specs.declared.finals.Final.{Final}
 use Rattle.round_labels.specs.declared.label.Label.{Label}
 use Rattle.round_table.specs.Finals.{finals_of}

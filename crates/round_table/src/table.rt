@@ -1,12 +1,13 @@
 //! The labels of a table by round and stop.
 ghost use Rattle.std.specs.Prelude.{◌≡◌, ◌+◌, ◌*◌, ◌<◌, ◌≤◌, ◌^◌, length, slice_get, All, IfOk, Some};
-ghost use Rattle.plain_laws.specs.Plain.{groups_below, list_below};
+ghost use Rattle.plain_laws.specs.Plain.{list_below};
+ghost use Rattle.item_groups.specs.Groups.{groups_below};
 ghost use Rattle.round_table.specs.Finals.{finals_of};
 ghost use Rattle.round_labels.specs.Labels.{label_of, labels_of};
 ghost use Rattle.round_table.specs.Tables.{group_at, numbered, table_by, table_in};
 
 use crate::finals::Final;
-use plain_laws::{Grouped, Groups};
+use item_groups::{Grouped, Groups};
 use round_labels::{KeptLabel, Label, LabelList};
 use std::alloc::{AllocError, Global};
 use std::marker::Model;

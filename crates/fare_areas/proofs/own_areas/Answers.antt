@@ -1,6 +1,6 @@
 use Rattle.std.proofs.Common.{◌∙◌, ap, length}
 use Rattle.std.proofs.lemmas.Result.{IfOk-weaker}
-use Rattle.plain_laws.specs.Plain.{groups_below}
+use Rattle.item_groups.specs.Groups.{groups_below}
 use Rattle.fare_areas.proofs.AreaLaws.{own_from_groups}
 use Rattle.fare_areas.proofs.own_areas.Goals as goal
 

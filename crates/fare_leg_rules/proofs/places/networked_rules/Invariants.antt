@@ -1,5 +1,5 @@
 use Rattle.std.proofs.Common.{◌≡◌, ℕ, filter, take}
-use Rattle.plain_laws.specs.Plain.{group_of}
+use Rattle.item_groups.specs.Groups.{group_of}
 use Rattle.fare_leg_rules.specs.Places.{is_of, passes_at}
 use Rattle.fare_leg_rules.proofs.places.networked_rules.Given as goal
 

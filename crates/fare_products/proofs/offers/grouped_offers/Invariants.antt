@@ -1,5 +1,6 @@
 use Rattle.std.proofs.Common.{◌≡◌, ℕ}
-use Rattle.plain_laws.specs.Plain.{at_and, picks_below, group_of}
+use Rattle.plain_laws.specs.Plain.{at_and, picks_below}
+use Rattle.item_groups.specs.Groups.{group_of}
 use Rattle.fare_products.specs.Offers.{offer_at, is_of}
 use Rattle.fare_products.proofs.offers.grouped_offers.Given as goal
 

@@ -1,5 +1,6 @@
 use Rattle.std.proofs.Common.{◌≡◌, ℕ}
-use Rattle.plain_laws.specs.Plain.{group_of, joined_below}
+use Rattle.plain_laws.specs.Plain.{joined_below}
+use Rattle.item_groups.specs.Groups.{group_of}
 use Rattle.feed_rows.specs.StopSets.{row_sets_at}
 use Rattle.feed_stops.proofs.sets.memberships.Given as goal
 

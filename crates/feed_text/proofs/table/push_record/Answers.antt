@@ -1,7 +1,7 @@
 use Rattle.std.proofs.Common.{◌≡◌, ◌+◌, length, take, ap, ◌∙◌, ◌++◌, arith, length-append}
 use Rattle.std.proofs.lemmas.Result.{on_ok_weaker}
 use Rattle.std.proofs.lemmas.List.{take_all}
-use Rattle.plain_laws.proofs.Laws.{pushed_part}
+use Rattle.item_groups.proofs.PartLaws.{pushed_part}
 use Rattle.feed_text.specs.Reader.{last_record}
 use Rattle.feed_text.proofs.table.push_record.Goals as goal
 

@@ -1,6 +1,6 @@
 use Rattle.std.proofs.Common.{◌≡◌, Some, arith}
-use Rattle.plain_laws.specs.Plain.{parts}
-use Rattle.plain_laws.proofs.Laws.{length_parts}
+use Rattle.item_groups.specs.Parts.{parts}
+use Rattle.item_groups.proofs.PartLaws.{length_parts}
 use Rattle.feed_faults.specs.Records.{table_of_bytes}
 use Rattle.feed_text.proofs.ReaderLaws.{goes_within, kept_within, too_long}
 use Rattle.feed_text.proofs.table.table_within.Goals as goal

@@ -1,5 +1,5 @@
 use Rattle.std.proofs.Common.{◌≡◌, length, Some}
-use Rattle.plain_laws.specs.Plain.{parts, Rise}
+use Rattle.item_groups.specs.Parts.{parts, Rise}
 use Rattle.feed_text.specs.Reader.{StandsBehind}
 use Rattle.feed_text.proofs.table.table_within.Given as goal
 

@@ -1,6 +1,6 @@
 use Rattle.std.proofs.Common.{◌≡◌, ◌∙◌, ap, length}
 use Rattle.feed_rows.specs.FeedRows.{FeedRows}
-use Rattle.plain_laws.specs.Plain.{groups_below}
+use Rattle.item_groups.specs.Groups.{groups_below}
 use Rattle.feed_trips.proofs.TableLaws.{numbered, runs_are}
 use Rattle.feed_trips.proofs.order.runs_by_trip.Goals as goal
 

@@ -1,5 +1,5 @@
 use Rattle.std.proofs.Common.{◌∙◌, ap}
-use Rattle.plain_laws.specs.Plain.{groups_below}
+use Rattle.item_groups.specs.Groups.{groups_below}
 use Rattle.feed_walks.proofs.RuleLaws.{rules_from_groups}
 use Rattle.feed_walks.proofs.rules.rules_of.Goals as goal
 

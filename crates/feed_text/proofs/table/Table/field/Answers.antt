@@ -1,7 +1,7 @@
 use Rattle.std.proofs.Common.{◌≡◌, ◌∙◌, ℕ, List, Some, None, ◌+◌, ◌<◌, [], length, refl, sym, ap, get_or, arith}
 use Rattle.std.proofs.lemmas.Option.{get_or_from_slice_get}
-use Rattle.plain_laws.specs.Plain.{start_of}
-use Rattle.plain_laws.proofs.Laws.{length_parts}
+use Rattle.item_groups.specs.Parts.{start_of}
+use Rattle.item_groups.proofs.PartLaws.{length_parts}
 use Rattle.feed_faults.specs.Records.{field, column_of}
 use Rattle.feed_text.proofs.AccessLaws.{field_there, field_short}
 use Rattle.feed_text.proofs.table.Table.field.Goals as goal

@@ -2,8 +2,8 @@ use Rattle.std.proofs.Common.{◌≡◌, ◌∙◌, ℕ, List, ◌+◌, ◌<◌,
 use Rattle.std.proofs.lemmas.Iterator.{YieldsList-from_range}
 use Rattle.std.proofs.lemmas.Iterator.Search.{any_from_yields_List}
 use Rattle.std.proofs.lemmas.Option.{unwrap_or-slice_get}
-use Rattle.plain_laws.specs.Plain.{parts, start_of}
-use Rattle.plain_laws.proofs.Laws.{length_parts}
+use Rattle.item_groups.specs.Parts.{parts, start_of}
+use Rattle.item_groups.proofs.PartLaws.{length_parts}
 use Rattle.feed_faults.specs.Records.{header, is_filled, is_long}
 use Rattle.feed_text.proofs.AccessLaws.{long_at}
 use Rattle.feed_text.proofs.table.Table.is_long.Goals as goal

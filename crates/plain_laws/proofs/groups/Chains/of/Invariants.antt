@@ -1,9 +1,0 @@
-use Rattle.std.proofs.Common.{◌≡◌, ◌-◌, length}
-use Rattle.plain_laws.specs.Groups.{AreChains}
-use Rattle.plain_laws.proofs.groups.Chains.of.Given as goal
-
-abbrev pub invariant-loop-passed : goal.invariant-loop-passed
-invariant-loop-passed g l = record {
-  chains : AreChains l.members (length l.members - l.passed) l.chains;
-  count : length l.chains.firsts.items ≡ l.count;
-}
