@@ -1,5 +1,6 @@
 pub mod KeyLaws
 pub mod IdLaws
+pub mod ShareLaws
 pub mod SlotLaws
 pub mod PassLaws
 pub mod HeldLaws

@@ -17,14 +17,15 @@ use Rattle.feed_tables.proofs.KeyLaws.{same_id}
 use Rattle.feed_tables.proofs.IdLaws.{field_there}
 
 -- slots without rows are right
-pub free_slots : (rows : List IdRow) (slots : Slots) (count some : ℕ) → 1 ≤ count → 1 ≤ some
+pub free_slots : (rows : List IdRow) (slots : Slots) (count some : ℕ) → 1 ≤ count → count < 2 ^ 32 → 1 ≤ some
     → slots.pilots.items ≡ replicate some 0 → slots.keys.items ≡ replicate count 0 → slots.rows.items ≡ replicate count (2 ^ 32 - 1) → AreSlots rows slots
-free_slots rows slots count some le one pilots keys free = record {
+free_slots rows slots count some le lt one pilots keys free = record {
   piloted = rw (pilots, length-replicate {A = ℕ} some 0) one;
   some = rw (free, length-replicate {A = ℕ} count (2 ^ 32 - 1)) le;
+  few = rw (free, length-replicate {A = ℕ} count (2 ^ 32 - 1)) lt;
   keyed = rw (keys, free, length-replicate {A = ℕ} count 0, length-replicate {A = ℕ} count (2 ^ 32 - 1)) refl;
-  are = λ slot lt taken.
-      let there : slot < count = rw (free, length-replicate {A = ℕ} count (2 ^ 32 - 1)) at lt in
+  are = λ slot within taken.
+      let there : slot < count = rw (free, length-replicate {A = ℕ} count (2 ^ 32 - 1)) at within in
       let past : slice_index slots.rows.items slot ≡ 2 ^ 32 - 1 = rw free (get_or-replicate count slot (2 ^ 32 - 1) 0 there) in
       absurd (omega (arith, past, taken));
 }
@@ -36,6 +37,7 @@ pub put_id : (rows : List IdRow) (before after : Slots) (place slot : ℕ) (entr
 put_id rows before after place slot entry was lt is sound same keys made = record {
   piloted = rw same was.piloted;
   some = rw (made, length-set before.rows.items slot entry.row) was.some;
+  few = rw (made, length-set before.rows.items slot entry.row) was.few;
   keyed = rw (keys, made, length-set before.rows.items slot entry.row, length-set before.keys.items slot entry.key) was.keyed;
   are = λ k within taken.
       let row_there : k < length before.rows.items = rw (made, length-set before.rows.items slot entry.row) at within in

@@ -42,6 +42,7 @@ IsEntry key row entry = (entry.key ≡ key) × (entry.row ≡ row) × (is_id ent
 pub record AreSlots (rows : List IdRow) (slots : Slots) : Type 0 where
   pub piloted : 1 ≤ length slots.pilots.items
   pub some : 1 ≤ length slots.rows.items
+  pub few : length slots.rows.items < 2 ^ 32
   pub keyed : length slots.keys.items ≡ length slots.rows.items
   pub are : (slot : ℕ) → slot < length slots.rows.items → slice_index slots.rows.items slot < 2 ^ 32 - 1
       → Any (IsEntry (slice_index slots.keys.items slot) (slice_index slots.rows.items slot)) rows

@@ -36,7 +36,7 @@ impl<'t> Model for IdIndex<'t> {
 }
 
 /// A look-up that was begun: where the id is looked for first, and its key. Nothing is read there yet, so that a caller
-/// can do other work while memory is waited for.
+/// can begin another one first.
 #[derive(Clone, Copy)]
 pub struct IdStart {
     /// The slot that is looked into first; any is right.

@@ -2,7 +2,7 @@
 //! each bucket has a pilot, a number that is mixed into the hashes of its ids and chosen so that each has a slot of its
 //! own. So one slot alone is read, and the table is so full that what is read at random takes little memory. Ids of the
 //! grammar of ids alone have slots, so that one that is found there needs no judgement.
-ghost use Rattle.std.specs.Prelude.{◌≡◌, ◌≤◌, ◌<◌, length, IfOk};
+ghost use Rattle.std.specs.Prelude.{◌≡◌, ◌≤◌, ◌<◌, ◌^◌, length, IfOk};
 ghost use Rattle.feed_text.specs.RowLimits.{row_limit};
 ghost use Rattle.feed_tables.specs.IdRows.{AreSlots};
 
@@ -50,13 +50,16 @@ fn bucket_of(hash: u64, buckets: usize) -> usize
     (hash >> 32) as usize & (buckets - 1)
 }
 
-// The slot of a hash by the pilot of its bucket.
+// The slot of a hash by the pilot of its bucket: as far among the slots as a number of 32 bits is among all of these.
 #[inline(always)]
+#[tactic(auto, using(crate::proofs::ShareLaws::share_below, crate::proofs::ShareLaws::share_fits))]
 fn slot_by(hash: u64, pilot: u8, slots: usize) -> usize
-    requires { 1 ≤ slots }
+    requires some { 1 ≤ slots }
+    requires few { slots < 2 ^ 32 }
     ensures { result < slots }
 {
-    mixed(hash, u64::from(pilot)) as usize & (slots - 1)
+    let share = (mixed(hash, u64::from(pilot)) >> 32) as u32;
+    (u64::from(share) * slots as u64 / (1 << 32)) as usize
 }
 
 // An id by its place among the rows, and its hash.
@@ -72,6 +75,7 @@ impl Slots {
     pub fn slot_of(&self, key: u64, id: &[u8]) -> usize
         requires piloted { 1 ≤ length self.now.pilots.items }
         requires some { 1 ≤ length self.now.rows.items }
+        requires few { length self.now.rows.items < 2 ^ 32 }
     {
         let hash = hash_of(key, id);
         let pilot = self.pilots[bucket_of(hash, self.pilots.len())];
@@ -80,7 +84,8 @@ impl Slots {
 
     // Whether the slots of these by a pilot are free, and each is another one.
     fn are_free(&self, members: &[Member], pilot: u8) -> bool
-        requires { 1 ≤ length self.now.rows.items }
+        requires some { 1 ≤ length self.now.rows.items }
+        requires few { length self.now.rows.items < 2 ^ 32 }
     {
         for i in 0..members.len() {
             let slot = slot_by(members[i].hash, pilot, self.rows.len());
@@ -123,7 +128,7 @@ impl Slots {
 // The greatest size of a bucket whose ids get slots. Hardly one is greater.
 const LARGEST: usize = 16;
 
-/// Slots for these ids, of which a quarter or more stays free. Great buckets come first, while much is free.
+/// Slots for these ids, of which a tenth stays free. Great buckets come first, while much is free.
 ///
 /// # Errors
 /// Want of memory.
@@ -131,8 +136,8 @@ pub fn slots_of(alloc: Global, rows: &[IdRow]) -> Result<Slots, AllocError>
     requires { length rows.now ≤ row_limit }
     ensures { IfOk result (AreSlots rows.now) }
 {
-    let count = (rows.len() * 4 / 3).next_power_of_two();
-    let buckets = (count / 4).max(1);
+    let count = (rows.len() + rows.len() / 9 + 1).min(u32::MAX as usize);
+    let buckets = (rows.len() / 4).next_power_of_two();
     let mut slots = Slots {
         pilots: vec![in alloc; 0u8; buckets]?,
         keys: vec![in alloc; 0u64; count]?,

@@ -83,6 +83,20 @@ grown bs i v e lt d = digits_value_more 10 bs i lt ∙ rw (← e, digit_is (get_
 small : (c : ℕ) → is_ascii_digit c ≡ true → c - 48 ≤ 9
 small c d = grind (arith, nat_tests)
 
+-- one digit
+pub one_digit : (ones : ℕ) → is_ascii_digit ones ≡ true → Some (ones - 48) ≡ when_at_most (2 ^ 64 - 1) (number_value (ones ∷ []))
+one_digit ones o =
+    let bs : List ℕ = ones ∷ [] in
+    let one = grown bs 0 0 refl (omega arith) o in
+    let is : ones - 48 ≡ digits_value 10 (take 1 bs) = omega (arith, one) in
+    let digits = all_more bs 0 (omega arith) refl o in
+    let low = small ones o in
+    whole bs (2 ^ 64 - 1) (ones - 48) digits (omega arith) is (omega (arith, low))
+
+-- another byte
+pub no_digit : (ones : ℕ) → is_ascii_digit ones ≡ false → None ≡ when_at_most (2 ^ 64 - 1) (number_value (ones ∷ []))
+no_digit ones other = no_number (ones ∷ []) (2 ^ 64 - 1) 0 (omega arith) other
+
 -- two digits
 pub two_digits : (tens ones : ℕ) → is_ascii_digit tens ≡ true → is_ascii_digit ones ≡ true
     → Some ((tens - 48) * 10 + (ones - 48)) ≡ when_at_most (2 ^ 64 - 1) (number_value (tens ∷ ones ∷ []))

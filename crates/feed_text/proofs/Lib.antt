@@ -1,4 +1,5 @@
 pub mod DigitLaws
+pub mod CutLaws
 pub mod DateLaws
 pub mod AmountLaws
 pub mod FieldLaws

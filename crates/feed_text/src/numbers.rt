@@ -19,6 +19,18 @@ fn two_digits(tens: u8, ones: u8) -> Option<u64>
     Some(u64::from(tens - b'0') * 10 + u64::from(ones - b'0'))
 }
 
+// The number that one digit writes.
+#[inline(always)]
+#[tactic(auto, using(crate::proofs::DigitLaws::one_digit, crate::proofs::DigitLaws::no_digit))]
+fn one_digit(ones: u8) -> Option<u64>
+    ensures { result ≡ when_at_most (2 ^ 64 - 1) (number_value (ones ∷ [])) }
+{
+    if !ones.is_ascii_digit() {
+        return None;
+    }
+    Some(u64::from(ones - b'0'))
+}
+
 // The number that one or more digits write, where it is below 2^64. Inlined, as are its callers: most fields of a feed are
 // times and small numbers.
 #[inline(always)]
@@ -27,6 +39,9 @@ pub(crate) fn number_of(text: &[u8]) -> Option<u64>
 {
     if let [tens, ones] = text {
         return two_digits(*tens, *ones);
+    }
+    if let [ones] = text {
+        return one_digit(*ones);
     }
     if text.is_empty() {
         return None;

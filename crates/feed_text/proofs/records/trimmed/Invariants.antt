@@ -1,7 +1,7 @@
 use Rattle.std.proofs.Common.{◌≡◌, length}
 use Rattle.std.specs.Prelude.{reverse}
 use Rattle.feed_faults.specs.Records.{cut_start}
-use Rattle.feed_text.proofs.records.cut_of.Given as goal
+use Rattle.feed_text.proofs.records.trimmed.Given as goal
 
 abbrev pub invariant-start : goal.invariant-start
 invariant-start l = cut_start l.text ≡ cut_start l.fn.text
