@@ -1,5 +1,5 @@
 //! Lists in one vector: items in numbered groups, one group after another.
-ghost use Rattle.std.specs.Prelude.{◌≡◌, ℕ, ◌+◌, ◌^◌, ◌++◌, ◌∷◌, ◌<◌, length, get_or, IfOk, OnOk, OnErr, Some, slice_get, unwrap_or, []};
+ghost use Rattle.std.specs.Prelude.{◌≡◌, ◌+◌, ◌^◌, ◌++◌, ◌∷◌, ◌<◌, length, get_or, IfOk, OnOk, OnErr, Some, slice_get, unwrap_or, []};
 ghost use Rattle.plain_laws.specs.Plain.{joined_below};
 ghost use Rattle.item_groups.specs.Groups.{group_of, groups_below, AreChains};
 ghost use Rattle.item_groups.specs.Parts.{parts, Rise};

@@ -10,12 +10,12 @@ use Rattle.folder_io.specs.FileReading.{Gives}
 use Rattle.folder_io.specs.FolderCalls.{Contents, FolderState}
 use Rattle.folder_io.specs.SinkCalls.{SinkState}
 use Rattle.plan_words.specs.Words.{asked_of}
-use Rattle.plan_app.specs.Due.{Task, task_for, due, IsDue}
+use Rattle.command_answers.specs.Due.{Task, task_for, due, IsDue}
 use Rattle.plan_app.specs.Run.{asks_folder, writes_nothing, WhereRead, Explains, AnswersAll}
-use Rattle.plan_app.specs.declared.refusal.Refusal.{Refusal}
-use Rattle.plan_app.specs.declared.refusal.Refusal.TheVariants as refusal
-use Rattle.plan_app.specs.declared.status.Status.{Status}
-use Rattle.plan_app.specs.declared.status.Status.TheVariants as status
+use Rattle.command_answers.specs.declared.refusal.Refusal.{Refusal}
+use Rattle.command_answers.specs.declared.refusal.Refusal.TheVariants as refusal
+use Rattle.command_answers.specs.declared.status.Status.{Status}
+use Rattle.command_answers.specs.declared.status.Status.TheVariants as status
 
 -- what is so of whatever contents a folder tells is so where it tells them
 where_told : (holds : Option Contents) (fact : Contents → Type 0)

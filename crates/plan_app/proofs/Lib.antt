@@ -1,3 +1,2 @@
 pub mod CauseLaws
 pub mod MadeLaws
-pub mod WrittenLaws

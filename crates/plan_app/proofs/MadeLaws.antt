@@ -8,28 +8,26 @@ use Rattle.feed_rows.specs.HeldFiles.{HeldFile, held}
 use Rattle.feed_rows.specs.GeneratedFeed.{generated_plan}
 use Rattle.feed_rows.specs.JourneyEntries.{IsExactAnswer, CoversOffers}
 use Rattle.feed_rows.specs.ParetoTriples.{at_most}
-use Rattle.feed_rows.specs.PriceQueries.{PriceQuery, price_query_of}
 use Rattle.feed_rows.specs.ClosedTable.{IsClosedTable}
 use Rattle.feed_rows.specs.CommandTexts.{stats_line}
 use Rattle.feed_rows.specs.EntryText.{lines_of_entries}
 use Rattle.feed_rows.specs.RoundTables.{RoundTable, entries_of}
 use Rattle.feed_rows.specs.SoundTable.{IsSoundTable}
 use Rattle.feed_rows.specs.Queries.{query_of}
-use Rattle.feed_rows.specs.Requests.{PlanRequest, PriceRequest, Request}
+use Rattle.feed_rows.specs.Requests.{PlanRequest, Request}
 use Rattle.feed_rows.specs.declared.fares.Entry.{Entry}
 use Rattle.feed_rows.specs.declared.journeys.Query.{Query}
 use Rattle.feed_rows.specs.declared.names.FileName.{FileName}
 use Rattle.feed_laws.proofs.GeneratedLaws.{exact_triples}
-use Rattle.feed_laws.proofs.PriceQueryLaws.{priced_rides_join}
 use Rattle.folder_io.specs.FolderCalls.{Contents, FolderState}
 use Rattle.folder_io.proofs.LogLaws.{makes_none}
 use Rattle.feed_check.specs.LoadErrors.{StopsReading}
 use Rattle.ticket_explain.specs.CommandLines.{gen_lines}
 use Rattle.round_table.specs.Tables.{CoversAllOffers}
-use Rattle.plan_app.specs.Due.{Task, task_by, task_of, ArePriceLines, AreTableLines, DoTask, IsDue}
+use Rattle.command_answers.specs.Due.{Task, task_by, task_of, AreTableLines, DoTask, IsDue}
 use Rattle.plan_app.specs.Run.{ReadsIf}
-use Rattle.plan_app.specs.declared.status.Status.{Status}
-use Rattle.plan_app.specs.declared.status.Status.TheVariants as status
+use Rattle.command_answers.specs.declared.status.Status.{Status}
+use Rattle.command_answers.specs.declared.status.Status.TheVariants as status
 
 -- each folder has files
 pub some_files : (holds : Option Contents)
@@ -44,17 +42,6 @@ read_stops false folder later same =
     subst (StopsReading folder) (sym same) (record { counts = refl; opens = (0, makes_none folder.opens) })
 
 -- ---- what is due for a task
-
--- the rides of a query that words name are joined, and its lines are due
-pub price_due : (timetable feed : FeedRows) (request : PriceRequest) (query : PriceQuery) (told : Status)
-    (text lines : List (List ℕ)) → timetable ≡ feed → price_query_of timetable request ≡ Ok query
-    → told ≡ status.Answered → text ≡ lines → ArePriceLines feed query.rides query.rider lines
-    → IsDue (task_by (Task.Prices feed) (price_query_of feed request)) told text
-price_due timetable feed request query told text lines same named answered whole are =
-    let over_feed = subst (λ f. price_query_of f request ≡ Ok query) same named in
-    let joined = priced_rides_join feed request query over_feed in
-    subst (λ q. IsDue (task_by (Task.Prices feed) q) told text) (sym over_feed)
-    (answered, (joined, subst (ArePriceLines feed query.rides query.rider) (sym whole) are))
 
 -- the entries by which the finals of a sound table end, and its size, make the lines of a plan with statistics
 pub table_lines : (feed : FeedRows) (query : Query) (table : RoundTable) (entries : List Entry) (size : ℕ)

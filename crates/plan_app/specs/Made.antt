@@ -1,5 +1,5 @@
 -- What comes of a command before anything is written.
-use Rattle.std.specs.Prelude.{◌≡◌, ℕ, List, None, Some, Result, Ok, IsTrue}
+use Rattle.std.specs.Prelude.{◌≡◌, ℕ, List, None, Some, Ok, IsTrue}
 use Rattle.folder_io.specs.FolderCalls.{FolderState}
 use Rattle.feed_check.specs.LoadErrors.{FailsReading, StopsReading}
 use Rattle.plan_words.specs.Words.{asked_of}
@@ -13,16 +13,11 @@ use Rattle.feed_faults.specs.FirstFault.{first_fault}
 use Rattle.feed_check.specs.declared.folder.LoadError.{LoadError}
 use Rattle.feed_check.specs.declared.folder.LoadError.TheVariants as error
 use Rattle.folder_io.specs.FileReading.{Gives}
-use Rattle.plan_app.specs.Due.{Task, IsDue, IsDueOver, files_for}
+use Rattle.command_answers.specs.Due.{IsDueOver, files_for}
 use Rattle.plan_app.specs.Run.{asks_folder, Reads}
-use Rattle.plan_app.specs.declared.refusal.Refusal.{Refusal}
-use Rattle.plan_app.specs.declared.outcome.Outcome.{Outcome}
-use Rattle.plan_app.specs.declared.outcome.Stop.{Stop}
-use Rattle.plan_app.specs.declared.outcome.Stop.TheVariants as stop
-
--- the answer and the lines are due for this task, or for what refuses it
-abbrev pub IsOutcome : Result Task Refusal → Outcome → Type 0
-IsOutcome task out = IsDue task out.told out.text
+use Rattle.command_answers.specs.declared.outcome.Outcome.{Outcome}
+use Rattle.command_answers.specs.declared.outcome.Stop.{Stop}
+use Rattle.command_answers.specs.declared.outcome.Stop.TheVariants as stop
 
 -- the answer and the lines are due for these words over files that the folder holds
 abbrev pub IsMade : FolderState → List (List ℕ) → Outcome → Type 0

@@ -10,10 +10,10 @@ use Rattle.folder_io.specs.FileReading.{OpensAll}
 use Rattle.folder_io.specs.SinkCalls.{SinkState}
 use Rattle.feed_check.specs.LoadErrors.{FailsReading, StopsReading}
 use Rattle.plan_words.specs.Words.{asked_of}
-use Rattle.plan_app.specs.Due.{Task, due, IsDueOver}
-use Rattle.plan_app.specs.Written.{WritesAll, WritesSome}
-use Rattle.plan_app.specs.declared.status.Status.{Status}
-use Rattle.plan_app.specs.declared.status.Status.TheVariants as status
+use Rattle.command_answers.specs.Due.{Task, due, IsDueOver}
+use Rattle.command_answers.specs.Written.{WritesAll, WritesSome}
+use Rattle.command_answers.specs.declared.status.Status.{Status}
+use Rattle.command_answers.specs.declared.status.Status.TheVariants as status
 
 -- the words ask for something of the folder
 abbrev pub asks_folder : Result Request UsageFault → Bool

@@ -9,9 +9,8 @@ ghost use Rattle.plan_app.specs.Run.{Reads, asks_folder};
 ghost use Rattle.plan_words.specs.Request.{asked_request, IsUsualGen, IsUsualRequest};
 ghost use Rattle.plan_words.specs.Words.{asked_of};
 
-use crate::outcome::{Outcome, Stop, refused};
 use crate::planning::outcome_of;
-use crate::refusal::Refusal;
+use command_answers::{Outcome, Refusal, Stop, refused};
 use feed_check::{LoadError, check, load};
 use feed_maker::gen_files;
 use feed_rows::Feed;

@@ -1,38 +1,24 @@
 //! What a command answers over a feed.
-ghost use Rattle.std.specs.Prelude.{◌≡◌, ℕ, ◌-◌, ◌≤◌, length, IfOk, Ok};
+ghost use Rattle.std.specs.Prelude.{◌≡◌, ℕ, ◌-◌, IfOk};
 ghost use Rattle.feed_rows.specs.GeneratedFeed.{generated_plan, stop_name};
-ghost use Rattle.feed_rows.specs.PriceQueries.{price_query_of};
 ghost use Rattle.feed_rows.specs.Queries.{query_of};
 ghost use Rattle.feed_rows.specs.Requests.{Request};
-ghost use Rattle.plan_app.specs.Due.{Task, task_by, task_of, ArePlanLines, ArePriceLines, AreTableLines, DoTask};
+ghost use Rattle.command_answers.specs.Due.{Task, task_by, task_of, ArePlanLines, AreTableLines, DoTask};
 ghost use Rattle.plan_rides.specs.InTime.{IsUsualQuery};
-ghost use Rattle.ride_prices.specs.NamedRides.{AreKnown, rides_of};
-ghost use Rattle.plan_app.specs.Made.{IsOutcome};
-ghost use Rattle.plan_words.specs.Request.{request_of, price_request, asked_request, IsUsualPlan, IsUsualGen, IsUsualRequest};
-ghost use Rattle.plan_words.specs.Rides.{AreUsualRides};
+ghost use Rattle.command_answers.specs.Outcomes.{IsOutcome};
+ghost use Rattle.plan_words.specs.Request.{request_of, asked_request, IsUsualPlan, IsUsualGen, IsUsualRequest};
 
-use crate::lines::{check_line_of, stats_line_of};
-use crate::outcome::{Outcome, answered, behind_line, refused};
-use crate::query::query_of;
-use crate::refusal::Refusal;
-use crate::status::Status;
+use command_answers::{
+    Outcome, Refusal, answered, check_outcome, price_outcome, query_of, refused, stats_line_of,
+};
 use feed_maker::stop_id;
 use feed_rows::{Feed, Query, USUAL_WINDOW};
 use feed_timetable::Timetable;
 use plan_rounds::{round_entries, rounds};
-use plan_words::{Asked, GenWords, PlanWords, PriceWords};
-use ride_prices::{PriceQuery, PriceQueryError, price_of, price_query_of};
+use plan_words::{Asked, GenWords, PlanWords};
 use std::alloc::{AllocError, Global};
-use ticket_explain::{Text, gen_lines_of, price_lines_of, text_of, uncovered_lines_of};
+use ticket_explain::{Text, gen_lines_of, text_of};
 use transit_base::{Day, Moment};
-
-// What a check answers.
-fn check_outcome(alloc: Global, feed: &Feed) -> Result<Outcome, AllocError>
-    ensures { IfOk result (IsOutcome (Ok (Task.Checks feed.now))) }
-{
-    let line = check_line_of(alloc, feed)?;
-    behind_line(alloc, line.bytes(), Status::Answered)
-}
 
 // The text of the exact entries of a query.
 fn entries_text(alloc: Global, timetable: &Timetable, query: &Query) -> Result<Text, AllocError>
@@ -84,33 +70,6 @@ fn plan_outcome(alloc: Global, feed: &Feed, plan: &PlanWords) -> Result<Outcome,
         Err(fault) => return refused(alloc, Refusal::Usage(fault)),
     };
     let text = plan_text(alloc, &timetable, &query, plan.stats)?;
-    Ok(answered(text))
-}
-
-// The lines of the least price of the rides.
-fn price_text(alloc: Global, feed: &Feed, query: &PriceQuery) -> Result<Text, AllocError>
-    requires known { AreKnown feed.now query.now.rides.items }
-    requires few { length query.now.rides.items ≤ 8 }
-    ensures { IfOk result (ArePriceLines feed.now (rides_of query.now.rides.items) query.now.rider) }
-{
-    let Some(priced) = price_of(alloc, feed, query)? else {
-        return uncovered_lines_of(alloc);
-    };
-    price_lines_of(alloc, feed, query.rides.len(), &priced.choice, priced.sum)
-}
-
-// What the price of rides answers.
-fn price_outcome(alloc: Global, feed: &Feed, words: &PriceWords) -> Result<Outcome, AllocError>
-    requires usual { AreUsualRides words.now.rides }
-    ensures { IfOk result (IsOutcome (task_by (Task.Prices feed.now) (price_query_of feed.now (price_request words.now)))) }
-{
-    let timetable = Timetable::build(alloc, feed)?;
-    let query = match price_query_of(alloc, &timetable, words) {
-        Ok(query) => query,
-        Err(PriceQueryError::Usage(fault)) => return refused(alloc, Refusal::Usage(fault)),
-        Err(PriceQueryError::NoMemory) => return Err(AllocError),
-    };
-    let text = price_text(alloc, feed, &query)?;
     Ok(answered(text))
 }
 

@@ -3,10 +3,8 @@ ghost use Rattle.std.specs.Prelude.{◌≡◌, true, false};
 ghost use Rattle.plan_words.specs.Words.{asked_of};
 ghost use Rattle.plan_app.specs.Run.{AnswersAll, Explains, asks_folder, writes_nothing};
 
-use crate::lines::write_text;
 use crate::made::made;
-use crate::outcome::Stop;
-use crate::status::Status;
+use command_answers::{Status, Stop, write_text};
 use folder_io::{Folder, Sink, Wrote};
 use plan_words::WordList;
 use std::alloc::Global;

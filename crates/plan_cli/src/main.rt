@@ -1,7 +1,9 @@
 //! The program: the folder's path, and the command behind it.
 #![tactic(auto)]
 
-use plan_main::run_program;
+mod program;
+
+use program::run_program;
 use std::process::ExitCode;
 
 fn main(rt: HostRuntime) -> ExitCode {

@@ -1,6 +1,5 @@
 -- Labels in bags, and what a search by rounds keeps true of them.
-use Rattle.std.specs.Prelude.{◌≡◌, ◌≢◌, ◌⊎◌, ℕ, ◌<◌, ◌≤◌, Bool, true, false, ◌==◌, nat_eq, List, [], ◌∷◌, length, filter, slice_get, Some, All, AllPairs, Contains, IsTrue}
-use Rattle.std.specs.Option.{option_map_or}
+use Rattle.std.specs.Prelude.{◌≡◌, ◌≢◌, ◌⊎◌, ℕ, ◌<◌, ◌≤◌, true, false, List, length, slice_get, Some, All, AllPairs, Contains, IsTrue}
 use Rattle.transit_base.specs.declared.numbers.StopId.{StopId}
 use Rattle.feed_rows.specs.declared.fares.Triple.{Triple}
 use Rattle.feed_rows.specs.declared.journeys.Query.{Query}
@@ -11,19 +10,13 @@ use Rattle.feed_rows.specs.FeedRows.{FeedRows}
 use Rattle.feed_rows.specs.Journeys.{stands_for}
 use Rattle.feed_rows.specs.LabelCover.{Covers}
 use Rattle.feed_rows.specs.PartialJourneys.{LabelFacts}
-use Rattle.label_bag.specs.Bags.{Gathers, AreApart}
-use Rattle.label_bag.specs.Flights.{IsFlight}
-use Rattle.plain_laws.specs.Plain.{joined_below}
+use Rattle.label_bag.specs.Bags.{AreApart}
 use Rattle.plan_rides.specs.InTime.{IsWithinWindow}
 use Rattle.round_laws.specs.LabelSteps.{start_facts, IsLabelStep}
 use Rattle.round_laws.specs.LinkedTables.{IsLinked, AreLinked, CoversStarts, CoversSteps, AreClosed}
-use Rattle.round_labels.specs.declared.kept_label.KeptLabel.{KeptLabel}
 use Rattle.round_labels.specs.declared.label.Label.{Label}
-use Rattle.round_labels.specs.declared.label_class.LabelClass.{LabelClass}
-use Rattle.round_labels.specs.declared.last_move.LastMove.{LastMove}
 use Rattle.round_table.specs.Finals.{EndsIn}
-use Rattle.round_labels.specs.Kept.{IsNumbered, is_as_good, whole, wholes}
-use Rattle.round_labels.specs.Labels.{facts_of, label_of, labels_of, class_of, same_class, covers, IsBounded}
+use Rattle.round_labels.specs.Labels.{facts_of, label_of, labels_of, covers, IsBounded}
 
 -- ---- one round
 

@@ -3,7 +3,7 @@ ghost use Rattle.std.specs.Prelude.{◌≡◌, ◌||◌, ◌+◌, ◌<◌, ◌�
 ghost use Rattle.feed_rows.specs.FareFloor.{fare_floor};
 ghost use Rattle.feed_rows.specs.PartialJourneys.{LabelFacts};
 ghost use Rattle.plan_rides.specs.InTime.{IsRight};
-ghost use Rattle.round_laws.specs.Futility.{is_within, least_end, least_price, some_takes_back};
+ghost use Rattle.round_laws.specs.Futility.{least_end, least_price, some_takes_back};
 ghost use Rattle.round_labels.specs.Labels.{facts_of, stand_of_label};
 ghost use Rattle.plan_rounds.specs.Searched.{Lacks, has_ahead, is_overtaken_by};
 ghost use Rattle.plan_rounds.specs.Sources.{IsSource};

@@ -1,7 +1,6 @@
 //! Beyond which moment a search needn't look for journeys, since one is found that costs no more.
 ghost use Rattle.std.specs.Prelude.{◌≡◌, Contains, IfOk, IfSome};
 ghost use Rattle.plan_rounds.specs.Horizons.{IsHorizon, is_beyond};
-ghost use Rattle.round_labels.specs.Labels.{facts_of};
 ghost use Rattle.plan_rounds.specs.Sources.{IsSource};
 ghost use Rattle.round_table.specs.declared.finals.Final.{Final};
 

@@ -1,5 +1,5 @@
 //! How a round goes on from its labels: pattern by pattern, and position by position.
-ghost use Rattle.std.specs.Prelude.{◌≡◌, true, Some, int_le, slice_get, IfOk, OnOk};
+ghost use Rattle.std.specs.Prelude.{◌≡◌, true, Some, int_le, slice_get, OnOk};
 ghost use Rattle.std.specs.List.Sorted.{IsNonDecreasingBy, IsPermutation};
 ghost use Rattle.plan_rides.specs.Reached.{HoldsFrom, IsReachedFrom};
 ghost use Rattle.round_labels.specs.Labels.{stand_of_label};

@@ -1,5 +1,5 @@
 //! The search: each round goes on by one more ride from the labels of the round before.
-ghost use Rattle.std.specs.Prelude.{◌≡◌, ◌⊎◌, ◌+◌, ◌<◌, ◌≤◌, ◌^◌, ◌++◌, [], true, All, length, IfOk, IfSome, IsTrue, OnOk, Some};
+ghost use Rattle.std.specs.Prelude.{◌≡◌, ◌+◌, ◌<◌, ◌≤◌, ◌^◌, ◌++◌, [], true, length, IfOk, IsTrue, OnOk, Some};
 ghost use Rattle.feed_rows.specs.FareSteps.{move_after};
 ghost use Rattle.feed_rows.specs.Journeys.{stands_for};
 ghost use Rattle.feed_rows.specs.Legs.{leg_facts};
@@ -13,14 +13,12 @@ ghost use Rattle.plan_rounds.specs.Moves.{AreMovesOf, HasFares};
 ghost use Rattle.feed_rows.specs.declared.fares.Triple.{Triple};
 ghost use Rattle.round_table.specs.Finals.{AddsEnds, EndsBelow, HasEnds, is_bettered};
 ghost use Rattle.plan_rounds.specs.Searched.{Lacks, searched};
-ghost use Rattle.feed_rows.specs.PartialJourneys.{LabelFacts};
-ghost use Rattle.plan_rounds.specs.Horizons.{IsHorizon};
 ghost use Rattle.plan_rounds.specs.Prospects.{AreProspects, no_prospects};
-ghost use Rattle.plan_rounds.specs.Sources.{AreEnding, IsSource, SpreadsFrom, StepsByFirst};
+ghost use Rattle.plan_rounds.specs.Sources.{AreEnding, IsSource, SpreadsFrom};
 ghost use Rattle.label_bag.specs.Bags.{AreApart};
 ghost use Rattle.round_labels.specs.Labels.{covers};
 ghost use Rattle.round_labels.specs.Bags.{gathered};
-ghost use Rattle.plan_rounds.specs.Stores.{AreStored, AreWhole, IsNever, IsStartOf, Spreads, StepsBy, StepsFrom, StepsTo};
+ghost use Rattle.plan_rounds.specs.Stores.{AreStored, AreWhole, IsNever, IsStartOf, Spreads, StepsBy, StepsFrom};
 
 use crate::bounds::takes_back;
 use crate::horizon::Horizon;

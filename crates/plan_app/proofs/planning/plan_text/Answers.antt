@@ -1,6 +1,6 @@
 use Rattle.std.proofs.Common.{sym, subst}
 use Rattle.std.specs.Prelude.{IfOk}
-use Rattle.plan_app.specs.Due.{Task, DoTask}
+use Rattle.command_answers.specs.Due.{Task, DoTask}
 use Rattle.plan_app.proofs.planning.plan_text.Goals as goal
 
 pub returns-then-stats : goal.returns-then-stats

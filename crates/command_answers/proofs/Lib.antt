@@ -1,0 +1,2 @@
+pub mod PriceLaws
+pub mod WrittenLaws

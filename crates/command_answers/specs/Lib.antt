@@ -1,0 +1,4 @@
+pub mod Answers
+pub mod Due
+pub mod Outcomes
+pub mod Written

@@ -1,0 +1,17 @@
+//! What commands answer: a status, and the lines that are written before it is given, as they are due for a task or for what
+//! refuses it. The commands that plan nothing are answered here.
+#![tactic(auto)]
+
+mod lines;
+mod outcome;
+mod prices;
+mod query;
+mod refusal;
+mod status;
+
+pub use lines::{stats_line_of, write_text};
+pub use outcome::{Outcome, Stop, answered, check_outcome, refused};
+pub use prices::price_outcome;
+pub use query::query_of;
+pub use refusal::Refusal;
+pub use status::Status;

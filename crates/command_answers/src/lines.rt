@@ -1,0 +1,114 @@
+//! The lines that are written.
+ghost use Rattle.std.specs.Prelude.{◌≡◌, IfOk, string_bytes};
+ghost use Rattle.feed_rows.specs.CommandTexts.{usage_line, refused_line, place_text, check_text, stats_line};
+ghost use Rattle.feed_rows.specs.UsageFaults.{usage_argument, stop_word_text};
+ghost use Rattle.command_answers.specs.Written.{WritesLines};
+
+use feed_rows::{ColumnName, Feed, FeedFault, StopWord, UsageFault};
+use folder_io::{Sink, Wrote};
+use std::alloc::{AllocError, Global};
+use ticket_explain::{Line, Text};
+
+// The word that names a stop, as it is printed.
+fn stop_word(word: StopWord) -> &'static str
+    ensures { result.now ≡ stop_word_text word }
+{
+    match word {
+        StopWord::From => "FROM",
+        StopWord::To => "TO",
+    }
+}
+
+// The argument of a usage fault, as it is printed.
+fn argument_of(alloc: Global, fault: UsageFault) -> Result<String, AllocError>
+    ensures { IfOk result (λ text. string_bytes text ≡ usage_argument fault) }
+{
+    match fault {
+        UsageFault::WrongWords => String::from_str(alloc, "-"),
+        UsageFault::BadDate => String::from_str(alloc, "DATE"),
+        UsageFault::BadTime => String::from_str(alloc, "TIME"),
+        UsageFault::BadRides => String::from_str(alloc, "--rides"),
+        UsageFault::BadWindow => String::from_str(alloc, "--within"),
+        UsageFault::BadRide(k) => format!(in alloc; "{k}"),
+        UsageFault::BadSeed => String::from_str(alloc, "SEED"),
+        UsageFault::BadLines => String::from_str(alloc, "LINES"),
+        UsageFault::UnknownStop(word) => String::from_str(alloc, stop_word(word)),
+        UsageFault::WrongStopKind(word) => String::from_str(alloc, stop_word(word)),
+        UsageFault::NoSuchRide(k) => format!(in alloc; "{k}"),
+        UsageFault::NoChange(k) => format!(in alloc; "{k}"),
+        UsageFault::UnknownRider => String::from_str(alloc, "--rider"),
+        UsageFault::RiderNeeded => String::from_str(alloc, "--rider"),
+    }
+}
+
+/// The line of a usage fault.
+pub fn usage_line_of(alloc: Global, fault: UsageFault) -> Result<String, AllocError>
+    ensures { IfOk result (λ line. string_bytes line ≡ usage_line fault) }
+{
+    let name = fault.text();
+    let argument = argument_of(alloc, fault)?;
+    let argument = argument.as_str();
+    format!(in alloc; "usage\t{name}\t{argument}\n")
+}
+
+// The column of a fault, as it is printed.
+fn column_text(column: Option<ColumnName>) -> &'static str
+    ensures { result.now ≡ place_text column }
+{
+    match column {
+        None => "-",
+        Some(column) => column.text(),
+    }
+}
+
+/// The line of a fault of the feed.
+pub fn refused_line_of(alloc: Global, fault: FeedFault) -> Result<String, AllocError>
+    ensures { IfOk result (λ line. string_bytes line ≡ refused_line fault) }
+{
+    let number = fault.kind.number();
+    let name = fault.kind.text();
+    let file = fault.file.text();
+    let row = fault.row;
+    let column = column_text(fault.column);
+    format!(in alloc; "refused\t{number}\t{name}\t{file}\t{row}\t{column}\n")
+}
+
+/// The line of `check` for an accepted feed: how many rows its main files have.
+pub fn check_line_of(alloc: Global, feed: &Feed) -> Result<Line, AllocError>
+    ensures { IfOk result (λ line. line ≡ check_text feed.now) }
+{
+    let mut line = Line::empty(alloc);
+    line.start(b"accepted")?;
+    line.number(feed.stops.items().len() as u64)?;
+    line.number(feed.routes.items().len() as u64)?;
+    line.number(feed.trips.items().len() as u64)?;
+    line.number(feed.stop_times.items().len() as u64)?;
+    line.number(feed.leg_rules.items().len() as u64)?;
+    line.number(feed.transfer_rules.items().len() as u64)?;
+    line.end()?;
+    Ok(line)
+}
+
+/// The last line of a plan with statistics: how many labels its table has.
+pub fn stats_line_of(alloc: Global, labels: usize) -> Result<Line, AllocError>
+    ensures { IfOk result (λ line. line ≡ stats_line labels) }
+{
+    let mut line = Line::empty(alloc);
+    line.start(b"stats")?;
+    line.number(labels as u64)?;
+    line.end()?;
+    Ok(line)
+}
+
+/// Writes the lines of a text, each by one write, up to the first that fails.
+pub fn write_text<S: Sink>(sink: &mut S, text: &Text) -> Wrote
+    ensures { WritesLines (S.state sink.old) text.now (S.state sink.new) result }
+{
+    for number in 0..text.lines() {
+        match sink.write(text.line(number)) {
+            Wrote::Failed => return Wrote::Failed,
+            Wrote::All => {}
+        }
+    }
+    Wrote::All
+}

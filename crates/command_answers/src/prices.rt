@@ -1,0 +1,47 @@
+//! The answer of a price.
+ghost use Rattle.std.specs.Prelude.{◌≤◌, length, IfOk};
+ghost use Rattle.feed_rows.specs.PriceQueries.{price_query_of};
+ghost use Rattle.command_answers.specs.Due.{Task, task_by, ArePriceLines};
+ghost use Rattle.command_answers.specs.Outcomes.{IsOutcome};
+ghost use Rattle.ride_prices.specs.NamedRides.{AreKnown, rides_of};
+ghost use Rattle.plan_words.specs.Request.{price_request};
+ghost use Rattle.plan_words.specs.Rides.{AreUsualRides};
+
+use crate::outcome::{Outcome, answered, refused};
+use crate::refusal::Refusal;
+use feed_rows::Feed;
+use feed_timetable::Timetable;
+use plan_words::PriceWords;
+use ride_prices::{PriceQuery, PriceQueryError, price_of, price_query_of};
+use std::alloc::{AllocError, Global};
+use ticket_explain::{Text, price_lines_of, uncovered_lines_of};
+
+// The lines of the least price of the rides.
+fn price_text(alloc: Global, feed: &Feed, query: &PriceQuery) -> Result<Text, AllocError>
+    requires known { AreKnown feed.now query.now.rides.items }
+    requires few { length query.now.rides.items ≤ 8 }
+    ensures { IfOk result (ArePriceLines feed.now (rides_of query.now.rides.items) query.now.rider) }
+{
+    let Some(priced) = price_of(alloc, feed, query)? else {
+        return uncovered_lines_of(alloc);
+    };
+    price_lines_of(alloc, feed, query.rides.len(), &priced.choice, priced.sum)
+}
+
+/// What the price of rides answers.
+///
+/// # Errors
+/// Want of memory.
+pub fn price_outcome(alloc: Global, feed: &Feed, words: &PriceWords) -> Result<Outcome, AllocError>
+    requires usual { AreUsualRides words.now.rides }
+    ensures { IfOk result (IsOutcome (task_by (Task.Prices feed.now) (price_query_of feed.now (price_request words.now)))) }
+{
+    let timetable = Timetable::build(alloc, feed)?;
+    let query = match price_query_of(alloc, &timetable, words) {
+        Ok(query) => query,
+        Err(PriceQueryError::Usage(fault)) => return refused(alloc, Refusal::Usage(fault)),
+        Err(PriceQueryError::NoMemory) => return Err(AllocError),
+    };
+    let text = price_text(alloc, feed, &query)?;
+    Ok(answered(text))
+}

@@ -1,6 +1,0 @@
-use Rattle.std.proofs.Common.{take}
-use Rattle.plan_app.specs.Written.{WritesAll}
-use Rattle.plan_app.proofs.lines.write_text.Given as goal
-
-abbrev pub invariant-loop-number : goal.invariant-loop-number
-invariant-loop-number g l = WritesAll (g.S.Sink.state l.fn.sink) (take l.number l.text) (g.S.Sink.state l.sink)
