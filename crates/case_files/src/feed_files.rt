@@ -4,7 +4,7 @@ ghost use Rattle.folder_io.specs.KeptFiles.{are_whole};
 
 use crate::archive::{Archive, Section};
 use anyhow::{Result, bail};
-use feed_rows::FileName;
+use feed_files::FileName;
 use folder_io::{ByteText, FileBytes, Files};
 use std::alloc::{AllocError, Global};
 

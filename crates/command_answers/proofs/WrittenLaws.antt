@@ -5,7 +5,7 @@ use Rattle.std.specs.List.{concat}
 use Rattle.std.proofs.lemmas.List.{take-append-drop, take-append-le, take_min}
 use Rattle.std.proofs.lemmas.List.Folds.{concat-append}
 use Rattle.std.proofs.Math.Seq.{take-append-add}
-use Rattle.feed_rows.specs.FaultCounts.{Stayed, Rose}
+use Rattle.feed_files.specs.FaultCounts.{Stayed, Rose}
 use Rattle.folder_io.specs.declared.sink.Wrote.TheVariants as wrote
 use Rattle.folder_io.specs.CallLogs.{Makes}
 use Rattle.folder_io.specs.SinkCalls.{SinkState, Writes}

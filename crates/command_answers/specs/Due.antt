@@ -2,7 +2,7 @@
 -- come of that.
 use Rattle.std.specs.Prelude.{◌≡◌, ◌⊎◌, Bool, true, false, List, [], ◌∷◌, ◌++◌, length, Any, ℕ, ℤ, IsTrue, Option, None, Some, Result, Ok, Err}
 use Rattle.feed_rows.specs.FeedRows.{FeedRows}
-use Rattle.feed_rows.specs.HeldFiles.{HeldFile}
+use Rattle.feed_files.specs.HeldFiles.{HeldFile}
 use Rattle.feed_rows.specs.ClosedTable.{IsClosedTable}
 use Rattle.feed_rows.specs.CommandTexts.{usage_line, refused_line, check_text, stats_line}
 use Rattle.feed_rows.specs.EntryText.{lines_of_entries}
@@ -21,10 +21,10 @@ use Rattle.feed_rows.specs.declared.fares.Choice.{Choice}
 use Rattle.feed_rows.specs.declared.fares.Triple.{Triple}
 use Rattle.ticket_explain.specs.CommandLines.{price_lines, uncovered_lines, gen_lines}
 use Rattle.feed_rows.specs.Requests.{Request}
-use Rattle.feed_rows.specs.declared.names.FileName.{FileName}
+use Rattle.feed_files.specs.declared.names.FileName.{FileName}
 use Rattle.feed_rows.specs.declared.journeys.Query.{Query}
 use Rattle.feed_rows.specs.declared.fares.Entry.{Entry}
-use Rattle.feed_rows.specs.declared.faults.FeedFault.{FeedFault}
+use Rattle.feed_files.specs.declared.faults.FeedFault.{FeedFault}
 use Rattle.feed_rows.specs.declared.usage.UsageFault.{UsageFault}
 use Rattle.feed_faults.specs.AcceptedFeed.{feed_of}
 use Rattle.folder_io.specs.FolderCalls.{FolderState}

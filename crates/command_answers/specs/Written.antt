@@ -1,7 +1,7 @@
 -- The lines that are written.
 use Rattle.std.specs.Prelude.{◌≡◌, ℕ, List, take, true}
 use Rattle.std.specs.List.{concat}
-use Rattle.feed_rows.specs.FaultCounts.{Rose, Stayed}
+use Rattle.feed_files.specs.FaultCounts.{Rose, Stayed}
 use Rattle.folder_io.specs.declared.sink.Wrote.{Wrote}
 use Rattle.folder_io.specs.declared.sink.Wrote.TheVariants as wrote
 use Rattle.folder_io.specs.CallLogs.{Makes}

@@ -4,7 +4,8 @@ ghost use Rattle.feed_rows.specs.CommandTexts.{usage_line, refused_line, place_t
 ghost use Rattle.feed_rows.specs.UsageFaults.{usage_argument, stop_word_text};
 ghost use Rattle.command_answers.specs.Written.{WritesLines};
 
-use feed_rows::{ColumnName, Feed, FeedFault, StopWord, UsageFault};
+use feed_files::{ColumnName, FeedFault};
+use feed_rows::{Feed, StopWord, UsageFault};
 use folder_io::{Sink, Wrote};
 use std::alloc::{AllocError, Global};
 use ticket_explain::{Line, Text};

@@ -1,5 +1,6 @@
 //! What the program answers.
-use feed_rows::{FeedFault, UsageFault};
+use feed_files::FeedFault;
+use feed_rows::UsageFault;
 
 /// The answer of a command.
 #[derive(Clone, Copy, PartialEq, Eq)]

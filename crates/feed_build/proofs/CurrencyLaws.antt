@@ -1,7 +1,7 @@
 -- The currency of accepted products.
 use Rattle.std.proofs.Common.{◌≡◌, refl, ℕ, ◌<◌, List, [], ◌∷◌, length, get_or, arith}
-use Rattle.feed_rows.specs.declared.names.FileName.TheVariants as file
-use Rattle.feed_rows.specs.declared.names.ColumnName.TheVariants.{Currency}
+use Rattle.feed_files.specs.declared.names.FileName.TheVariants as file
+use Rattle.feed_files.specs.declared.names.ColumnName.TheVariants.{Currency}
 use Rattle.feed_faults.specs.Records.{row_count, field}
 use Rattle.feed_soundness.proofs.RuleShapes.{currency}
 use Rattle.feed_faults.specs.FeedTables.{FeedTables, table_in}

@@ -1,7 +1,7 @@
 -- That the ids of accepted areas, rider categories and fare media are texts of ids.
 use Rattle.std.proofs.Common.{refl, ℕ, ◌<◌}
-use Rattle.feed_rows.specs.declared.names.FileName.TheVariants as file
-use Rattle.feed_rows.specs.declared.names.ColumnName.TheVariants.{AreaId, RiderCategoryId, FareMediaId}
+use Rattle.feed_files.specs.declared.names.FileName.TheVariants as file
+use Rattle.feed_files.specs.declared.names.ColumnName.TheVariants.{AreaId, RiderCategoryId, FareMediaId}
 use Rattle.feed_faults.specs.Records.{row_count}
 use Rattle.feed_faults.specs.FeedTables.{FeedTables, table_in}
 use Rattle.feed_soundness.specs.AcceptedTables.{AreFormed}

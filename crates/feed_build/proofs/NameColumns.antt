@@ -1,9 +1,9 @@
 -- In accepted tables no name is longer than an id, and no table has too many rows.
 use Rattle.std.proofs.Common.{◌≡◌, ◌≤◌}
 use Rattle.feed_rows.specs.Limits.{most_rows}
-use Rattle.feed_rows.specs.declared.names.FileName.{FileName}
-use Rattle.feed_rows.specs.declared.names.FileName.TheVariants as file
-use Rattle.feed_rows.specs.declared.names.ColumnName.TheVariants.{ServiceId, NetworkId, TimeframeGroupId, FareProductId, LegGroupId}
+use Rattle.feed_files.specs.declared.names.FileName.{FileName}
+use Rattle.feed_files.specs.declared.names.FileName.TheVariants as file
+use Rattle.feed_files.specs.declared.names.ColumnName.TheVariants.{ServiceId, NetworkId, TimeframeGroupId, FareProductId, LegGroupId}
 use Rattle.feed_faults.specs.Records.{FileTable, row_count}
 use Rattle.feed_faults.specs.FeedTables.{FeedTables, table_in}
 use Rattle.feed_soundness.specs.AcceptedTables.{AreFormed}

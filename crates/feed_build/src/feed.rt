@@ -1,6 +1,6 @@
 //! A feed from the tables of its files.
 ghost use Rattle.std.specs.Prelude.{◌≡◌, ◌<◌, ℕ, Ok, IfOk};
-ghost use Rattle.feed_rows.specs.declared.names.FileName.TheVariants as file;
+ghost use Rattle.feed_files.specs.declared.names.FileName.TheVariants as file;
 ghost use Rattle.feed_faults.specs.RowChecks.{id_place};
 ghost use Rattle.feed_faults.specs.Records.{row_count};
 ghost use Rattle.feed_faults.specs.FeedTables.{table_in};
@@ -10,7 +10,8 @@ ghost use Rattle.feed_soundness.specs.AcceptedTables.{AreFormed, AreRelated};
 use crate::names::{NameHash, Numbering};
 use crate::rows::FileRow;
 use feed_faults::IdColumn;
-use feed_rows::{ColumnName, Feed, FileName, StopTimeRows};
+use feed_files::{ColumnName, FileName};
+use feed_rows::{Feed, StopTimeRows};
 use feed_tables::{CallTable, Ids, Tables};
 use plain_laws::ItemList;
 use std::alloc::{AllocError, Global};

@@ -6,7 +6,8 @@ ghost use Rattle.feed_faults.specs.Records.{row_count};
 ghost use Rattle.feed_faults.specs.AcceptedFeed.{name_number, with_column};
 ghost use Rattle.feed_build.specs.NameNumbers.{AreShort};
 
-use feed_rows::{ColumnName, FileName, Id, NameList};
+use feed_files::{ColumnName, FileName};
+use feed_rows::{Id, NameList};
 use feed_tables::{CallTable, Tables};
 use feed_text::{Table, is_filled};
 use indexmap::IndexSet;

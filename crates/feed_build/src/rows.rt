@@ -1,7 +1,7 @@
 //! The rows of a feed, each made of the tables of its files.
 ghost use Rattle.std.specs.Prelude.{◌≡◌, ◌==◌, ◌<◌, ◌≤◌, not, true, false, IfOk};
 ghost use Rattle.plain_laws.specs.Plain.{picks_below};
-ghost use Rattle.feed_rows.specs.declared.names.FileName.TheVariants as file;
+ghost use Rattle.feed_files.specs.declared.names.FileName.TheVariants as file;
 ghost use Rattle.feed_faults.specs.Records.{field, row_count};
 ghost use Rattle.feed_faults.specs.FormFaults.{is_passed_over};
 ghost use Rattle.feed_faults.specs.FeedTables.{table_in};
@@ -10,10 +10,11 @@ ghost use Rattle.feed_faults.specs.AcceptedFeed.{if_filled, stop_row, network_of
 
 use crate::feed::Source;
 use feed_faults::IdColumn;
+use feed_files::{ColumnName, FileName};
 use feed_rows::{
-    AreaRow, ColumnName, ExceptionRow, FileName, FrequencyRow, Id, LegRuleRow, Limit, LinkRow,
-    LinkRows, MediumRow, PLATFORM, ProductRow, RiderRow, RouteRow, ServiceRow, StopAreaRow,
-    StopRow, TimeframeRow, TransferRuleRow, TripRow,
+    AreaRow, ExceptionRow, FrequencyRow, Id, LegRuleRow, Limit, LinkRow, LinkRows, MediumRow,
+    PLATFORM, ProductRow, RiderRow, RouteRow, ServiceRow, StopAreaRow, StopRow, TimeframeRow,
+    TransferRuleRow, TripRow,
 };
 use feed_tables::CallTable;
 use feed_text::{is_filled, is_passed_over, nat_of, natural};
@@ -53,7 +54,7 @@ fn is_code(number: Option<i64>, code: u32) -> bool
 /// A row of a feed that a row of one file gives.
 pub trait FileRow: Drop {
     ghost use Rattle.std.specs.Prelude.{◌≡◌, ◌<◌, ℕ, Bool, true, IfOk, OnErr};
-    ghost use Rattle.feed_rows.specs.declared.names.FileName.{FileName};
+    ghost use Rattle.feed_files.specs.declared.names.FileName.{FileName};
     ghost use Rattle.feed_faults.specs.Records.{row_count};
     ghost use Rattle.feed_faults.specs.FeedTables.{FeedTables, table_in};
 

@@ -11,10 +11,10 @@ use Rattle.transit_base.specs.declared.numbers.StopId.{StopId}
 use Rattle.transit_base.specs.declared.numbers.TripId.{TripId}
 use Rattle.feed_rows.specs.Limits.{most_rows}
 use Rattle.feed_rows.specs.TimeGrammar.{time_value}
-use Rattle.feed_rows.specs.declared.names.ColumnName.TheVariants as column
-use Rattle.feed_rows.specs.declared.names.FileName.TheVariants as file
-use Rattle.feed_rows.specs.declared.faults.FaultKind.TheVariants as kind
-use Rattle.feed_rows.specs.declared.faults.FeedFault.{FeedFault}
+use Rattle.feed_files.specs.declared.names.ColumnName.TheVariants as column
+use Rattle.feed_files.specs.declared.names.FileName.TheVariants as file
+use Rattle.feed_files.specs.declared.faults.FaultKind.TheVariants as kind
+use Rattle.feed_files.specs.declared.faults.FeedFault.{FeedFault}
 use Rattle.plain_laws.specs.Plain.{list_below, first_below}
 use Rattle.plain_laws.proofs.Laws.{list_below-same, option_or-assoc}
 use Rattle.feed_faults.specs.declared.columns.ColumnRule.{ColumnRule}

@@ -3,8 +3,8 @@ use Rattle.std.specs.Prelude.{◌≡◌, ℕ, ◌∷◌, [], List, length, get_o
 use Rattle.std.specs.Option.{option_or}
 use Rattle.plain_laws.specs.Plain.{list_below, first_below}
 use Rattle.feed_rows.specs.Limits.{most_rows}
-use Rattle.feed_rows.specs.declared.names.FileName.TheVariants as file
-use Rattle.feed_rows.specs.declared.faults.FeedFault.{FeedFault}
+use Rattle.feed_files.specs.declared.names.FileName.TheVariants as file
+use Rattle.feed_files.specs.declared.faults.FeedFault.{FeedFault}
 use Rattle.feed_faults.specs.Records.{FileTable, Fields, table_of_bytes, header, field, is_long}
 use Rattle.feed_faults.specs.FormFaults.{header_fault, form_fault_of_table, form_fault_of_rows}
 use Rattle.feed_tables.specs.ReadCalls.{read_call, read_calls}

@@ -1,6 +1,6 @@
 //! Stop times, read record by record.
 ghost use Rattle.std.specs.Prelude.{◌≡◌, ◌<◌, ◌++◌, ◌∷◌, [], List, ℕ, Option, None, Some, length, not, ◌==◌, IfOk, IfErr, OnOk};
-ghost use Rattle.feed_rows.specs.declared.names.FileName.TheVariants as file;
+ghost use Rattle.feed_files.specs.declared.names.FileName.TheVariants as file;
 ghost use Rattle.feed_faults.specs.FieldValues.{nat_of};
 ghost use Rattle.feed_faults.specs.FormFaults.{fault_of_field};
 ghost use Rattle.feed_faults.specs.Records.{header};
@@ -12,7 +12,8 @@ ghost use Rattle.feed_tables.specs.ReadCalls.{read_call};
 ghost use Rattle.feed_calls.specs.CallRows.{call_fault, fields_behind, AreCallsOf, IsCallError, HasCalls, IsOwnFault};
 
 use feed_faults::{ColumnRule, Grammar, rule_of};
-use feed_rows::{CallTime, ColumnName, FaultKind, FeedFault, FileName};
+use feed_files::{ColumnName, FaultKind, FeedFault, FileName};
+use feed_rows::CallTime;
 use feed_tables::{CallIds, IdIndex, IdStart, MOST_ROWS, ReadCall, ReadCalls};
 use feed_text::{
     Fields, RecordError, RecordRow, Records, SeenTable, Table, file_fault, header_fault, nat_of,
@@ -33,7 +34,7 @@ pub struct StopTimes {
 }
 
 /// Why stop_times.txt gives no stop times.
-#[derive(Clone, Copy, Debug, PartialEq, Eq)]
+#[derive(Clone, Copy, PartialEq, Eq)]
 pub enum CallError {
     /// The first fault of the file by itself, but that it isn't UTF-8.
     Fault(FeedFault),

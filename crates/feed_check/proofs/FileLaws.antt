@@ -4,10 +4,10 @@ use Rattle.std.specs.Prelude.{◌≢◌, map}
 use Rattle.std.specs.Option.{option_or}
 use Rattle.plain_laws.specs.Plain.{first_below, first_in}
 use Rattle.plain_laws.proofs.Laws.{at_item, option_or-assoc}
-use Rattle.feed_rows.specs.HeldFiles.{HeldFile}
-use Rattle.feed_rows.specs.Names.{place}
-use Rattle.feed_rows.specs.declared.names.FileName.{FileName}
-use Rattle.feed_rows.specs.declared.names.FileName.TheVariants as file
+use Rattle.feed_files.specs.HeldFiles.{HeldFile}
+use Rattle.feed_files.specs.Names.{place}
+use Rattle.feed_files.specs.declared.names.FileName.{FileName}
+use Rattle.feed_files.specs.declared.names.FileName.TheVariants as file
 use Rattle.feed_faults.specs.FeedTables.{table_of, tables_of}
 use Rattle.feed_faults.specs.FormFaults.{form_fault, form_fault_of_held, first_form_fault}
 use Rattle.folder_io.specs.declared.files.FileBytes.{FileBytes}

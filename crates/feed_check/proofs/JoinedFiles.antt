@@ -4,10 +4,10 @@ use Rattle.std.proofs.Common.{◌≡◌, refl, sym, ap, ◌∙◌, ◌<◌, ◌�
 use Rattle.std.specs.Prelude.{◌==◌, if◌then◌else◌, map, IfSome}
 use Rattle.std.proofs.lemmas.Bool.Decides.{nat_tests}
 use Rattle.plain_laws.specs.Plain.{first_in}
-use Rattle.feed_rows.specs.HeldFiles.{HeldFile, held}
-use Rattle.feed_rows.specs.Names.{all_files, place}
-use Rattle.feed_rows.specs.declared.names.FileName.{FileName}
-use Rattle.feed_rows.specs.declared.names.FileName.TheVariants as file
+use Rattle.feed_files.specs.HeldFiles.{HeldFile, held}
+use Rattle.feed_files.specs.Names.{all_files, place}
+use Rattle.feed_files.specs.declared.names.FileName.{FileName}
+use Rattle.feed_files.specs.declared.names.FileName.TheVariants as file
 use Rattle.feed_faults.specs.FormFaults.{form_fault}
 use Rattle.folder_io.specs.FolderCalls.{Contents}
 use Rattle.folder_io.proofs.PlaceLaws.{named}

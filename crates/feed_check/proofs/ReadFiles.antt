@@ -4,9 +4,9 @@ use Rattle.std.specs.Prelude.{map, Ok}
 use Rattle.plain_laws.specs.Plain.{first_in}
 use Rattle.plain_laws.proofs.Laws.{length-list_below}
 use Rattle.feed_rows.specs.Limits.{most_rows}
-use Rattle.feed_rows.specs.HeldFiles.{HeldFile}
-use Rattle.feed_rows.specs.declared.names.FileName.{FileName}
-use Rattle.feed_rows.specs.declared.names.FileName.TheVariants as file
+use Rattle.feed_files.specs.HeldFiles.{HeldFile}
+use Rattle.feed_files.specs.declared.names.FileName.{FileName}
+use Rattle.feed_files.specs.declared.names.FileName.TheVariants as file
 use Rattle.feed_faults.specs.Records.{row_count}
 use Rattle.feed_faults.specs.FeedTables.{FeedTables, table_of, tables_of}
 use Rattle.feed_faults.specs.FormFaults.{form_fault, first_form_fault}

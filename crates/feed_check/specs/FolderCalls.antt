@@ -1,7 +1,7 @@
 -- What stop_times.txt of a folder gives.
 use Rattle.std.specs.Prelude.{◌≡◌, ℕ, List, Option, Some, None, IfSome, Result, Ok, Err, Bool, true, false}
-use Rattle.feed_rows.specs.HeldFiles.{HeldFile, held_within, held, most_bytes}
-use Rattle.feed_rows.specs.declared.names.FileName.TheVariants as file
+use Rattle.feed_files.specs.HeldFiles.{HeldFile, held_within, held, most_bytes}
+use Rattle.feed_files.specs.declared.names.FileName.TheVariants as file
 use Rattle.feed_faults.specs.FeedTables.{table_of}
 use Rattle.feed_faults.specs.FormFaults.{form_fault_of_held}
 use Rattle.folder_io.specs.FolderCalls.{FolderState, WhereTold}
@@ -14,7 +14,7 @@ use Rattle.feed_faults.specs.FaultPlaces.{file_fault}
 use Rattle.feed_text.specs.TextErrors.{IsErrorOf}
 use Rattle.feed_text.specs.declared.errors.TextError.{TextError}
 use Rattle.feed_text.specs.declared.errors.TextError.TheVariants as text
-use Rattle.feed_rows.specs.declared.faults.FaultKind.TheVariants as kind
+use Rattle.feed_files.specs.declared.faults.FaultKind.TheVariants as kind
 
 -- these are the stop times and the table of a file as it is held, which has no fault by itself; or the fault is its first
 abbrev pub AreCallsOfHeld : CallIds → HeldFile → Result StopTimes TextError → Type 0

@@ -1,10 +1,10 @@
 -- Why a folder gives no feed, and which feed it gives.
 use Rattle.std.specs.Prelude.{◌≡◌, None, Some, true}
-use Rattle.feed_rows.specs.FaultCounts.{Rose, Stayed}
+use Rattle.feed_files.specs.FaultCounts.{Rose, Stayed}
 use Rattle.feed_rows.specs.FeedRows.{FeedRows}
-use Rattle.feed_rows.specs.HeldFiles.{HeldFile}
-use Rattle.feed_rows.specs.declared.faults.FeedFault.{FeedFault}
-use Rattle.feed_rows.specs.declared.names.FileName.{FileName}
+use Rattle.feed_files.specs.HeldFiles.{HeldFile}
+use Rattle.feed_files.specs.declared.faults.FeedFault.{FeedFault}
+use Rattle.feed_files.specs.declared.names.FileName.{FileName}
 use Rattle.feed_faults.specs.AcceptedFeed.{feed_of}
 use Rattle.folder_io.specs.FolderCalls.{FolderState}
 use Rattle.folder_io.specs.declared.reading.ReadError.{ReadError}

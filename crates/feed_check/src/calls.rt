@@ -1,15 +1,15 @@
 //! stop_times.txt of a folder, read record by record.
 ghost use Rattle.std.specs.Prelude.{◌≡◌, true, IfOk, IfErr, OnOk};
-ghost use Rattle.feed_rows.specs.FaultCounts.{Stayed};
-ghost use Rattle.feed_rows.specs.HeldFiles.{most_bytes};
-ghost use Rattle.feed_rows.specs.declared.names.FileName.TheVariants as file;
+ghost use Rattle.feed_files.specs.FaultCounts.{Stayed};
+ghost use Rattle.feed_files.specs.HeldFiles.{most_bytes};
+ghost use Rattle.feed_files.specs.declared.names.FileName.TheVariants as file;
 ghost use Rattle.feed_faults.specs.FaultPlaces.{file_fault};
 ghost use Rattle.folder_io.specs.FolderCalls.{FolderState};
 ghost use Rattle.folder_io.specs.FileReading.{GivesUp, GivesUpOn, ReadsTo};
 ghost use Rattle.feed_check.specs.FolderCalls.{answer_of, AreCallsIn, AreCallsLeft, IsLeft};
 
 use feed_calls::{CallError, StopTimes, read_stop_times};
-use feed_rows::{FaultKind, FileName};
+use feed_files::{FaultKind, FileName};
 use feed_tables::CallIds;
 use feed_text::{Records, TextError, file_fault};
 use folder_io::{Beginning, Folder, MOST_BYTES, Opened, PiecesEnd, PiecesSince, ReadError};

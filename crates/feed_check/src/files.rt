@@ -1,6 +1,6 @@
 //! The feed that files make.
 ghost use Rattle.std.specs.Prelude.{◌≡◌, IfOk, IfErr, OnOk, None, length};
-ghost use Rattle.feed_rows.specs.declared.names.FileName.TheVariants as file;
+ghost use Rattle.feed_files.specs.declared.names.FileName.TheVariants as file;
 ghost use Rattle.feed_faults.specs.AcceptedFeed.{feed_of, rows_of_tables};
 ghost use Rattle.feed_faults.specs.FirstFault.{first_relation_fault, first_fault};
 ghost use Rattle.feed_check.specs.FolderCalls.{AreCallsOfHeld};
@@ -15,7 +15,8 @@ use crate::calls::{answer, whole_fault};
 use feed_build::feed_of_tables;
 use feed_calls::{StopTimes, read_stop_times};
 use feed_relations::first_relation_fault;
-use feed_rows::{FaultKind, Feed, FileName};
+use feed_files::{FaultKind, FileName};
+use feed_rows::Feed;
 use feed_tables::{CallIds, CallTable, Ids, ReadTable, Tables, read_tables};
 use feed_text::{Records, TextError, is_text};
 use folder_io::{FileBytes, Files};

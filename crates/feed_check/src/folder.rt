@@ -5,7 +5,8 @@ ghost use Rattle.feed_check.specs.LoadErrors.{GivesUpLoading, IsFeedOf};
 
 use crate::calls::folder_calls;
 use crate::files::related_feed;
-use feed_rows::{Feed, FeedFault, FileName};
+use feed_files::{FeedFault, FileName};
+use feed_rows::Feed;
 use feed_tables::{CallIds, read_tables};
 use feed_text::TextError;
 use folder_io::{Files, Folder, ReadError, read_files};

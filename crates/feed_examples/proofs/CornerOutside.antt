@@ -1,10 +1,10 @@
 -- What comes from outside at its edges: the limit of a file's bytes, and counts of what failed.
 use Rattle.std.proofs.Common.{◌≡◌, refl, ℕ, ◌-◌, inl, inr, List, Option, arith}
 use Rattle.std.specs.Prelude.{◌^◌}
-use Rattle.feed_rows.specs.declared.names.FileName.{FileName}
-use Rattle.feed_rows.specs.Names.{file_text}
-use Rattle.feed_rows.specs.HeldFiles.{held, held_within}
-use Rattle.feed_rows.specs.FaultCounts.{Rose, Stayed}
+use Rattle.feed_files.specs.declared.names.FileName.{FileName}
+use Rattle.feed_files.specs.Names.{file_text}
+use Rattle.feed_files.specs.HeldFiles.{held, held_within}
+use Rattle.feed_files.specs.FaultCounts.{Rose, Stayed}
 
 -- a file of 256 MiB is read, and one of a byte more is too large
 bytes_at_most : (folder : List ℕ → Option (List ℕ)) (name : FileName) → held folder name ≡ held_within 268435456 (folder (file_text name))

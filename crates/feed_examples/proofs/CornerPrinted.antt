@@ -2,9 +2,9 @@
 use Rattle.std.specs.Prelude.{◌≡◌, refl, [], ◌∷◌, ◌++◌, map, Option, Some, None, ℤ, pos, ◌≤ℤ◌, List, codes}
 use Rattle.std.specs.Fmt.{digits}
 use Rattle.transit_base.specs.declared.numbers.RiderId.{RiderId}
-use Rattle.feed_rows.specs.declared.names.FileName.TheVariants as file
-use Rattle.feed_rows.specs.declared.names.ColumnName.TheVariants as column
-use Rattle.feed_rows.specs.declared.faults.FaultKind.TheVariants as kind
+use Rattle.feed_files.specs.declared.names.FileName.TheVariants as file
+use Rattle.feed_files.specs.declared.names.ColumnName.TheVariants as column
+use Rattle.feed_files.specs.declared.faults.FaultKind.TheVariants as kind
 use Rattle.feed_rows.specs.declared.journeys.Ride.{Ride}
 use Rattle.feed_rows.specs.declared.fares.Choice.{Choice}
 use Rattle.feed_rows.specs.FeedRows.{FeedRows}

@@ -2,9 +2,9 @@
 use Rattle.std.specs.Prelude.{◌≡◌, refl, ◌++◌, codes}
 use Rattle.std.specs.Fmt.{digits}
 use Rattle.transit_base.specs.DateTexts.{time_text}
-use Rattle.feed_rows.specs.HeldFiles.{HeldFile}
+use Rattle.feed_files.specs.HeldFiles.{HeldFile}
 use Rattle.feed_rows.specs.GeneratedFeed.{stop_times_file, generated}
-use Rattle.feed_rows.specs.declared.names.FileName.TheVariants as file
+use Rattle.feed_files.specs.declared.names.FileName.TheVariants as file
 use Rattle.feed_examples.proofs.GeneratedChecks.{lined}
 
 stop_times :

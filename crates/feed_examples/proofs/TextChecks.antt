@@ -10,9 +10,9 @@ use Rattle.feed_rows.specs.Queries.{query_of, has_stop_id, has_rider_id, is_defa
 use Rattle.feed_rows.specs.declared.rows.StopRow.{StopRow}
 use Rattle.feed_rows.specs.declared.rows.RiderRow.{RiderRow}
 use Rattle.feed_rows.specs.declared.journeys.Query.{Query}
-use Rattle.feed_rows.specs.declared.names.FileName.TheVariants as file
-use Rattle.feed_rows.specs.declared.names.ColumnName.TheVariants as column
-use Rattle.feed_rows.specs.declared.faults.FaultKind.TheVariants as kind
+use Rattle.feed_files.specs.declared.names.FileName.TheVariants as file
+use Rattle.feed_files.specs.declared.names.ColumnName.TheVariants as column
+use Rattle.feed_files.specs.declared.faults.FaultKind.TheVariants as kind
 use Rattle.feed_rows.specs.declared.usage.StopWord.TheVariants as stop_word
 use Rattle.feed_rows.specs.declared.usage.UsageFault.{UsageFault}
 use Rattle.feed_rows.specs.declared.usage.UsageFault.TheVariants as usage

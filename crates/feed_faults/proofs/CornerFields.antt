@@ -2,9 +2,9 @@
 -- columns that may be empty.
 use Rattle.std.proofs.Common.{◌≡◌, [], ◌∷◌, None, Some, refl}
 use Rattle.std.specs.Prelude.{codes, map, replicate}
-use Rattle.feed_rows.specs.declared.names.FileName.TheVariants as file
-use Rattle.feed_rows.specs.declared.names.ColumnName.TheVariants as column
-use Rattle.feed_rows.specs.declared.faults.FaultKind.TheVariants as kind
+use Rattle.feed_files.specs.declared.names.FileName.TheVariants as file
+use Rattle.feed_files.specs.declared.names.ColumnName.TheVariants as column
+use Rattle.feed_files.specs.declared.faults.FaultKind.TheVariants as kind
 use Rattle.feed_faults.specs.FieldGrammars.{currency_decimals}
 use Rattle.feed_faults.specs.OnLiterals.{feeds_on_literals, grammars_on_literals}
 use Rattle.feed_faults.proofs.BaseFeed.{base}

@@ -2,12 +2,12 @@
 use Rattle.std.proofs.Common.{◌≡◌, ℕ, Bool, List, [], ◌∷◌, ◌++◌, Option, None, refl}
 use Rattle.std.specs.Prelude.{codes, map}
 use Rattle.std.specs.Option.{option_or}
-use Rattle.feed_rows.specs.declared.names.FileName.{FileName}
-use Rattle.feed_rows.specs.declared.names.FileName.TheVariants as file
-use Rattle.feed_rows.specs.declared.names.ColumnName.TheVariants as column
-use Rattle.feed_rows.specs.declared.faults.FaultKind.TheVariants as kind
-use Rattle.feed_rows.specs.declared.faults.FeedFault.{FeedFault}
-use Rattle.feed_rows.specs.HeldFiles.{HeldFile}
+use Rattle.feed_files.specs.declared.names.FileName.{FileName}
+use Rattle.feed_files.specs.declared.names.FileName.TheVariants as file
+use Rattle.feed_files.specs.declared.names.ColumnName.TheVariants as column
+use Rattle.feed_files.specs.declared.faults.FaultKind.TheVariants as kind
+use Rattle.feed_files.specs.declared.faults.FeedFault.{FeedFault}
+use Rattle.feed_files.specs.HeldFiles.{HeldFile}
 use Rattle.feed_faults.specs.Records.{table_of_bytes}
 use Rattle.feed_faults.specs.FormFaults.{form_fault_of_held, form_fault_of_bytes, form_fault_of_rows, first_form_fault}
 use Rattle.feed_faults.specs.OnLiterals.{feeds_on_literals}

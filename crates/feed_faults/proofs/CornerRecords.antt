@@ -1,9 +1,9 @@
 -- Files as tables at their edges: quotes, ends of lines, blanks around fields, and columns without a name or with one twice.
 use Rattle.std.proofs.Common.{[], ◌∷◌, None, refl}
 use Rattle.std.specs.Prelude.{codes}
-use Rattle.feed_rows.specs.declared.names.FileName.TheVariants as file
-use Rattle.feed_rows.specs.declared.names.ColumnName.TheVariants as column
-use Rattle.feed_rows.specs.declared.faults.FaultKind.TheVariants as kind
+use Rattle.feed_files.specs.declared.names.FileName.TheVariants as file
+use Rattle.feed_files.specs.declared.names.ColumnName.TheVariants as column
+use Rattle.feed_files.specs.declared.faults.FaultKind.TheVariants as kind
 use Rattle.feed_faults.specs.OnLiterals.{feeds_on_literals}
 use Rattle.feed_faults.proofs.BaseFeed.{base}
 use Rattle.feed_faults.proofs.ExporterForm.{marked}

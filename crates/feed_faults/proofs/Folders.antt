@@ -1,7 +1,7 @@
 -- Folders of a few files.
 use Rattle.std.specs.Prelude.{ℕ, List, ◌∷◌, Option, bytes_eq, not, find, filter, option_map}
-use Rattle.feed_rows.specs.declared.names.FileName.{FileName}
-use Rattle.feed_rows.specs.HeldFiles.{HeldFile, held}
+use Rattle.feed_files.specs.declared.names.FileName.{FileName}
+use Rattle.feed_files.specs.HeldFiles.{HeldFile, held}
 
 -- names with their bytes; the first of a name counts
 abbrev pub Folder : Type 0

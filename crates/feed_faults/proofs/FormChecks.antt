@@ -1,12 +1,12 @@
 -- The first pass at its edges: bytes, headers, rows and fields.
 use Rattle.std.proofs.Common.{◌≡◌, true, false, [], ◌∷◌, ◌++◌, Option, None, Some, refl}
 use Rattle.std.specs.Prelude.{codes, map, replicate}
-use Rattle.feed_rows.specs.declared.names.FileName.{FileName}
-use Rattle.feed_rows.specs.declared.names.FileName.TheVariants as file
-use Rattle.feed_rows.specs.declared.names.ColumnName.TheVariants as column
-use Rattle.feed_rows.specs.declared.faults.FaultKind.TheVariants as kind
-use Rattle.feed_rows.specs.declared.faults.FeedFault.{FeedFault}
-use Rattle.feed_rows.specs.HeldFiles.{HeldFile, held_within}
+use Rattle.feed_files.specs.declared.names.FileName.{FileName}
+use Rattle.feed_files.specs.declared.names.FileName.TheVariants as file
+use Rattle.feed_files.specs.declared.names.ColumnName.TheVariants as column
+use Rattle.feed_files.specs.declared.faults.FaultKind.TheVariants as kind
+use Rattle.feed_files.specs.declared.faults.FeedFault.{FeedFault}
+use Rattle.feed_files.specs.HeldFiles.{HeldFile, held_within}
 use Rattle.feed_faults.specs.FormFaults.{form_fault_of_bytes}
 use Rattle.feed_faults.specs.FirstFault.{first_fault}
 use Rattle.feed_faults.specs.AcceptedFeed.{feed_of}

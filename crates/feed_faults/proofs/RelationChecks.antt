@@ -1,9 +1,9 @@
 -- The second pass at its edges.
 use Rattle.std.proofs.Common.{◌≡◌, [], ◌∷◌, None, refl}
 use Rattle.std.specs.Prelude.{codes, map}
-use Rattle.feed_rows.specs.declared.names.FileName.TheVariants as file
-use Rattle.feed_rows.specs.declared.names.ColumnName.TheVariants as column
-use Rattle.feed_rows.specs.declared.faults.FaultKind.TheVariants as kind
+use Rattle.feed_files.specs.declared.names.FileName.TheVariants as file
+use Rattle.feed_files.specs.declared.names.ColumnName.TheVariants as column
+use Rattle.feed_files.specs.declared.faults.FaultKind.TheVariants as kind
 use Rattle.feed_faults.specs.AcceptedFeed.{feed_of}
 use Rattle.feed_faults.specs.OnLiterals.{feeds_on_literals}
 use Rattle.feed_faults.proofs.Folders.{Folder, files_in, with_file, without_file}

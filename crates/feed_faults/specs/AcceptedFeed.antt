@@ -6,10 +6,10 @@ use Rattle.std.specs.Prelude.{ℕ, zero, suc, ◌&&◌, ◌==◌, not, nat_lt, i
 use Rattle.std.specs.Option.{option_map_or}
 use Rattle.transit_base.specs.Limits.{most_time}
 use Rattle.transit_base.specs.declared.numbers.StopId.{StopId}
-use Rattle.feed_rows.specs.declared.names.FileName.{FileName}
-use Rattle.feed_rows.specs.declared.names.FileName.TheVariants as file
-use Rattle.feed_rows.specs.declared.names.ColumnName.{ColumnName}
-use Rattle.feed_rows.specs.declared.names.ColumnName.TheVariants as column
+use Rattle.feed_files.specs.declared.names.FileName.{FileName}
+use Rattle.feed_files.specs.declared.names.FileName.TheVariants as file
+use Rattle.feed_files.specs.declared.names.ColumnName.{ColumnName}
+use Rattle.feed_files.specs.declared.names.ColumnName.TheVariants as column
 use Rattle.feed_rows.specs.declared.rows.StopRow.{StopRow}
 use Rattle.feed_rows.specs.declared.rows.RouteRow.{RouteRow}
 use Rattle.feed_rows.specs.declared.rows.TripRow.{TripRow}
@@ -29,7 +29,7 @@ use Rattle.feed_rows.specs.declared.rows.Limit.{Limit}
 use Rattle.feed_rows.specs.declared.rows.TransferRuleRow.{TransferRuleRow}
 use Rattle.feed_rows.specs.Codes.{platform_type, not_available, service_available, service_added, change_forbidden, default_category}
 use Rattle.feed_rows.specs.FeedRows.{FeedRows}
-use Rattle.feed_rows.specs.HeldFiles.{HeldFile}
+use Rattle.feed_files.specs.HeldFiles.{HeldFile}
 use Rattle.plain_laws.specs.Plain.{when, find_below, list_below, picks_below}
 use Rattle.feed_faults.specs.Records.{FileTable, Fields, row_count, column_of, field, is_filled}
 use Rattle.feed_rows.specs.TimeGrammar.{time_value}

@@ -1,6 +1,6 @@
 -- Timeframes, products and transfer rules, among the rows of their file.
 use Rattle.std.specs.Prelude.{ℕ, ◌&&◌, ◌||◌, not, nat_lt, if◌then◌else◌, Bool, List, bytes_eq}
-use Rattle.feed_rows.specs.declared.names.ColumnName.TheVariants.{ServiceId, TimeframeGroupId, StartTime, EndTime, RiderCategoryId, FareMediaId, FareProductId, Currency, FromLegGroupId, ToLegGroupId, TransferCount, DurationLimit, DurationLimitType}
+use Rattle.feed_files.specs.declared.names.ColumnName.TheVariants.{ServiceId, TimeframeGroupId, StartTime, EndTime, RiderCategoryId, FareMediaId, FareProductId, Currency, FromLegGroupId, ToLegGroupId, TransferCount, DurationLimit, DurationLimitType}
 use Rattle.feed_faults.specs.Records.{FileTable, field, is_filled}
 use Rattle.feed_faults.specs.FieldValues.{frame_start, frame_end}
 use Rattle.feed_faults.specs.RowKeys.{same_field, is_repeated}

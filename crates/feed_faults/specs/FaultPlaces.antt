@@ -1,10 +1,10 @@
 -- Faults with their places: of a whole file, of a column of its header, of a data row. Data rows are counted from 1 in a
 -- fault, and 0 stands for the file.
 use Rattle.std.specs.Prelude.{ℕ, ◌+◌, None, Some}
-use Rattle.feed_rows.specs.declared.names.FileName.{FileName}
-use Rattle.feed_rows.specs.declared.names.ColumnName.{ColumnName}
-use Rattle.feed_rows.specs.declared.faults.FaultKind.{FaultKind}
-use Rattle.feed_rows.specs.declared.faults.FeedFault.{FeedFault}
+use Rattle.feed_files.specs.declared.names.FileName.{FileName}
+use Rattle.feed_files.specs.declared.names.ColumnName.{ColumnName}
+use Rattle.feed_files.specs.declared.faults.FaultKind.{FaultKind}
+use Rattle.feed_files.specs.declared.faults.FeedFault.{FeedFault}
 
 -- a fault of a file
 abbrev pub file_fault : FileName → FaultKind → FeedFault

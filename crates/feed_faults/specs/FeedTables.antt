@@ -1,8 +1,8 @@
 -- The tables of a feed, one for each file, in the order of the files.
 use Rattle.std.specs.Prelude.{List, [], get_or, map}
-use Rattle.feed_rows.specs.declared.names.FileName.{FileName}
-use Rattle.feed_rows.specs.Names.{all_files, place}
-use Rattle.feed_rows.specs.HeldFiles.{HeldFile}
+use Rattle.feed_files.specs.declared.names.FileName.{FileName}
+use Rattle.feed_files.specs.Names.{all_files, place}
+use Rattle.feed_files.specs.HeldFiles.{HeldFile}
 use Rattle.feed_faults.specs.Records.{FileTable, table_of_bytes}
 
 abbrev pub FeedTables : Type 0

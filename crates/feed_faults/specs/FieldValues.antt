@@ -2,7 +2,7 @@
 -- fields are of their grammars; of others they say nothing.
 use Rattle.std.specs.Prelude.{ℕ, List, Option, None, Some, unwrap_or, ℤ, pos, negsuc}
 use Rattle.transit_base.specs.Limits.{day_seconds}
-use Rattle.feed_rows.specs.declared.names.ColumnName.TheVariants as column
+use Rattle.feed_files.specs.declared.names.ColumnName.TheVariants as column
 use Rattle.feed_faults.specs.Records.{FileTable, field}
 use Rattle.feed_rows.specs.TimeGrammar.{time_value}
 use Rattle.feed_faults.specs.FieldGrammars.{int_value, date_value, amount_in}

@@ -1,10 +1,10 @@
 -- The first fault of a feed: of the files each by itself, and then of the files among each other.
 use Rattle.std.specs.Prelude.{[], ◌∷◌, Option}
 use Rattle.std.specs.Option.{option_or}
-use Rattle.feed_rows.specs.declared.names.FileName.{FileName}
-use Rattle.feed_rows.specs.declared.faults.FeedFault.{FeedFault}
-use Rattle.feed_rows.specs.Names.{all_files}
-use Rattle.feed_rows.specs.HeldFiles.{HeldFile}
+use Rattle.feed_files.specs.declared.names.FileName.{FileName}
+use Rattle.feed_files.specs.declared.faults.FeedFault.{FeedFault}
+use Rattle.feed_files.specs.Names.{all_files}
+use Rattle.feed_files.specs.HeldFiles.{HeldFile}
 use Rattle.plain_laws.specs.Plain.{first_below, first_in, first_of}
 use Rattle.feed_faults.specs.Records.{row_count}
 use Rattle.feed_faults.specs.FormFaults.{first_form_fault}

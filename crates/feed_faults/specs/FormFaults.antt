@@ -4,16 +4,16 @@ use Rattle.std.specs.Prelude.{ℕ, ◌&&◌, ◌||◌, not, nat_lt, if◌then◌
 use Rattle.std.specs.Option.{option_or}
 use Rattle.std.specs.Str.{is_utf8}
 use Rattle.feed_rows.specs.Limits.{most_rows}
-use Rattle.feed_rows.specs.declared.names.FileName.{FileName}
-use Rattle.feed_rows.specs.declared.names.FileName.TheVariants as file
-use Rattle.feed_rows.specs.declared.names.ColumnName.{ColumnName}
-use Rattle.feed_rows.specs.declared.names.ColumnName.TheVariants as column
-use Rattle.feed_rows.specs.declared.faults.FaultKind.{FaultKind}
-use Rattle.feed_rows.specs.declared.faults.FaultKind.TheVariants as kind
-use Rattle.feed_rows.specs.declared.faults.FeedFault.{FeedFault}
-use Rattle.feed_rows.specs.Names.{all_files, column_text}
+use Rattle.feed_files.specs.declared.names.FileName.{FileName}
+use Rattle.feed_files.specs.declared.names.FileName.TheVariants as file
+use Rattle.feed_files.specs.declared.names.ColumnName.{ColumnName}
+use Rattle.feed_files.specs.declared.names.ColumnName.TheVariants as column
+use Rattle.feed_files.specs.declared.faults.FaultKind.{FaultKind}
+use Rattle.feed_files.specs.declared.faults.FaultKind.TheVariants as kind
+use Rattle.feed_files.specs.declared.faults.FeedFault.{FeedFault}
+use Rattle.feed_files.specs.Names.{all_files, column_text}
 use Rattle.plain_laws.specs.Plain.{when, any_below, first_below, first_in}
-use Rattle.feed_rows.specs.HeldFiles.{HeldFile}
+use Rattle.feed_files.specs.HeldFiles.{HeldFile}
 use Rattle.feed_faults.specs.declared.columns.EmptyField.{EmptyField}
 use Rattle.feed_faults.specs.declared.columns.EmptyField.TheVariants as empty
 use Rattle.feed_faults.specs.declared.columns.ColumnRule.{ColumnRule}

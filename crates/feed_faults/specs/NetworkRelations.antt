@@ -1,10 +1,10 @@
 -- Networks of routes in files of their own.
 use Rattle.std.specs.Prelude.{◌&&◌, nat_lt, Bool, Option, None}
-use Rattle.feed_rows.specs.declared.names.FileName.{FileName}
-use Rattle.feed_rows.specs.declared.names.FileName.TheVariants as file
-use Rattle.feed_rows.specs.declared.names.ColumnName.TheVariants.{NetworkId}
-use Rattle.feed_rows.specs.declared.faults.FaultKind.TheVariants.{ForbiddenTogether}
-use Rattle.feed_rows.specs.declared.faults.FeedFault.{FeedFault}
+use Rattle.feed_files.specs.declared.names.FileName.{FileName}
+use Rattle.feed_files.specs.declared.names.FileName.TheVariants as file
+use Rattle.feed_files.specs.declared.names.ColumnName.TheVariants.{NetworkId}
+use Rattle.feed_files.specs.declared.faults.FaultKind.TheVariants.{ForbiddenTogether}
+use Rattle.feed_files.specs.declared.faults.FeedFault.{FeedFault}
 use Rattle.plain_laws.specs.Plain.{when, any_below}
 use Rattle.feed_faults.specs.Records.{FileTable, row_count, field, is_filled}
 use Rattle.feed_faults.specs.FaultPlaces.{file_fault}

@@ -3,7 +3,7 @@ use Rattle.std.specs.Prelude.{⊤}
 use lib.Utf8.{encode}
 use Rattle.std.specs.Str.{is_utf8, chars}
 use Rattle.csv.proofs.OnLiterals.{csv_on_literals}
-use Rattle.feed_rows.specs.HeldFiles.{held}
+use Rattle.feed_files.specs.HeldFiles.{held}
 use Rattle.feed_faults.specs.Records.{cut, table_of_bytes, column_of, field, is_long}
 use Rattle.feed_rows.specs.Numerals.{number_value}
 use Rattle.feed_rows.specs.TimeGrammar.{time_value}

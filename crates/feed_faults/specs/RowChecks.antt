@@ -1,11 +1,11 @@
 -- The second pass: what is checked of the rows of each file among the rows of all files. The checks of a row stand in order,
 -- and the first that fails counts.
 use Rattle.std.specs.Prelude.{ℕ, ◌&&◌, not, Bool, true, false, List, Option}
-use Rattle.feed_rows.specs.declared.names.FileName.{FileName}
-use Rattle.feed_rows.specs.declared.names.FileName.TheVariants as file
-use Rattle.feed_rows.specs.declared.names.ColumnName.{ColumnName}
-use Rattle.feed_rows.specs.declared.names.ColumnName.TheVariants as column
-use Rattle.feed_rows.specs.declared.faults.FeedFault.{FeedFault}
+use Rattle.feed_files.specs.declared.names.FileName.{FileName}
+use Rattle.feed_files.specs.declared.names.FileName.TheVariants as file
+use Rattle.feed_files.specs.declared.names.ColumnName.{ColumnName}
+use Rattle.feed_files.specs.declared.names.ColumnName.TheVariants as column
+use Rattle.feed_files.specs.declared.faults.FeedFault.{FeedFault}
 use Rattle.feed_faults.specs.declared.checks.IdColumn.{IdColumn}
 use Rattle.feed_faults.specs.declared.checks.IdColumn.TheVariants.{Stop, Trip, Route, RouteNetwork, Calendar, CalendarDate, Area, Network, NetworkRoute, TimeframeGroup, RiderCategory, FareMedia, FareProduct, LegGroup}
 use Rattle.feed_faults.specs.declared.checks.RowCheck.{RowCheck}

@@ -1,6 +1,6 @@
 -- Rows by what stands in their columns.
 use Rattle.std.specs.Prelude.{ℕ, ◌&&◌, Bool, List, bytes_eq, is_none, Option}
-use Rattle.feed_rows.specs.declared.names.ColumnName.{ColumnName}
+use Rattle.feed_files.specs.declared.names.ColumnName.{ColumnName}
 use Rattle.plain_laws.specs.Plain.{find_below, any_below}
 use Rattle.feed_faults.specs.Records.{FileTable, row_count, field, is_filled}
 

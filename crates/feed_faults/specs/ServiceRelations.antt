@@ -1,7 +1,7 @@
 -- The days of services and the starts of frequencies, among the rows of their file.
 use Rattle.std.specs.Prelude.{ℕ, ◌&&◌, ◌==◌, Bool, int_lt}
 use Rattle.transit_base.specs.Limits.{most_time}
-use Rattle.feed_rows.specs.declared.names.ColumnName.TheVariants.{ServiceId, StartDate, EndDate, Date, TripId, StartTime}
+use Rattle.feed_files.specs.declared.names.ColumnName.TheVariants.{ServiceId, StartDate, EndDate, Date, TripId, StartTime}
 use Rattle.plain_laws.specs.Plain.{int_same}
 use Rattle.feed_faults.specs.Records.{FileTable, field}
 use Rattle.feed_faults.specs.FieldValues.{time_or, day_or_zero}

@@ -1,6 +1,6 @@
 -- The parents of stops, among the rows of their file.
 use Rattle.std.specs.Prelude.{ℕ, ◌&&◌, ◌==◌, nat_lt, Bool}
-use Rattle.feed_rows.specs.declared.names.ColumnName.TheVariants.{StopId, ParentStation}
+use Rattle.feed_files.specs.declared.names.ColumnName.TheVariants.{StopId, ParentStation}
 use Rattle.feed_rows.specs.Codes.{platform_type, station_type}
 use Rattle.plain_laws.specs.Plain.{filled_and}
 use Rattle.feed_faults.specs.Records.{FileTable, field, is_filled}

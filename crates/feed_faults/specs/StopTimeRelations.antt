@@ -3,7 +3,7 @@
 use Rattle.std.specs.Prelude.{ℕ, ◌&&◌, ◌||◌, ◌==◌, not, nat_lt, Bool, List, length, bytes_eq, is_some, Option}
 use Rattle.std.specs.Option.{option_or}
 use Rattle.transit_base.specs.Limits.{most_time}
-use Rattle.feed_rows.specs.declared.names.ColumnName.TheVariants.{TripId, StopId, StopSequence, ArrivalTime, DepartureTime}
+use Rattle.feed_files.specs.declared.names.ColumnName.TheVariants.{TripId, StopId, StopSequence, ArrivalTime, DepartureTime}
 use Rattle.plain_laws.specs.Plain.{filled_and, at_and, any_below, list_below}
 use Rattle.feed_faults.specs.Records.{FileTable, row_count, field}
 use Rattle.feed_rows.specs.TimeGrammar.{time_value}

@@ -2,7 +2,7 @@
 ghost use Rattle.std.specs.Prelude.{◌≡◌};
 ghost use Rattle.feed_faults.specs.RowChecks.{id_place};
 
-use feed_rows::{ColumnName, FaultKind, FileName};
+use feed_files::{ColumnName, FaultKind, FileName};
 
 /// A column of ids that rows of other files name, or by which rows are found.
 #[derive(Clone, Copy)]

@@ -1,5 +1,5 @@
 //! How the fields of a column are judged.
-use feed_rows::ColumnName;
+use feed_files::ColumnName;
 
 /// What the fields of a column are, where they are filled.
 #[derive(Clone, Copy, PartialEq, Eq)]

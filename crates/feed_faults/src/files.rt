@@ -4,7 +4,7 @@ ghost use Rattle.feed_faults.specs.FileColumns.{is_always_needed, columns_of, ch
 
 use crate::checks::{IdColumn, RowCheck, RowRule};
 use crate::columns::{ColumnRule, EmptyField, Grammar};
-use feed_rows::{ColumnName, FaultKind, FileName};
+use feed_files::{ColumnName, FaultKind, FileName};
 use transit_base::{DAY_SECONDS, MOST_TIME};
 
 /// What a file is judged by.

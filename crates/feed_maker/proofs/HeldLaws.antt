@@ -1,9 +1,9 @@
 -- The files that are made are the generated ones, and none is too long to be read.
 use mathlib.Core.Path.{fun_ext}
 use Rattle.std.proofs.Common.{◌≡◌, refl, ℕ, ◌≤◌, List, length, replicate, arith}
-use Rattle.feed_rows.specs.declared.names.FileName.{FileName}
-use Rattle.feed_rows.specs.declared.names.FileName.TheVariants as file
-use Rattle.feed_rows.specs.HeldFiles.{most_bytes}
+use Rattle.feed_files.specs.declared.names.FileName.{FileName}
+use Rattle.feed_files.specs.declared.names.FileName.TheVariants as file
+use Rattle.feed_files.specs.HeldFiles.{most_bytes}
 use Rattle.folder_io.specs.declared.files.FileBytes.{FileBytes}
 use Rattle.folder_io.specs.declared.files.FileBytes.TheVariants as kept
 use Rattle.folder_io.specs.KeptFiles.{held_in, AreWithin}

@@ -5,7 +5,7 @@ use Rattle.std.proofs.lemmas.Fmt.{length-decimal-le}
 use Rattle.transit_base.specs.Limits.{most_time}
 use Rattle.transit_base.specs.DateTexts.{two_digits, hours_text, clock_text, time_text}
 use Rattle.plain_laws.specs.Plain.{joined_below}
-use Rattle.feed_rows.specs.HeldFiles.{most_bytes}
+use Rattle.feed_files.specs.HeldFiles.{most_bytes}
 use Rattle.feed_rows.specs.GeneratedFeed.{stop_name, route_name, route_stop, network_name, trip_name, area_name, row_text, stops_file, routes_file, trips_file, stop_times_file, stop_areas_file}
 use Rattle.feed_maker.specs.declared.draws.Pace.{Pace}
 use Rattle.feed_maker.specs.Draws.{pace_of}

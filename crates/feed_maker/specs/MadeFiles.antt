@@ -1,8 +1,8 @@
 -- The files of a generated feed as they are put, one after another.
 use Rattle.std.specs.Prelude.{ℕ, List, replicate, slice_set}
-use Rattle.feed_rows.specs.Names.{place}
-use Rattle.feed_rows.specs.declared.names.FileName.{FileName}
-use Rattle.feed_rows.specs.declared.names.FileName.TheVariants as file
+use Rattle.feed_files.specs.Names.{place}
+use Rattle.feed_files.specs.declared.names.FileName.{FileName}
+use Rattle.feed_files.specs.declared.names.FileName.TheVariants as file
 use Rattle.folder_io.specs.declared.files.FileBytes.{FileBytes}
 use Rattle.folder_io.specs.declared.files.FileBytes.TheVariants as kept
 use Rattle.feed_rows.specs.GeneratedFeed.{stops_file, routes_file, trips_file, stop_times_file, calendar_file, areas_file, stop_areas_file, timeframes_file, fare_products_file, fare_leg_rules_file, fare_transfer_rules_file}

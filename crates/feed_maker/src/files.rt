@@ -11,7 +11,7 @@ use crate::fares::{
 use crate::routes::{routes_file, trips_file};
 use crate::stop_times::stop_times_file;
 use crate::stops::{stop_areas_file, stops_file};
-use feed_rows::FileName;
+use feed_files::FileName;
 use folder_io::{ByteText, FileBytes, Files};
 use std::alloc::{AllocError, Global};
 

@@ -1,14 +1,14 @@
 -- Each check of the list of a file that is kept as a table fits the file, and rows that have passed the checks before it are as it needs them.
 use Rattle.std.proofs.Common.{◌≡◌, refl, ℕ, zero, suc, ◌+◌, ◌<◌, true, false, List, [], ◌∷◌, length, get_or, Option, Some, None, arith, subst}
 use Rattle.std.specs.Prelude.{slice_get}
-use Rattle.feed_rows.specs.declared.names.FileName.{FileName}
-use Rattle.feed_rows.specs.declared.names.FileName.TheVariants as file
+use Rattle.feed_files.specs.declared.names.FileName.{FileName}
+use Rattle.feed_files.specs.declared.names.FileName.TheVariants as file
 use Rattle.plain_laws.specs.Plain.{find_below, first_below, when}
 use Rattle.plain_laws.proofs.Laws.{at_item, none_below, none_when, find_below_tells}
 use Rattle.feed_faults.specs.declared.checks.RowRule.{RowRule}
 use Rattle.feed_faults.specs.declared.checks.RowCheck.{RowCheck}
 use Rattle.feed_faults.specs.declared.checks.RowCheck.TheVariants.{NewKey}
-use Rattle.feed_rows.specs.declared.faults.FeedFault.{FeedFault}
+use Rattle.feed_files.specs.declared.faults.FeedFault.{FeedFault}
 use Rattle.feed_faults.specs.FeedTables.{FeedTables}
 use Rattle.feed_faults.specs.FaultPlaces.{field_fault}
 use Rattle.feed_faults.specs.FileColumns.{checks_of}

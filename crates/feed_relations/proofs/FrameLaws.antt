@@ -13,7 +13,7 @@ use Rattle.std.proofs.lemmas.Grind.{common_steps}
 use Rattle.std.proofs.lemmas.Cmp.{then_total, on_total, nat_cmp_total, tied_itself}
 use Rattle.std.proofs.lemmas.Bool.{false_from_ne_true}
 use Rattle.std.proofs.lemmas.Bool.Decides.{nat_tests}
-use Rattle.feed_rows.specs.declared.names.ColumnName.TheVariants.{ServiceId, TimeframeGroupId, StartTime, EndTime}
+use Rattle.feed_files.specs.declared.names.ColumnName.TheVariants.{ServiceId, TimeframeGroupId, StartTime, EndTime}
 use Rattle.plain_laws.specs.Plain.{any_below, find_below, when}
 use Rattle.plain_laws.proofs.Laws.{same_test, eqb_turn, none_any, none_below, none_when, any_below_tells, any_below_hit, any_below-same}
 use Rattle.feed_faults.specs.Records.{FileTable, row_count, field}

@@ -7,10 +7,10 @@ use Rattle.std.proofs.lemmas.Cmp.{then_total, on_total, nat_cmp_total, int_cmp_t
 use Rattle.std.proofs.lemmas.Bool.{eqb-true, eq-eqb}
 use Rattle.std.proofs.lemmas.Bool.Decides.{Decides-int_eq, nat_tests}
 use Rattle.std.proofs.lemmas.Slice.Eq.{bytes_eq-Decides}
-use Rattle.feed_rows.specs.declared.names.FileName.{FileName}
-use Rattle.feed_rows.specs.declared.names.FileName.TheVariants as file
-use Rattle.feed_rows.specs.declared.names.ColumnName.{ColumnName}
-use Rattle.feed_rows.specs.declared.names.ColumnName.TheVariants.{TripId, ServiceId, Date, FareProductId, RiderCategoryId, FareMediaId}
+use Rattle.feed_files.specs.declared.names.FileName.{FileName}
+use Rattle.feed_files.specs.declared.names.FileName.TheVariants as file
+use Rattle.feed_files.specs.declared.names.ColumnName.{ColumnName}
+use Rattle.feed_files.specs.declared.names.ColumnName.TheVariants.{TripId, ServiceId, Date, FareProductId, RiderCategoryId, FareMediaId}
 use Rattle.plain_laws.specs.Plain.{find_below}
 use Rattle.plain_laws.proofs.Laws.{find_below_some, find_below-same, same_test, int_eq-int_same, any_below-same, then_equal, number_equal}
 use Rattle.feed_faults.specs.declared.checks.RowCheck.TheVariants.{NewKey}

@@ -3,9 +3,9 @@ use Rattle.std.proofs.Common.{◌≡◌, refl, sym, ◌∙◌, ap, subst, ℕ, �
 use Rattle.std.specs.Prelude.{◌==◌, bytes_eq, is_none, option_map, Option, Some, None}
 use Rattle.std.proofs.lemmas.Slice.Eq.{bytes_eq-Decides}
 use Rattle.feed_rows.specs.declared.rows.StopTimeRow.{StopTimeRow}
-use Rattle.feed_rows.specs.declared.names.FileName.TheVariants as file
-use Rattle.feed_rows.specs.declared.names.ColumnName.{ColumnName}
-use Rattle.feed_rows.specs.declared.names.ColumnName.TheVariants as column
+use Rattle.feed_files.specs.declared.names.FileName.TheVariants as file
+use Rattle.feed_files.specs.declared.names.ColumnName.{ColumnName}
+use Rattle.feed_files.specs.declared.names.ColumnName.TheVariants as column
 use Rattle.transit_base.specs.declared.numbers.StopId.{StopId}
 use Rattle.feed_rows.specs.Codes.{platform_type}
 use Rattle.plain_laws.specs.Plain.{list_below, filled_and}

@@ -1,7 +1,7 @@
 -- What a check of the rows of a table needs of its file.
 use Rattle.std.specs.Prelude.{◌≡◌}
-use Rattle.feed_rows.specs.declared.names.FileName.{FileName}
-use Rattle.feed_rows.specs.declared.names.FileName.TheVariants as file
+use Rattle.feed_files.specs.declared.names.FileName.{FileName}
+use Rattle.feed_files.specs.declared.names.FileName.TheVariants as file
 use Rattle.feed_faults.specs.declared.checks.RowCheck.{RowCheck}
 use Rattle.feed_faults.specs.declared.checks.RowCheck.TheVariants.{NewId, NewKey, KnownParent, GoodParent, AtPlatform, TimedEnds, RisingTimes, OrderedDays, GoodTimeframe}
 use Rattle.feed_faults.specs.RowChecks.{id_place}

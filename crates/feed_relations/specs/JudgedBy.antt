@@ -1,7 +1,7 @@
 -- What the rows of a feed are judged by.
 use Rattle.std.specs.Prelude.{◌≡◌, ℕ, ◌<◌, ◌==◌, Bool, true, false, List, get_or}
-use Rattle.feed_rows.specs.declared.names.ColumnName.TheVariants.{TripId, StopId}
-use Rattle.feed_rows.specs.declared.names.FileName.TheVariants as file
+use Rattle.feed_files.specs.declared.names.ColumnName.TheVariants.{TripId, StopId}
+use Rattle.feed_files.specs.declared.names.FileName.TheVariants as file
 use Rattle.feed_rows.specs.Codes.{platform_type}
 use Rattle.plain_laws.specs.Plain.{list_below}
 use Rattle.feed_faults.specs.Records.{FileTable, row_count, field, is_filled}

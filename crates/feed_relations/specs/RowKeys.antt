@@ -3,10 +3,10 @@ use Rattle.std.specs.Prelude.{◌≡◌, ℕ, ℤ, Bool, false, pos}
 use Rattle.std.specs.declared.cmp.Ordering.{Ordering}
 use Rattle.std.specs.Ordering.{nat_cmp, int_cmp, ordering_then, eq_by_cmp}
 use Rattle.transit_base.specs.Limits.{most_time}
-use Rattle.feed_rows.specs.declared.names.FileName.{FileName}
-use Rattle.feed_rows.specs.declared.names.FileName.TheVariants as file
-use Rattle.feed_rows.specs.declared.names.ColumnName.{ColumnName}
-use Rattle.feed_rows.specs.declared.names.ColumnName.TheVariants.{TripId, ServiceId, Date, StartTime, RiderCategoryId, FareMediaId, FareProductId}
+use Rattle.feed_files.specs.declared.names.FileName.{FileName}
+use Rattle.feed_files.specs.declared.names.FileName.TheVariants as file
+use Rattle.feed_files.specs.declared.names.ColumnName.{ColumnName}
+use Rattle.feed_files.specs.declared.names.ColumnName.TheVariants.{TripId, ServiceId, Date, StartTime, RiderCategoryId, FareMediaId, FareProductId}
 use Rattle.plain_laws.specs.Plain.{any_below}
 use Rattle.feed_faults.specs.declared.checks.IdColumn.TheVariants.{Trip, RiderCategory, FareMedia}
 use Rattle.feed_faults.specs.Records.{field}

@@ -1,7 +1,7 @@
 //! Stop times: as there are so many, all checks of one are judged before the next is looked at.
 ghost use Rattle.std.specs.Prelude.{◌≡◌, ◌<◌, option_map};
 ghost use Rattle.plain_laws.specs.Plain.{first_below};
-ghost use Rattle.feed_rows.specs.declared.names.FileName.TheVariants as file;
+ghost use Rattle.feed_files.specs.declared.names.FileName.TheVariants as file;
 ghost use Rattle.feed_faults.specs.Records.{row_count};
 ghost use Rattle.feed_faults.specs.FileColumns.{checks_of};
 ghost use Rattle.feed_faults.specs.FaultPlaces.{field_fault};
@@ -10,7 +10,7 @@ ghost use Rattle.feed_faults.specs.RowChecks.{relation_fault_of_row};
 
 use crate::judged::JudgedFeed;
 use feed_faults::{RowRule, rule_of};
-use feed_rows::{FeedFault, FileName};
+use feed_files::{FeedFault, FileName};
 use feed_tables::CallTable;
 use feed_text::field_fault;
 

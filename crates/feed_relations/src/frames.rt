@@ -1,6 +1,6 @@
 //! Timeframes.
 ghost use Rattle.std.specs.Prelude.{◌≡◌, ◌≤◌, IfOk};
-ghost use Rattle.feed_rows.specs.declared.names.FileName.TheVariants as file;
+ghost use Rattle.feed_files.specs.declared.names.FileName.TheVariants as file;
 ghost use Rattle.plain_laws.specs.Plain.{find_below};
 ghost use Rattle.feed_faults.specs.Records.{row_count};
 ghost use Rattle.feed_faults.specs.FeedTables.{table_in};
@@ -9,7 +9,7 @@ ghost use Rattle.feed_faults.specs.FareRelations.{is_bad_frame};
 use crate::judged::JudgedFeed;
 use crate::rows::is_one_filled;
 use feed_faults::IdColumn;
-use feed_rows::{ColumnName, FileName};
+use feed_files::{ColumnName, FileName};
 use feed_tables::{CallTable, IdIndex, frame_end, frame_start};
 use std::alloc::{AllocError, Global};
 use std::collections::BTreeSet;

@@ -1,8 +1,8 @@
 //! What the rows of a feed are judged by.
 ghost use Rattle.std.specs.Prelude.{◌≡◌, ◌<◌, ◌≤◌, true, is_none, map, IfOk};
 ghost use Rattle.feed_rows.specs.Codes.{platform_type};
-ghost use Rattle.feed_rows.specs.declared.names.FileName.TheVariants as file;
-ghost use Rattle.feed_rows.specs.declared.names.ColumnName.TheVariants as column;
+ghost use Rattle.feed_files.specs.declared.names.FileName.TheVariants as file;
+ghost use Rattle.feed_files.specs.declared.names.ColumnName.TheVariants as column;
 ghost use Rattle.feed_faults.specs.Records.{row_count, field};
 ghost use Rattle.feed_faults.specs.RowChecks.{is_unknown_in};
 ghost use Rattle.feed_faults.specs.RowKeys.{is_unknown};
@@ -17,7 +17,8 @@ ghost use Rattle.stop_order.specs.Numbered.{no_faults, faults_at};
 ghost use Rattle.feed_relations.specs.JudgedBy.{AreCallsNamed, AreJudged, IsOrderJudged, IsTripKnown, are_platforms, call_at, time_of_call};
 
 use feed_faults::IdColumn;
-use feed_rows::{FileName, PLATFORM};
+use feed_files::FileName;
+use feed_rows::PLATFORM;
 use feed_tables::{CallTable, IdIndex, Ids, ReadCall, ReadCalls, Tables, stop_kind};
 use feed_text::Table;
 use std::alloc::{AllocError, Global};

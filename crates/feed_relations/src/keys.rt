@@ -8,7 +8,7 @@ ghost use Rattle.feed_relations.specs.RowKeys.{row_key, is_key_repeated};
 
 use crate::judged::JudgedFeed;
 use feed_faults::IdColumn;
-use feed_rows::{ColumnName, FileName};
+use feed_files::{ColumnName, FileName};
 use feed_tables::CallTable;
 use feed_text::natural;
 use std::alloc::{AllocError, Global};

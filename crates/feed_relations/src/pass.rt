@@ -1,7 +1,7 @@
 //! The files in their order, and the checks of each.
 ghost use Rattle.std.specs.Prelude.{◌≡◌, ◌<◌, ◌≤◌, ℕ, true, IfOk};
 ghost use Rattle.plain_laws.specs.Plain.{find_below, first_below};
-ghost use Rattle.feed_rows.specs.declared.names.FileName.TheVariants as file;
+ghost use Rattle.feed_files.specs.declared.names.FileName.TheVariants as file;
 ghost use Rattle.feed_faults.specs.Records.{row_count};
 ghost use Rattle.feed_faults.specs.FeedTables.{table_in};
 ghost use Rattle.feed_faults.specs.NetworkRelations.{are_networks_forbidden};
@@ -20,7 +20,7 @@ use crate::judged::JudgedFeed;
 use crate::keys::first_repeated;
 use crate::rows::row_fails;
 use feed_faults::{RowCheck, RowRule, rule_of};
-use feed_rows::{ColumnName, FaultKind, FeedFault, FileName};
+use feed_files::{ColumnName, FaultKind, FeedFault, FileName};
 use feed_tables::{CallTable, Ids, ReadCalls, Tables};
 use feed_text::{field_fault, file_fault, is_filled};
 use std::alloc::{AllocError, Global};

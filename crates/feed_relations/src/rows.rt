@@ -1,6 +1,6 @@
 //! What fails at a row.
 ghost use Rattle.std.specs.Prelude.{◌≡◌, ◌<◌, ◌&&◌, true, not};
-ghost use Rattle.feed_rows.specs.declared.names.FileName.TheVariants as file;
+ghost use Rattle.feed_files.specs.declared.names.FileName.TheVariants as file;
 ghost use Rattle.feed_faults.specs.Records.{row_count};
 ghost use Rattle.feed_faults.specs.FeedTables.{table_in};
 ghost use Rattle.feed_faults.specs.StopRelations.{has_parent, is_at_station, is_parent_good};
@@ -12,7 +12,8 @@ ghost use Rattle.feed_relations.specs.FittingChecks.{Fits, IsByRow};
 
 use crate::judged::JudgedFeed;
 use feed_faults::{IdColumn, RowCheck, RowRule};
-use feed_rows::{ColumnName, FileName, PLATFORM, STATION};
+use feed_files::{ColumnName, FileName};
+use feed_rows::{PLATFORM, STATION};
 use feed_tables::{CallTable, Tables, stop_kind};
 use feed_text::{Table, is_filled, is_passed_over};
 

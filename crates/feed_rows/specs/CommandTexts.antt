@@ -1,12 +1,12 @@
 -- The lines that tell of faults, the text of the command `check`, and the line of statistics.
 use Rattle.std.specs.Prelude.{ℕ, List, [], ◌∷◌, length, Option, Some, None, codes, decimal}
 use Rattle.feed_rows.specs.Lines.{line}
-use Rattle.feed_rows.specs.Names.{file_text, column_text}
-use Rattle.feed_rows.specs.Faults.{fault_number, fault_text}
+use Rattle.feed_files.specs.Names.{file_text, column_text}
+use Rattle.feed_files.specs.Faults.{fault_number, fault_text}
 use Rattle.feed_rows.specs.UsageFaults.{usage_text, usage_argument}
 use Rattle.feed_rows.specs.FeedRows.{FeedRows}
-use Rattle.feed_rows.specs.declared.names.ColumnName.{ColumnName}
-use Rattle.feed_rows.specs.declared.faults.FeedFault.{FeedFault}
+use Rattle.feed_files.specs.declared.names.ColumnName.{ColumnName}
+use Rattle.feed_files.specs.declared.faults.FeedFault.{FeedFault}
 use Rattle.feed_rows.specs.declared.usage.UsageFault.{UsageFault}
 
 -- the line of a usage fault: its name and its argument

@@ -7,13 +7,13 @@ use Rattle.transit_base.specs.Dates.{day_number}
 use Rattle.transit_base.specs.Moments.{moment_at}
 use Rattle.transit_base.specs.DateTexts.{time_text}
 use Rattle.plain_laws.specs.Plain.{list_below, joined_below}
-use Rattle.feed_rows.specs.Names.{column_text}
-use Rattle.feed_rows.specs.HeldFiles.{HeldFile}
+use Rattle.feed_files.specs.Names.{column_text}
+use Rattle.feed_files.specs.HeldFiles.{HeldFile}
 use Rattle.feed_rows.specs.Requests.{PlanRequest}
-use Rattle.feed_rows.specs.declared.names.FileName.{FileName}
-use Rattle.feed_rows.specs.declared.names.FileName.TheVariants as file
-use Rattle.feed_rows.specs.declared.names.ColumnName.{ColumnName}
-use Rattle.feed_rows.specs.declared.names.ColumnName.TheVariants as column
+use Rattle.feed_files.specs.declared.names.FileName.{FileName}
+use Rattle.feed_files.specs.declared.names.FileName.TheVariants as file
+use Rattle.feed_files.specs.declared.names.ColumnName.{ColumnName}
+use Rattle.feed_files.specs.declared.names.ColumnName.TheVariants as column
 
 -- ---- drawn numbers
 

@@ -1,5 +1,3 @@
-pub mod Names
-pub mod Faults
 pub mod CallTimes
 pub mod FeedRows
 pub mod ServiceDays
@@ -54,8 +52,6 @@ pub mod SoundTimetable
 pub mod SoundFares
 pub mod SoundFeed
 pub mod Feed
-pub mod HeldFiles
-pub mod FaultCounts
 pub mod StopSets
 pub mod Limits
 pub mod Codes

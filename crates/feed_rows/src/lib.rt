@@ -2,11 +2,9 @@
 #![tactic(auto)]
 
 mod fares;
-mod faults;
 mod feed;
 mod ids;
 mod journeys;
-mod names;
 mod rows;
 mod states;
 mod times;
@@ -16,7 +14,6 @@ pub use fares::{
     ChangeChoice, ChangeChoices, Choice, Entries, Entry, LegChoice, LegChoices, RowList, RuleList,
     TransferFacts, Triple, XferList,
 };
-pub use faults::{FaultKind, FeedFault};
 pub use feed::{
     AreaRows, ExceptionRows, Feed, FrequencyRows, LegRuleRows, LinkRows, MediumRows, NameList,
     ProductRows, RiderRows, RouteRows, ServiceRows, StopAreaRows, StopRows, StopTimeRows,
@@ -27,7 +24,6 @@ pub use journeys::{
     AreaList, Call, FrameList, Journey, LEAST_SHIFT, LegFacts, LegList, MOST_SHIFT, Query, Ride,
     RideFacts, RideList, Shifts, USUAL_WINDOW,
 };
-pub use names::{ColumnName, FileName};
 pub use rows::{
     AreaRow, ExceptionRow, FrequencyRow, LegRuleRow, Limit, LinkRow, MediumRow, PLATFORM,
     ProductRow, RiderRow, RouteRow, STATION, ServiceRow, StopAreaRow, StopRow, StopTimeRow,

@@ -3,7 +3,7 @@ use Rattle.std.proofs.Common.{◌≡◌, refl, sym, ◌∙◌, ap, ℕ, suc, ◌
 use Rattle.std.specs.Prelude.{Option, Some, None, is_some, slice_get, ◌&&◌, ◌||◌, ◌==◌, not, nat_lt, bytes_eq}
 use Rattle.std.specs.Option.{option_or}
 use Rattle.std.proofs.lemmas.Bool.{and_parts, and_cases, and_from, or_parts, or_cases, ltb-true, ltb-false, lt-ltb, eqb-true, not-false, not_from_false, false_from_ne_true}
-use Rattle.feed_rows.specs.declared.names.ColumnName.TheVariants as column
+use Rattle.feed_files.specs.declared.names.ColumnName.TheVariants as column
 use Rattle.plain_laws.specs.Plain.{any_below, at_and}
 use Rattle.plain_laws.proofs.Laws.{any_below_tells, none_any, rest_fails, length-list_below, slice_get-list_below, bytes_eq-true, eq-bytes_eq}
 use Rattle.feed_faults.specs.Records.{FileTable, row_count, field}

@@ -8,9 +8,9 @@ use Rattle.transit_base.specs.Limits.{day_seconds}
 use Rattle.transit_base.specs.declared.numbers.RiderId.{RiderId}
 use Rattle.transit_base.specs.declared.numbers.MediumId.{MediumId}
 use Rattle.transit_base.specs.declared.numbers.LegGroupId.{LegGroupId}
-use Rattle.feed_rows.specs.declared.names.FileName.TheVariants as file
-use Rattle.feed_rows.specs.declared.names.ColumnName.{ColumnName}
-use Rattle.feed_rows.specs.declared.names.ColumnName.TheVariants as column
+use Rattle.feed_files.specs.declared.names.FileName.TheVariants as file
+use Rattle.feed_files.specs.declared.names.ColumnName.{ColumnName}
+use Rattle.feed_files.specs.declared.names.ColumnName.TheVariants as column
 use Rattle.plain_laws.specs.Plain.{when}
 use Rattle.feed_rows.specs.SoundNames.{IsIdText}
 use Rattle.feed_rows.specs.SoundFares.{AreSoundAreas, AreSoundStopAreas, AreSoundTimeframes, AreSoundRiders, AreSoundMedia, AreSoundProducts, AreSoundLegRules, AreSoundTransferRules, IsSoundCurrency}

@@ -2,11 +2,11 @@
 -- where the column must be there.
 use Rattle.std.proofs.Common.{List, length, ◌≤◌, ◌≡◌, refl, ℕ, ◌<◌, true, false}
 use Rattle.std.specs.Prelude.{Some, slice_get, ◌≢◌}
-use Rattle.feed_rows.specs.declared.names.FileName.{FileName}
-use Rattle.feed_rows.specs.declared.names.FileName.TheVariants as file
-use Rattle.feed_rows.specs.declared.names.ColumnName.{ColumnName}
-use Rattle.feed_rows.specs.declared.names.ColumnName.TheVariants.{StopId, RouteId, ServiceId, TripId, NetworkId, TimeframeGroupId, FareProductId, LegGroupId}
-use Rattle.feed_rows.specs.declared.faults.FaultKind.{FaultKind}
+use Rattle.feed_files.specs.declared.names.FileName.{FileName}
+use Rattle.feed_files.specs.declared.names.FileName.TheVariants as file
+use Rattle.feed_files.specs.declared.names.ColumnName.{ColumnName}
+use Rattle.feed_files.specs.declared.names.ColumnName.TheVariants.{StopId, RouteId, ServiceId, TripId, NetworkId, TimeframeGroupId, FareProductId, LegGroupId}
+use Rattle.feed_files.specs.declared.faults.FaultKind.{FaultKind}
 use Rattle.feed_rows.specs.SoundNames.{IsIdText}
 use Rattle.feed_faults.specs.declared.checks.IdColumn.{IdColumn}
 use Rattle.feed_faults.specs.declared.checks.RowCheck.TheVariants.{NewId, NewKey}

@@ -1,7 +1,7 @@
 -- Ids: what it says that a reference is known, and that no row repeats an earlier one.
 use Rattle.std.proofs.Common.{◌≡◌, refl, sym, ◌∙◌, ap, ℕ, ◌<◌, ◌⊎◌, inl, inr, Bool, true, false, List}
 use Rattle.std.specs.Prelude.{◌≢◌, Some, None, bytes_eq}
-use Rattle.feed_rows.specs.declared.names.ColumnName.{ColumnName}
+use Rattle.feed_files.specs.declared.names.ColumnName.{ColumnName}
 use Rattle.plain_laws.specs.Plain.{find_below}
 use Rattle.plain_laws.proofs.Laws.{IsFirst, NonePass, find_below_cases, find_below_tells, none_any, bytes_eq-true, eq-bytes_eq}
 use Rattle.feed_faults.specs.Records.{FileTable, row_count, field, is_filled}

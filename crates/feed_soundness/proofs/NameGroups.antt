@@ -1,10 +1,10 @@
 -- The five lists of names of accepted tables, and the columns whose names stand in them.
 use Rattle.std.proofs.Common.{◌≡◌, subst, ℕ, ◌+◌, ◌<◌, true, false, List, [], arith}
 use Rattle.feed_rows.specs.Limits.{most_rows}
-use Rattle.feed_rows.specs.declared.names.FileName.{FileName}
-use Rattle.feed_rows.specs.declared.names.FileName.TheVariants as file
-use Rattle.feed_rows.specs.declared.names.ColumnName.{ColumnName}
-use Rattle.feed_rows.specs.declared.names.ColumnName.TheVariants.{ServiceId, NetworkId, TimeframeGroupId, FareProductId, LegGroupId}
+use Rattle.feed_files.specs.declared.names.FileName.{FileName}
+use Rattle.feed_files.specs.declared.names.FileName.TheVariants as file
+use Rattle.feed_files.specs.declared.names.ColumnName.{ColumnName}
+use Rattle.feed_files.specs.declared.names.ColumnName.TheVariants.{ServiceId, NetworkId, TimeframeGroupId, FareProductId, LegGroupId}
 use Rattle.feed_rows.specs.SoundNames.{IsIdText, IsNameList}
 use Rattle.feed_faults.specs.Records.{FileTable, row_count, field, is_filled}
 use Rattle.feed_faults.specs.FeedTables.{FeedTables, table_in}

@@ -7,7 +7,7 @@ use Rattle.std.proofs.lemmas.List.Elements.{All-nil, All-push}
 use Rattle.std.proofs.lemmas.List.Quantifiers.{all_pairs_push}
 use Rattle.std.proofs.Math.ListN.{get_or-append}
 use Rattle.std.proofs.Math.Seq.{get_or-append_seam}
-use Rattle.feed_rows.specs.declared.names.ColumnName.{ColumnName}
+use Rattle.feed_files.specs.declared.names.ColumnName.{ColumnName}
 use Rattle.feed_rows.specs.SoundNames.{IsIdText, IsNameList}
 use Rattle.plain_laws.proofs.Laws.{find_below_some, find_below_tells, bytes_eq-true, eq-bytes_eq}
 use Rattle.feed_faults.specs.Records.{FileTable, field, is_filled}

@@ -2,10 +2,10 @@
 use Rattle.std.proofs.Common.{◌≡◌, refl, ℕ, ◌<◌, ◌⊎◌, inl, inr, Bool, true, false, []}
 use Rattle.std.specs.Prelude.{Option, Some, None}
 use Rattle.std.proofs.lemmas.Bool.{and_cases}
-use Rattle.feed_rows.specs.declared.names.FileName.{FileName}
-use Rattle.feed_rows.specs.declared.names.FileName.TheVariants as file
-use Rattle.feed_rows.specs.declared.names.ColumnName.{ColumnName}
-use Rattle.feed_rows.specs.declared.names.ColumnName.TheVariants.{AreaId, FareMediaId, FareProductId, FromAreaId, FromLegGroupId, FromStopId, FromTimeframeGroupId, NetworkId, RiderCategoryId, RouteId, StopId, ToAreaId, ToLegGroupId, ToStopId, ToTimeframeGroupId, TripId}
+use Rattle.feed_files.specs.declared.names.FileName.{FileName}
+use Rattle.feed_files.specs.declared.names.FileName.TheVariants as file
+use Rattle.feed_files.specs.declared.names.ColumnName.{ColumnName}
+use Rattle.feed_files.specs.declared.names.ColumnName.TheVariants.{AreaId, FareMediaId, FareProductId, FromAreaId, FromLegGroupId, FromStopId, FromTimeframeGroupId, NetworkId, RiderCategoryId, RouteId, StopId, ToAreaId, ToLegGroupId, ToStopId, ToTimeframeGroupId, TripId}
 use Rattle.feed_faults.specs.Records.{row_count, field, is_filled}
 use Rattle.feed_faults.specs.FormFaults.{is_passed_over}
 use Rattle.feed_faults.specs.FeedTables.{FeedTables, table_in}

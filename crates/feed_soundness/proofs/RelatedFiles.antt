@@ -1,7 +1,7 @@
 -- What the second pass says where it finds no fault.
 use Rattle.std.proofs.Common.{◌≡◌}
 use Rattle.std.specs.Prelude.{None}
-use Rattle.feed_rows.specs.Names.{all_files, place}
+use Rattle.feed_files.specs.Names.{all_files, place}
 use Rattle.plain_laws.specs.Plain.{first_below}
 use Rattle.feed_faults.specs.Records.{row_count}
 use Rattle.feed_faults.specs.FeedTables.{FeedTables, table_in}

@@ -1,7 +1,7 @@
 -- The shapes of columns and of their grammars.
 use Rattle.std.specs.Prelude.{ℕ, pos}
 use Rattle.transit_base.specs.Limits.{most_time, day_seconds}
-use Rattle.feed_rows.specs.declared.names.ColumnName.{ColumnName}
+use Rattle.feed_files.specs.declared.names.ColumnName.{ColumnName}
 use Rattle.feed_faults.specs.declared.columns.Grammar.{Grammar}
 use Rattle.feed_faults.specs.declared.columns.Grammar.TheVariants as grammar
 use Rattle.feed_faults.specs.declared.columns.EmptyField.TheVariants as empty

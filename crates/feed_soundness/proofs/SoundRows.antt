@@ -1,8 +1,8 @@
 -- Files without a fault give sound rows.
 use Rattle.std.proofs.Common.{◌≡◌, [], ◌∷◌}
 use Rattle.std.specs.Prelude.{None}
-use Rattle.feed_rows.specs.declared.names.FileName.{FileName}
-use Rattle.feed_rows.specs.HeldFiles.{HeldFile}
+use Rattle.feed_files.specs.declared.names.FileName.{FileName}
+use Rattle.feed_files.specs.HeldFiles.{HeldFile}
 use Rattle.plain_laws.specs.Plain.{first_of}
 use Rattle.feed_rows.specs.SoundFeed.{IsSoundFeed}
 use Rattle.feed_faults.specs.FeedTables.{FeedTables, tables_of}

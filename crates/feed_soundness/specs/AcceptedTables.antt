@@ -1,7 +1,7 @@
 -- What the two passes say of tables where they find no fault: each file by itself is formed, and the files are related.
 use Rattle.std.specs.Prelude.{◌≡◌, ℕ, ◌<◌, ◌≤◌, slice_get, Some, None, false}
 use Rattle.feed_rows.specs.Limits.{most_rows}
-use Rattle.feed_rows.specs.declared.names.FileName.{FileName}
+use Rattle.feed_files.specs.declared.names.FileName.{FileName}
 use Rattle.feed_faults.specs.declared.columns.ColumnRule.{ColumnRule}
 use Rattle.feed_faults.specs.declared.checks.RowRule.{RowRule}
 use Rattle.feed_faults.specs.Records.{FileTable, row_count, field}

@@ -3,13 +3,13 @@
 #![tactic(auto)]
 
 ghost use Rattle.std.specs.Prelude.{◌≡◌, is_none, true};
-ghost use Rattle.feed_rows.specs.declared.names.FileName.{FileName};
-ghost use Rattle.feed_rows.specs.HeldFiles.{HeldFile};
+ghost use Rattle.feed_files.specs.declared.names.FileName.{FileName};
+ghost use Rattle.feed_files.specs.HeldFiles.{HeldFile};
 ghost use Rattle.feed_rows.specs.SoundFeed.{IsSoundFeed};
 ghost use Rattle.feed_faults.specs.FirstFault.{first_fault};
 ghost use Rattle.feed_faults.specs.AcceptedFeed.{feed_of};
 
-use feed_rows::FeedFault;
+use feed_files::FeedFault;
 
 /// Whether files are accepted, by their first fault, if they have one. The rows of accepted files are sound: ids, names and
 /// keys stand once, references name rows, values are within their limits, and no time falls.

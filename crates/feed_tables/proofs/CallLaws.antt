@@ -4,8 +4,8 @@ use Rattle.std.specs.Prelude.{option_map, unwrap_or}
 use Rattle.std.proofs.lemmas.List.{length-append, get_or-append-add, map-append}
 use Rattle.plain_laws.specs.Plain.{list_below}
 use Rattle.plain_laws.proofs.Laws.{list_below-same}
-use Rattle.feed_rows.specs.declared.names.ColumnName.TheVariants as column
-use Rattle.feed_rows.specs.declared.names.FileName.TheVariants as file
+use Rattle.feed_files.specs.declared.names.ColumnName.TheVariants as column
+use Rattle.feed_files.specs.declared.names.FileName.TheVariants as file
 use Rattle.feed_rows.specs.declared.rows.StopTimeRow.{StopTimeRow}
 use Rattle.feed_faults.specs.Records.{Fields, row_count, field}
 use Rattle.feed_faults.specs.FeedTables.{FeedTables, table_in}

@@ -1,8 +1,8 @@
 -- The faults of a file before its rows.
 use Rattle.std.proofs.Common.{◌≡◌, refl, sym, Bool, Option, Some, None}
 use Rattle.std.specs.Option.{option_or}
-use Rattle.feed_rows.specs.declared.names.FileName.{FileName}
-use Rattle.feed_rows.specs.HeldFiles.{HeldFile}
+use Rattle.feed_files.specs.declared.names.FileName.{FileName}
+use Rattle.feed_files.specs.HeldFiles.{HeldFile}
 use Rattle.feed_faults.specs.FeedTables.{table_of}
 use Rattle.feed_faults.specs.FormFaults.{form_fault_of_held, form_fault_of_rows}
 use Rattle.feed_tables.specs.RowNumbers.{held_fault_before_rows}

@@ -18,7 +18,7 @@ use Rattle.std.proofs.lemmas.List.{get_or_default, length-append}
 use Rattle.std.proofs.lemmas.List.Elements.{All-push, All-contains, Contains-append_left, Contains-push, Contains-get_or}
 use Rattle.std.proofs.lemmas.List.Kept.{IsStrictlySortedBy-dedup, Contains-from_dedup}
 use Rattle.std.proofs.lemmas.List.Sorted.{All-permutation, Contains-permutation, length_permutation, sorted_far, ranks_by, searchable_from_sorted}
-use Rattle.feed_rows.specs.declared.names.ColumnName.{ColumnName}
+use Rattle.feed_files.specs.declared.names.ColumnName.{ColumnName}
 use Rattle.plain_laws.specs.Plain.{any_below, find_below}
 use Rattle.plain_laws.proofs.Laws.{IsFirst, find_below_hit, find_below_none, find_below_some, find_below_tells, any_below_hit, any_below_tells, same_test}
 use Rattle.feed_faults.specs.Records.{FileTable, row_count, field}

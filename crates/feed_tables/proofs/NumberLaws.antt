@@ -4,9 +4,9 @@ use Rattle.std.specs.Prelude.{slice_get, get_or, map, ℤ}
 use Rattle.std.proofs.lemmas.Option.{same_Some}
 use Rattle.std.proofs.lemmas.List.{get_or-map, get_or-append-add, length-map}
 use Rattle.std.proofs.Math.ListN.{get_or-append}
-use Rattle.feed_rows.specs.declared.names.FileName.{FileName}
-use Rattle.feed_rows.specs.declared.names.FileName.TheVariants as file
-use Rattle.feed_rows.specs.Names.{all_files, place}
+use Rattle.feed_files.specs.declared.names.FileName.{FileName}
+use Rattle.feed_files.specs.declared.names.FileName.TheVariants as file
+use Rattle.feed_files.specs.Names.{all_files, place}
 use Rattle.folder_io.proofs.PlaceLaws.{named, inside}
 use Rattle.feed_faults.specs.FeedTables.{table_in}
 use Rattle.feed_faults.specs.Records.{FileTable, field, row_count}

@@ -3,7 +3,7 @@ use Rattle.std.proofs.Common.{◌≡◌, ◌<◌, ℕ, List, length, get_or, Opt
 use Rattle.std.specs.Option.{option_or}
 use Rattle.plain_laws.specs.Plain.{first_below, first_in}
 use Rattle.plain_laws.proofs.Laws.{at_item, first_below_found, first_in_found}
-use Rattle.feed_rows.specs.declared.faults.FeedFault.{FeedFault}
+use Rattle.feed_files.specs.declared.faults.FeedFault.{FeedFault}
 use Rattle.feed_text.specs.declared.errors.TextError.{TextError}
 use Rattle.feed_text.specs.declared.errors.TextError.TheVariants as error
 use Rattle.feed_text.specs.TextErrors.{IsErrorOf}

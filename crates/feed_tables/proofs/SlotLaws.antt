@@ -5,7 +5,7 @@ use Rattle.std.proofs.lemmas.Bool.{cases_eq}
 use Rattle.std.proofs.lemmas.List.{get_or_default, get_or-replicate, get_or-set_same, get_or-set_other, length-replicate, length-set}
 use Rattle.std.proofs.lemmas.List.Elements.{All-contains}
 use Rattle.std.proofs.Math.ListN.{set}
-use Rattle.feed_rows.specs.declared.names.ColumnName.{ColumnName}
+use Rattle.feed_files.specs.declared.names.ColumnName.{ColumnName}
 use Rattle.feed_faults.specs.FieldGrammars.{is_id}
 use Rattle.feed_faults.specs.Records.{FileTable, row_count, field}
 use Rattle.feed_faults.specs.RowKeys.{row_of}

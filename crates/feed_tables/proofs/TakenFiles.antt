@@ -2,15 +2,15 @@
 use Rattle.std.proofs.Common.{◌≡◌, ◌∙◌, ℕ, zero, suc, ◌+◌, ◌<◌, List, [], ◌∷◌, length, get_or, ap, sym, subst, ⊎_elim, arith}
 use Rattle.std.proofs.lemmas.Bool.{cases_eq}
 use Rattle.std.specs.Prelude.{not, ◌≢◌, slice_get, unwrap_or}
-use Rattle.feed_rows.specs.declared.names.FileName.{FileName}
-use Rattle.feed_rows.specs.declared.names.FileName.TheVariants as file
-use Rattle.feed_rows.specs.Names.{place}
+use Rattle.feed_files.specs.declared.names.FileName.{FileName}
+use Rattle.feed_files.specs.declared.names.FileName.TheVariants as file
+use Rattle.feed_files.specs.Names.{place}
 use Rattle.feed_faults.specs.FileColumns.{is_always_needed}
 use Rattle.feed_faults.specs.FormFaults.{has_record, form_fault, form_fault_of_held}
 use Rattle.feed_faults.specs.FeedTables.{table_of}
 use Rattle.folder_io.specs.declared.files.FileBytes.{FileBytes}
 use Rattle.folder_io.specs.KeptFiles.{file_in, held_of, held_in, IsWithin, AreWithin}
-use Rattle.feed_rows.specs.HeldFiles.{most_bytes}
+use Rattle.feed_files.specs.HeldFiles.{most_bytes}
 use Rattle.feed_tables.specs.RowNumbers.{StandFrom, read_of}
 use Rattle.feed_tables.specs.LeftFiles.{AreLeft}
 

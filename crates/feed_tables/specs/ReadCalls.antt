@@ -3,7 +3,7 @@ use Rattle.std.specs.Prelude.{◌≡◌, ℕ, ◌⊎◌, List, Option, None, Som
 use Rattle.plain_laws.specs.Plain.{list_below}
 use Rattle.transit_base.specs.declared.numbers.StopId.{StopId}
 use Rattle.transit_base.specs.declared.numbers.TripId.{TripId}
-use Rattle.feed_rows.specs.declared.names.ColumnName.TheVariants as column
+use Rattle.feed_files.specs.declared.names.ColumnName.TheVariants as column
 use Rattle.feed_rows.specs.declared.rows.StopTimeRow.{StopTimeRow}
 use Rattle.feed_faults.specs.Records.{FileTable, Fields, row_count, field}
 use Rattle.feed_faults.specs.RowKeys.{row_of}

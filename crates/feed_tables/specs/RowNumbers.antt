@@ -1,13 +1,13 @@
 -- The tables of files, and what is kept of the numbers that their rows tell.
 use Rattle.std.specs.Prelude.{◌≡◌, ℕ, suc, Bool, true, false, List, [], ◌∷◌, Option, ℤ}
 use Rattle.feed_rows.specs.Limits.{most_rows}
-use Rattle.feed_rows.specs.HeldFiles.{HeldFile}
-use Rattle.feed_rows.specs.Names.{place}
-use Rattle.feed_rows.specs.declared.names.FileName.{FileName}
-use Rattle.feed_rows.specs.declared.names.FileName.TheVariants as file
-use Rattle.feed_rows.specs.declared.faults.FeedFault.{FeedFault}
+use Rattle.feed_files.specs.HeldFiles.{HeldFile}
+use Rattle.feed_files.specs.Names.{place}
+use Rattle.feed_files.specs.declared.names.FileName.{FileName}
+use Rattle.feed_files.specs.declared.names.FileName.TheVariants as file
+use Rattle.feed_files.specs.declared.faults.FeedFault.{FeedFault}
 use Rattle.std.specs.Option.{option_or}
-use Rattle.feed_rows.specs.declared.faults.FaultKind.TheVariants as kind
+use Rattle.feed_files.specs.declared.faults.FaultKind.TheVariants as kind
 use Rattle.plain_laws.specs.Plain.{when, list_below}
 use Rattle.feed_faults.specs.FaultPlaces.{row_fault}
 use Rattle.feed_faults.specs.Records.{FileTable, Fields, field, row_count}

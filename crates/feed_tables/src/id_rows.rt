@@ -3,7 +3,7 @@
 ghost use Rattle.std.specs.Prelude.{◌≡◌, ◌<◌, ◌^◌, IfOk};
 ghost use Rattle.feed_tables.specs.IdRows.{start_below, IsKeyOf, AreIdRows};
 
-use feed_rows::ColumnName;
+use feed_files::ColumnName;
 use feed_text::Table;
 use std::alloc::{AllocError, Global};
 

@@ -9,7 +9,7 @@ use crate::index::IdIndex;
 use crate::rows::ReadTable;
 use crate::tables::{CallTable, Tables};
 use feed_faults::IdColumn;
-use feed_rows::ColumnName;
+use feed_files::ColumnName;
 use std::alloc::{AllocError, Global};
 use std::marker::Model;
 

@@ -8,7 +8,7 @@ ghost use Rattle.feed_tables.specs.IdRows.{IsKeyOf};
 
 use crate::id_rows::{IdRow, id_rows, key_of};
 use crate::slots::{Slots, slots_of};
-use feed_rows::ColumnName;
+use feed_files::ColumnName;
 use feed_text::Table;
 use std::alloc::{AllocError, Global};
 use std::marker::Model;

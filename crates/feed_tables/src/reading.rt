@@ -1,9 +1,9 @@
 //! The tables of files, read and judged one by one.
 ghost use Rattle.std.specs.Prelude.{◌≡◌, ◌≢◌, None, map, IfOk, IfErr, OnOk};
 ghost use Rattle.plain_laws.specs.Plain.{first_in};
-ghost use Rattle.feed_rows.specs.declared.names.FileName.{FileName};
-ghost use Rattle.feed_rows.specs.Names.{place};
-ghost use Rattle.feed_rows.specs.HeldFiles.{most_bytes};
+ghost use Rattle.feed_files.specs.declared.names.FileName.{FileName};
+ghost use Rattle.feed_files.specs.Names.{place};
+ghost use Rattle.feed_files.specs.HeldFiles.{most_bytes};
 ghost use Rattle.feed_faults.specs.FeedTables.{table_of};
 ghost use Rattle.feed_faults.specs.FormFaults.{is_needed, form_fault};
 ghost use Rattle.feed_text.specs.TextErrors.{IsErrorOf};
@@ -13,7 +13,7 @@ ghost use Rattle.folder_io.specs.KeptFiles.{file_in, held_of, held_in, IsWithin,
 
 use crate::rows::ReadTable;
 use feed_faults::rule_of;
-use feed_rows::{FaultKind, FileName};
+use feed_files::{FaultKind, FileName};
 use feed_text::{Table, TextError, file_fault, has_record};
 use folder_io::{FileBytes, Files};
 use std::alloc::{AllocError, Global};

@@ -6,7 +6,7 @@ ghost use Rattle.feed_text.specs.FieldNumbers.{numbers_of};
 ghost use Rattle.feed_text.specs.TextErrors.{IsErrorOf};
 ghost use Rattle.feed_tables.specs.RowNumbers.{numbers_by_row};
 
-use feed_rows::{FaultKind, FileName};
+use feed_files::{FaultKind, FileName};
 use feed_text::{Table, TextError, read_fields, row_fault};
 use item_groups::Groups;
 use std::alloc::Global;

@@ -1,7 +1,7 @@
 //! The tables of a feed's files, and values of their rows by which faults among files are found.
 ghost use Rattle.std.specs.Prelude.{◌≡◌, ◌<◌, ◌≤◌, true, length};
-ghost use Rattle.feed_rows.specs.Names.{place};
-ghost use Rattle.feed_rows.specs.declared.names.FileName.TheVariants as file;
+ghost use Rattle.feed_files.specs.Names.{place};
+ghost use Rattle.feed_files.specs.declared.names.FileName.TheVariants as file;
 ghost use Rattle.feed_faults.specs.FeedTables.{table_in};
 ghost use Rattle.feed_faults.specs.FieldValues.{stop_kind, frame_start, frame_end};
 ghost use Rattle.feed_faults.specs.FormFaults.{judged_columns};
@@ -12,7 +12,7 @@ ghost use Rattle.feed_tables.specs.KeptTables.{tables_with, AreKept};
 ghost use Rattle.feed_tables.specs.RowNumbers.{has_table};
 
 use crate::rows::ReadTable;
-use feed_rows::FileName;
+use feed_files::FileName;
 use feed_text::{Table, nat_of, natural};
 use std::marker::{Brand, Model, PhantomData};
 use transit_base::DAY_SECONDS;

@@ -7,8 +7,8 @@ use Rattle.plain_laws.specs.Plain.{find_below, any_below}
 use Rattle.item_groups.specs.Parts.{parts, Rise, start_of}
 use Rattle.plain_laws.proofs.Laws.{find_below-same, find_below_tells, any_below-same}
 use Rattle.item_groups.proofs.PartLaws.{part_at, rise_at}
-use Rattle.feed_rows.specs.declared.names.ColumnName.{ColumnName}
-use Rattle.feed_rows.specs.Names.{all_columns, column_text}
+use Rattle.feed_files.specs.declared.names.ColumnName.{ColumnName}
+use Rattle.feed_files.specs.Names.{all_columns, column_text}
 use Rattle.feed_faults.specs.Records.{header, column_of, is_filled}
 use Rattle.feed_faults.specs.FormFaults.{is_twice}
 use Rattle.feed_text.proofs.RangeLaws.{any_between, any_from, twice_behind, none_twice}

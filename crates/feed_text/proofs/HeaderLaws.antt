@@ -4,8 +4,8 @@ use Rattle.std.specs.Prelude.{nat_le, ◌&&◌, List, Option, option_map, option
 use Rattle.std.specs.List.{find}
 use Rattle.std.specs.Option.{option_or}
 use Rattle.std.proofs.lemmas.Bool.Decides.{nat_tests}
-use Rattle.feed_rows.specs.declared.names.FileName.{FileName}
-use Rattle.feed_rows.specs.declared.faults.FaultKind.TheVariants as kind
+use Rattle.feed_files.specs.declared.names.FileName.{FileName}
+use Rattle.feed_files.specs.declared.faults.FaultKind.TheVariants as kind
 use Rattle.plain_laws.specs.Plain.{when, any_below, first_below, first_in}
 use Rattle.plain_laws.proofs.Laws.{option_or-assoc}
 use Rattle.feed_faults.specs.Records.{FileTable, header, row_count, column_of}

@@ -6,9 +6,9 @@ use Rattle.feed_rows.specs.TimeGrammar.{time_value}
 use Rattle.feed_faults.specs.declared.columns.Grammar.{Grammar}
 use Rattle.feed_faults.specs.declared.columns.Grammar.TheVariants as grammar
 use Rattle.feed_faults.specs.FieldGrammars.{int_value, count_value, date_value, currency_decimals, amount_value, unsigned_amount}
-use Rattle.feed_rows.specs.declared.names.FileName.{FileName}
-use Rattle.feed_rows.specs.declared.faults.FaultKind.{FaultKind}
-use Rattle.feed_rows.specs.declared.faults.FeedFault.{FeedFault}
+use Rattle.feed_files.specs.declared.names.FileName.{FileName}
+use Rattle.feed_files.specs.declared.faults.FaultKind.{FaultKind}
+use Rattle.feed_files.specs.declared.faults.FeedFault.{FeedFault}
 use Rattle.feed_faults.specs.declared.columns.ColumnRule.{ColumnRule}
 use Rattle.feed_faults.specs.Records.{Fields}
 use Rattle.feed_faults.specs.FaultPlaces.{field_fault}

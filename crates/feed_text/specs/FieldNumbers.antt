@@ -1,7 +1,7 @@
 -- What the fields of a row tell as numbers, by the grammars of their columns.
 use Rattle.std.specs.Prelude.{◌≤ℤ◌, ℕ, List, Option, None, IfSome, option_map, map, ℤ, pos}
-use Rattle.feed_rows.specs.declared.names.FileName.{FileName}
-use Rattle.feed_rows.specs.declared.names.ColumnName.TheVariants as column
+use Rattle.feed_files.specs.declared.names.FileName.{FileName}
+use Rattle.feed_files.specs.declared.names.ColumnName.TheVariants as column
 use Rattle.feed_rows.specs.TimeGrammar.{time_value}
 use Rattle.feed_faults.specs.declared.columns.Grammar.{Grammar}
 use Rattle.feed_faults.specs.declared.columns.Grammar.TheVariants as grammar

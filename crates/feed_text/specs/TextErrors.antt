@@ -1,6 +1,6 @@
 -- Why a file's bytes make no table.
 use Rattle.std.specs.Prelude.{◌≡◌, Option, Some}
-use Rattle.feed_rows.specs.declared.faults.FeedFault.{FeedFault}
+use Rattle.feed_files.specs.declared.faults.FeedFault.{FeedFault}
 use Rattle.feed_text.specs.declared.errors.TextError.{TextError}
 use Rattle.feed_text.specs.declared.errors.TextError.TheVariants as error
 

@@ -3,11 +3,11 @@ ghost use Rattle.std.specs.Prelude.{◌≡◌, ◌<◌};
 ghost use Rattle.feed_faults.specs.FaultPlaces.{file_fault, column_fault, row_fault, field_fault};
 ghost use Rattle.feed_text.specs.RowLimits.{row_limit};
 
-use feed_rows::{ColumnName, FaultKind, FeedFault, FileName};
+use feed_files::{ColumnName, FaultKind, FeedFault, FileName};
 use std::alloc::AllocError;
 
 /// Why the bytes of files make no tables, or no feed.
-#[derive(Clone, Copy, Debug, PartialEq, Eq)]
+#[derive(Clone, Copy, PartialEq, Eq)]
 pub enum TextError {
     /// The first fault of what was judged: of a file before its rows, of a file by itself, or of a feed.
     Fault(FeedFault),

@@ -1,7 +1,7 @@
 //! The fields of a row: what they tell, or what is wrong with them.
 ghost use Rattle.std.specs.Prelude.{◌≡◌, ◌<◌, ◌^◌, ℕ, List, true, false, IfOk, IfErr, OnOk, None, Some};
 ghost use Rattle.std.specs.Option.{ForSome};
-ghost use Rattle.feed_rows.specs.declared.names.ColumnName.TheVariants as column;
+ghost use Rattle.feed_files.specs.declared.names.ColumnName.TheVariants as column;
 ghost use Rattle.feed_faults.specs.FileColumns.{fits, misfit};
 ghost use Rattle.feed_faults.specs.FormFaults.{field_misfit, is_passed_over, judged_columns, fault_of_field, fault_of_fields};
 ghost use Rattle.feed_faults.specs.AcceptedFeed.{finite_count};
@@ -16,7 +16,7 @@ use crate::ids::{currency_of, id_ok};
 use crate::numbers::{count_of, date_of, int_of, time_of};
 use crate::table::Fields;
 use feed_faults::{ColumnRule, EmptyField, Grammar, rule_of};
-use feed_rows::{ColumnName, FaultKind, FeedFault, FileName};
+use feed_files::{ColumnName, FaultKind, FeedFault, FileName};
 use std::alloc::AllocError;
 
 /// Whether a field isn't empty.

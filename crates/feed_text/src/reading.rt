@@ -1,7 +1,7 @@
 //! The first faults of a file: as a whole, and of its header.
 ghost use Rattle.std.specs.Prelude.{◌≡◌, ◌≤◌, length, IfOk, IfErr, OnOk, None};
 ghost use Rattle.std.specs.Str.{is_utf8};
-ghost use Rattle.feed_rows.specs.HeldFiles.{most_bytes};
+ghost use Rattle.feed_files.specs.HeldFiles.{most_bytes};
 ghost use Rattle.feed_faults.specs.Records.{table_of_bytes};
 ghost use Rattle.feed_faults.specs.FormFaults.{header_fault, form_fault_of_bytes};
 ghost use Rattle.feed_text.specs.RowLimits.{row_limit};
@@ -10,7 +10,7 @@ ghost use Rattle.feed_text.specs.TextErrors.{IsErrorOf};
 use crate::errors::{TextError, column_fault, file_fault};
 use crate::table::{Table, table_within};
 use feed_faults::{EmptyField, rule_of};
-use feed_rows::{FaultKind, FeedFault, FileName};
+use feed_files::{FaultKind, FeedFault, FileName};
 use std::alloc::Global;
 
 /// The first fault of a table's header: every doubled column comes before every missing one.

@@ -48,7 +48,7 @@ fn cut_of(text: &[u8]) -> &[u8]
 }
 
 /// Why no record was read.
-#[derive(Clone, Copy, Debug, PartialEq, Eq)]
+#[derive(Clone, Copy, PartialEq, Eq)]
 pub enum RecordError {
     /// A record isn't UTF-8.
     NotText,

@@ -2,7 +2,7 @@
 ghost use Rattle.std.specs.Prelude.{◌≡◌, ◌≤◌, ◌<◌, ◌+◌, ◌^◌, ◌++◌, ◌∷◌, [], length, get_or, map, is_some, IfOk, OnOk, Some, bytes_eq, nat_le, nat_lt, not};
 ghost use Rattle.plain_laws.specs.Plain.{when, find_below};
 ghost use Rattle.item_groups.specs.Parts.{parts, Rise};
-ghost use Rattle.feed_rows.specs.Names.{all_columns, column_text};
+ghost use Rattle.feed_files.specs.Names.{all_columns, column_text};
 ghost use Rattle.feed_faults.specs.Records.{table_of_bytes, header, row_count, column_of, field, is_long};
 ghost use Rattle.feed_faults.specs.FormFaults.{is_twice};
 ghost use Rattle.feed_text.specs.Reader.{last_record};
@@ -11,7 +11,7 @@ ghost use Rattle.feed_text.specs.DataRows.{one_row};
 
 use crate::fields::is_filled;
 use crate::records::Records;
-use feed_rows::ColumnName;
+use feed_files::ColumnName;
 use item_groups::{Groups, part_of, push_end};
 use std::alloc::{AllocError, Global};
 use std::io::Read;
@@ -46,7 +46,7 @@ pub struct Table {
 impl Model for Table {
     ghost use Rattle.std.specs.Prelude.{◌≡◌, ◌<◌, ◌^◌, length, map};
     ghost use Rattle.item_groups.specs.Parts.{parts, Rise};
-    ghost use Rattle.feed_rows.specs.Names.{all_columns};
+    ghost use Rattle.feed_files.specs.Names.{all_columns};
     ghost use Rattle.feed_faults.specs.Records.{FileTable, column_of};
 
     ghost Value = { FileTable };

@@ -15,7 +15,7 @@ use std::alloc::{AllocError, Global};
 use transit_base::{Secs, StopId};
 
 /// A walk out of a platform.
-#[derive(Clone, Copy, Debug, PartialEq, Eq)]
+#[derive(Clone, Copy, PartialEq, Eq)]
 pub struct Step {
     /// The platform that it leads to.
     pub to: StopId,

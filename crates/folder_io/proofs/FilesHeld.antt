@@ -2,10 +2,10 @@
 use mathlib.Core.Path.{fun_ext}
 use Rattle.std.proofs.Common.{◌≡◌, ℕ, zero, suc, List, [], ◌∷◌, Some, refl, unwrap_or, slice_get, true, arith}
 use Rattle.std.proofs.lemmas.Grind.{common_steps}
-use Rattle.feed_rows.specs.declared.names.FileName.{FileName}
-use Rattle.feed_rows.specs.declared.names.FileName.TheVariants as file
-use Rattle.feed_rows.specs.Names.{file_text}
-use Rattle.feed_rows.specs.HeldFiles.{held_within, held, most_bytes}
+use Rattle.feed_files.specs.declared.names.FileName.{FileName}
+use Rattle.feed_files.specs.declared.names.FileName.TheVariants as file
+use Rattle.feed_files.specs.Names.{file_text}
+use Rattle.feed_files.specs.HeldFiles.{held_within, held, most_bytes}
 use Rattle.folder_io.specs.declared.files.FileBytes.{FileBytes}
 use Rattle.folder_io.specs.declared.files.FileBytes.TheVariants as kept
 use Rattle.folder_io.specs.FilePlaces.{file_named, place}

@@ -7,21 +7,21 @@ use Rattle.std.proofs.Math.Seq.{drop-append_seam}
 use Rattle.std.proofs.lemmas.Bool.Decides.{nat_tests}
 use Rattle.folder_io.specs.declared.folder.Opened.TheVariants as opened
 use Rattle.folder_io.specs.declared.folder.Piece.TheVariants as piece
-use Rattle.feed_rows.specs.declared.names.FileName.{FileName}
-use Rattle.feed_rows.specs.declared.names.FileName.TheVariants as file
-use Rattle.feed_rows.specs.Names.{file_text}
-use Rattle.feed_rows.specs.HeldFiles.{HeldFile, held_within, held, most_bytes}
+use Rattle.feed_files.specs.declared.names.FileName.{FileName}
+use Rattle.feed_files.specs.declared.names.FileName.TheVariants as file
+use Rattle.feed_files.specs.Names.{file_text}
+use Rattle.feed_files.specs.HeldFiles.{HeldFile, held_within, held, most_bytes}
 use Rattle.folder_io.specs.declared.files.FileBytes.{FileBytes}
 use Rattle.folder_io.specs.declared.files.FileBytes.TheVariants as kept
 use Rattle.folder_io.specs.CallLogs.{Makes}
-use Rattle.feed_rows.specs.Names.{all_files}
+use Rattle.feed_files.specs.Names.{all_files}
 use Rattle.folder_io.specs.FilePlaces.{place}
 use Rattle.folder_io.specs.FolderCalls.{Contents, FolderState, Finds, Takes}
 use Rattle.folder_io.specs.KeptFiles.{held_of, held_in, file_in, IsWithin}
 use Rattle.folder_io.specs.FileReading.{IsRead, StopsPast, ReadsTo, GivesUp, GivesUpOn, AreReadBetween, file_names}
 use Rattle.folder_io.specs.declared.reading.ReadError.{ReadError}
 use Rattle.folder_io.specs.declared.reading.ReadError.TheVariants as error
-use Rattle.feed_rows.specs.FaultCounts.{Rose, Stayed}
+use Rattle.feed_files.specs.FaultCounts.{Rose, Stayed}
 use Rattle.folder_io.proofs.LogLaws.{makes_more}
 use Rattle.folder_io.proofs.PlaceLaws.{named}
 

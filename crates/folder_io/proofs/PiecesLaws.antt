@@ -4,7 +4,7 @@ use Rattle.std.specs.Prelude.{option_map}
 use Rattle.std.proofs.lemmas.Bool.Decides.{nat_tests}
 use Rattle.std.proofs.lemmas.List.{take-append-le}
 use Rattle.std.specs.Io.KnownBytes.{Consumes}
-use Rattle.feed_rows.specs.FaultCounts.{Stayed}
+use Rattle.feed_files.specs.FaultCounts.{Stayed}
 use Rattle.folder_io.specs.declared.folder.Piece.TheVariants as piece
 use Rattle.folder_io.specs.declared.pieces.PiecesEnd.{PiecesEnd}
 use Rattle.folder_io.specs.declared.pieces.PiecesEnd.TheVariants.{Going, Ended, Failed, TooLarge}

@@ -1,8 +1,8 @@
 -- The places of a feed's files.
 use Rattle.std.proofs.Common.{◌≡◌, refl, ◌<◌, get_or, arith}
-use Rattle.feed_rows.specs.Names.{all_files, place}
-use Rattle.feed_rows.specs.declared.names.FileName.{FileName}
-use Rattle.feed_rows.specs.declared.names.FileName.TheVariants as file
+use Rattle.feed_files.specs.Names.{all_files, place}
+use Rattle.feed_files.specs.declared.names.FileName.{FileName}
+use Rattle.feed_files.specs.declared.names.FileName.TheVariants as file
 
 -- each file stands in its place
 pub named : (name d : FileName) → get_or all_files (place name) d ≡ name

@@ -6,7 +6,7 @@ use Rattle.std.proofs.lemmas.Bool.Decides.{nat_tests}
 use Rattle.std.specs.Io.KnownBytes.{Consumes}
 use Rattle.std.specs.Prelude.{nat_lt, nat_eq, ◌||◌}
 use Rattle.std.specs.Str.{is_utf8}
-use Rattle.feed_rows.specs.FaultCounts.{Rose}
+use Rattle.feed_files.specs.FaultCounts.{Rose}
 use Rattle.folder_io.specs.declared.pieces.PiecesEnd.{PiecesEnd}
 use Rattle.folder_io.specs.declared.pieces.PiecesEnd.TheVariants.{Going, Ended, Failed, TooLarge}
 use Rattle.folder_io.specs.CallLogs.{CallLog}

@@ -1,8 +1,8 @@
 -- The file of a name.
 use Rattle.std.specs.Prelude.{ℕ, List, Option, find, bytes_eq}
-use Rattle.feed_rows.specs.declared.names.FileName.{FileName}
-use Rattle.feed_rows.specs.Names.{all_files, file_text}
-pub use Rattle.feed_rows.specs.Names.{place}
+use Rattle.feed_files.specs.declared.names.FileName.{FileName}
+use Rattle.feed_files.specs.Names.{all_files, file_text}
+pub use Rattle.feed_files.specs.Names.{place}
 
 -- the file of a name, if a file of a feed has it
 abbrev pub file_named : List ℕ → Option FileName

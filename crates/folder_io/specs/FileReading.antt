@@ -1,15 +1,15 @@
 -- What reading files answers.
 use Rattle.std.specs.Prelude.{◌≡◌, ◌⊎◌, ℕ, ◌+◌, ◌<◌, ◌≤◌, List, map, take, drop, Option, option_map, true}
-use Rattle.feed_rows.specs.FaultCounts.{Rose, Stayed}
-use Rattle.feed_rows.specs.HeldFiles.{HeldFile, held_within, held, most_bytes}
-use Rattle.feed_rows.specs.Names.{file_text}
-use Rattle.feed_rows.specs.declared.names.FileName.{FileName}
+use Rattle.feed_files.specs.FaultCounts.{Rose, Stayed}
+use Rattle.feed_files.specs.HeldFiles.{HeldFile, held_within, held, most_bytes}
+use Rattle.feed_files.specs.Names.{file_text}
+use Rattle.feed_files.specs.declared.names.FileName.{FileName}
 use Rattle.folder_io.specs.declared.files.FileBytes.{FileBytes}
 use Rattle.folder_io.specs.declared.files.FileBytes.TheVariants as kept
 use Rattle.folder_io.specs.declared.reading.ReadError.{ReadError}
 use Rattle.folder_io.specs.declared.reading.ReadError.TheVariants as error
 use Rattle.folder_io.specs.CallLogs.{Makes}
-use Rattle.feed_rows.specs.Names.{all_files}
+use Rattle.feed_files.specs.Names.{all_files}
 use Rattle.folder_io.specs.FolderCalls.{Contents, FolderState, WhereTold}
 use Rattle.folder_io.specs.FilePlaces.{place}
 use Rattle.folder_io.specs.KeptFiles.{held_of, held_in, file_in, IsWithin}

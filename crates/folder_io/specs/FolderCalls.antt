@@ -1,6 +1,6 @@
 -- What the calls of a folder say, over plain values: counts, names, bytes and answers.
 use Rattle.std.specs.Prelude.{◌≡◌, ℕ, ◌≤◌, List, [], length, take, drop, Option, None, Some, Bool, true, false, IfSome}
-use Rattle.feed_rows.specs.FaultCounts.{Rose, Stayed}
+use Rattle.feed_files.specs.FaultCounts.{Rose, Stayed}
 use Rattle.folder_io.specs.declared.folder.Opened.{Opened}
 use Rattle.folder_io.specs.declared.folder.Opened.TheVariants as opened
 use Rattle.folder_io.specs.declared.folder.Piece.{Piece}

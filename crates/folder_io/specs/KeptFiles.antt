@@ -1,8 +1,8 @@
 -- The files that are kept, as a folder holds them.
 use Rattle.std.specs.Prelude.{ℕ, ◌≤◌, List, length, Option, None, Some, unwrap_or, option_and_then, slice_get, Bool, true, false}
 use Rattle.std.specs.List.{list_all}
-use Rattle.feed_rows.specs.declared.names.FileName.{FileName}
-use Rattle.feed_rows.specs.HeldFiles.{HeldFile, most_bytes}
+use Rattle.feed_files.specs.declared.names.FileName.{FileName}
+use Rattle.feed_files.specs.HeldFiles.{HeldFile, most_bytes}
 use Rattle.folder_io.specs.declared.files.FileBytes.{FileBytes}
 use Rattle.folder_io.specs.declared.files.FileBytes.TheVariants.{Absent, TooLarge, Bytes}
 use Rattle.folder_io.specs.FilePlaces.{place, file_named}

@@ -2,7 +2,7 @@
 use Rattle.std.specs.Prelude.{◌≡◌, ℕ, ◌+◌, ◌≤◌, ◌<◌, ◌==◌, if◌then◌else◌, List, [], length, take, ◌++◌, Option, Some, option_map, IfSome, Result, Ok, Err, true}
 use Rattle.std.specs.Borrow.{GName}
 use Rattle.std.specs.Io.KnownBytes.{Consumes}
-use Rattle.feed_rows.specs.FaultCounts.{Rose, Stayed}
+use Rattle.feed_files.specs.FaultCounts.{Rose, Stayed}
 use Rattle.folder_io.specs.declared.folder.Folder.{Ghosts}
 use Rattle.folder_io.specs.declared.pieces.Pieces.{Pieces}
 use Rattle.folder_io.specs.declared.pieces.PiecesEnd.{PiecesEnd}

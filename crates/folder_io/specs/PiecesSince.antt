@@ -1,6 +1,6 @@
 -- A reading by pieces whose type tells where it began.
 use Rattle.std.specs.Prelude.{◌≡◌, ℕ, ◌<◌, ◌≤◌, length, IfSome, true}
-use Rattle.feed_rows.specs.FaultCounts.{Rose, Stayed}
+use Rattle.feed_files.specs.FaultCounts.{Rose, Stayed}
 use Rattle.folder_io.specs.declared.folder.Folder.{Ghosts as FolderOf}
 use Rattle.folder_io.specs.declared.pieces_since.Beginning.{Ghosts as BeginningOf}
 use Rattle.folder_io.specs.declared.pieces_since.PiecesSince.{PiecesSince}

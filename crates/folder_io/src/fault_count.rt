@@ -1,6 +1,6 @@
 //! The count of what failed.
 ghost use Rattle.std.specs.Prelude.{◌≡◌, ◌<◌, ◌≤◌, ◌^◌, true, false};
-ghost use Rattle.feed_rows.specs.FaultCounts.{Rose};
+ghost use Rattle.feed_files.specs.FaultCounts.{Rose};
 
 // How many calls of an object failed, and whether its last call did. Past its last value the count stands there.
 #[derive(Drop)]

@@ -2,7 +2,7 @@
 ghost use Rattle.std.specs.Prelude.{◌≡◌, ◌≢◌, ◌<◌, List, ℕ, length, IfOk, IsTrue, Some, slice_set, replicate, true};
 ghost use Rattle.folder_io.specs.FilePlaces.{place, file_named};
 
-use feed_rows::FileName;
+use feed_files::FileName;
 use std::alloc::{AllocError, Global};
 use std::marker::Model;
 

@@ -12,7 +12,7 @@ use std::io;
 use std::io::{ErrorKind, Read};
 
 /// How far a reading by pieces came.
-#[derive(Clone, Copy, Debug, PartialEq, Eq)]
+#[derive(Clone, Copy, PartialEq, Eq)]
 pub enum PiecesEnd {
     /// More may come.
     Going,

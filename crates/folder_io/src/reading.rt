@@ -1,14 +1,14 @@
 //! Reading the files of a feed.
 ghost use Rattle.std.specs.Prelude.{◌≡◌, ◌≤◌, ◌∷◌, [], IfOk, IfErr, OnOk};
-ghost use Rattle.feed_rows.specs.FaultCounts.{Stayed};
-ghost use Rattle.feed_rows.specs.Names.{file_text};
+ghost use Rattle.feed_files.specs.FaultCounts.{Stayed};
+ghost use Rattle.feed_files.specs.Names.{file_text};
 ghost use Rattle.folder_io.specs.CallLogs.{Makes};
 ghost use Rattle.folder_io.specs.KeptFiles.{IsWithin};
 ghost use Rattle.folder_io.specs.FolderCalls.{FolderState, WhereTold};
 ghost use Rattle.folder_io.specs.FileReading.{AreReadBetween, GivesUp, GivesUpOn, IsRead, ReadsTo, StopsPast};
 
 use crate::{ByteText, FileBytes, Files, Folder, Opened, Piece};
-use feed_rows::FileName;
+use feed_files::FileName;
 use std::alloc::{AllocError, Global};
 use thiserror::Error;
 

@@ -3,7 +3,7 @@ ghost use Rattle.std.specs.Prelude.{◌≡◌, ◌<◌, ◌≤◌, IsTrue, lengt
 
 use crate::files::file_of;
 use crate::{FileBytes, Files, Folder, Opened, Piece};
-use feed_rows::FileName;
+use feed_files::FileName;
 
 /// A folder in memory that tells what it holds and never fails: its count of faults is the constant 0.
 #[derive(Drop)]

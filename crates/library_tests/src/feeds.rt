@@ -3,7 +3,8 @@ ghost use Rattle.std.specs.Prelude.{IfOk, IsTrue};
 ghost use Rattle.folder_io.specs.KeptFiles.{are_whole};
 
 use feed_check::{LoadError, load};
-use feed_rows::{Feed, FileName};
+use feed_files::FileName;
+use feed_rows::Feed;
 use feed_text::TextError;
 use folder_io::{ByteText, FileBytes, Files, SureFolder};
 use std::alloc::{AllocError, Global};

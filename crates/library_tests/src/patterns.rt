@@ -3,7 +3,8 @@ ghost use Rattle.std.specs.Prelude.{IfOk};
 ghost use Rattle.plan_patterns.specs.Runs.{AreTripsOf};
 
 use crate::feeds::feed_of;
-use feed_rows::{FileName, Query};
+use feed_files::FileName;
+use feed_rows::Query;
 use feed_text::TextError;
 use feed_timetable::Timetable;
 use plan_patterns::Patterns;

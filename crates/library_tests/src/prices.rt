@@ -1,9 +1,9 @@
 // The least price of three legs, beside the least of the sums of all choices of rules and rows that there are.
 use crate::feeds::feed_of;
 use fare_price::{Fares, price, verify};
+use feed_files::FileName;
 use feed_rows::{
-    AreaList, ChangeChoice, ChangeChoices, Choice, Feed, FileName, FrameList, LegChoice,
-    LegChoices, LegFacts,
+    AreaList, ChangeChoice, ChangeChoices, Choice, Feed, FrameList, LegChoice, LegChoices, LegFacts,
 };
 use feed_text::TextError;
 use std::alloc::{AllocError, Global};

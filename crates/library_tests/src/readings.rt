@@ -2,9 +2,10 @@
 ghost use Rattle.ticket_read.specs.Judgement.{IsNearQuery};
 
 use crate::feeds::feed_of;
+use feed_files::FileName;
 use feed_rows::{
-    ChangeChoice, ChangeChoices, Choice, Entries, Entry, Feed, FileName, Journey, LegChoice,
-    LegChoices, Query, Ride, RideList, Triple,
+    ChangeChoice, ChangeChoices, Choice, Entries, Entry, Feed, Journey, LegChoice, LegChoices,
+    Query, Ride, RideList, Triple,
 };
 use feed_text::TextError;
 use feed_timetable::Timetable;

@@ -1,10 +1,10 @@
 -- From the causes to what can be answered.
 use Rattle.std.proofs.Common.{◌≡◌, ℕ, List, Bool, true, false, Option, None, refl, ap, ◌∙◌, subst, ◌⊎◌, inl, inr}
 use Rattle.std.specs.Prelude.{Some, Result, Ok, Err, IfSome}
-use Rattle.feed_rows.specs.FaultCounts.{Rose}
-use Rattle.feed_rows.specs.HeldFiles.{HeldFile, held}
+use Rattle.feed_files.specs.FaultCounts.{Rose}
+use Rattle.feed_files.specs.HeldFiles.{HeldFile, held}
 use Rattle.feed_rows.specs.Requests.{Request}
-use Rattle.feed_rows.specs.declared.names.FileName.{FileName}
+use Rattle.feed_files.specs.declared.names.FileName.{FileName}
 use Rattle.feed_rows.specs.declared.usage.UsageFault.{UsageFault}
 use Rattle.folder_io.specs.FileReading.{Gives}
 use Rattle.folder_io.specs.FolderCalls.{Contents, FolderState}

@@ -4,7 +4,7 @@ use Rattle.std.proofs.lemmas.Option.{same_Some}
 use Rattle.std.proofs.lemmas.List.{get_or-map, length-map}
 use Rattle.std.specs.Prelude.{Any, IsTrue, Some, None, Ok, IfSome}
 use Rattle.feed_rows.specs.FeedRows.{FeedRows}
-use Rattle.feed_rows.specs.HeldFiles.{HeldFile, held}
+use Rattle.feed_files.specs.HeldFiles.{HeldFile, held}
 use Rattle.feed_rows.specs.GeneratedFeed.{generated_plan}
 use Rattle.feed_rows.specs.JourneyEntries.{IsExactAnswer, CoversOffers}
 use Rattle.feed_rows.specs.ParetoTriples.{at_most}
@@ -17,7 +17,7 @@ use Rattle.feed_rows.specs.Queries.{query_of}
 use Rattle.feed_rows.specs.Requests.{PlanRequest, Request}
 use Rattle.feed_rows.specs.declared.fares.Entry.{Entry}
 use Rattle.feed_rows.specs.declared.journeys.Query.{Query}
-use Rattle.feed_rows.specs.declared.names.FileName.{FileName}
+use Rattle.feed_files.specs.declared.names.FileName.{FileName}
 use Rattle.feed_laws.proofs.GeneratedLaws.{exact_triples}
 use Rattle.folder_io.specs.FolderCalls.{Contents, FolderState}
 use Rattle.folder_io.proofs.LogLaws.{makes_none}

@@ -4,10 +4,10 @@ use Rattle.folder_io.specs.FolderCalls.{FolderState}
 use Rattle.feed_check.specs.LoadErrors.{FailsReading, StopsReading}
 use Rattle.plan_words.specs.Words.{asked_of}
 use Rattle.feed_rows.specs.FeedRows.{FeedRows}
-use Rattle.feed_rows.specs.HeldFiles.{HeldFile}
+use Rattle.feed_files.specs.HeldFiles.{HeldFile}
 use Rattle.feed_rows.specs.Requests.{Request}
-use Rattle.feed_rows.specs.declared.faults.FeedFault.{FeedFault}
-use Rattle.feed_rows.specs.declared.names.FileName.{FileName}
+use Rattle.feed_files.specs.declared.faults.FeedFault.{FeedFault}
+use Rattle.feed_files.specs.declared.names.FileName.{FileName}
 use Rattle.feed_faults.specs.AcceptedFeed.{feed_of}
 use Rattle.feed_faults.specs.FirstFault.{first_fault}
 use Rattle.feed_check.specs.declared.folder.LoadError.{LoadError}

@@ -1,9 +1,9 @@
 -- Each answer of the program with its cause: what holds of the words, and of the folder and the sink before and after.
 use Rattle.std.specs.Prelude.{◌≡◌, ◌⊎◌, ℕ, Bool, true, false, IsTrue, List, Result, Ok, Err}
-use Rattle.feed_rows.specs.FaultCounts.{Rose}
-use Rattle.feed_rows.specs.HeldFiles.{HeldFile, held}
+use Rattle.feed_files.specs.FaultCounts.{Rose}
+use Rattle.feed_files.specs.HeldFiles.{HeldFile, held}
 use Rattle.feed_rows.specs.Requests.{Request}
-use Rattle.feed_rows.specs.declared.names.FileName.{FileName}
+use Rattle.feed_files.specs.declared.names.FileName.{FileName}
 use Rattle.feed_rows.specs.declared.usage.UsageFault.{UsageFault}
 use Rattle.folder_io.specs.FolderCalls.{FolderState, WhereTold}
 use Rattle.folder_io.specs.FileReading.{OpensAll}

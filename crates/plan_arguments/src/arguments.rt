@@ -8,7 +8,7 @@ use std::io::ErrorKind;
 use std::rt::Env;
 
 /// Why the program's arguments can't be had.
-#[derive(Clone, Copy, Debug, PartialEq, Eq)]
+#[derive(Clone, Copy, PartialEq, Eq)]
 pub enum ArgumentError {
     /// Memory was wanting.
     NoMemory,

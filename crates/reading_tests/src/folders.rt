@@ -2,7 +2,7 @@
 ghost use Rattle.std.specs.Prelude.{IfOk, IsTrue};
 ghost use Rattle.folder_io.specs.KeptFiles.{are_whole};
 
-use feed_rows::FileName;
+use feed_files::FileName;
 use folder_io::{
     ByteText, CountSink, Cut, DirFolder, FileBytes, Files, Folder, MemFolder, MemSink, ReadError,
     Sink, StdSink, SureFolder, SureSink, Wrote, read_file, read_files,

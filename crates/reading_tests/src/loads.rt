@@ -3,7 +3,8 @@ ghost use Rattle.std.specs.Prelude.{IfOk, IsTrue};
 ghost use Rattle.folder_io.specs.KeptFiles.{are_whole};
 
 use feed_check::{LoadError, load};
-use feed_rows::{CallTime, FaultKind, Feed, FeedFault, FileName};
+use feed_files::{FaultKind, FeedFault, FileName};
+use feed_rows::{CallTime, Feed};
 use folder_io::{ByteText, FileBytes, Files, Folder, MemFolder, Opened, Piece, SureFolder};
 use std::alloc::{AllocError, Global};
 

@@ -2,7 +2,7 @@
 ghost use Rattle.std.specs.Prelude.{◌≡◌, IfOk, IsTrue, true};
 ghost use Rattle.folder_io.specs.KeptFiles.{are_whole};
 
-use feed_rows::FileName;
+use feed_files::FileName;
 use folder_io::{
     Beginning, ByteText, FileBytes, Files, Folder, MemFolder, Opened, Pieces, PiecesEnd,
     PiecesSince,

@@ -1,7 +1,7 @@
 // The limit of rows, which a case would need four million of.
 ghost use Rattle.std.specs.Prelude.{◌≤◌};
 
-use feed_rows::{FaultKind, FeedFault, FileName};
+use feed_files::{FaultKind, FeedFault, FileName};
 use feed_text::{Table, TextError};
 use std::alloc::Global;
 

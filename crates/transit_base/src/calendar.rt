@@ -5,7 +5,7 @@ ghost use Rattle.transit_base.specs.Dates.{is_date, day_number};
 use jiff_core::civil::Date;
 
 /// A civil day: the number of days since 1970-01-01, negative before it.
-#[derive(Clone, Copy, Debug, PartialEq, Eq, PartialOrd, Ord)]
+#[derive(Clone, Copy, PartialEq, Eq, PartialOrd, Ord)]
 pub struct Day(pub i64);
 
 /// The day of a year, a month from 1 and a day of the month from 1. None exactly where the year isn't one of 1 to

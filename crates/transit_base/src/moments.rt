@@ -12,15 +12,15 @@ pub const MOST_TIME: u32 = 604_799;
 
 /// A moment: seconds since 1970-01-01 00:00:00 on the one clock of a feed. Each civil day has 86,400 seconds, since
 /// time zones and clock changes are left out.
-#[derive(Clone, Copy, Debug, PartialEq, Eq, PartialOrd, Ord)]
+#[derive(Clone, Copy, PartialEq, Eq, PartialOrd, Ord)]
 pub struct Moment(pub i64);
 
 /// An amount of money in whole minor units of a feed's one currency, such as cents. It may be negative.
-#[derive(Clone, Copy, Debug, PartialEq, Eq, PartialOrd, Ord)]
+#[derive(Clone, Copy, PartialEq, Eq, PartialOrd, Ord)]
 pub struct Money(pub i64);
 
 /// A span of time, or a time of day, in seconds.
-#[derive(Clone, Copy, Debug, PartialEq, Eq, PartialOrd, Ord)]
+#[derive(Clone, Copy, PartialEq, Eq, PartialOrd, Ord)]
 pub struct Secs(pub u32);
 
 impl Moment {

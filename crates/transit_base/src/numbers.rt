@@ -5,7 +5,7 @@
 //! name, so they are numbered by the first appearance of the name.
 
 /// The number of a stop: its data row in `stops.txt`, counted from 0.
-#[derive(Clone, Copy, Debug, PartialEq, Eq)]
+#[derive(Clone, Copy, PartialEq, Eq)]
 pub struct StopId(pub u32);
 
 /// The number of a route: its data row in `routes.txt`, counted from 0.
@@ -13,7 +13,7 @@ pub struct StopId(pub u32);
 pub struct RouteId(pub u32);
 
 /// The number of a trip: its data row in `trips.txt`, counted from 0.
-#[derive(Clone, Copy, Debug, PartialEq, Eq)]
+#[derive(Clone, Copy, PartialEq, Eq)]
 pub struct TripId(pub u32);
 
 /// The number of a service: the place of its name among such names by first appearance, counted from 0.

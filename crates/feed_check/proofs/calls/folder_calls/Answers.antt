@@ -2,11 +2,11 @@ use Rattle.std.proofs.Common.{sym, subst, ◌∷◌, [], arith}
 use Rattle.std.specs.Prelude.{IfErr}
 use Rattle.std.proofs.lemmas.Result.{IfOk-weaker, IfErr-weaker}
 use Rattle.std.proofs.lemmas.Grind.{common_steps}
-use Rattle.feed_rows.specs.Names.{file_text}
+use Rattle.feed_files.specs.Names.{file_text}
 use Rattle.folder_io.specs.CallLogs.{Makes}
 use Rattle.folder_io.specs.FolderCalls.{FolderState}
 use Rattle.folder_io.specs.FileReading.{ReadsTo, GivesUpOn}
-use Rattle.feed_rows.specs.declared.names.FileName.TheVariants as file
+use Rattle.feed_files.specs.declared.names.FileName.TheVariants as file
 use Rattle.folder_io.specs.declared.reading.ReadError.TheVariants as error
 use Rattle.folder_io.proofs.FilesRead.{gives_up}
 use Rattle.feed_check.proofs.HeldCalls.{absent_in, given_in, gives_behind}

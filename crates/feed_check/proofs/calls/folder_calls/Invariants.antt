@@ -1,4 +1,4 @@
-use Rattle.feed_rows.specs.HeldFiles.{most_bytes}
+use Rattle.feed_files.specs.HeldFiles.{most_bytes}
 use Rattle.feed_check.proofs.calls.folder_calls.Given as goal
 
 abbrev pub ghosts-open_calls : goal.ghosts-open_calls

@@ -1,7 +1,7 @@
 use Rattle.std.proofs.Common.{◌≡◌, Some, rules}
 use Rattle.std.specs.Prelude.{IfOk, IfErr}
 use Rattle.std.proofs.lemmas.Result.{IfOk-weaker, IfErr-weaker}
-use Rattle.feed_rows.specs.HeldFiles.{HeldFile}
+use Rattle.feed_files.specs.HeldFiles.{HeldFile}
 use Rattle.folder_io.specs.KeptFiles.{held_of}
 use Rattle.feed_calls.specs.CallRows.{AreCallsOf, IsCallError}
 use Rattle.feed_check.proofs.HeldCalls.{held_answer}

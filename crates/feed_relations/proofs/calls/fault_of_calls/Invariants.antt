@@ -1,6 +1,6 @@
 use Rattle.std.proofs.Common.{◌≡◌, None}
 use Rattle.plain_laws.specs.Plain.{first_below}
-use Rattle.feed_rows.specs.declared.names.FileName.TheVariants as file
+use Rattle.feed_files.specs.declared.names.FileName.TheVariants as file
 use Rattle.feed_faults.specs.RowChecks.{relation_fault_of_row}
 use Rattle.feed_relations.proofs.calls.fault_of_calls.Given as goal
 

@@ -3,8 +3,8 @@ use Rattle.std.specs.Prelude.{not}
 use Rattle.std.specs.Option.{MatchOption}
 use Rattle.std.proofs.lemmas.Grind.{common_steps}
 use Rattle.std.proofs.lemmas.Bool.Decides.{nat_tests}
-use Rattle.feed_rows.specs.declared.names.ColumnName.TheVariants.{StartTime, EndTime}
-use Rattle.feed_rows.specs.declared.names.FileName.TheVariants as file
+use Rattle.feed_files.specs.declared.names.ColumnName.TheVariants.{StartTime, EndTime}
+use Rattle.feed_files.specs.declared.names.FileName.TheVariants as file
 use Rattle.plain_laws.proofs.Laws.{find_below_found, find_below_next}
 use Rattle.feed_faults.specs.Records.{row_count, field}
 use Rattle.feed_faults.specs.FeedTables.{table_in}

@@ -1,5 +1,5 @@
 use Rattle.std.proofs.Common.{◌≡◌, None}
-use Rattle.feed_rows.specs.declared.names.FileName.TheVariants as file
+use Rattle.feed_files.specs.declared.names.FileName.TheVariants as file
 use Rattle.plain_laws.specs.Plain.{find_below}
 use Rattle.feed_faults.specs.FeedTables.{table_in}
 use Rattle.feed_faults.specs.FareRelations.{is_bad_frame}

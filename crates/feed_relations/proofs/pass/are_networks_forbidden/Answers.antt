@@ -4,8 +4,8 @@ use Rattle.std.proofs.lemmas.Bool.Decides.{nat_tests}
 use Rattle.std.proofs.lemmas.Iterator.{YieldsList-from_range}
 use Rattle.std.proofs.lemmas.Iterator.Search.{any_from_yields_List}
 use Rattle.plain_laws.specs.Plain.{any_below}
-use Rattle.feed_rows.specs.declared.names.ColumnName.TheVariants.{NetworkId}
-use Rattle.feed_rows.specs.declared.names.FileName.TheVariants as file
+use Rattle.feed_files.specs.declared.names.ColumnName.TheVariants.{NetworkId}
+use Rattle.feed_files.specs.declared.names.FileName.TheVariants as file
 use Rattle.feed_faults.specs.FeedTables.{table_in}
 use Rattle.feed_faults.specs.NetworkRelations.{are_networks_forbidden, has_own_networks}
 use Rattle.feed_faults.specs.Records.{row_count, field, is_filled}

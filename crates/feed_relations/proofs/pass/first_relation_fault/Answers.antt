@@ -1,7 +1,7 @@
 use Rattle.std.proofs.Common.{◌≡◌, sym, ◌∙◌, ap, subst, List, ◌<◌, length, get_or, Some, arith}
 use Rattle.plain_laws.proofs.Laws.{first_in_found}
-use Rattle.feed_rows.specs.Names.{all_files}
-use Rattle.feed_rows.specs.declared.names.FileName.{FileName}
+use Rattle.feed_files.specs.Names.{all_files}
+use Rattle.feed_files.specs.declared.names.FileName.{FileName}
 use Rattle.feed_faults.specs.FeedTables.{FeedTables}
 use Rattle.feed_faults.specs.FirstFault.{relation_fault, first_relation_fault}
 use Rattle.feed_relations.proofs.pass.first_relation_fault.Goals as goal

@@ -1,7 +1,7 @@
 use Rattle.std.proofs.Common.{◌≡◌, None}
 use Rattle.plain_laws.specs.Plain.{first_below}
 use Rattle.plain_laws.proofs.Laws.{at_item}
-use Rattle.feed_rows.specs.Names.{all_files}
+use Rattle.feed_files.specs.Names.{all_files}
 use Rattle.feed_faults.specs.FirstFault.{relation_fault}
 use Rattle.feed_relations.proofs.pass.first_relation_fault.Given as goal
 

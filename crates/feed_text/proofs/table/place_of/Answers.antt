@@ -1,7 +1,7 @@
 use Rattle.std.proofs.Common.{◌≡◌, ℕ, [], true, false, bytes_eq, get_or, rules, tests}
 use Rattle.std.proofs.lemmas.Iterator.{first_from_Range}
 use Rattle.std.proofs.lemmas.Option.{unwrap_or-slice_get}
-use Rattle.feed_rows.specs.Names.{column_text}
+use Rattle.feed_files.specs.Names.{column_text}
 use Rattle.feed_text.proofs.RangeLaws.{found_below}
 use Rattle.feed_text.proofs.table.place_of.Goals as goal
 

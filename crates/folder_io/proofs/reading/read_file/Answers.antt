@@ -1,5 +1,5 @@
 use Rattle.std.proofs.Common.{[], ◌∷◌, sym, subst, ◌≤◌, ◌∙◌, length, drop, refl, ap, arith, length-take}
-use Rattle.feed_rows.specs.Names.{file_text}
+use Rattle.feed_files.specs.Names.{file_text}
 use Rattle.folder_io.specs.CallLogs.{Makes}
 use Rattle.folder_io.proofs.FilesRead.{piece_put, opened_so_far, more_so_far, absent_read, end_read, large_read}
 use Rattle.folder_io.proofs.reading.read_file.Goals as goal

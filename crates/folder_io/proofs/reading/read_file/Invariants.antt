@@ -1,6 +1,6 @@
 use Rattle.std.proofs.Common.{◌≡◌, ◌≤◌, ◌+◌, ◌-◌, [], ◌∷◌, length, true}
 use Rattle.folder_io.specs.CallLogs.{Makes}
-use Rattle.feed_rows.specs.Names.{file_text}
+use Rattle.feed_files.specs.Names.{file_text}
 use Rattle.folder_io.proofs.FilesRead.{IsSoFar}
 use Rattle.folder_io.proofs.reading.read_file.Given as goal
 

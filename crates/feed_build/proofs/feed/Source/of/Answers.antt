@@ -1,5 +1,5 @@
 use Rattle.std.proofs.Common.{refl, ap, length, arith}
-use Rattle.feed_rows.specs.declared.names.FileName.TheVariants as file
+use Rattle.feed_files.specs.declared.names.FileName.TheVariants as file
 use Rattle.feed_faults.specs.AcceptedFeed.{service_names, network_names, frame_names, product_names, group_names}
 use Rattle.feed_build.proofs.NameColumns.{few_rows, trip_services, calendar_services, exception_services, frame_services, route_networks, networks, frame_groups, products, leg_groups}
 use Rattle.feed_build.proofs.feed.Source.of.Goals as goal

@@ -4,7 +4,7 @@ use Rattle.std.specs.List.{range_with_len}
 use Rattle.std.proofs.lemmas.Iterator.{YieldsList-from_range, YieldsList-from_map, items_from_collect}
 use Rattle.feed_rows.specs.Codes.{platform_type}
 use Rattle.feed_faults.specs.FieldValues.{stop_kind}
-use Rattle.feed_rows.specs.declared.names.FileName.TheVariants as file
+use Rattle.feed_files.specs.declared.names.FileName.TheVariants as file
 use Rattle.feed_faults.specs.FeedTables.{table_in}
 use Rattle.plain_laws.specs.Plain.{list_below}
 use Rattle.feed_relations.specs.JudgedBy.{are_platforms}

@@ -2,7 +2,7 @@ use Rattle.std.proofs.Common.{◌∙◌, ℕ, ◌<◌, ◌+◌, [], length, refl
 use Rattle.std.proofs.lemmas.Iterator.{YieldsList-from_range}
 use Rattle.std.proofs.lemmas.Iterator.Search.{any_from_yields_List}
 use Rattle.std.proofs.lemmas.Option.{unwrap_or-slice_get}
-use Rattle.feed_rows.specs.Names.{column_text}
+use Rattle.feed_files.specs.Names.{column_text}
 use Rattle.feed_faults.specs.Records.{header}
 use Rattle.feed_text.proofs.AccessLaws.{column_within, twice_at, absent_once}
 use Rattle.feed_text.proofs.table.Table.is_twice.Goals as goal

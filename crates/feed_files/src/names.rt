@@ -1,9 +1,9 @@
 //! The files of a feed and their columns, by name.
 ghost use Rattle.std.specs.Prelude.{◌≡◌};
-ghost use Rattle.feed_rows.specs.Names.{all_columns, all_files, column_text, file_text};
+ghost use Rattle.feed_files.specs.Names.{all_columns, all_files, column_text, file_text};
 
 /// A file of a feed, in the order in which files are read and judged.
-#[derive(Clone, Copy, Debug, PartialEq, Eq)]
+#[derive(Clone, Copy, PartialEq, Eq)]
 pub enum FileName {
     /// `stops.txt`
     Stops,
@@ -100,7 +100,7 @@ impl FileName {
 }
 
 /// A column that is read. The last six are looked at only to tell a row that is passed over or out of scope.
-#[derive(Clone, Copy, Debug, PartialEq, Eq)]
+#[derive(Clone, Copy, PartialEq, Eq)]
 pub enum ColumnName {
     /// `stop_id`
     StopId,

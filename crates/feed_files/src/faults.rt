@@ -1,11 +1,11 @@
 //! What is wrong with a feed: the kind of a fault, and its place.
 ghost use Rattle.std.specs.Prelude.{◌≡◌};
-ghost use Rattle.feed_rows.specs.Faults.{fault_number, fault_text};
+ghost use Rattle.feed_files.specs.Faults.{fault_number, fault_text};
 
 use crate::names::{ColumnName, FileName};
 
 /// A kind of fault. Its number is printed beside its name.
-#[derive(Clone, Copy, Debug, PartialEq, Eq)]
+#[derive(Clone, Copy, PartialEq, Eq)]
 pub enum FaultKind {
     /// A required file is absent, or has no record.
     MissingFile,
@@ -132,7 +132,7 @@ impl FaultKind {
 }
 
 /// A fault of a feed with its place.
-#[derive(Clone, Copy, Debug, PartialEq, Eq)]
+#[derive(Clone, Copy, PartialEq, Eq)]
 pub struct FeedFault {
     pub kind: FaultKind,
     pub file: FileName,

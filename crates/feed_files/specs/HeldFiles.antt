@@ -1,7 +1,7 @@
 -- What a folder holds of a feed's files.
 use Rattle.std.specs.Prelude.{ℕ, nat_lt, if◌then◌else◌, List, length, Option, None, Some}
-use Rattle.feed_rows.specs.declared.names.FileName.{FileName}
-use Rattle.feed_rows.specs.Names.{file_text}
+use Rattle.feed_files.specs.declared.names.FileName.{FileName}
+use Rattle.feed_files.specs.Names.{file_text}
 
 -- a file of a feed, as a folder holds it
 pub data HeldFile : Type 0 where

@@ -1,7 +1,7 @@
 -- The kinds of faults: their numbers and names, as they are printed.
 use Rattle.std.specs.Prelude.{ℕ, List, codes}
-use Rattle.feed_rows.specs.declared.faults.FaultKind.{FaultKind}
-use Rattle.feed_rows.specs.declared.faults.FaultKind.TheVariants as kind
+use Rattle.feed_files.specs.declared.faults.FaultKind.{FaultKind}
+use Rattle.feed_files.specs.declared.faults.FaultKind.TheVariants as kind
 
 -- a fault's number
 abbrev pub fault_number : FaultKind → ℕ
