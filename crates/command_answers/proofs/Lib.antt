@@ -1,2 +1,5 @@
 pub mod PriceLaws
 pub mod WrittenLaws
+pub mod LegLaws
+pub mod NameLaws
+pub mod RideLaws

@@ -7,6 +7,7 @@ mod outcome;
 mod prices;
 mod query;
 mod refusal;
+mod ride_prices;
 mod status;
 
 pub use lines::{stats_line_of, write_text};

@@ -3,16 +3,16 @@ ghost use Rattle.std.specs.Prelude.{◌≤◌, length, IfOk};
 ghost use Rattle.feed_rows.specs.PriceQueries.{price_query_of};
 ghost use Rattle.command_answers.specs.Due.{Task, task_by, ArePriceLines};
 ghost use Rattle.command_answers.specs.Outcomes.{IsOutcome};
-ghost use Rattle.ride_prices.specs.NamedRides.{AreKnown, rides_of};
+ghost use Rattle.command_answers.specs.NamedRides.{AreKnown, rides_of};
 ghost use Rattle.plan_words.specs.Request.{price_request};
 ghost use Rattle.plan_words.specs.Rides.{AreUsualRides};
 
 use crate::outcome::{Outcome, answered, refused};
 use crate::refusal::Refusal;
+use crate::ride_prices::{PriceQuery, PriceQueryError, price_of, price_query_of};
 use feed_rows::Feed;
 use feed_timetable::Timetable;
 use plan_words::PriceWords;
-use ride_prices::{PriceQuery, PriceQueryError, price_of, price_query_of};
 use std::alloc::{AllocError, Global};
 use ticket_explain::{Text, price_lines_of, uncovered_lines_of};
 

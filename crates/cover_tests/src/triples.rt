@@ -1,7 +1,7 @@
 // Triples of a small answer.
 use feed_rows::Triple;
+use pareto_front::{are_same_triples, is_at_most, is_before};
 use transit_base::{Moment, Money};
-use triple_order::{are_same_triples, is_at_most, is_before};
 
 #[test]
 fn triples(rt: HostRuntime) {

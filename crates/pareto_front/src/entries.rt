@@ -1,7 +1,7 @@
 //! Entries of an answer, by their triples.
 use crate::front::Ranked;
+use crate::triples::{is_at_most, is_before};
 use feed_rows::Entry;
-use triple_order::{is_at_most, is_before};
 
 impl Ranked for Entry {
     ghost use Rattle.feed_rows.specs.ParetoTriples.{at_most, is_before};

@@ -3,5 +3,7 @@
 
 mod entries;
 mod front;
+mod triples;
 
 pub use front::{Front, Ranked};
+pub use triples::{are_same_triples, is_at_most, is_before};

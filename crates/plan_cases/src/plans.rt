@@ -6,11 +6,11 @@ use feed_maker::gen_files;
 use feed_rows::{Entry, Query, Triple};
 use feed_text::TextError;
 use feed_timetable::Timetable;
+use pareto_front::are_same_triples;
 use plan_plain::plain_entries;
 use plan_rounds::round_entries;
 use std::alloc::{AllocError, Global};
 use transit_base::{Day, Moment, StopId};
-use triple_order::are_same_triples;
 
 // The triples of the entries.
 fn triples(alloc: Global, entries: &[Entry]) -> Result<Vec<Triple>, AllocError> {

@@ -3,9 +3,8 @@ ghost use Rattle.std.specs.Prelude.{◌≡◌};
 ghost use Rattle.round_laws.specs.Futility.{is_within};
 
 use feed_rows::Triple;
-use pareto_front::Ranked;
+use pareto_front::{Ranked, is_at_most, is_before};
 use transit_base::{Moment, StopId};
-use triple_order::{is_at_most, is_before};
 
 /// A triple that is found, and the label whose journey has it, where that ends at this stop.
 #[derive(Clone, Copy)]

@@ -1,5 +1,5 @@
 use Rattle.plan_words.specs.Request.{price_request}
-use Rattle.ride_prices.specs.NamedRides.{query_of}
+use Rattle.command_answers.specs.NamedRides.{query_of}
 use Rattle.command_answers.proofs.PriceLaws.{price_due}
 use Rattle.command_answers.proofs.prices.price_outcome.Goals as goal
 

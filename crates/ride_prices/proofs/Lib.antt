@@ -1,3 +1,0 @@
-pub mod LegLaws
-pub mod NameLaws
-pub mod RideLaws

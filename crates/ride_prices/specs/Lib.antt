@@ -1,2 +1,0 @@
-pub mod NamedRides
-pub mod RidePrices

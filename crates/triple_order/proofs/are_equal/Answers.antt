@@ -1,6 +1,0 @@
-use Rattle.std.proofs.lemmas.Slice.Eq.{slice_eq-Decides}
-use Rattle.triple_order.proofs.SameTriples.{same_test}
-use Rattle.triple_order.proofs.are_equal.Goals as goal
-
-pub returns : goal.returns
-returns c = slice_eq-Decides same_test c.args.one.now c.args.other.now c.eq.result c.eq.ensures
