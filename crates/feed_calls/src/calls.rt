@@ -7,7 +7,7 @@ ghost use Rattle.feed_faults.specs.Records.{header};
 ghost use Rattle.feed_faults.specs.RowKeys.{row_of};
 ghost use Rattle.feed_text.specs.Reader.{StandsBehind, last_record};
 ghost use Rattle.feed_text.specs.RowLimits.{row_limit};
-ghost use Rattle.feed_tables.specs.IdRows.{IsKeyOf};
+ghost use Rattle.feed_tables.specs.IdRows.{IsBegun};
 ghost use Rattle.feed_tables.specs.ReadCalls.{read_call};
 ghost use Rattle.feed_calls.specs.CallRows.{call_fault, fields_behind, AreCallsOf, IsCallError, HasCalls, IsOwnFault};
 
@@ -98,8 +98,8 @@ fn permits(kind: Option<i64>) -> bool
     kind != Some(NOT_AVAILABLE)
 }
 
-// The row with the id that a stop time has in a column of ids, or the fault of the field. An id that is found in the slot
-// where a look-up begins is one by the grammar, and is judged no more.
+// The row with the id that a stop time has in a column of ids, or the fault of the field. An id that is found where a look-up
+// begins is one by the grammar, and is judged no more.
 #[inline(always)]
 #[tactic(auto, using(crate::proofs::CallLaws::found_sound))]
 fn read_id<F: Fields>(
@@ -111,7 +111,7 @@ fn read_id<F: Fields>(
     id: &[u8],
 ) -> Result<Option<u32>, FeedFault>
     requires few { row < row_limit }
-    requires key { IsKeyOf start.key id.now }
+    requires begun { IsBegun index.now.table index.now.name start id.now }
     requires text { id.now ≡ F.at fields.now rule.name }
     requires grammar { rule.grammar ≡ Grammar.Id }
     ensures fault { IfErr result (λ fault. fault_of_field file.StopTimes row (F.at fields.now) rule ≡ Some fault) }
@@ -143,7 +143,7 @@ fn read_call<R: Read>(
     let file = FileName::StopTimes;
     let trip_id = fields.field(ColumnName::TripId);
     let stop_id = fields.field(ColumnName::StopId);
-    // Where both look-ups begin is found before a slot is read, which was measured to be quicker.
+    // Both look-ups are begun before either is ended, which was measured to be quicker.
     let trip_start = ids.trips.start_at(*last_trip, trip_id);
     *last_trip = trip_start.slot;
     let stop_start = ids.stops.start(stop_id);

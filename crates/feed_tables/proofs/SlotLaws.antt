@@ -12,7 +12,7 @@ use Rattle.feed_faults.specs.RowKeys.{row_of}
 use Rattle.feed_text.specs.RowLimits.{row_limit}
 use Rattle.feed_tables.specs.declared.id_rows.IdRow.{IdRow}
 use Rattle.feed_tables.specs.declared.slots.Slots.{Slots}
-use Rattle.feed_tables.specs.IdRows.{IsKeyOf, AreIdRows, IsEntry, AreSlots}
+use Rattle.feed_tables.specs.IdRows.{IsKeyOf, IsFound, AreIdRows, IsEntry, AreSlots}
 use Rattle.feed_tables.proofs.KeyLaws.{same_id}
 use Rattle.feed_tables.proofs.IdLaws.{field_there}
 
@@ -53,10 +53,6 @@ put_id rows before after place slot entry was lt is sound same keys made = recor
       rw (row_is, key_is) (was.are k row_there (rw row_is at taken)))
       (cases_eq k slot);
 }
-
--- the earliest row with a text is this one, and the text is an id by the grammar
-abbrev pub IsFound : FileTable → ColumnName → ℕ → List ℕ → Type 0
-IsFound table name row text = (row_of table name text ≡ Some row) × (is_id text ≡ true)
 
 -- the row in a slot, where the table has one
 module _ (table : FileTable) (name : ColumnName) (rows : List IdRow) (slots : Slots) (right : AreSlots rows slots) (ids : AreIdRows table name rows)

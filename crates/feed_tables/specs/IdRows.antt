@@ -1,5 +1,5 @@
 -- The ids of a column: their keys, the earliest row with each, and the slots in which they are looked for first.
-use Rattle.std.specs.Prelude.{◌≡◌, ℕ, zero, suc, ◌+◌, ◌*◌, ◌<◌, ◌≤◌, ◌^◌, ◌-◌, List, length, slice_index, min, true, Some, All, Any}
+use Rattle.std.specs.Prelude.{◌≡◌, ℕ, zero, suc, ◌+◌, ◌*◌, ◌<◌, ◌≤◌, ◌^◌, ◌-◌, List, length, slice_index, min, true, Some, IfSome, All, Any}
 use Rattle.std.specs.Cmp.Lexicographic.{slice_cmp}
 use Rattle.std.specs.List.Sorted.{IsStrictlySortedBy}
 use Rattle.std.specs.Ordering.{nat_cmp, ordering_then}
@@ -11,6 +11,7 @@ use Rattle.feed_faults.specs.RowKeys.{row_of}
 use Rattle.feed_text.specs.RowLimits.{row_limit}
 use Rattle.feed_tables.specs.declared.id_rows.IdRow.{IdRow}
 use Rattle.feed_tables.specs.declared.slots.Slots.{Slots}
+use Rattle.feed_tables.specs.declared.index.IdStart.{IdStart}
 
 -- the number that the first n bytes make, the first of them the most; past the end of a text bytes count as 0
 abbrev pub start_below : ℕ → List ℕ → ℕ
@@ -46,3 +47,12 @@ pub record AreSlots (rows : List IdRow) (slots : Slots) : Type 0 where
   pub keyed : length slots.keys.items ≡ length slots.rows.items
   pub are : (slot : ℕ) → slot < length slots.rows.items → slice_index slots.rows.items slot < 2 ^ 32 - 1
       → Any (IsEntry (slice_index slots.keys.items slot) (slice_index slots.rows.items slot)) rows
+
+-- the earliest row with a text is this one, and the text is an id by the grammar
+abbrev pub IsFound : FileTable → ColumnName → ℕ → List ℕ → Type 0
+IsFound table name row text = (row_of table name text ≡ Some row) × (is_id text ≡ true)
+
+-- a look-up has the key of this id and, where it knows a row already, the one that is looked for
+pub record IsBegun (table : FileTable) (name : ColumnName) (start : IdStart) (id : List ℕ) : Type 0 where
+  pub key : IsKeyOf start.key id
+  pub known : IfSome start.known (λ row. IsFound table name row id)

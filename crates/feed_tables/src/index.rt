@@ -1,10 +1,9 @@
 //! The rows of a table by their ids.
-ghost use Rattle.std.specs.Prelude.{◌≡◌, ◌<◌, true, IfOk, IfSome};
-ghost use Rattle.feed_faults.specs.FieldGrammars.{is_id};
+ghost use Rattle.std.specs.Prelude.{◌≡◌, ◌<◌, IfOk, IfSome};
 ghost use Rattle.feed_faults.specs.Records.{row_count};
 ghost use Rattle.feed_faults.specs.RowKeys.{row_of, is_unknown, is_doubled};
 ghost use Rattle.feed_faults.specs.AcceptedFeed.{row_number};
-ghost use Rattle.feed_tables.specs.IdRows.{IsKeyOf};
+ghost use Rattle.feed_tables.specs.IdRows.{IsKeyOf, IsFound, IsBegun};
 
 use crate::id_rows::{IdRow, id_rows, key_of};
 use crate::slots::{Slots, slots_of};
@@ -35,14 +34,16 @@ impl<'t> Model for IdIndex<'t> {
     ghost invariant = { λ i. AreIdRows i.table.now i.name i.rows.items × AreSlots i.rows.items i.slots };
 }
 
-/// A look-up that was begun: where the id is looked for first, and its key. Nothing is read there yet, so that a caller
-/// can begin another one first.
+/// A look-up that was begun: where the id is looked for first, and its key. Mostly nothing is read there yet, so that a
+/// caller can begin another one first.
 #[derive(Clone, Copy)]
 pub struct IdStart {
     /// The slot that is looked into first; any is right.
     pub slot: usize,
     /// The key of the id.
     pub key: u64,
+    /// The row, where it was found as the look-up began.
+    pub known: Option<u32>,
 }
 
 impl<'t> IdIndex<'t> {
@@ -80,16 +81,14 @@ impl<'t> IdIndex<'t> {
         }
     }
 
-    /// The earliest row with an id, where the slot in which it is looked for first has it; then the id is one by the grammar
-    /// of ids. One of at most seven bytes is told by its key alone, so that none of the table's text is read.
+    // The earliest row with an id, where this slot has it. An id of at most seven bytes is told by its key alone, so that none
+    // of the table's text is read.
     #[inline(always)]
-    pub fn row_at(&self, start: IdStart, id: &[u8]) -> Option<u32>
-        requires { IsKeyOf start.key id.now }
-        ensures row { IfSome result (λ row. row_of self.now.table self.now.name id.now ≡ Some row) }
-        ensures sound { IfSome result (λ row. is_id id.now ≡ true) }
+    fn row_in(&self, slot: usize, key: u64, id: &[u8]) -> Option<u32>
+        requires { IsKeyOf key id.now }
+        ensures { IfSome result (λ row. IsFound self.now.table self.now.name row id.now) }
     {
-        let slot = start.slot;
-        if slot >= self.slots.rows.len() || self.slots.keys[slot] != start.key {
+        if slot >= self.slots.rows.len() || self.slots.keys[slot] != key {
             return None;
         }
         let row = self.slots.rows[slot];
@@ -102,32 +101,57 @@ impl<'t> IdIndex<'t> {
     /// Begins to look for the earliest row with an id: in the id's own slot.
     #[inline(always)]
     pub fn start(&self, id: &[u8]) -> IdStart
-        ensures { IsKeyOf result.key id.now }
+        ensures { IsBegun self.now.table self.now.name result id.now }
     {
         let key = key_of(id);
         let slot = self.slots.slot_of(key, id);
-        IdStart { slot, key }
+        IdStart {
+            slot,
+            key,
+            known: None,
+        }
     }
 
-    /// The same, but in the slot where an id was looked for last, where that has this one too: as when an id is mostly
-    /// looked for several times in a row.
+    /// The same, but where the slot in which an id was looked for last has this one too, its row is known at once: as when an
+    /// id is mostly looked for several times in a row.
     #[inline(always)]
     pub fn start_at(&self, last: usize, id: &[u8]) -> IdStart
-        ensures { IsKeyOf result.key id.now }
+        ensures { IsBegun self.now.table self.now.name result id.now }
     {
         let key = key_of(id);
-        let start = IdStart { slot: last, key };
-        if self.row_at(start, id).is_some() {
-            return start;
+        let known = self.row_in(last, key, id);
+        if known.is_some() {
+            return IdStart {
+                slot: last,
+                key,
+                known,
+            };
         }
         let slot = self.slots.slot_of(key, id);
-        IdStart { slot, key }
+        IdStart {
+            slot,
+            key,
+            known: None,
+        }
+    }
+
+    /// The earliest row with an id, where it is known or the slot in which it is looked for first has it; then the id is one
+    /// by the grammar of ids.
+    #[inline(always)]
+    pub fn row_at(&self, start: IdStart, id: &[u8]) -> Option<u32>
+        requires { IsBegun self.now.table self.now.name start id.now }
+        ensures { IfSome result (λ row. IsFound self.now.table self.now.name row id.now) }
+    {
+        if start.known.is_some() {
+            return start.known;
+        }
+        self.row_in(start.slot, start.key, id)
     }
 
     /// Ends a look-up that was begun: the earliest row with the id.
     #[inline(always)]
     pub fn row_from(&self, start: IdStart, id: &[u8]) -> Option<u32>
-        requires { IsKeyOf start.key id.now }
+        requires { IsBegun self.now.table self.now.name start id.now }
         ensures row { result ≡ row_of self.now.table self.now.name id.now }
         ensures within { IfSome result (λ row. row < row_count self.now.table) }
     {
