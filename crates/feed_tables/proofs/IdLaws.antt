@@ -1,5 +1,5 @@
 -- The ids of a column, each once: how they are listed, and that what is found of them is the earliest row with an id.
-use Rattle.std.proofs.Common.{All, AllPairs, ◌≡◌, refl, sym, ◌∙◌, ap, subst, ℕ, zero, suc, ◌+◌, ◌<◌, ◌≤◌, ◌⊎◌, inl, inr, ⊎_elim, Bool, true, false, ◌==◌, ◌&&◌, List, [], ◌∷◌, ◌++◌, length, get_or, IsPermutation, bytes_eq, ◌*◌, min, arith, Option, Some, None, Err, nat_lt}
+use Rattle.std.proofs.Common.{All, AllPairs, ◌≡◌, refl, sym, ◌∙◌, ap, subst, ℕ, zero, suc, ◌+◌, ◌<◌, ◌≤◌, ◌⊎◌, inl, inr, ⊎_elim, Bool, true, false, ◌==◌, ◌&&◌, List, [], ◌∷◌, ◌++◌, length, get_or, IsPermutation, bytes_eq, ◌*◌, ◌^◌, min, arith, Option, Some, None, Err, nat_lt}
 use Rattle.std.specs.Prelude.{IfSome, Any}
 use Rattle.std.specs.List.{Contains, dedup, dedup_from}
 use Rattle.std.specs.List.Sorted.{IsSortedByKey, IsStrictlySortedBy, IsSortedBy, IsBinarySearchResult, IsNonDecreasingBy, IsPartitionPoint}
@@ -142,7 +142,7 @@ kept_all (x ∷ xs) pairs z c =
 -- ids with one key and the same bytes stand in one place
 tied : (a b : IdRow) → IsKeyOf a.key a.id.now → IsKeyOf b.key b.id.now → a.id.now ≡ b.id.now → id_order a b ≡ Equal
 tied a b first second one =
-    let keys : a.key ≡ b.key = first.number ∙ ap (λ id. start_below 7 id * 256 + min (length id) 255) one ∙ sym second.number in
+    let keys : a.key ≡ b.key = first.number ∙ ap (λ id. start_below 7 id + min (length id) 255 * 256 ^ 7) one ∙ sym second.number in
     rw (keys, one, tied_itself nat_cmp_total b.key) (tied_itself nat_list_cmp_total b.id.now)
 
 one_place : (rows : List IdRow) → IsStrictlySortedBy id_order rows → All (λ (entry : IdRow). IsKeyOf entry.key entry.id.now) rows
@@ -316,7 +316,7 @@ module _ (table : FileTable) (name : ColumnName) (rows : List IdRow) (are : AreI
           equal : order_to key id there.1 ≡ Equal
           equal =
               let own : IsKeyOf there.1.key there.1.id.now = All-contains (λ (x : IdRow). IsKeyOf x.key x.id.now) rows there.1 are.keyed (there.0, there.2, there.3) in
-              let keys : there.1.key ≡ key = own.number ∙ ap (λ text. start_below 7 text * 256 + min (length text) 255) same_text ∙ sym is.number in
+              let keys : there.1.key ≡ key = own.number ∙ ap (λ text. start_below 7 text + min (length text) 255 * 256 ^ 7) same_text ∙ sym is.number in
               rw (keys, same_text, tied_itself nat_cmp_total key) (tied_itself nat_list_cmp_total id)
 
           parted : IsPartitionPoint (λ entry. order_to key id entry ≡ Less) (λ entry. order_to key id entry ≡ Greater) rows place

@@ -13,14 +13,14 @@ use Rattle.feed_tables.specs.declared.id_rows.IdRow.{IdRow}
 use Rattle.feed_tables.specs.declared.slots.Slots.{Slots}
 use Rattle.feed_tables.specs.declared.index.IdStart.{IdStart}
 
--- the number that the first n bytes make, the first of them the most; past the end of a text bytes count as 0
+-- the number that the first n bytes make, the first of them the least; past the end of a text bytes count as 0
 abbrev pub start_below : ℕ → List ℕ → ℕ
 start_below zero text = 0
-start_below (suc n) text = start_below n text * 256 + slice_index text n
+start_below (suc n) text = start_below n text + slice_index text n * 256 ^ n
 
--- a number is the key of an id, a text of bytes: its first seven bytes and its length, of which one byte is kept
+-- a number is the key of an id, a text of bytes: its first seven bytes and, above these, its length, of which one byte is kept
 pub record IsKeyOf (key : ℕ) (id : List ℕ) : Type 0 where
-  pub number : key ≡ start_below 7 id * 256 + min (length id) 255
+  pub number : key ≡ start_below 7 id + min (length id) 255 * 256 ^ 7
   pub bytes : (k : ℕ) → slice_index id k < 256
 
 -- the order of ids: that of their keys, and of those with one key that of their bytes

@@ -7,32 +7,37 @@ use feed_files::ColumnName;
 use feed_text::Table;
 use std::alloc::{AllocError, Global};
 
-// The number that the first seven bytes of an id make; past its end bytes count as 0.
+// The number that the first seven bytes of an id make, the first of them the least; past its end bytes count as 0.
 fn start_of(id: &[u8]) -> u64
     ensures number { result ≡ start_below 7 id.now }
     ensures small { result < 256 ^ 7 }
 {
     let mut start = 0u64;
+    let mut worth = 1u64;
     for place in 0..7usize {
         let byte = if place < id.len() { id[place] } else { 0 };
-        start = start * 256 + u64::from(byte);
+        start += u64::from(byte) * worth;
+        worth *= 256;
     }
     start
 }
 
-/// An id's key: the number that its first seven bytes make, and its length. Where it has as many they are read without a
-/// loop: a feed has more ids of stop times than of all else.
+/// An id's key: the number that its first seven bytes make, and above these its length. Where it has as many they are read
+/// without a loop, by a few loads, since the first byte is the least: a feed has more ids of stop times than of all else.
 #[inline(always)]
 pub fn key_of(id: &[u8]) -> u64
     ensures { IsKeyOf result id.now }
 {
     let length = id.len().min(255) as u64;
     let [a, b, c, d, e, f, g, ..] = id else {
-        return start_of(id) * 256 + length;
+        return start_of(id) + length * (1 << 56);
     };
-    let start = (u64::from(*a) * 256 + u64::from(*b)) * 256 + u64::from(*c);
-    let middle = (start * 256 + u64::from(*d)) * 256 + u64::from(*e);
-    ((middle * 256 + u64::from(*f)) * 256 + u64::from(*g)) * 256 + length
+    let start = u64::from(*a)
+        + u64::from(*b) * (1 << 8)
+        + u64::from(*c) * (1 << 16)
+        + u64::from(*d) * (1 << 24);
+    let middle = u64::from(*e) + u64::from(*f) * (1 << 8);
+    start + middle * (1 << 32) + u64::from(*g) * (1 << 48) + length * (1 << 56)
 }
 
 /// An id, its key, and the earliest row with it.

@@ -1,24 +1,15 @@
-use Rattle.std.proofs.Common.{◌≡◌, ◌<◌, rules, arith}
-use Rattle.feed_tables.proofs.KeyLaws.{AreBytes, start_fits}
+use Rattle.std.proofs.Common.{◌<◌, rules, arith}
+use Rattle.feed_tables.proofs.KeyLaws.{AreBytes, start_small, worth_fits, more_fits}
 use Rattle.feed_tables.proofs.id_rows.start_of.Goals as goal
 use Rattle.feed_tables.proofs.id_rows.start_of.Goals.{then-place-id, else-place-id}
-
-pub overflow_mul-start : goal.overflow_mul-start
-overflow_mul-start c =
-    let bytes : AreBytes c.args.id.now = λ k. omega (arith, c.type_inv.id k) in
-    let fits = start_fits c.loop-place.place c.args.id.now bytes (omega (arith, c.loop-place-test.true)) in
-    rw c.loop-place.invariant (omega (arith, fits))
 
 pub overflow_add-start : goal.overflow_add-start
 overflow_add-start c =
     let bytes : AreBytes c.args.id.now = λ k. omega (arith, c.type_inv.id k) in
-    let fits = start_fits c.loop-place.place c.args.id.now bytes (omega (arith, c.loop-place-test.true)) in
+    let small = start_small c.loop-place.place c.args.id.now bytes in
     let byte : c.if-place-id.byte < 256 = elim c.if-place-id.branch [ then-place-id w ↦ search rules | else-place-id w ↦ search rules ] in
-    let wide = c.from.ensures in
-    rw c.loop-place.invariant (omega (arith, fits, byte, wide))
+    let fits = more_fits c.loop-place.place _ c.if-place-id.byte small byte c.loop-place-test.true in
+    rw (c.loop-place.invariant.0, c.loop-place.invariant.1, c.from.ensures) (omega (arith, fits))
 
-pub returns-clause-small : goal.returns-clause-small
-returns-clause-small c =
-    let bytes : AreBytes c.args.id.now = λ k. omega (arith, c.type_inv.id k) in
-    let end : c.loop-place.place ≡ 7 = omega (arith, c.loop-place-test.false) in
-    rw (c.loop-place.invariant, end) (start_fits 7 c.args.id.now bytes (omega arith))
+pub overflow_mul-worth : goal.overflow_mul-worth
+overflow_mul-worth c = rw c.loop-place.invariant.1 (omega (arith, worth_fits c.loop-place.place c.loop-place-test.true))
