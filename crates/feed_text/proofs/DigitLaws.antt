@@ -116,3 +116,14 @@ no_tens tens ones other = no_number (tens ∷ ones ∷ []) (2 ^ 64 - 1) 0 (omega
 
 pub no_ones : (tens ones : ℕ) → is_ascii_digit ones ≡ false → None ≡ when_at_most (2 ^ 64 - 1) (number_value (tens ∷ ones ∷ []))
 no_ones tens ones other = no_number (tens ∷ ones ∷ []) (2 ^ 64 - 1) 1 (omega arith) other
+
+-- two digits whose number is at most this
+pub pair_within : (most tens ones : ℕ) → is_ascii_digit tens ≡ true → is_ascii_digit ones ≡ true → (tens - 48) * 10 + (ones - 48) ≤ most
+    → Some ((tens - 48) * 10 + (ones - 48)) ≡ when_at_most most (number_value (tens ∷ ones ∷ []))
+pair_within most tens ones t o fits =
+    let bs : List ℕ = tens ∷ ones ∷ [] in
+    let one = grown bs 0 0 refl (omega arith) t in
+    let first : tens - 48 ≡ digits_value 10 (take 1 bs) = omega (arith, one) in
+    let two = grown bs 1 (tens - 48) first (omega arith) o in
+    let digits = all_more bs 1 (omega arith) (all_more bs 0 (omega arith) refl t) o in
+    whole bs most ((tens - 48) * 10 + (ones - 48)) digits (omega arith) (sym two) fits

@@ -12,3 +12,4 @@ pub mod Utf8Laws
 pub mod ValueLaws
 pub mod NumberLaws
 pub mod TextLaws
+pub mod ClockLaws

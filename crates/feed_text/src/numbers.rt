@@ -1,5 +1,5 @@
 //! Integers, times and dates, as fields write them.
-ghost use Rattle.std.specs.Prelude.{◌≡◌, ◌-◌, ◌^◌, ◌≤◌, ◌∷◌, [], IfSome, option_map};
+ghost use Rattle.std.specs.Prelude.{◌≡◌, ◌-◌, ◌^◌, ◌≤◌, ◌∷◌, [], ℕ, Some, IfSome, option_map};
 ghost use Rattle.feed_rows.specs.Numerals.{number_value, when_at_most};
 ghost use Rattle.feed_rows.specs.TimeGrammar.{time_value};
 ghost use Rattle.feed_rows.specs.WordValues.{day_value};
@@ -69,11 +69,10 @@ pub(crate) fn small_number_of(text: &[u8], most: u32) -> Option<u32>
     Some(value as u32)
 }
 
-/// The seconds of a time: one to three digits of hours up to 167, and two digits each of minutes and seconds up to 59, with
-/// colons between. None exactly where the text is no such time of at most so many seconds.
-#[inline(always)]
+// The same as `time_of`, part by part.
+#[inline(never)]
 #[tactic(auto, unfolding(feed_rows::specs::TimeGrammar::time_value))]
-pub fn time_of(text: &[u8], most: u32) -> Option<u32>
+fn parted_time_of(text: &[u8], most: u32) -> Option<u32>
     ensures value { result ≡ time_value most text.now }
     ensures bound { IfSome result (λ v. v ≤ most) }
 {
@@ -92,6 +91,58 @@ pub fn time_of(text: &[u8], most: u32) -> Option<u32>
         return None;
     }
     Some(value)
+}
+
+// What the bytes of two digits add to the number that they write: 48 to each digit.
+const OF_BYTES: u32 = 528;
+
+// The seconds of a time of the form HH:MM:SS, as nearly all are. All its bytes are judged at once: a digit's and six more
+// are both among the sixteen from 0x30 on.
+#[inline(always)]
+fn clock_of(text: &[u8]) -> Option<u32>
+    ensures { IfSome result (λ value. (most : ℕ) → time_value most text.now ≡ when_at_most most (Some value)) }
+{
+    let [a, b, c, d, e, f, g, h] = text else {
+        return None;
+    };
+    let start = u64::from(*a)
+        + u64::from(*b) * (1 << 8)
+        + u64::from(*c) * (1 << 16)
+        + u64::from(*d) * (1 << 24);
+    let end = u64::from(*e)
+        + u64::from(*f) * (1 << 8)
+        + u64::from(*g) * (1 << 16)
+        + u64::from(*h) * (1 << 24);
+    let word = start + end * (1 << 32);
+    if word & 0xf0f0_fff0_f0ff_f0f0 != 0x3030_3a30_303a_3030 {
+        return None;
+    }
+    if (word + 0x0606_0006_0600_0606) & 0xf0f0_00f0_f000_f0f0 != 0x3030_0030_3000_3030 {
+        return None;
+    }
+    let hours = u32::from(*a) * 10 + u32::from(*b);
+    let minutes = u32::from(*d) * 10 + u32::from(*e);
+    let seconds = u32::from(*g) * 10 + u32::from(*h);
+    if minutes > OF_BYTES + 59 || seconds > OF_BYTES + 59 {
+        return None;
+    }
+    Some(hours * 3600 + minutes * 60 + seconds - OF_BYTES * 3661)
+}
+
+/// The seconds of a time: one to three digits of hours up to 167, and two digits each of minutes and seconds up to 59, with
+/// colons between. None exactly where the text is no such time of at most so many seconds.
+#[inline(always)]
+pub fn time_of(text: &[u8], most: u32) -> Option<u32>
+    ensures value { result ≡ time_value most text.now }
+    ensures bound { IfSome result (λ v. v ≤ most) }
+{
+    if let Some(value) = clock_of(text) {
+        if value > most {
+            return None;
+        }
+        return Some(value);
+    }
+    parted_time_of(text, most)
 }
 
 /// The value of an integer: an optional minus sign and one or more digits, leading zeros among them. None exactly where the

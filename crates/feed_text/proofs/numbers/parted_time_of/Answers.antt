@@ -1,7 +1,7 @@
 use Rattle.std.proofs.Common.{arith}
 use Rattle.std.proofs.lemmas.Grind.{common_steps}
 use Rattle.feed_rows.specs.TimeGrammar.{time_value}
-use Rattle.feed_text.proofs.numbers.time_of.Goals as goal
+use Rattle.feed_text.proofs.numbers.parted_time_of.Goals as goal
 
 pub returns : goal.returns
 unfolding time_value
