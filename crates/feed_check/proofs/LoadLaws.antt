@@ -27,14 +27,14 @@ use Rattle.feed_tables.specs.IdColumns.{call_ids}
 use Rattle.feed_tables.specs.KeptTables.{tables_with}
 use Rattle.feed_tables.specs.declared.ids.CallIds.{CallIds}
 use Rattle.feed_calls.specs.declared.calls.StopTimes.{StopTimes}
-use Rattle.feed_faults.specs.AcceptedFeed.{feed_of}
 use Rattle.feed_faults.specs.FirstFault.{first_fault}
+use Rattle.feed_faults.specs.Records.{FileTable}
 use Rattle.feed_rows.specs.FeedRows.{FeedRows}
-use Rattle.feed_check.specs.FolderCalls.{AreCallsIn, AreCallsOfHeld}
+use Rattle.feed_check.specs.FilesBehind.{Accepts, AreFirstOf, AreReadTo, Refuses}
+use Rattle.feed_check.specs.FolderCalls.{AreCallsIn}
 use Rattle.feed_check.specs.LoadErrors.{unread, refused, IsFeedOf, GivesUpLoading}
-use Rattle.feed_check.proofs.FileLaws.{first_error, calls_error, others_error}
+use Rattle.feed_check.proofs.FileLaws.{first_error}
 use Rattle.feed_check.proofs.JoinedFiles.{joined, first_joined, first_faults, others_joined, others_faults, gives}
-use Rattle.feed_check.proofs.ReadFiles.{AreReadSo}
 
 -- no file was opened yet
 pub began : (folder : FolderState) → ReadsTo folder 0 folder
@@ -78,13 +78,6 @@ module _ (folder now : FolderState) (first others : FileName → HeldFile) (read
       let given = gives first at others folder.holds before (behind file.StopTimes (omega arith)) (λ name le. behind name (omega (arith, le))) in
       fault_gives folder now (joined first at others) given reads why (first_error (joined first at others) why (rw (first_faults first at others) is))
 
--- the tables of the folder's files before stop_times.txt, which have no fault by themselves
-pub record AreFirstOf (folder : FolderState) (first : List TableOf) : Type 0 where
-  pub files : FileName → HeldFile
-  pub gives : (name : FileName) → place name < 3 → WhereTold folder (λ contents. files name ≡ held contents name)
-  pub sound : first_in first_files (form_fault files) ≡ None
-  pub are : first ≡ map (read_of files) first_files
-
 pub first_of : (folder : FolderState) (before after : List FileBytes) (first : List TableOf) → AreReadBetween folder 0 3 before after → first_in first_files (form_fault (held_in after)) ≡ None → first ≡ map (read_of (held_in after)) first_files → AreFirstOf folder first
 first_of folder before after first read sound are = record { files = held_in after; gives = λ name lt. read.given name (omega arith) lt; sound = sound; are = are }
 
@@ -115,28 +108,23 @@ module _ (folder now : FolderState) (first : List TableOf) (ids : CallIds) (call
   none : first_in first_files (form_fault files) ≡ None
   none = first_faults loaded.before.files loaded.at.kept others ∙ loaded.before.sound
 
-  pub refused_at : (why : TextError) → IsErrorOf (first_fault files) why → GivesUpLoading (refused why) folder now
-  refused_at why is = fault_gives folder now files given loaded.reads why is
-
-  pub calls_refused : (why : TextError) → calls ≡ Err why → GivesUpLoading (refused why) folder now
-  calls_refused why is = refused_at why (calls_error files none why (rw is at loaded.at.are))
-
-  module _ (made : StopTimes) (is : calls ≡ Ok made) where
-    own : AreCallsOfHeld ids loaded.at.kept (Ok made)
-    own = rw is at loaded.at.are
-
-    pub others_refused : (why : TextError) → IsErrorOf (first_in other_files (form_fault others)) why → GivesUpLoading (refused why) folder now
-    others_refused why is = refused_at why (others_error files none own.0 why (rw (others_faults loaded.before.files loaded.at.kept others) is))
-
-    pub read_so : (read : List TableOf) → ids ≡ call_ids (tables_with first made.table read) → read ≡ map (read_of others) other_files → first_in other_files (form_fault others) ≡ None → AreReadSo files first read ids made
-    read_so read ids_are are sound = record {
+  -- the files were read up to those behind stop_times.txt
+  module _ (ids_are : (table : FileTable) (read : List TableOf) → ids ≡ call_ids (tables_with first table read)) where
+    read_to : AreReadTo files first ids calls others
+    read_to = record {
       first_are = loaded.before.are ∙ sym (first_joined loaded.before.files loaded.at.kept others);
       first_sound = none;
       ids_are = ids_are;
-      calls_are = own;
-      others_are = are ∙ sym (others_joined loaded.before.files loaded.at.kept others);
-      others_sound = others_faults loaded.before.files loaded.at.kept others ∙ sound;
+      calls_are = loaded.at.are;
+      others_left = sym (others_joined loaded.before.files loaded.at.kept others);
+      faults_left = sym (others_faults loaded.before.files loaded.at.kept others);
     }
 
-  pub loaded_feed : (feed : FeedRows) → first_fault files ≡ None → feed ≡ feed_of files → IsFeedOf folder feed
-  loaded_feed feed sound is = record { files = files; gives = given; accepted = sound; is_feed = is }
+    pub is_read : (all : FileName → HeldFile) × AreReadTo all first ids calls others
+    is_read = (files, read_to)
+
+    pub refused_so : (why : TextError) → Refuses first ids calls others why → GivesUpLoading (refused why) folder now
+    refused_so why refuses = fault_gives folder now files given loaded.reads why (refuses.is_first files read_to)
+
+    pub loaded_feed : (feed : FeedRows) → Accepts first ids calls others feed → IsFeedOf folder feed
+    loaded_feed feed accepts = record { files = files; gives = given; accepted = accepts.accepted files read_to; is_feed = accepts.is_feed files read_to }

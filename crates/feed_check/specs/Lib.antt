@@ -1,2 +1,3 @@
 pub mod FolderCalls
 pub mod LoadErrors
+pub mod FilesBehind

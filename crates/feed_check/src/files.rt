@@ -1,8 +1,11 @@
 //! The feed that files make.
 ghost use Rattle.std.specs.Prelude.{◌≡◌, IfOk, IfErr, OnOk, None, length};
 ghost use Rattle.feed_files.specs.declared.names.FileName.TheVariants as file;
+ghost use Rattle.feed_files.specs.HeldFiles.{HeldFile};
+ghost use Rattle.feed_files.specs.declared.names.FileName.{FileName};
 ghost use Rattle.feed_faults.specs.AcceptedFeed.{feed_of, rows_of_tables};
 ghost use Rattle.feed_faults.specs.FirstFault.{first_relation_fault, first_fault};
+ghost use Rattle.feed_check.specs.FilesBehind.{AreReadTo, Accepts, Refuses};
 ghost use Rattle.feed_check.specs.FolderCalls.{AreCallsOfHeld};
 ghost use Rattle.feed_soundness.specs.AcceptedTables.{AreFormed};
 ghost use Rattle.folder_io.specs.KeptFiles.{AreWithin, held_in, held_of};
@@ -23,9 +26,9 @@ use folder_io::{FileBytes, Files};
 use std::alloc::Global;
 use std::marker::Brand;
 
-/// The feed of tables whose files have no fault by themselves, with what was read of stop_times.txt. `Fault` is exactly the first
-/// fault of the files among each other.
-pub(crate) fn related_feed<C: CallTable>(
+// The feed of tables whose files have no fault by themselves, with what was read of stop_times.txt. `Fault` is exactly the first
+// fault of the files among each other.
+fn related_feed<C: CallTable>(
     alloc: Global,
     first: &[ReadTable],
     others: &[ReadTable],
@@ -51,6 +54,25 @@ pub(crate) fn related_feed<C: CallTable>(
         unreachable!();
     };
     Ok(feed_of_tables(alloc, &tables, &ids, rows)?)
+}
+
+/// The feed of files of which those up to stop_times.txt were read: these are the tables before it, and its stop times or its
+/// first fault. `Fault` is exactly the first fault of all files.
+pub(crate) fn feed_behind(
+    alloc: Global,
+    files: &mut Files,
+    first: &[ReadTable],
+    ids: &CallIds,
+    calls: Result<StopTimes, TextError>,
+) -> Result<Feed, TextError>
+    requires within { AreWithin files.old }
+    requires read { (all : FileName → HeldFile) × AreReadTo all first.now ids.now calls (held_in files.old) }
+    ensures fault { IfErr result (Refuses first.now ids.now calls (held_in files.old)) }
+    ensures feed { IfOk result (Accepts first.now ids.now calls (held_in files.old)) }
+{
+    let stop_times = calls?;
+    let others = read_tables(alloc, files, &FileName::all()[4..])?;
+    related_feed::<Brand>(alloc, first, &others, ids, stop_times)
 }
 
 // The stop times of a file as it is held, by the ids of trips and stops. `Fault` is the first fault of the
@@ -79,9 +101,8 @@ pub fn check(alloc: Global, files: Files) -> Result<Feed, TextError>
 {
     let mut files = files;
     let first = read_tables(alloc, &mut files, &FileName::all()[..3])?;
-    let calls = CallIds::of(alloc, &first)?;
-    let stop_times = held_stop_times(alloc, files.get(FileName::StopTimes), &calls)?;
+    let ids = CallIds::of(alloc, &first)?;
+    let calls = held_stop_times(alloc, files.get(FileName::StopTimes), &ids);
     files.put(FileName::StopTimes, FileBytes::Absent);
-    let others = read_tables(alloc, &mut files, &FileName::all()[4..])?;
-    related_feed::<Brand>(alloc, &first, &others, &calls, stop_times)
+    feed_behind(alloc, &mut files, &first, &ids, calls)
 }

@@ -1,17 +1,19 @@
 //! The feed that a folder holds.
 ghost use Rattle.std.specs.Prelude.{◌≡◌, IfOk, IfErr, OnOk};
 ghost use Rattle.folder_io.specs.FileReading.{OpensAll};
+ghost use Rattle.folder_io.specs.FolderCalls.{FolderState};
+ghost use Rattle.folder_io.specs.KeptFiles.{AreWithin};
+ghost use Rattle.feed_check.specs.FilesBehind.{IsBegun};
 ghost use Rattle.feed_check.specs.LoadErrors.{GivesUpLoading, IsFeedOf};
 
 use crate::calls::folder_calls;
-use crate::files::related_feed;
+use crate::files::feed_behind;
 use feed_files::{FeedFault, FileName};
 use feed_rows::Feed;
-use feed_tables::{CallIds, read_tables};
+use feed_tables::{CallIds, ReadTable, read_tables};
 use feed_text::TextError;
 use folder_io::{Files, Folder, ReadError, read_files};
 use std::alloc::Global;
-use std::marker::Brand;
 
 /// Why a folder gives no feed.
 #[derive(Clone, Copy, PartialEq, Eq)]
@@ -52,6 +54,29 @@ impl From<TextError> for LoadError {
     }
 }
 
+// The feed of a folder of which the files before stop_times.txt were read, and have these tables.
+fn load_behind<F: Folder>(
+    alloc: Global,
+    folder: &mut F,
+    files: &mut Files,
+    first: &[ReadTable],
+) -> Result<Feed, LoadError>
+    requires within { AreWithin files.old }
+    requires begun { (start : FolderState) × IsBegun start first.now (F.state folder.old) }
+    ensures feed { IfOk result (λ feed. (start : FolderState) → IsBegun start first.now (F.state folder.old) → IsFeedOf start feed) }
+    ensures ok { OnOk result ((start : FolderState) → IsBegun start first.now (F.state folder.old) → OpensAll start (F.state folder.new)) }
+    ensures err { IfErr result (λ error. (start : FolderState) → IsBegun start first.now (F.state folder.old) → GivesUpLoading error start (F.state folder.new)) }
+    ensures holds { (F.state folder.new).holds ≡ (F.state folder.old).holds }
+{
+    let Ok(ids) = CallIds::of(alloc, first) else {
+        return Err(LoadError::NoMemory);
+    };
+    let calls = folder_calls(alloc, folder, &ids)?;
+    read_files(alloc, folder, files, 4, 18)?;
+    let feed = feed_behind(alloc, files, first, &ids, calls)?;
+    Ok(feed)
+}
+
 /// The feed of the files that a folder holds, each opened once, in order, and read before a fault is answered. Of
 /// stop_times.txt nothing is kept but its rows.
 ///
@@ -66,20 +91,11 @@ pub fn load<F: Folder>(alloc: Global, folder: &mut F) -> Result<Feed, LoadError>
 {
     let mut files = Files::empty();
     read_files(alloc, folder, &mut files, 0, 3)?;
-    let first = match read_tables(alloc, &mut files, &FileName::all()[..3]) {
-        Ok(first) => first,
+    match read_tables(alloc, &mut files, &FileName::all()[..3]) {
+        Ok(first) => load_behind(alloc, folder, &mut files, &first),
         Err(error) => {
             read_files(alloc, folder, &mut files, 3, 18)?;
-            return Err(LoadError::from(error));
+            Err(LoadError::from(error))
         }
-    };
-    let Ok(ids) = CallIds::of(alloc, &first) else {
-        return Err(LoadError::NoMemory);
-    };
-    let calls = folder_calls(alloc, folder, &ids)?;
-    read_files(alloc, folder, &mut files, 4, 18)?;
-    let stop_times = calls?;
-    let others = read_tables(alloc, &mut files, &FileName::all()[4..])?;
-    let feed = related_feed::<Brand>(alloc, &first, &others, &ids, stop_times)?;
-    Ok(feed)
+    }
 }
