@@ -6,12 +6,17 @@ ghost use Rattle.feed_faults.specs.Records.{row_count};
 ghost use Rattle.feed_faults.specs.FeedTables.{table_in};
 ghost use Rattle.feed_faults.specs.AcceptedFeed.{row_number, typed_rows, rows_of_tables, stop_time_row};
 ghost use Rattle.feed_soundness.specs.AcceptedTables.{AreFormed, AreRelated};
+ghost use Rattle.feed_build.specs.FeedParts.{AreTripFiles, AreFareFiles, AreNames};
 
 use crate::names::{NameHash, Numbering};
 use crate::rows::FileRow;
 use feed_faults::IdColumn;
 use feed_files::{ColumnName, FileName};
-use feed_rows::{Feed, StopTimeRows};
+use feed_rows::{
+    AreaRows, ExceptionRows, Feed, FrequencyRows, LegRuleRows, LinkRows, MediumRows, NameList,
+    ProductRows, RiderRows, RouteRows, ServiceRows, StopAreaRows, StopRows, StopTimeRows,
+    TimeframeRows, TransferRuleRows, TripRows,
+};
 use feed_tables::{CallTable, Ids, Tables};
 use plain_laws::ItemList;
 use std::alloc::{AllocError, Global};
@@ -60,6 +65,41 @@ impl<'t, C: CallTable> Drop for Source<'t, C> {
             groups: _,
         } = self;
     }
+}
+
+// The rows of the files of stops, trips and days, but those of stop_times.txt.
+#[derive(Drop)]
+struct TripFiles {
+    stops: StopRows,
+    routes: RouteRows,
+    trips: TripRows,
+    services: ServiceRows,
+    exceptions: ExceptionRows,
+    frequencies: FrequencyRows,
+    links: LinkRows,
+}
+
+// The rows of the files of fares.
+#[derive(Drop)]
+struct FareFiles {
+    areas: AreaRows,
+    stop_areas: StopAreaRows,
+    timeframes: TimeframeRows,
+    riders: RiderRows,
+    media: MediumRows,
+    products: ProductRows,
+    leg_rules: LegRuleRows,
+    transfer_rules: TransferRuleRows,
+}
+
+// The names that have no rows of their own.
+#[derive(Drop)]
+struct FeedNames {
+    services: NameList,
+    networks: NameList,
+    frames: NameList,
+    products: NameList,
+    groups: NameList,
 }
 
 impl<'t, C: CallTable> Source<'t, C> {
@@ -119,23 +159,26 @@ impl<'t, C: CallTable> Source<'t, C> {
         Ok(rows)
     }
 
-    // The feed, with these rows of stop_times.txt.
-    fn feed(&self, stop_times: StopTimeRows) -> Result<Feed, AllocError>
-        requires related { AreRelated self.now }
-        requires stop_times { stop_times ≡ typed_rows (table_in self.now file.StopTimes) (stop_time_row self.now) }
-        ensures { IfOk result (λ feed. feed ≡ rows_of_tables self.now) }
+    // The rows of the files of stops, trips and days, but those of stop_times.txt.
+    fn trip_files(&self) -> Result<TripFiles, AllocError>
+        ensures { IfOk result (AreTripFiles self.now) }
     {
-        let fare_leg_rules = self.tables.get(FileName::FareLegRules);
-        let (currency, decimals) = self.currency();
-        Ok(Feed {
+        Ok(TripFiles {
             stops: self.rows_of()?,
             routes: self.rows_of()?,
             trips: self.rows_of()?,
-            stop_times,
             services: self.rows_of()?,
             exceptions: self.rows_of()?,
             frequencies: self.rows_of()?,
             links: self.link_rows()?,
+        })
+    }
+
+    // The rows of the files of fares.
+    fn fare_files(&self) -> Result<FareFiles, AllocError>
+        ensures { IfOk result (AreFareFiles self.now) }
+    {
+        Ok(FareFiles {
             areas: self.rows_of()?,
             stop_areas: self.rows_of()?,
             timeframes: self.rows_of()?,
@@ -144,11 +187,75 @@ impl<'t, C: CallTable> Source<'t, C> {
             products: self.rows_of()?,
             leg_rules: self.rows_of()?,
             transfer_rules: self.rows_of()?,
-            service_names: self.services.ids(self.alloc)?,
-            network_names: self.networks.ids(self.alloc)?,
-            frame_names: self.frames.ids(self.alloc)?,
-            product_names: self.products.ids(self.alloc)?,
-            group_names: self.groups.ids(self.alloc)?,
+        })
+    }
+
+    // The names that have no rows of their own.
+    fn names(&self) -> Result<FeedNames, AllocError>
+        ensures { IfOk result (AreNames self.now) }
+    {
+        Ok(FeedNames {
+            services: self.services.ids(self.alloc)?,
+            networks: self.networks.ids(self.alloc)?,
+            frames: self.frames.ids(self.alloc)?,
+            products: self.products.ids(self.alloc)?,
+            groups: self.groups.ids(self.alloc)?,
+        })
+    }
+
+    // The feed, with these rows of stop_times.txt. Its parts are made apart, so that hardly anything is let go of where one can't
+    // be made.
+    fn feed(&self, stop_times: StopTimeRows) -> Result<Feed, AllocError>
+        requires related { AreRelated self.now }
+        requires stop_times { stop_times ≡ typed_rows (table_in self.now file.StopTimes) (stop_time_row self.now) }
+        ensures { IfOk result (λ feed. feed ≡ rows_of_tables self.now) }
+    {
+        let fare_leg_rules = self.tables.get(FileName::FareLegRules);
+        let (currency, decimals) = self.currency();
+        let trip_files = self.trip_files()?;
+        let fare_files = self.fare_files()?;
+        let names = self.names()?;
+        let TripFiles {
+            stops,
+            routes,
+            trips,
+            services,
+            exceptions,
+            frequencies,
+            links,
+        } = trip_files;
+        let FareFiles {
+            areas,
+            stop_areas,
+            timeframes,
+            riders,
+            media,
+            products,
+            leg_rules,
+            transfer_rules,
+        } = fare_files;
+        Ok(Feed {
+            stops,
+            routes,
+            trips,
+            stop_times,
+            services,
+            exceptions,
+            frequencies,
+            links,
+            areas,
+            stop_areas,
+            timeframes,
+            riders,
+            media,
+            products,
+            leg_rules,
+            transfer_rules,
+            service_names: names.services,
+            network_names: names.networks,
+            frame_names: names.frames,
+            product_names: names.products,
+            group_names: names.groups,
             has_priority: fare_leg_rules.has(ColumnName::RulePriority),
             currency,
             decimals,
