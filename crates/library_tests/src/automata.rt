@@ -6,8 +6,7 @@ use crate::readings;
 use fare_automaton::Automaton;
 use fare_products::Products;
 use fare_transfer_rules::XferRules;
-use feed_rows::{FareState, Feed, LegFacts, Move, Moves, RowList, TransferFacts, XferList};
-use feed_text::TextError;
+use feed_rows::{FareState, Feed, LegFacts, Move, TransferFacts};
 use std::alloc::{AllocError, Global};
 use transit_base::{LegGroupId, Moment, Money, NetworkId, ProductId, ProductRowId, RuleId, XferId};
 
@@ -69,42 +68,30 @@ fn by_bus() -> Move {
     }
 }
 
-// The moves of a first leg.
-fn first_moves(alloc: Global, own: &LegFacts) -> Result<Moves, TextError> {
-    let feed = readings::feed(alloc)?;
-    let automaton = Automaton::compile(alloc, &feed, None)?;
-    Ok(automaton.start(alloc, own)?)
-}
-
-#[test]
-fn first_legs(rt: HostRuntime) -> Result<(), TextError> {
-    let alloc = rt.alloc();
-    let bus = first_moves(alloc, &leg_in(alloc, 0))?;
-    // No rule is for a leg without network.
-    let none = first_moves(alloc, &leg(alloc, 28_800, 29_400))?;
-    assert!(rt; is_only(bus.items(), &by_bus()) && none.items().is_empty());
-    Ok(())
+// Whether a first leg by bus has one move, and one without network, which no rule is for, none.
+fn are_starts(automaton: &Automaton, alloc: Global) -> Result<bool, AllocError> {
+    let bus = automaton.start(alloc, &leg_in(alloc, 0))?;
+    let none = automaton.start(alloc, &leg(alloc, 28_800, 29_400))?;
+    Ok(is_only(bus.items(), &by_bus()) && none.items().is_empty())
 }
 
 // Whether a leg in this network after these has one move, which is this one.
 fn is_next(
+    automaton: &Automaton,
     alloc: Global,
     state: &FareState,
     held: Money,
     network: u32,
     wanted: &Move,
-) -> Result<bool, TextError>
+) -> Result<bool, AllocError>
     requires { nat_abs held.0 ≤ 10 ^ 16 }
 {
-    let feed = readings::feed(alloc)?;
-    let automaton = Automaton::compile(alloc, &feed, None)?;
     let moves = automaton.step(alloc, state, held, &leg_in(alloc, network))?;
     Ok(is_only(moves.items(), wanted))
 }
 
-#[test]
-fn later_legs(rt: HostRuntime) -> Result<(), TextError> {
-    let alloc = rt.alloc();
+// Whether the moves of later legs are these.
+fn are_steps(automaton: &Automaton, alloc: Global) -> Result<bool, AllocError> {
     let (bus, rail) = (state_of(0, true), state_of(1, false));
     // From bus to rail a change for 0.50 is in place of the rail ticket.
     let with_change = Move {
@@ -116,16 +103,25 @@ fn later_legs(rt: HostRuntime) -> Result<(), TextError> {
         xfer: Some(XferId(0)),
         xfer_product: Some(ProductRowId(2)),
     };
-    assert!(rt; is_next(alloc, &bus, Money(250), 1, &with_change)?);
     // From bus to bus no change is arranged: what was held is paid, and the next ticket is held.
     let another = Move {
         paid: Money(250),
         ..by_bus()
     };
-    assert!(rt; is_next(alloc, &bus, Money(250), 0, &another)?);
     // Nor is one from rail to bus; nothing is held after the change for 0.50.
-    assert!(rt; is_next(alloc, &rail, Money(0), 0, &by_bus())?);
-    Ok(())
+    Ok(
+        is_next(automaton, alloc, &bus, Money(250), 1, &with_change)?
+            && is_next(automaton, alloc, &bus, Money(250), 0, &another)?
+            && is_next(automaton, alloc, &rail, Money(0), 0, &by_bus())?,
+    )
+}
+
+// Whether the moves over the feed are those that were worked by hand.
+fn are_moves(alloc: Global, feed: &Feed) -> Result<bool, AllocError> {
+    match Automaton::compile(alloc, feed, None) {
+        Ok(automaton) => Ok(are_starts(&automaton, alloc)? && are_steps(&automaton, alloc)?),
+        Err(AllocError) => Err(AllocError),
+    }
 }
 
 // A change between these leg groups within a quarter of an hour.
@@ -141,27 +137,28 @@ fn change(from: u32, to: u32) -> TransferFacts {
     }
 }
 
-// The rows for a change between these leg groups.
-fn rows_between(alloc: Global, from: u32, to: u32) -> Result<XferList, TextError> {
-    let feed = readings::feed(alloc)?;
-    let rules = XferRules::build(alloc, &feed)?;
-    Ok(rules.selected(alloc, &change(from, to))?)
+// Whether one row is for a change from the first group to the second, and none for one back.
+fn are_change_rows(alloc: Global, feed: &Feed) -> Result<bool, AllocError> {
+    let rules = XferRules::build(alloc, feed)?;
+    let there = rules.selected(alloc, &change(0, 1))?;
+    let back = rules.selected(alloc, &change(1, 0))?;
+    Ok(only(there.items()) == Some(XferId(0)) && back.items().is_empty())
 }
 
-// The rows of a product that are open.
-fn rows_of(alloc: Global, product: u32) -> Result<RowList, TextError> {
-    let feed = readings::feed(alloc)?;
-    let products = Products::build(alloc, &feed)?;
-    Ok(products.open_rows(alloc, ProductId(product), None)?)
+// Whether one row of the second product is open, and none of a product that isn't there.
+fn are_product_rows(alloc: Global, feed: &Feed) -> Result<bool, AllocError> {
+    let products = Products::build(alloc, feed)?;
+    let second = products.open_rows(alloc, ProductId(1), None)?;
+    let fourth = products.open_rows(alloc, ProductId(3), None)?;
+    Ok(only(second.items()) == Some(ProductRowId(1)) && fourth.items().is_empty())
 }
 
 #[test]
-fn rows_of_changes_and_products(rt: HostRuntime) -> Result<(), TextError> {
+fn moves_and_rows(rt: HostRuntime) -> Result<(), AllocError> {
     let alloc = rt.alloc();
-    assert!(rt; only(rows_between(alloc, 0, 1)?.items()) == Some(XferId(0)));
-    assert!(rt; rows_between(alloc, 1, 0)?.items().is_empty());
-    assert!(rt; only(rows_of(alloc, 1)?.items()) == Some(ProductRowId(1)));
-    assert!(rt; rows_of(alloc, 3)?.items().is_empty());
+    let feed = readings::feed(alloc)?;
+    assert!(rt; are_moves(alloc, &feed)?);
+    assert!(rt; are_change_rows(alloc, &feed)? && are_product_rows(alloc, &feed)?);
     Ok(())
 }
 
@@ -194,9 +191,9 @@ fn row(number: usize) -> &'static [u8] {
 // The text of the tariff with these rows.
 fn tariff(alloc: Global, rows: [usize; 3]) -> Result<Vec<u8>, AllocError> {
     let mut text = Vec::from_slice(alloc, COLUMNS)?;
-    text.extend_from_slice(row(rows[0]))?;
-    text.extend_from_slice(row(rows[1]))?;
-    text.extend_from_slice(row(rows[2]))?;
+    for number in &rows {
+        text.extend_from_slice(row(*number))?;
+    }
     Ok(text)
 }
 
@@ -228,17 +225,12 @@ fn low(held: Money) -> Money
     }
 }
 
-// All runs of a first leg.
-fn first_runs(
-    automaton: &Automaton,
-    alloc: Global,
-    first: &LegFacts,
-) -> Result<Vec<Run>, AllocError> {
-    let mut runs = Vec::new(alloc);
-    for step in automaton.start(alloc, first)?.items() {
-        runs.push(after(Money(0), step))?;
+// Adds the runs that go on by these moves.
+fn push_runs(runs: &mut Vec<Run>, paid: Money, moves: &[Move]) -> Result<(), AllocError> {
+    for step in moves {
+        runs.push(after(paid, step))?;
     }
-    Ok(runs)
+    Ok(())
 }
 
 // All runs with one leg more.
@@ -251,9 +243,23 @@ fn next_runs(
     let mut runs = Vec::new(alloc);
     for run in before {
         let moves = automaton.step(alloc, &run.state, low(run.held), next)?;
-        for step in moves.items() {
-            runs.push(after(run.paid, step))?;
-        }
+        push_runs(&mut runs, run.paid, moves.items())?;
+    }
+    Ok(runs)
+}
+
+// All runs of three legs.
+fn runs_of(
+    automaton: &Automaton,
+    alloc: Global,
+    legs: &[LegFacts; 3],
+) -> Result<Vec<Run>, AllocError> {
+    let legs = &legs[..];
+    let mut runs = Vec::new(alloc);
+    let moves = automaton.start(alloc, &legs[0])?;
+    push_runs(&mut runs, Money(0), moves.items())?;
+    for next in &legs[1..] {
+        runs = next_runs(automaton, alloc, &runs, next)?;
     }
     Ok(runs)
 }
@@ -277,24 +283,22 @@ fn least_of_runs(
     feed: &Feed,
     legs: &[LegFacts; 3],
 ) -> Result<Option<Money>, AllocError> {
-    let automaton = Automaton::compile(alloc, feed, None)?;
-    let first = first_runs(&automaton, alloc, &legs[0])?;
-    let second = next_runs(&automaton, alloc, &first, &legs[1])?;
-    let third = next_runs(&automaton, alloc, &second, &legs[2])?;
-    Ok(least_sum(&third))
+    match Automaton::compile(alloc, feed, None) {
+        Ok(automaton) => Ok(least_sum(&runs_of(&automaton, alloc, legs)?)),
+        Err(AllocError) => Err(AllocError),
+    }
 }
 
 // Whether the least sum of the runs of three legs under these rows is their price.
-fn is_price(alloc: Global, rows: [usize; 3], number: u32) -> Result<bool, TextError> {
+fn is_price(alloc: Global, rows: [usize; 3], number: u32) -> Result<bool, AllocError> {
     let feed = feed_with(alloc, &tariff(alloc, rows)?)?;
-    let departure = 31_200 + i64::from(number % 15) * 420;
-    let legs = three_legs(alloc, departure, departure + 600);
+    let legs = three_legs(alloc, 31_200 + number % 15 * 420);
     Ok(least_of_runs(alloc, &feed, &legs)? == price_of(alloc, &feed, &legs)?)
 }
 
 // Each three of the rows, with the third leg from twenty minutes to two hours after the second.
 #[test]
-fn runs_and_prices(rt: HostRuntime) -> Result<(), TextError> {
+fn runs_and_prices(rt: HostRuntime) -> Result<(), AllocError> {
     let alloc = rt.alloc();
     let mut number = 0u32;
     for a in 0..ROWS {

@@ -2,10 +2,9 @@
 ghost use Rattle.std.specs.Prelude.{IfOk, IsTrue};
 ghost use Rattle.folder_io.specs.KeptFiles.{are_whole};
 
-use feed_check::{LoadError, load};
+use feed_check::load;
 use feed_files::FileName;
 use feed_rows::Feed;
-use feed_text::TextError;
 use folder_io::{ByteText, FileBytes, Files, SureFolder};
 use std::alloc::{AllocError, Global};
 
@@ -20,12 +19,11 @@ fn files_of(alloc: Global, texts: &[(FileName, &[u8])]) -> Result<Files, AllocEr
     Ok(files)
 }
 
-// The feed whose files have these texts.
-pub fn feed_of(alloc: Global, texts: &[(FileName, &[u8])]) -> Result<Feed, TextError> {
+// The feed whose files have these texts, which have no fault.
+pub fn feed_of(alloc: Global, texts: &[(FileName, &[u8])]) -> Result<Feed, AllocError> {
     let mut folder = SureFolder::new(files_of(alloc, texts)?);
     match load(alloc, &mut folder) {
         Ok(feed) => Ok(feed),
-        Err(LoadError::Fault(fault)) => Err(TextError::Fault(fault)),
-        Err(_) => Err(TextError::NoMemory),
+        Err(_) => Err(AllocError),
     }
 }

@@ -4,8 +4,7 @@ ghost use Rattle.plan_patterns.specs.Runs.{AreTripsOf};
 
 use crate::feeds::feed_of;
 use feed_files::FileName;
-use feed_rows::Query;
-use feed_text::TextError;
+use feed_rows::{Feed, Query};
 use feed_timetable::Timetable;
 use plan_patterns::Patterns;
 use std::alloc::{AllocError, Global};
@@ -70,69 +69,82 @@ const QUERY: Query = Query {
     rider: None,
 };
 
-// The trips of the runs that can be boarded at a position of a pattern from a moment on, and when they depart; none where there
-// is no such place.
+// The trips of the runs that can be boarded at a position of the second pattern from a moment on, and when they depart; none
+// where there is no such place.
 fn trips_at(
     patterns: &Patterns,
     alloc: Global,
-    pattern: u32,
     position: u32,
     from: i64,
 ) -> Result<Vec<(u32, i64)>, AllocError> {
     let mut found = Vec::new(alloc);
-    if pattern >= patterns.count() || position as usize >= patterns.halts(pattern).len() {
+    if patterns.count() <= 1 || position as usize >= patterns.halts(1).len() {
         return Ok(found);
     }
-    for boarding in patterns.boardable(pattern, position, Moment(from)) {
-        if let Some(run) = patterns.runs(pattern).get(boarding.run as usize) {
+    for boarding in patterns.boardable(1, position, Moment(from)) {
+        if let Some(run) = patterns.runs(1).get(boarding.run as usize) {
             found.push((run.trip.0, boarding.at.0))?;
         }
     }
     Ok(found)
 }
 
-// How many patterns there are, and the trips at a position of the second of them from a moment after midnight on.
-fn found_in(
-    timetable: &Timetable,
-    alloc: Global,
-    position: u32,
-    seconds: i32,
-) -> Result<(u32, Vec<(u32, i64)>), AllocError> {
+// The trips at a position of the second pattern from a moment on. At B the quick run has overtaken the others, and a departure is
+// caught that is met exactly.
+const BOARDABLE: [(u32, i64, &[(u32, i64)]); 3] = [
+    (
+        0,
+        MIDNIGHT + 28_801,
+        &[(4, MIDNIGHT + 28_860), (1, MIDNIGHT + 29_400)],
+    ),
+    (
+        1,
+        MIDNIGHT + 30_060,
+        &[
+            (1, MIDNIGHT + 30_060),
+            (0, MIDNIGHT + 30_660),
+            (4, MIDNIGHT + 30_660),
+        ],
+    ),
+    (
+        1,
+        MIDNIGHT + 30_061,
+        &[(0, MIDNIGHT + 30_660), (4, MIDNIGHT + 30_660)],
+    ),
+];
+
+// Whether there are three patterns, and these trips.
+fn are_boardable(patterns: &Patterns, alloc: Global) -> Result<bool, AllocError> {
+    for (position, from, wanted) in &BOARDABLE {
+        if patterns.count() != 3
+            || trips_at(patterns, alloc, *position, *from)?.as_slice() != *wanted
+        {
+            return Ok(false);
+        }
+    }
+    Ok(true)
+}
+
+// The same of the patterns of all trips.
+fn has_patterns(timetable: &Timetable, alloc: Global) -> Result<bool, AllocError> {
     let trips = all_trips(alloc, timetable)?;
-    let patterns = Patterns::build(alloc, timetable, &QUERY, &trips)?;
-    let from = MIDNIGHT + i64::from(seconds);
-    let found = trips_at(&patterns, alloc, 1, position, from)?;
-    Ok((patterns.count(), found))
+    match Patterns::build(alloc, timetable, &QUERY, &trips) {
+        Ok(patterns) => are_boardable(&patterns, alloc),
+        Err(AllocError) => Err(AllocError),
+    }
 }
 
 // The same of the timetable of the feed.
-fn found_at(
-    alloc: Global,
-    position: u32,
-    seconds: i32,
-) -> Result<(u32, Vec<(u32, i64)>), TextError> {
-    let feed = feed_of(alloc, &FILES)?;
-    let timetable = Timetable::build(alloc, &feed)?;
-    Ok(found_in(&timetable, alloc, position, seconds)?)
+fn has_overtaking(alloc: Global, feed: &Feed) -> Result<bool, AllocError> {
+    match Timetable::build(alloc, feed) {
+        Ok(timetable) => has_patterns(&timetable, alloc),
+        Err(AllocError) => Err(AllocError),
+    }
 }
 
-// Whether there are three patterns, and these are the trips.
-fn are_trips(found: &(u32, Vec<(u32, i64)>), trips: &[(u32, i64)]) -> bool {
-    found.0 == 3 && found.1.as_slice() == trips
-}
-
-// At B the quick run has overtaken the others, and a departure is caught that is met exactly.
 #[test]
-fn runs_that_overtake(rt: HostRuntime) -> Result<(), TextError> {
-    let alloc = rt.alloc();
-    let late_and_quick = [(4, MIDNIGHT + 28_860), (1, MIDNIGHT + 29_400)];
-    assert!(rt; are_trips(&found_at(alloc, 0, 28_801)?, &late_and_quick));
-    let quick_and_others = [
-        (1, MIDNIGHT + 30_060),
-        (0, MIDNIGHT + 30_660),
-        (4, MIDNIGHT + 30_660),
-    ];
-    assert!(rt; are_trips(&found_at(alloc, 1, 30_060)?, &quick_and_others));
-    assert!(rt; are_trips(&found_at(alloc, 1, 30_061)?, &quick_and_others[1..]));
+fn runs_that_overtake(rt: HostRuntime) -> Result<(), AllocError> {
+    let feed = feed_of(rt.alloc(), &FILES)?;
+    assert!(rt; has_overtaking(rt.alloc(), &feed)?);
     Ok(())
 }

@@ -5,7 +5,6 @@ use feed_files::FileName;
 use feed_rows::{
     AreaList, ChangeChoice, ChangeChoices, Choice, Feed, FrameList, LegChoice, LegChoices, LegFacts,
 };
-use feed_text::TextError;
 use std::alloc::{AllocError, Global};
 use transit_base::{Moment, Money, ProductRowId, RuleId, XferId};
 
@@ -35,7 +34,7 @@ const OPEN: &[u8] =
     ,,,,2,short\n,,1500,3,0,\n,land,,,1,\n";
 
 // The feed with these transfer rules.
-pub fn feed_with(alloc: Global, transfer_rules: &[u8]) -> Result<Feed, TextError> {
+pub fn feed_with(alloc: Global, transfer_rules: &[u8]) -> Result<Feed, AllocError> {
     let texts: [(FileName, &[u8]); 9] = [
         (FileName::Stops, b"stop_id\nA\n"),
         (FileName::Routes, b"route_id\nR\n"),
@@ -120,16 +119,15 @@ fn choice_of(alloc: Global, number: u32) -> Result<Choice, AllocError> {
 
 // The least of all sums of choices that pay the legs.
 fn least_sum(
+    fares: &Fares,
     alloc: Global,
-    feed: &Feed,
     legs: &[LegFacts; 3],
 ) -> Result<Option<Money>, AllocError> {
-    let fares = Fares::build(alloc, feed)?;
     let mut least: Option<Money> = None;
     let all = LEG_CHOICES * LEG_CHOICES * LEG_CHOICES * CHANGE_CHOICES * CHANGE_CHOICES;
     for number in 0..all {
         let choice = choice_of(alloc, number)?;
-        if let Some(sum) = verify(&fares, legs, &choice, None) {
+        if let Some(sum) = verify(fares, legs, &choice, None) {
             least = match least {
                 Some(other) if other.0 <= sum.0 => Some(other),
                 _ => Some(sum),
@@ -139,54 +137,83 @@ fn least_sum(
     Ok(least)
 }
 
-// Three legs, the first two of ten minutes at eight and twenty past, the third between these moments.
-pub fn three_legs(alloc: Global, departure: i64, arrival: i64) -> [LegFacts; 3] {
+// Three legs of ten minutes: at eight, at twenty past, and at this moment.
+pub fn three_legs(alloc: Global, departure: u32) -> [LegFacts; 3] {
+    let departure = i64::from(departure);
     [
         leg(alloc, 28_800, 29_400),
         leg(alloc, 30_000, 30_600),
-        leg(alloc, departure, arrival),
+        leg(alloc, departure, departure + 600),
     ]
 }
 
 // The price of three legs.
-pub fn price_of(
+fn price_by(
+    fares: &Fares,
     alloc: Global,
-    feed: &Feed,
     legs: &[LegFacts; 3],
 ) -> Result<Option<Money>, AllocError> {
-    let fares = Fares::build(alloc, feed)?;
-    match price(alloc, &fares, legs, None)? {
+    match price(alloc, fares, legs, None)? {
         Some(priced) => Ok(Some(priced.sum)),
         None => Ok(None),
     }
 }
 
-// Whether, under these transfer rules, this is the least sum of three legs and their price.
+// The same over a feed.
+pub fn price_of(
+    alloc: Global,
+    feed: &Feed,
+    legs: &[LegFacts; 3],
+) -> Result<Option<Money>, AllocError> {
+    match Fares::build(alloc, feed) {
+        Ok(fares) => price_by(&fares, alloc, legs),
+        Err(AllocError) => Err(AllocError),
+    }
+}
+
+// Whether this is the least sum of three legs and their price.
+fn is_least_of(
+    alloc: Global,
+    feed: &Feed,
+    legs: &[LegFacts; 3],
+    wanted: Option<Money>,
+) -> Result<bool, AllocError> {
+    match Fares::build(alloc, feed) {
+        Ok(fares) => {
+            Ok(
+                least_sum(&fares, alloc, legs)? == wanted
+                    && price_by(&fares, alloc, legs)? == wanted,
+            )
+        }
+        Err(AllocError) => Err(AllocError),
+    }
+}
+
+// The same under these transfer rules, where the third leg departs at this moment.
 fn is_least(
     alloc: Global,
     transfer_rules: &[u8],
-    departure: i64,
-    arrival: i64,
-    wanted: Option<Money>,
-) -> Result<bool, TextError> {
+    departure: u32,
+    wanted: i64,
+) -> Result<bool, AllocError> {
     let feed = feed_with(alloc, transfer_rules)?;
-    let legs = three_legs(alloc, departure, arrival);
-    let least = least_sum(alloc, &feed, &legs)?;
-    Ok(least == wanted && price_of(alloc, &feed, &legs)? == wanted)
+    let legs = three_legs(alloc, departure);
+    is_least_of(alloc, &feed, &legs, Some(Money(wanted)))
 }
 
-// The dearer group for the first leg leads to the cheapest whole: its ticket is given back, and the third leg is free.
-#[test]
-fn counted_changes(rt: HostRuntime) -> Result<(), TextError> {
-    let alloc = rt.alloc();
-    assert!(rt; is_least(alloc, COUNTED, 31_200, 31_800, Some(Money(250)))?);
-    assert!(rt; is_least(alloc, COUNTED, 36_000, 36_600, Some(Money(360)))?);
-    Ok(())
-}
+// Transfer rules, when the third leg departs, and the least sum.
+const LEAST_SUMS: [(&[u8], u32, i64); 3] = [
+    // The dearer group for the first leg leads to the cheapest whole: its ticket is given back, and the third leg is free.
+    (COUNTED, 31_200, 250),
+    (COUNTED, 36_000, 360),
+    // A ticket in place of the first leg, and then a free change, since a run of another group begins with the second leg.
+    (OPEN, 31_200, 180),
+];
 
-// A ticket in place of the first leg, and then a free change, since a run of another group begins with the second leg.
 #[test]
-fn open_changes(rt: HostRuntime) -> Result<(), TextError> {
-    assert!(rt; is_least(rt.alloc(), OPEN, 31_200, 31_800, Some(Money(180)))?);
+fn least_sums(rt: HostRuntime) -> Result<(), AllocError> {
+    for (transfer_rules, departure, sum) in &LEAST_SUMS {
+        assert!(rt; is_least(rt.alloc(), transfer_rules, *departure, *sum)?);
+    }
     Ok(())
 }

@@ -7,7 +7,6 @@ use feed_rows::{
     ChangeChoice, ChangeChoices, Choice, Entries, Entry, Feed, Journey, LegChoice, LegChoices,
     Query, Ride, RideList, Triple,
 };
-use feed_text::TextError;
 use feed_timetable::Timetable;
 use std::alloc::{AllocError, Global};
 use ticket_explain::{Text, text_of};
@@ -50,7 +49,7 @@ const FILES: [(FileName, &[u8]); 9] = [
 ];
 
 // The feed.
-pub fn feed(alloc: Global) -> Result<Feed, TextError> {
+pub fn feed(alloc: Global) -> Result<Feed, AllocError> {
     feed_of(alloc, &FILES)
 }
 
@@ -146,44 +145,42 @@ fn walk(alloc: Global) -> Entry {
     }
 }
 
-// The entries of the query that the text tells; none where it is no text of entries.
-fn read(alloc: Global, query: &Query, text: &[u8]) -> Result<Option<Entries>, TextError>
-    requires { IsNearQuery query.now }
-{
-    let feed = feed(alloc)?;
-    let timetable = Timetable::build(alloc, &feed)?;
-    Ok(entries_of(alloc, &timetable, query, text)?)
-}
-
 // How many entries of the query the texts tell, one behind the other; none where they are no text of entries.
-fn told(alloc: Global, query: &Query, texts: &[&[u8]]) -> Result<Option<usize>, TextError>
+fn told(
+    timetable: &Timetable,
+    alloc: Global,
+    query: &Query,
+    texts: &[&[u8]],
+) -> Result<Option<usize>, AllocError>
     requires { IsNearQuery query.now }
 {
     let mut text = Vec::new(alloc);
     for part in texts {
         text.extend_from_slice(part)?;
     }
-    match read(alloc, query, text.as_slice())? {
+    match entries_of(alloc, timetable, query, text.as_slice())? {
         Some(entries) => Ok(Some(entries.items().len())),
         None => Ok(None),
     }
 }
 
 // Texts of entries, in any order, and more than once.
-#[test]
-fn texts_of_entries(rt: HostRuntime) -> Result<(), TextError> {
-    let alloc = rt.alloc();
-    for (texts, count) in [
-        (&[] as &[&[u8]], 0),
-        (&[TWO_RIDES, ONE_RIDE], 2),
-        (&[ONE_RIDE, TWO_RIDES], 2),
-        (&[ONE_RIDE, WALK, ONE_RIDE], 3),
-    ] {
-        assert!(rt; told(alloc, &QUERY, texts)? == Some(count));
+const TOLD: [(&[&[u8]], usize); 4] = [
+    (&[], 0),
+    (&[TWO_RIDES, ONE_RIDE], 2),
+    (&[ONE_RIDE, TWO_RIDES], 2),
+    (&[ONE_RIDE, WALK, ONE_RIDE], 3),
+];
+
+// Whether they tell so many entries, and the text of a stay one.
+fn are_told(timetable: &Timetable, alloc: Global) -> Result<bool, AllocError> {
+    for (texts, count) in &TOLD {
+        if told(timetable, alloc, &QUERY, texts)? != Some(*count) {
+            return Ok(false);
+        }
     }
     let stay = b"journey\t2025-06-02 08:00:00\t0\t0.00\tEUR\nstay\tA\n";
-    assert!(rt; told(alloc, &STAY, &[stay])? == Some(1));
-    Ok(())
+    Ok(told(timetable, alloc, &STAY, &[stay])? == Some(1))
 }
 
 // The lines, one behind the other.
@@ -193,13 +190,6 @@ fn joined(alloc: Global, lines: &Text) -> Result<Vec<u8>, AllocError> {
         text.extend_from_slice(lines.line(number))?;
     }
     Ok(text)
-}
-
-// The text of the entries.
-fn printed(alloc: Global, entries: &[Entry]) -> Result<Vec<u8>, TextError> {
-    let feed = feed(alloc)?;
-    let timetable = Timetable::build(alloc, &feed)?;
-    Ok(joined(alloc, &text_of(alloc, &timetable, entries)?)?)
 }
 
 // Two rides and a walk.
@@ -252,22 +242,35 @@ fn is_two_rides(found: &Entry) -> bool {
         && is_change(found.choice.changes.items().first())
 }
 
-// Entries are printed as their texts, and these tell them again.
-#[test]
-fn entries_printed_and_read(rt: HostRuntime) -> Result<(), TextError> {
-    let alloc = rt.alloc();
-    let entries = rides_and_walk(alloc)?;
-    let text = printed(alloc, entries.items())?;
-    assert!(rt; text.len() == TWO_RIDES.len() + WALK.len());
-    assert!(rt; text.starts_with(TWO_RIDES) && text.ends_with(WALK));
-    let again = read(alloc, &QUERY, text.as_slice())?.expect(&rt, "entries");
-    match (entries.items(), again.items()) {
-        ([first, _], [found, _]) => assert!(rt;
-            found.triple == first.triple && is_two_rides(found)
-        ),
-        _ => assert!(rt; false),
+// Whether the first of two entries is that of the text of two rides.
+fn are_same(entries: &[Entry], again: &[Entry]) -> bool {
+    match (entries, again) {
+        ([first, _], [found, _]) => found.triple == first.triple && is_two_rides(found),
+        _ => false,
     }
-    Ok(())
+}
+
+// Whether the text tells the entries.
+fn are_read(
+    timetable: &Timetable,
+    alloc: Global,
+    text: &[u8],
+    entries: &[Entry],
+) -> Result<bool, AllocError> {
+    match entries_of(alloc, timetable, &QUERY, text)? {
+        Some(again) => Ok(are_same(entries, again.items())),
+        None => Ok(false),
+    }
+}
+
+// Whether entries are printed as their texts, and these tell them again.
+fn are_printed_and_read(timetable: &Timetable, alloc: Global) -> Result<bool, AllocError> {
+    let entries = rides_and_walk(alloc)?;
+    let text = joined(alloc, &text_of(alloc, timetable, entries.items())?)?;
+    let is_printed = text.len() == TWO_RIDES.len() + WALK.len()
+        && text.starts_with(TWO_RIDES)
+        && text.ends_with(WALK);
+    Ok(is_printed && are_read(timetable, alloc, &text, entries.items())?)
 }
 
 // Texts that are nearly those of entries.
@@ -357,11 +360,33 @@ const NEARLY: [&[u8]; 20] = [
         leg\t1\tbu",
 ];
 
-// None of them is read.
-#[test]
-fn texts_of_no_entries(rt: HostRuntime) -> Result<(), TextError> {
-    for text in NEARLY {
-        assert!(rt; read(rt.alloc(), &QUERY, text)?.is_none());
+// Whether none of them is read.
+fn are_refused(timetable: &Timetable, alloc: Global) -> Result<bool, AllocError> {
+    for text in &NEARLY {
+        if entries_of(alloc, timetable, &QUERY, text)?.is_some() {
+            return Ok(false);
+        }
     }
+    Ok(true)
+}
+
+// Whether texts are read over the feed as they should be.
+fn are_texts(alloc: Global, feed: &Feed) -> Result<bool, AllocError> {
+    match Timetable::build(alloc, feed) {
+        Ok(timetable) => {
+            Ok(
+                are_told(&timetable, alloc)?
+                    && are_printed_and_read(&timetable, alloc)?
+                    && are_refused(&timetable, alloc)?,
+            )
+        }
+        Err(AllocError) => Err(AllocError),
+    }
+}
+
+#[test]
+fn texts_of_entries(rt: HostRuntime) -> Result<(), AllocError> {
+    let feed = feed(rt.alloc())?;
+    assert!(rt; are_texts(rt.alloc(), &feed)?);
     Ok(())
 }
