@@ -56,51 +56,47 @@ fn read_of<F: Folder>(
 const STOPS: &[u8] = b"stop_id\nA\n";
 
 // A feed that has these stops and nothing else.
-fn stops_of(alloc: Global, bytes: &[u8]) -> Result<Files, AllocError>
+fn stops(alloc: Global) -> Result<Files, AllocError>
     ensures { IfOk result (λ files. IsTrue (are_whole files)) }
 {
     let mut files = Files::empty();
     files.put(
         FileName::Stops,
-        FileBytes::Bytes(ByteText::copy_of(alloc, bytes)?),
+        FileBytes::Bytes(ByteText::copy_of(alloc, STOPS)?),
     );
     Ok(files)
 }
 
-// Whether the read of a file of at most so many bytes gives this, in a folder that has these stops.
-fn is_read<F: Folder + Drop>(
-    alloc: Global,
-    mut folder: F,
-    name: FileName,
-    limit: u32,
-    want: Read,
-) -> Result<bool, AllocError> {
-    Ok(read_of(alloc, &mut folder, name, limit, STOPS)? == want)
+// What the read of a file of at most so many bytes gives, in a folder with these stops.
+fn read_within(alloc: Global, name: FileName, limit: u32) -> Result<Read, AllocError> {
+    let mut folder = MemFolder::new(alloc, stops(alloc)?, &[], &[])?;
+    read_of(alloc, &mut folder, name, limit, STOPS)
 }
 
-// A folder with these stops.
-fn folder(alloc: Global) -> Result<MemFolder, AllocError> {
-    MemFolder::new(alloc, stops_of(alloc, STOPS)?, &[], &[])
+// The same of the stops, in a folder whose calls don't fail.
+fn read_surely(alloc: Global) -> Result<Read, AllocError> {
+    let mut folder = SureFolder::new(stops(alloc)?);
+    read_of(alloc, &mut folder, FileName::Stops, 100, STOPS)
 }
+
+// What the reads of at most so many bytes give.
+const LIMITS: [(FileName, u32, Read); 3] = [
+    (FileName::Stops, 10, Read::Wanted),
+    (FileName::Stops, 9, Read::TooLarge),
+    (FileName::Routes, 9, Read::Absent),
+];
 
 #[test]
-fn limits(rt: HostRuntime) -> Result<(), AllocError> {
-    let alloc = rt.alloc();
-    for (name, limit, want) in [
-        (FileName::Stops, 10, Read::Wanted),
-        (FileName::Stops, 9, Read::TooLarge),
-        (FileName::Routes, 9, Read::Absent),
-    ] {
-        assert!(rt; is_read(alloc, folder(alloc)?, name, limit, want)?);
+fn limits(rt: HostRuntime) {
+    for (name, limit, want) in &LIMITS {
+        assert!(rt; read_within(rt.alloc(), *name, *limit) == Ok(*want));
     }
-    let sure = SureFolder::new(stops_of(alloc, STOPS)?);
-    assert!(rt; is_read(alloc, sure, FileName::Stops, 100, Read::Wanted)?);
-    Ok(())
+    assert!(rt; read_surely(rt.alloc()) == Ok(Read::Wanted));
 }
 
 // What the read of all files gives of the stops, where these calls fail.
 fn read_all(alloc: Global, opens: &[u32], reads: &[u32]) -> Result<Read, AllocError> {
-    let mut folder = MemFolder::new(alloc, stops_of(alloc, STOPS)?, opens, reads)?;
+    let mut folder = MemFolder::new(alloc, stops(alloc)?, opens, reads)?;
     let mut files = Files::empty();
     match read_files(alloc, &mut folder, &mut files, 0, 18) {
         Ok(()) => Ok(read_bytes(files.get(FileName::Stops), STOPS)),
@@ -109,24 +105,36 @@ fn read_all(alloc: Global, opens: &[u32], reads: &[u32]) -> Result<Read, AllocEr
     }
 }
 
+// What the reads of all files give of the stops, where these opens and reads fail.
+const CALLS: [(&[u32], &[u32], Read); 7] = [
+    (&[], &[], Read::Wanted),
+    (&[1], &[], Read::Failed),
+    (&[18], &[], Read::Failed),
+    (&[19], &[], Read::Wanted),
+    (&[], &[1], Read::Failed),
+    (&[], &[2], Read::Failed),
+    (&[], &[3], Read::Wanted),
+];
+
 #[test]
-fn failing_opens_and_reads(rt: HostRuntime) -> Result<(), AllocError> {
-    let cases: [(&[u32], &[u32], Read); 7] = [
-        (&[], &[], Read::Wanted),
-        (&[1], &[], Read::Failed),
-        (&[18], &[], Read::Failed),
-        (&[19], &[], Read::Wanted),
-        (&[], &[1], Read::Failed),
-        (&[], &[2], Read::Failed),
-        (&[], &[3], Read::Wanted),
-    ];
-    for (opens, reads, want) in cases {
-        assert!(rt; read_all(rt.alloc(), opens, reads)? == want);
+fn failing_opens_and_reads(rt: HostRuntime) {
+    for (opens, reads, want) in &CALLS {
+        assert!(rt; read_all(rt.alloc(), opens, reads) == Ok(*want));
     }
-    Ok(())
 }
 
-// Whether each piece is answered so, and the sink then holds these bytes.
+// Pieces, what is answered to them where the third write keeps one byte and the fifth more than it was given, and the bytes that
+// a sink with room for six then holds.
+const WRITES: [(&[u8], Wrote, &[u8]); 6] = [
+    (b"abc", Wrote::All, b"abc"),
+    (b"defg", Wrote::Failed, b"abc"),
+    (b"de", Wrote::Failed, b"abcd"),
+    (b"e", Wrote::All, b"abcde"),
+    (b"f", Wrote::Failed, b"abcdef"),
+    (b"", Wrote::All, b"abcdef"),
+];
+
+// Whether each piece is answered so.
 fn are_answered(sink: &mut MemSink, cases: &[(&[u8], Wrote, &[u8])]) -> bool {
     for (piece, answer, written) in cases {
         if sink.write(piece) != *answer || sink.bytes() != *written {
@@ -136,32 +144,32 @@ fn are_answered(sink: &mut MemSink, cases: &[(&[u8], Wrote, &[u8])]) -> bool {
     true
 }
 
-#[test]
-fn failing_writes(rt: HostRuntime) -> Result<(), AllocError> {
+// The same of such a sink and these pieces.
+fn has_failing_writes(alloc: Global) -> bool {
     let cuts = [Cut { call: 3, kept: 1 }, Cut { call: 5, kept: 9 }];
-    let mut sink = MemSink::new(rt.alloc(), 6, &cuts)?;
-    let cases: [(&[u8], Wrote, &[u8]); 6] = [
-        (b"abc", Wrote::All, b"abc"),
-        (b"defg", Wrote::Failed, b"abc"),
-        (b"de", Wrote::Failed, b"abcd"),
-        (b"e", Wrote::All, b"abcde"),
-        (b"f", Wrote::Failed, b"abcdef"),
-        (b"", Wrote::All, b"abcdef"),
-    ];
-    assert!(rt; are_answered(&mut sink, &cases));
-    Ok(())
+    match MemSink::new(alloc, 6, &cuts) {
+        Ok(mut sink) => are_answered(&mut sink, &WRITES),
+        Err(AllocError) => false,
+    }
 }
 
 // Whether a sink with room for three bytes takes three and no more.
-fn takes_three(alloc: Global) -> Result<bool, AllocError> {
-    let mut sink = SureSink::new(alloc, 3)?;
-    Ok(sink.write(b"abc") == Wrote::All && sink.write(b"d") == Wrote::Failed)
+fn takes_three(alloc: Global) -> bool {
+    match SureSink::new(alloc, 3) {
+        Ok(mut sink) => sink.write(b"abc") == Wrote::All && sink.write(b"d") == Wrote::Failed,
+        Err(AllocError) => false,
+    }
+}
+
+// Whether sinks that tell nothing of what was written take this.
+fn are_taken(rt: HostRuntime) -> bool {
+    let line = b"a line to standard output\n";
+    CountSink::new().write(b"abc") == Wrote::All && StdSink::new(rt).write(line) == Wrote::All
 }
 
 #[test]
-fn sure_sink(rt: HostRuntime) -> Result<(), AllocError> {
-    assert!(rt; takes_three(rt.alloc())?);
-    Ok(())
+fn sinks(rt: HostRuntime) {
+    assert!(rt; has_failing_writes(rt.alloc()) && takes_three(rt.alloc()) && are_taken(rt));
 }
 
 // An output that takes one byte of a piece at a time, and fails where no more than so many are left of it.
@@ -196,20 +204,19 @@ fn answer_of(fails_at: usize) -> Wrote {
     StdSink::new(NarrowOutput { fails_at }).write(b"abc")
 }
 
-#[test]
-fn outputs_that_fail(rt: HostRuntime) {
-    // At once, after one byte, before the last byte, and never.
-    assert!(rt; answer_of(3) == Wrote::Failed);
-    assert!(rt; answer_of(2) == Wrote::Failed);
-    assert!(rt; answer_of(1) == Wrote::Failed);
-    assert!(rt; answer_of(0) == Wrote::All);
-}
+// What is answered where an output fails at once, after one byte, before the last byte, and never.
+const ANSWERS: [(usize, Wrote); 4] = [
+    (3, Wrote::Failed),
+    (2, Wrote::Failed),
+    (1, Wrote::Failed),
+    (0, Wrote::All),
+];
 
 #[test]
-fn sinks_that_tell_nothing(rt: HostRuntime) {
-    assert!(rt; CountSink::new().write(b"abc") == Wrote::All);
-    let line = b"a line to standard output\n";
-    assert!(rt; StdSink::new(rt).write(line) == Wrote::All);
+fn outputs_that_fail(rt: HostRuntime) {
+    for (fails_at, answer) in &ANSWERS {
+        assert!(rt; answer_of(*fails_at) == *answer);
+    }
 }
 
 // So many bytes, in which what one read gives starts with another byte than what the next gives.
@@ -258,25 +265,27 @@ const READS: [(&str, FileName, Read); 5] = [
 ];
 
 // Whether they do.
-fn are_read(rt: HostRuntime) -> Result<bool, AllocError> {
-    for (path, name, want) in READS {
-        if read_in(rt, path, name, 100, STOPS)? != want {
-            return Ok(false);
+fn are_read(rt: HostRuntime) -> bool {
+    for (path, name, want) in &READS {
+        if read_in(rt, path, *name, 100, STOPS) != Ok(*want) {
+            return false;
         }
     }
-    Ok(true)
+    true
 }
 
 // Whether the large file is read whole.
-fn is_large_read(rt: HostRuntime) -> Result<bool, AllocError> {
-    let large = many_bytes(rt.alloc(), LARGE)?;
+fn is_large_read(rt: HostRuntime) -> bool {
     let (path, name) = ("folder_io_test", FileName::StopTimes);
-    Ok(read_in(rt, path, name, LARGE, large.as_slice())? == Read::Wanted)
+    match many_bytes(rt.alloc(), LARGE) {
+        Ok(large) => read_in(rt, path, name, LARGE, large.as_slice()) == Ok(Read::Wanted),
+        Err(AllocError) => false,
+    }
 }
 
 #[test]
 fn folder_of_the_system(rt: HostRuntime) -> io::Result<()> {
     make_folder(rt)?;
-    assert!(rt; are_read(rt)? && is_large_read(rt)?);
+    assert!(rt; are_read(rt) && is_large_read(rt));
     fs::remove_dir_all(&rt, "folder_io_test")
 }

@@ -52,21 +52,24 @@ const STOP_TIMES: &str =
     "\u{feff}trip_id,arrival_time,departure_time,stop_id,stop_sequence,stop_headsign\r\n\
     T,08:00:00,08:00:00, A ,1,\"\u{e9}\"\"\n\u{20ac}\"\r\nT,,,B,2,\u{1f68b}\n\nT,08:10:00,,C,3,\nU,09:00:00,09:00:00,C,1,\nU,09:30:00,\"09:30:00\",A,2,";
 
+const OTHERS: [(FileName, &[u8]); 6] = [
+    (FileName::Stops, STOPS),
+    (FileName::Routes, ROUTES),
+    (FileName::Trips, TRIPS),
+    (FileName::CalendarDates, DATES),
+    (FileName::FareProducts, PRODUCTS),
+    (FileName::FareLegRules, RULES),
+];
+
 // A feed with these stop times.
 fn files_with(alloc: Global, stop_times: &[u8]) -> Result<Files, AllocError>
     ensures { IfOk result (λ files. IsTrue (are_whole files)) }
 {
     let mut files = Files::empty();
-    for (name, bytes) in [
-        (FileName::Stops, STOPS),
-        (FileName::Routes, ROUTES),
-        (FileName::Trips, TRIPS),
-        (FileName::StopTimes, stop_times),
-        (FileName::CalendarDates, DATES),
-        (FileName::FareProducts, PRODUCTS),
-        (FileName::FareLegRules, RULES),
-    ] {
-        files.put(name, FileBytes::Bytes(ByteText::copy_of(alloc, bytes)?));
+    let stop_times = ByteText::copy_of(alloc, stop_times)?;
+    files.put(FileName::StopTimes, FileBytes::Bytes(stop_times));
+    for (name, bytes) in &OTHERS {
+        files.put(*name, FileBytes::Bytes(ByteText::copy_of(alloc, bytes)?));
     }
     Ok(files)
 }
@@ -80,22 +83,20 @@ enum Outcome {
 }
 
 fn number_of(time: CallTime) -> u32 {
-    time.seconds().unwrap_or(u32::MAX)
+    time.seconds().unwrap_or(NONE)
 }
 
 // The numbers of the rows of stop_times.txt, one after another.
 fn numbers_of(alloc: Global, feed: &Feed) -> Result<Vec<u32>, AllocError> {
     let mut numbers = Vec::new(alloc);
     for row in feed.stop_times.items() {
-        for number in [
+        numbers.extend_from_slice(&[
             row.trip.0,
             row.stop.0,
             row.sequence,
             number_of(row.arrival),
             number_of(row.departure),
-        ] {
-            numbers.push(number)?;
-        }
+        ])?;
     }
     Ok(numbers)
 }
@@ -149,63 +150,93 @@ fn are_numbers(outcome: &Outcome, wanted: &[u32]) -> bool {
     }
 }
 
+// A time that isn't there.
+const NONE: u32 = u32::MAX;
+
+const NUMBERS: [u32; 25] = [
+    0, 0, 1, 28_800, 28_800, 0, 1, 2, NONE, NONE, 0, 2, 3, 29_400, NONE, 1, 2, 1, 32_400, 32_400,
+    1, 0, 2, 34_200, 34_200,
+];
+
+// Whether the load of these stop times gives those numbers.
+fn is_read(alloc: Global, stop_times: &[u8]) -> bool {
+    match outcome_by(alloc, stop_times, 65_536) {
+        Ok(whole) => are_numbers(&whole, &NUMBERS),
+        Err(AllocError) => false,
+    }
+}
+
 #[test]
-fn whole_stop_times(rt: HostRuntime) -> Result<(), AllocError> {
-    let none = u32::MAX;
-    let wanted = [
-        0, 0, 1, 28_800, 28_800, 0, 1, 2, none, none, 0, 2, 3, 29_400, none, 1, 2, 1, 32_400,
-        32_400, 1, 0, 2, 34_200, 34_200,
-    ];
-    let whole = outcome_by(rt.alloc(), STOP_TIMES.as_bytes(), 65_536)?;
-    assert!(rt; are_numbers(&whole, &wanted));
-    Ok(())
+fn whole_stop_times(rt: HostRuntime) {
+    assert!(rt; is_read(rt.alloc(), STOP_TIMES.as_bytes()));
+}
+
+// Whether these stop times give this in pieces of that size.
+fn gives(alloc: Global, stop_times: &[u8], most: usize, wanted: &Outcome) -> bool {
+    match outcome_by(alloc, stop_times, most) {
+        Ok(outcome) => are_alike(&outcome, wanted),
+        Err(AllocError) => false,
+    }
 }
 
 // Whether these stop times give the same in pieces of any size.
-fn is_same_in_pieces(alloc: Global, stop_times: &[u8]) -> Result<bool, AllocError> {
-    let whole = outcome_by(alloc, stop_times, 65_536)?;
+fn is_same_in_pieces(alloc: Global, stop_times: &[u8]) -> bool {
+    let Ok(whole) = outcome_by(alloc, stop_times, 65_536) else {
+        return false;
+    };
     for most in [1, 2, 3, 7] {
-        if !are_alike(&outcome_by(alloc, stop_times, most)?, &whole) {
-            return Ok(false);
+        if !gives(alloc, stop_times, most, &whole) {
+            return false;
         }
     }
-    Ok(true)
+    true
 }
 
 // So does the file, cut after each of its bytes.
 #[test]
-fn cut_stop_times(rt: HostRuntime) -> Result<(), AllocError> {
+fn cut_stop_times(rt: HostRuntime) {
     let text = STOP_TIMES.as_bytes();
     for cut in 0..text.len() + 1 {
-        assert!(rt; is_same_in_pieces(rt.alloc(), &text[..cut])?);
+        assert!(rt; is_same_in_pieces(rt.alloc(), &text[..cut]));
     }
-    Ok(())
 }
 
-// Whether these stop times have this fault as a whole, in pieces of any size.
-fn is_fault_in_pieces(
-    alloc: Global,
-    stop_times: &[u8],
-    kind: FaultKind,
-) -> Result<bool, AllocError> {
+// Whether these stop times have this fault as a whole, in pieces of that size.
+fn has_fault(alloc: Global, stop_times: &[u8], most: usize, kind: FaultKind) -> bool {
+    match outcome_by(alloc, stop_times, most) {
+        Ok(outcome) => is_fault(&outcome, kind),
+        Err(AllocError) => false,
+    }
+}
+
+// The same in pieces of any size.
+fn is_fault_in_pieces(alloc: Global, stop_times: &[u8], kind: FaultKind) -> bool {
     for most in [1, 2, 3, 7, 65_536] {
-        if !is_fault(&outcome_by(alloc, stop_times, most)?, kind) {
-            return Ok(false);
+        if !has_fault(alloc, stop_times, most, kind) {
+            return false;
         }
     }
-    Ok(true)
+    true
 }
 
 // What is wrong with the file as a whole comes before what is wrong with its rows.
+const WRONG: [(&[u8], FaultKind); 3] = [
+    (b"", FaultKind::MissingFile),
+    (
+        b"trip_id,stop_id,stop_sequence,arrival_time\nT,A,1,25:61:00\nT,B,2,\xff",
+        FaultKind::NotUtf8,
+    ),
+    (
+        b"trip_id,stop_id,stop_sequence,arrival_time\nT,A,1,25:61:00\nT,B,2,\xe2\x82",
+        FaultKind::NotUtf8,
+    ),
+];
+
 #[test]
-fn wrong_stop_times(rt: HostRuntime) -> Result<(), AllocError> {
-    let alloc = rt.alloc();
-    assert!(rt; is_fault_in_pieces(alloc, b"", FaultKind::MissingFile)?);
-    let wrong = b"trip_id,stop_id,stop_sequence,arrival_time\nT,A,1,25:61:00\nT,B,2,\xff";
-    assert!(rt; is_fault_in_pieces(alloc, wrong, FaultKind::NotUtf8)?);
-    let cut = b"trip_id,stop_id,stop_sequence,arrival_time\nT,A,1,25:61:00\nT,B,2,\xe2\x82";
-    assert!(rt; is_fault_in_pieces(alloc, cut, FaultKind::NotUtf8)?);
-    Ok(())
+fn wrong_stop_times(rt: HostRuntime) {
+    for (stop_times, kind) in &WRONG {
+        assert!(rt; is_fault_in_pieces(rt.alloc(), stop_times, *kind));
+    }
 }
 
 // What a load gives where these calls fail.
@@ -215,33 +246,42 @@ fn outcome_with(alloc: Global, opens: &[u32], reads: &[u32]) -> Result<Outcome, 
     outcome_of(alloc, &mut folder)
 }
 
+// Whether a load gives this where these calls fail.
+fn gives_with(alloc: Global, opens: &[u32], reads: &[u32], wanted: &Outcome) -> bool {
+    match outcome_with(alloc, opens, reads) {
+        Ok(outcome) => are_alike(&outcome, wanted),
+        Err(AllocError) => false,
+    }
+}
+
 // Whether a load fails where any one call below these numbers does.
-fn are_answered(alloc: Global, opens: u32, reads: u32) -> Result<bool, AllocError> {
+fn are_answered(alloc: Global, opens: u32, reads: u32) -> bool {
     for call in 1..opens {
-        if !are_alike(&outcome_with(alloc, &[call], &[])?, &Outcome::Failed) {
-            return Ok(false);
+        if !gives_with(alloc, &[call], &[], &Outcome::Failed) {
+            return false;
         }
     }
     for call in 1..reads {
-        if !are_alike(&outcome_with(alloc, &[], &[call])?, &Outcome::Failed) {
-            return Ok(false);
+        if !gives_with(alloc, &[], &[call], &Outcome::Failed) {
+            return false;
         }
     }
-    Ok(true)
+    true
 }
 
-// Whether the load goes well where these calls would fail.
-fn is_whole(alloc: Global, opens: &[u32], reads: &[u32]) -> Result<bool, AllocError> {
-    let whole = outcome_with(alloc, &[], &[])?;
-    Ok(are_alike(&outcome_with(alloc, opens, reads)?, &whole))
+// Whether a load goes well where the open or the read of these numbers would fail.
+fn is_whole(alloc: Global, open: u32, read: u32) -> bool {
+    match outcome_with(alloc, &[], &[]) {
+        Ok(whole) => {
+            gives_with(alloc, &[open], &[], &whole) && gives_with(alloc, &[], &[read], &whole)
+        }
+        Err(AllocError) => false,
+    }
 }
 
 // A call that fails is answered wherever it is. Seven files are there, each of which is read twice, and stop_times.txt
 // three times more for its byte order mark.
 #[test]
-fn failing_calls(rt: HostRuntime) -> Result<(), AllocError> {
-    let alloc = rt.alloc();
-    assert!(rt; are_answered(alloc, 19, 18)?);
-    assert!(rt; is_whole(alloc, &[19], &[])? && is_whole(alloc, &[], &[18])?);
-    Ok(())
+fn failing_calls(rt: HostRuntime) {
+    assert!(rt; are_answered(rt.alloc(), 19, 18) && is_whole(rt.alloc(), 19, 18));
 }

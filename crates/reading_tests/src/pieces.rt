@@ -92,9 +92,11 @@ fn gives(
     bytes: &[u8],
     end: PiecesEnd,
     is_text: bool,
-) -> Result<bool, AllocError> {
-    let taken = read_pieces(alloc, file, failing, limit, size)?;
-    Ok(is_taken(&taken, bytes, end, is_text))
+) -> bool {
+    match read_pieces(alloc, file, failing, limit, size) {
+        Ok(taken) => is_taken(&taken, bytes, end, is_text),
+        Err(AllocError) => false,
+    }
 }
 
 // The same of the reading into room of each size, where no read fails.
@@ -105,80 +107,89 @@ fn gives_in_all(
     bytes: &[u8],
     end: PiecesEnd,
     is_text: bool,
-) -> Result<bool, AllocError> {
+) -> bool {
     for size in [1, 2, 3, 7] {
-        if !gives(alloc, file, &[], limit, size, bytes, end, is_text)? {
-            return Ok(false);
+        if !gives(alloc, file, &[], limit, size, bytes, end, is_text) {
+            return false;
         }
     }
-    Ok(true)
+    true
 }
 
-#[test]
-fn limits(rt: HostRuntime) -> Result<(), AllocError> {
-    let file = b"trip_id\nA\n".as_slice();
-    let cases: [(u32, &[u8], PiecesEnd); 5] = [
-        (100, file, PiecesEnd::Ended),
-        (10, file, PiecesEnd::Ended),
-        (9, file, PiecesEnd::TooLarge),
-        (4, b"trip_", PiecesEnd::TooLarge),
-        (0, b"t", PiecesEnd::TooLarge),
-    ];
-    for (limit, bytes, end) in cases {
-        assert!(rt; gives_in_all(rt.alloc(), file, limit, bytes, end, true)?);
-    }
-    assert!(rt; gives_in_all(rt.alloc(), b"", 0, b"", PiecesEnd::Ended, true)?);
-    Ok(())
-}
+const FILE: &[u8] = b"trip_id\nA\n";
 
-#[test]
-fn failing_reads(rt: HostRuntime) -> Result<(), AllocError> {
-    let file = b"trip_id\nA\n".as_slice();
-    let cases: [(u32, usize, &[u8], PiecesEnd); 6] = [
-        (1, 7, b"", PiecesEnd::Failed),
-        (3, 1, b"tr", PiecesEnd::Failed),
-        (3, 3, b"trip_i", PiecesEnd::Failed),
-        // The read that would tell the end.
-        (3, 7, file, PiecesEnd::Failed),
-        (4, 7, file, PiecesEnd::Ended),
-        // No room, so that nothing is read.
-        (1, 0, b"", PiecesEnd::Going),
-    ];
-    for (fails, size, bytes, end) in cases {
-        assert!(rt; gives(rt.alloc(), file, &[fails], 100, size, bytes, end, true)?);
-    }
-    Ok(())
-}
-
-#[test]
-fn text(rt: HostRuntime) -> Result<(), AllocError> {
-    let cases: [(&[u8], bool); 11] = [
-        ("Zürich, €, 𝄞".as_bytes(), true),
-        (
-            "\u{7ff}\u{800}\u{d7ff}\u{e000}\u{ffff}\u{10000}\u{10ffff}".as_bytes(),
-            true,
-        ),
-        // A wrong byte at the end, and one in the middle.
-        (b"trip_id\nA\xff", false),
-        (b"trip\x80id\n", false),
-        // A character that isn't whole, at the end and before another one.
-        (b"A\xe2\x82", false),
-        (b"A\xe2\x82B", false),
-        // One that is longer than need be, half of a pair, and one past the last.
-        (b"\xc1\xbf", false),
-        (b"\xe0\x9f\xbf", false),
-        (b"\xed\xa0\x80", false),
-        (b"\xf0\x8f\xbf\xbf", false),
-        (b"\xf4\x90\x80\x80", false),
-    ];
-    for (file, is_text) in cases {
-        assert!(rt; gives_in_all(rt.alloc(), file, 100, file, PiecesEnd::Ended, is_text)?);
-    }
+// Files and limits, and how far a reading comes with which bytes, and whether they are text.
+const LIMITS: [(&[u8], u32, &[u8], PiecesEnd, bool); 8] = [
+    (FILE, 100, FILE, PiecesEnd::Ended, true),
+    (FILE, 10, FILE, PiecesEnd::Ended, true),
+    (FILE, 9, FILE, PiecesEnd::TooLarge, true),
+    (FILE, 4, b"trip_", PiecesEnd::TooLarge, true),
+    (FILE, 0, b"t", PiecesEnd::TooLarge, true),
+    (b"", 0, b"", PiecesEnd::Ended, true),
     // A limit that cuts a character, whose last byte is met exactly.
-    let file = "Aé".as_bytes();
-    assert!(rt; gives_in_all(rt.alloc(), file, 1, b"A\xc3", PiecesEnd::TooLarge, false)?);
-    assert!(rt; gives_in_all(rt.alloc(), file, 2, file, PiecesEnd::TooLarge, true)?);
-    Ok(())
+    (b"A\xc3\xa9", 1, b"A\xc3", PiecesEnd::TooLarge, false),
+    (b"A\xc3\xa9", 2, b"A\xc3\xa9", PiecesEnd::TooLarge, true),
+];
+
+#[test]
+fn limits(rt: HostRuntime) {
+    for (file, limit, bytes, end, is_text) in &LIMITS {
+        assert!(rt; gives_in_all(rt.alloc(), file, *limit, bytes, *end, *is_text));
+    }
+}
+
+// The read of the folder that fails, the size of the room, and how far a reading comes with which bytes.
+const FAILING: [(u32, usize, &[u8], PiecesEnd); 6] = [
+    (1, 7, b"", PiecesEnd::Failed),
+    (3, 1, b"tr", PiecesEnd::Failed),
+    (3, 3, b"trip_i", PiecesEnd::Failed),
+    // The read that would tell the end.
+    (3, 7, FILE, PiecesEnd::Failed),
+    (4, 7, FILE, PiecesEnd::Ended),
+    // No room, so that nothing is read.
+    (1, 0, b"", PiecesEnd::Going),
+];
+
+#[test]
+fn failing_reads(rt: HostRuntime) {
+    for (fails, size, bytes, end) in &FAILING {
+        assert!(rt; gives(rt.alloc(), FILE, &[*fails], 100, *size, bytes, *end, true));
+    }
+}
+
+const TEXTS: [&str; 2] = [
+    "Zürich, €, 𝄞",
+    "\u{7ff}\u{800}\u{d7ff}\u{e000}\u{ffff}\u{10000}\u{10ffff}",
+];
+
+const NO_TEXTS: [&[u8]; 9] = [
+    // A wrong byte at the end, and one in the middle.
+    b"trip_id\nA\xff",
+    b"trip\x80id\n",
+    // A character that isn't whole, at the end and before another one.
+    b"A\xe2\x82",
+    b"A\xe2\x82B",
+    // One that is longer than need be, half of a pair, and one past the last.
+    b"\xc1\xbf",
+    b"\xe0\x9f\xbf",
+    b"\xed\xa0\x80",
+    b"\xf0\x8f\xbf\xbf",
+    b"\xf4\x90\x80\x80",
+];
+
+// Whether a file is read whole, and told to be text or not.
+fn is_read(alloc: Global, file: &[u8], is_text: bool) -> bool {
+    gives_in_all(alloc, file, 100, file, PiecesEnd::Ended, is_text)
+}
+
+#[test]
+fn texts(rt: HostRuntime) {
+    for text in &TEXTS {
+        assert!(rt; is_read(rt.alloc(), text.as_bytes(), true));
+    }
+    for file in &NO_TEXTS {
+        assert!(rt; is_read(rt.alloc(), file, false));
+    }
 }
 
 // What the reading of a folder's open file gives, into room of three bytes, where its type tells where it began; and the
@@ -216,9 +227,15 @@ fn read_file_since(alloc: Global, file: &[u8], limit: u32) -> Result<Option<Take
     Ok(Some(taken?))
 }
 
+// Whether such a reading goes past a limit that cuts a character.
+fn is_cut(alloc: Global) -> bool {
+    match read_file_since(alloc, b"A\xc3\xa9b", 1) {
+        Ok(taken) => is_taken(&taken, b"A\xc3", PiecesEnd::TooLarge, false),
+        Err(AllocError) => false,
+    }
+}
+
 #[test]
-fn since(rt: HostRuntime) -> Result<(), AllocError> {
-    let taken = read_file_since(rt.alloc(), b"A\xc3\xa9b", 1)?;
-    assert!(rt; is_taken(&taken, b"A\xc3", PiecesEnd::TooLarge, false));
-    Ok(())
+fn since(rt: HostRuntime) {
+    assert!(rt; is_cut(rt.alloc()));
 }
