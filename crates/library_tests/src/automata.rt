@@ -28,14 +28,6 @@ fn state_of(group: u32, first: bool) -> FareState {
     }
 }
 
-// The item, where it is alone.
-fn only<T: Copy>(items: &[T]) -> Option<T> {
-    match items.first() {
-        Some(item) if items.len() == 1 => Some(*item),
-        _ => None,
-    }
-}
-
 // Whether both moves take the same rows, and the same follows.
 fn is_same(a: &Move, b: &Move) -> bool {
     a.state == b.state
@@ -49,9 +41,9 @@ fn is_same(a: &Move, b: &Move) -> bool {
 
 // Whether the moves are this one alone.
 fn is_only(moves: &[Move], wanted: &Move) -> bool {
-    match only(moves) {
-        Some(own) => is_same(&own, wanted),
-        None => false,
+    match moves {
+        [own] => is_same(own, wanted),
+        _ => false,
     }
 }
 
@@ -69,10 +61,14 @@ fn by_bus() -> Move {
 }
 
 // Whether a first leg by bus has one move, and one without network, which no rule is for, none.
-fn are_starts(automaton: &Automaton, alloc: Global) -> Result<bool, AllocError> {
-    let bus = automaton.start(alloc, &leg_in(alloc, 0))?;
-    let none = automaton.start(alloc, &leg(alloc, 28_800, 29_400))?;
-    Ok(is_only(bus.items(), &by_bus()) && none.items().is_empty())
+fn are_starts(automaton: &Automaton, alloc: Global) -> bool {
+    let Ok(bus) = automaton.start(alloc, &leg_in(alloc, 0)) else {
+        return false;
+    };
+    match automaton.start(alloc, &leg(alloc, 28_800, 29_400)) {
+        Ok(none) => is_only(bus.items(), &by_bus()) && none.items().is_empty(),
+        Err(AllocError) => false,
+    }
 }
 
 // Whether a leg in this network after these has one move, which is this one.
@@ -83,15 +79,17 @@ fn is_next(
     held: Money,
     network: u32,
     wanted: &Move,
-) -> Result<bool, AllocError>
+) -> bool
     requires { nat_abs held.0 ≤ 10 ^ 16 }
 {
-    let moves = automaton.step(alloc, state, held, &leg_in(alloc, network))?;
-    Ok(is_only(moves.items(), wanted))
+    match automaton.step(alloc, state, held, &leg_in(alloc, network)) {
+        Ok(moves) => is_only(moves.items(), wanted),
+        Err(AllocError) => false,
+    }
 }
 
 // Whether the moves of later legs are these.
-fn are_steps(automaton: &Automaton, alloc: Global) -> Result<bool, AllocError> {
+fn are_steps(automaton: &Automaton, alloc: Global) -> bool {
     let (bus, rail) = (state_of(0, true), state_of(1, false));
     // From bus to rail a change for 0.50 is in place of the rail ticket.
     let with_change = Move {
@@ -109,18 +107,16 @@ fn are_steps(automaton: &Automaton, alloc: Global) -> Result<bool, AllocError> {
         ..by_bus()
     };
     // Nor is one from rail to bus; nothing is held after the change for 0.50.
-    Ok(
-        is_next(automaton, alloc, &bus, Money(250), 1, &with_change)?
-            && is_next(automaton, alloc, &bus, Money(250), 0, &another)?
-            && is_next(automaton, alloc, &rail, Money(0), 0, &by_bus())?,
-    )
+    is_next(automaton, alloc, &bus, Money(250), 1, &with_change)
+        && is_next(automaton, alloc, &bus, Money(250), 0, &another)
+        && is_next(automaton, alloc, &rail, Money(0), 0, &by_bus())
 }
 
 // Whether the moves over the feed are those that were worked by hand.
-fn are_moves(alloc: Global, feed: &Feed) -> Result<bool, AllocError> {
+fn are_moves(alloc: Global, feed: &Feed) -> bool {
     match Automaton::compile(alloc, feed, None) {
-        Ok(automaton) => Ok(are_starts(&automaton, alloc)? && are_steps(&automaton, alloc)?),
-        Err(AllocError) => Err(AllocError),
+        Ok(automaton) => are_starts(&automaton, alloc) && are_steps(&automaton, alloc),
+        Err(AllocError) => false,
     }
 }
 
@@ -137,29 +133,58 @@ fn change(from: u32, to: u32) -> TransferFacts {
     }
 }
 
+// Whether these rows are for a change between these leg groups.
+fn are_selected(rules: &XferRules, alloc: Global, from: u32, to: u32, wanted: &[XferId]) -> bool {
+    match rules.selected(alloc, &change(from, to)) {
+        Ok(rows) => rows.items() == wanted,
+        Err(AllocError) => false,
+    }
+}
+
 // Whether one row is for a change from the first group to the second, and none for one back.
-fn are_change_rows(alloc: Global, feed: &Feed) -> Result<bool, AllocError> {
-    let rules = XferRules::build(alloc, feed)?;
-    let there = rules.selected(alloc, &change(0, 1))?;
-    let back = rules.selected(alloc, &change(1, 0))?;
-    Ok(only(there.items()) == Some(XferId(0)) && back.items().is_empty())
+fn are_change_rows(alloc: Global, feed: &Feed) -> bool {
+    match XferRules::build(alloc, feed) {
+        Ok(rules) => {
+            are_selected(&rules, alloc, 0, 1, &[XferId(0)])
+                && are_selected(&rules, alloc, 1, 0, &[])
+        }
+        Err(AllocError) => false,
+    }
+}
+
+// Whether these rows of a product are open.
+fn are_open(products: &Products, alloc: Global, product: u32, wanted: &[ProductRowId]) -> bool {
+    match products.open_rows(alloc, ProductId(product), None) {
+        Ok(rows) => rows.items() == wanted,
+        Err(AllocError) => false,
+    }
 }
 
 // Whether one row of the second product is open, and none of a product that isn't there.
-fn are_product_rows(alloc: Global, feed: &Feed) -> Result<bool, AllocError> {
-    let products = Products::build(alloc, feed)?;
-    let second = products.open_rows(alloc, ProductId(1), None)?;
-    let fourth = products.open_rows(alloc, ProductId(3), None)?;
-    Ok(only(second.items()) == Some(ProductRowId(1)) && fourth.items().is_empty())
+fn are_product_rows(alloc: Global, feed: &Feed) -> bool {
+    match Products::build(alloc, feed) {
+        Ok(products) => {
+            are_open(&products, alloc, 1, &[ProductRowId(1)]) && are_open(&products, alloc, 3, &[])
+        }
+        Err(AllocError) => false,
+    }
+}
+
+// Whether all is over the feed as it was worked by hand.
+fn is_as_worked(alloc: Global) -> bool {
+    match readings::feed(alloc) {
+        Ok(feed) => {
+            are_moves(alloc, &feed)
+                && are_change_rows(alloc, &feed)
+                && are_product_rows(alloc, &feed)
+        }
+        Err(AllocError) => false,
+    }
 }
 
 #[test]
-fn moves_and_rows(rt: HostRuntime) -> Result<(), AllocError> {
-    let alloc = rt.alloc();
-    let feed = readings::feed(alloc)?;
-    assert!(rt; are_moves(alloc, &feed)?);
-    assert!(rt; are_change_rows(alloc, &feed)? && are_product_rows(alloc, &feed)?);
-    Ok(())
+fn moves_and_rows(rt: HostRuntime) {
+    assert!(rt; is_as_worked(rt.alloc()));
 }
 
 // ---- runs of moves
@@ -289,25 +314,35 @@ fn least_of_runs(
     }
 }
 
-// Whether the least sum of the runs of three legs under these rows is their price.
-fn is_price(alloc: Global, rows: [usize; 3], number: u32) -> Result<bool, AllocError> {
-    let feed = feed_with(alloc, &tariff(alloc, rows)?)?;
-    let legs = three_legs(alloc, 31_200 + number % 15 * 420);
-    Ok(least_of_runs(alloc, &feed, &legs)? == price_of(alloc, &feed, &legs)?)
+// Whether the least sum of the runs of three legs is their price.
+fn is_price_over(alloc: Global, feed: &Feed, legs: &[LegFacts; 3]) -> bool {
+    match least_of_runs(alloc, feed, legs) {
+        Ok(least) => price_of(alloc, feed, legs) == Ok(least),
+        Err(AllocError) => false,
+    }
+}
+
+// The same under these rows.
+fn is_price(alloc: Global, rows: [usize; 3], number: u32) -> bool {
+    let Ok(text) = tariff(alloc, rows) else {
+        return false;
+    };
+    match feed_with(alloc, &text) {
+        Ok(feed) => is_price_over(alloc, &feed, &three_legs(alloc, 31_200 + number % 15 * 420)),
+        Err(AllocError) => false,
+    }
 }
 
 // Each three of the rows, with the third leg from twenty minutes to two hours after the second.
 #[test]
-fn runs_and_prices(rt: HostRuntime) -> Result<(), AllocError> {
-    let alloc = rt.alloc();
+fn runs_and_prices(rt: HostRuntime) {
     let mut number = 0u32;
     for a in 0..ROWS {
         for b in 0..a {
             for c in 0..b {
-                assert!(rt; is_price(alloc, [c, b, a], number)?);
+                assert!(rt; is_price(rt.alloc(), [c, b, a], number));
                 number = number.wrapping_add(1);
             }
         }
     }
-    Ok(())
 }

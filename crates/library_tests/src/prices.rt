@@ -172,33 +172,22 @@ pub fn price_of(
 }
 
 // Whether this is the least sum of three legs and their price.
-fn is_least_of(
-    alloc: Global,
-    feed: &Feed,
-    legs: &[LegFacts; 3],
-    wanted: Option<Money>,
-) -> Result<bool, AllocError> {
+fn is_least_of(alloc: Global, feed: &Feed, legs: &[LegFacts; 3], wanted: Money) -> bool {
     match Fares::build(alloc, feed) {
         Ok(fares) => {
-            Ok(
-                least_sum(&fares, alloc, legs)? == wanted
-                    && price_by(&fares, alloc, legs)? == wanted,
-            )
+            least_sum(&fares, alloc, legs) == Ok(Some(wanted))
+                && price_by(&fares, alloc, legs) == Ok(Some(wanted))
         }
-        Err(AllocError) => Err(AllocError),
+        Err(AllocError) => false,
     }
 }
 
 // The same under these transfer rules, where the third leg departs at this moment.
-fn is_least(
-    alloc: Global,
-    transfer_rules: &[u8],
-    departure: u32,
-    wanted: i64,
-) -> Result<bool, AllocError> {
-    let feed = feed_with(alloc, transfer_rules)?;
-    let legs = three_legs(alloc, departure);
-    is_least_of(alloc, &feed, &legs, Some(Money(wanted)))
+fn is_least(alloc: Global, transfer_rules: &[u8], departure: u32, wanted: i64) -> bool {
+    match feed_with(alloc, transfer_rules) {
+        Ok(feed) => is_least_of(alloc, &feed, &three_legs(alloc, departure), Money(wanted)),
+        Err(AllocError) => false,
+    }
 }
 
 // Transfer rules, when the third leg departs, and the least sum.
@@ -211,9 +200,8 @@ const LEAST_SUMS: [(&[u8], u32, i64); 3] = [
 ];
 
 #[test]
-fn least_sums(rt: HostRuntime) -> Result<(), AllocError> {
+fn least_sums(rt: HostRuntime) {
     for (transfer_rules, departure, sum) in &LEAST_SUMS {
-        assert!(rt; is_least(rt.alloc(), transfer_rules, *departure, *sum)?);
+        assert!(rt; is_least(rt.alloc(), transfer_rules, *departure, *sum));
     }
-    Ok(())
 }

@@ -173,14 +173,14 @@ const TOLD: [(&[&[u8]], usize); 4] = [
 ];
 
 // Whether they tell so many entries, and the text of a stay one.
-fn are_told(timetable: &Timetable, alloc: Global) -> Result<bool, AllocError> {
+fn are_told(timetable: &Timetable, alloc: Global) -> bool {
     for (texts, count) in &TOLD {
-        if told(timetable, alloc, &QUERY, texts)? != Some(*count) {
-            return Ok(false);
+        if told(timetable, alloc, &QUERY, texts) != Ok(Some(*count)) {
+            return false;
         }
     }
     let stay = b"journey\t2025-06-02 08:00:00\t0\t0.00\tEUR\nstay\tA\n";
-    Ok(told(timetable, alloc, &STAY, &[stay])? == Some(1))
+    told(timetable, alloc, &STAY, &[stay]) == Ok(Some(1))
 }
 
 // The lines, one behind the other.
@@ -251,26 +251,34 @@ fn are_same(entries: &[Entry], again: &[Entry]) -> bool {
 }
 
 // Whether the text tells the entries.
-fn are_read(
-    timetable: &Timetable,
-    alloc: Global,
-    text: &[u8],
-    entries: &[Entry],
-) -> Result<bool, AllocError> {
-    match entries_of(alloc, timetable, &QUERY, text)? {
-        Some(again) => Ok(are_same(entries, again.items())),
-        None => Ok(false),
+fn are_read(timetable: &Timetable, alloc: Global, text: &[u8], entries: &[Entry]) -> bool {
+    match entries_of(alloc, timetable, &QUERY, text) {
+        Ok(Some(again)) => are_same(entries, again.items()),
+        Ok(None) | Err(AllocError) => false,
     }
 }
 
-// Whether entries are printed as their texts, and these tell them again.
-fn are_printed_and_read(timetable: &Timetable, alloc: Global) -> Result<bool, AllocError> {
-    let entries = rides_and_walk(alloc)?;
-    let text = joined(alloc, &text_of(alloc, timetable, entries.items())?)?;
-    let is_printed = text.len() == TWO_RIDES.len() + WALK.len()
+// The text of the entries.
+fn printed(timetable: &Timetable, alloc: Global, entries: &[Entry]) -> Result<Vec<u8>, AllocError> {
+    joined(alloc, &text_of(alloc, timetable, entries)?)
+}
+
+// Whether the text is that of two rides and a walk.
+fn is_rides_and_walk(text: &[u8]) -> bool {
+    text.len() == TWO_RIDES.len() + WALK.len()
         && text.starts_with(TWO_RIDES)
-        && text.ends_with(WALK);
-    Ok(is_printed && are_read(timetable, alloc, &text, entries.items())?)
+        && text.ends_with(WALK)
+}
+
+// Whether entries are printed as their texts, and these tell them again.
+fn are_printed_and_read(timetable: &Timetable, alloc: Global) -> bool {
+    let Ok(entries) = rides_and_walk(alloc) else {
+        return false;
+    };
+    match printed(timetable, alloc, entries.items()) {
+        Ok(text) => is_rides_and_walk(&text) && are_read(timetable, alloc, &text, entries.items()),
+        Err(AllocError) => false,
+    }
 }
 
 // Texts that are nearly those of entries.
@@ -361,32 +369,36 @@ const NEARLY: [&[u8]; 20] = [
 ];
 
 // Whether none of them is read.
-fn are_refused(timetable: &Timetable, alloc: Global) -> Result<bool, AllocError> {
+fn are_refused(timetable: &Timetable, alloc: Global) -> bool {
     for text in &NEARLY {
-        if entries_of(alloc, timetable, &QUERY, text)?.is_some() {
-            return Ok(false);
+        if !matches!(entries_of(alloc, timetable, &QUERY, text), Ok(None)) {
+            return false;
         }
     }
-    Ok(true)
+    true
 }
 
-// Whether texts are read over the feed as they should be.
-fn are_texts(alloc: Global, feed: &Feed) -> Result<bool, AllocError> {
+// Whether texts are read over a feed as they should be.
+fn are_texts(alloc: Global, feed: &Feed) -> bool {
     match Timetable::build(alloc, feed) {
         Ok(timetable) => {
-            Ok(
-                are_told(&timetable, alloc)?
-                    && are_printed_and_read(&timetable, alloc)?
-                    && are_refused(&timetable, alloc)?,
-            )
+            are_told(&timetable, alloc)
+                && are_printed_and_read(&timetable, alloc)
+                && are_refused(&timetable, alloc)
         }
-        Err(AllocError) => Err(AllocError),
+        Err(AllocError) => false,
+    }
+}
+
+// The same over the feed.
+fn are_texts_of_entries(alloc: Global) -> bool {
+    match feed(alloc) {
+        Ok(feed) => are_texts(alloc, &feed),
+        Err(AllocError) => false,
     }
 }
 
 #[test]
-fn texts_of_entries(rt: HostRuntime) -> Result<(), AllocError> {
-    let feed = feed(rt.alloc())?;
-    assert!(rt; are_texts(rt.alloc(), &feed)?);
-    Ok(())
+fn texts_of_entries(rt: HostRuntime) {
+    assert!(rt; are_texts_of_entries(rt.alloc()));
 }
