@@ -2,7 +2,7 @@
 
 use crate::archive::Archive;
 use crate::failing_call::FailingCall;
-use crate::feed_files::FeedFiles;
+use crate::feed_texts::FeedFiles;
 use anyhow::{Result, bail};
 use bstr::ByteSlice;
 use plan_words::WordList;

@@ -4,10 +4,10 @@
 mod archive;
 mod case;
 mod failing_call;
-mod feed_files;
+mod feed_texts;
 mod library;
 
 pub use case::{Case, Wanted};
 pub use failing_call::FailingCall;
-pub use feed_files::FeedFiles;
+pub use feed_texts::FeedFiles;
 pub use library::Library;

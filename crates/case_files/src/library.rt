@@ -2,7 +2,7 @@
 
 use crate::archive::Archive;
 use crate::case::Case;
-use crate::feed_files::FeedFiles;
+use crate::feed_texts::FeedFiles;
 use anyhow::{Context, Result, bail};
 use std::alloc::Global;
 use std::fs;
