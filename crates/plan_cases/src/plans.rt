@@ -3,14 +3,14 @@ ghost use Rattle.std.specs.Prelude.{◌≤◌};
 
 use feed_check::check;
 use feed_maker::gen_files;
-use feed_rows::{Entry, Query, Triple};
+use feed_rows::{Entry, Feed, Query, Triple};
 use feed_text::TextError;
 use feed_timetable::Timetable;
 use pareto_front::are_same_triples;
 use plan_plain::plain_entries;
 use plan_rounds::round_entries;
 use std::alloc::{AllocError, Global};
-use transit_base::{Day, Moment, StopId};
+use transit_base::{Moment, StopId};
 
 // The triples of the entries.
 fn triples(alloc: Global, entries: &[Entry]) -> Result<Vec<Triple>, AllocError> {
@@ -21,24 +21,40 @@ fn triples(alloc: Global, entries: &[Entry]) -> Result<Vec<Triple>, AllocError> 
     Ok(triples)
 }
 
-// Whether both find the same, and something, from one corner of the feed that is made to the other, by at most two rides
-// within two hours.
-fn is_found_by_both(alloc: Global, seed: u32) -> Result<bool, TextError>
+// From one corner of a feed of three lines to the other on 2 June 2025 at 07:00:00, by at most two rides within two hours.
+const QUERY: Query = Query {
+    from: StopId(0),
+    to: StopId(8),
+    departure: Moment(20_241 * 86_400 + 25_200),
+    rides: 2,
+    window: 7_200,
+    rider: None,
+};
+
+// Whether both find the same, and something.
+fn is_found_by_both(alloc: Global, timetable: &Timetable) -> Result<bool, AllocError> {
+    let rounds = triples(alloc, &round_entries(alloc, timetable, &QUERY)?)?;
+    let plain = triples(alloc, &plain_entries(alloc, timetable, &QUERY)?)?;
+    Ok(!rounds.is_empty() && are_same_triples(&rounds, &plain))
+}
+
+// The same over a feed.
+fn is_found_over(alloc: Global, feed: &Feed) -> Result<bool, AllocError> {
+    match Timetable::build(alloc, feed) {
+        Ok(timetable) => is_found_by_both(alloc, &timetable),
+        Err(AllocError) => Err(AllocError),
+    }
+}
+
+// The same over the feed of this seed, which then has no fault.
+fn is_found_from(alloc: Global, seed: u32) -> Result<bool, AllocError>
     requires seed { seed ≤ 65_535 }
 {
-    let feed = check(alloc, gen_files(alloc, seed, 3)?)?;
-    let timetable = Timetable::build(alloc, &feed)?;
-    let query = Query {
-        from: StopId(0),
-        to: StopId(8),
-        departure: Moment::at(Day(20_241), 25_200),
-        rides: 2,
-        window: 7_200,
-        rider: None,
-    };
-    let rounds = triples(alloc, &round_entries(alloc, &timetable, &query)?)?;
-    let plain = triples(alloc, &plain_entries(alloc, &timetable, &query)?)?;
-    Ok(!rounds.is_empty() && are_same_triples(&rounds, &plain))
+    match check(alloc, gen_files(alloc, seed, 3)?) {
+        Ok(feed) => is_found_over(alloc, &feed),
+        Err(TextError::Fault(_)) => Ok(false),
+        Err(TextError::NoMemory) => Err(AllocError),
+    }
 }
 
 /// Of so many feeds that are made by rule, of the seeds from 1 on: how many have another plan by rounds than by the plain search,
@@ -51,10 +67,8 @@ pub(crate) fn count_differing(alloc: Global, feeds: u32) -> Result<u32, AllocErr
 {
     let mut differing = 0u32;
     for number in 0..feeds {
-        match is_found_by_both(alloc, number + 1) {
-            Ok(true) => {}
-            Ok(false) | Err(TextError::Fault(_)) => differing = differing.saturating_add(1),
-            Err(TextError::NoMemory) => return Err(AllocError),
+        if !is_found_from(alloc, number + 1)? {
+            differing = differing.saturating_add(1);
         }
     }
     Ok(differing)
