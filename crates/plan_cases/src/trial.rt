@@ -5,7 +5,7 @@ ghost use Rattle.folder_io.specs.KeptFiles.{are_whole};
 use anyhow::Result;
 use bstr::ByteSlice;
 use case_files::{Case, FailingCall, Wanted};
-use folder_io::{Files, MemFolder, MemSink};
+use folder_io::{Cut, Files, MemFolder, MemSink};
 use plan_app::{WordList, run};
 use std::alloc::{AllocError, Global};
 use std::fmt;
@@ -72,6 +72,24 @@ fn difference_in(
     Ok((!is_wanted).then_some(Difference { call, came }))
 }
 
+// What the words come to over these files, where these calls fail.
+fn outcome_with(
+    alloc: Global,
+    words: &WordList,
+    files: Files,
+    opens: &[u32],
+    reads: &[u32],
+    writes: &[Cut],
+) -> Result<Outcome, AllocError>
+    requires { IsTrue (are_whole files) }
+{
+    let mut folder = MemFolder::new(alloc, files, opens, reads)?;
+    let mut sink = MemSink::new(alloc, ROOM, writes)?;
+    let status = run(alloc, words, &mut folder, &mut sink).number();
+    let text = sink.bytes().to_vec(alloc)?;
+    Ok(Outcome { status, text })
+}
+
 // What the words come to over these files, where that call fails.
 fn outcome_of(
     alloc: Global,
@@ -81,20 +99,32 @@ fn outcome_of(
 ) -> Result<Outcome, AllocError>
     requires { IsTrue (are_whole files) }
 {
-    let mut opens = Vec::new(alloc);
-    let mut reads = Vec::new(alloc);
-    let mut writes = Vec::new(alloc);
     match call {
-        None => {}
-        Some(FailingCall::Open(call)) => opens.push(call)?,
-        Some(FailingCall::Read(call)) => reads.push(call)?,
-        Some(FailingCall::Write(cut)) => writes.push(cut)?,
+        None => outcome_with(alloc, words, files, &[], &[], &[]),
+        Some(FailingCall::Open(call)) => outcome_with(alloc, words, files, &[call], &[], &[]),
+        Some(FailingCall::Read(call)) => outcome_with(alloc, words, files, &[], &[call], &[]),
+        Some(FailingCall::Write(cut)) => outcome_with(alloc, words, files, &[], &[], &[cut]),
     }
-    let mut folder = MemFolder::new(alloc, files, opens.as_slice(), reads.as_slice())?;
-    let mut sink = MemSink::new(alloc, ROOM, writes.as_slice())?;
-    let status = run(alloc, words, &mut folder, &mut sink).number();
-    let text = sink.bytes().to_vec(alloc)?;
-    Ok(Outcome { status, text })
+}
+
+// Whether the text has this line.
+fn has_line(text: &[u8], wanted: &[u8]) -> bool {
+    for line in text.lines_with_terminator() {
+        if line == wanted {
+            return true;
+        }
+    }
+    false
+}
+
+// Whether the text has these lines.
+fn has_lines(text: &[u8], wanted: &[u8]) -> bool {
+    for line in wanted.lines_with_terminator() {
+        if !has_line(text, line) {
+            return false;
+        }
+    }
+    true
 }
 
 // Whether the text is the wanted one.
@@ -102,10 +132,7 @@ fn is_text(alloc: Global, text: &[u8], wanted: &Wanted) -> Result<bool, AllocErr
     match wanted {
         Wanted::Text(wanted) => Ok(text == wanted.as_slice()),
         Wanted::Journeys { triples, lines } => {
-            let has_lines = lines.as_slice().lines_with_terminator().all(|wanted| text
-                .lines_with_terminator()
-                .any(|line| line == wanted));
-            Ok(has_lines && triples_of(alloc, text)?.as_slice() == triples.as_slice())
+            Ok(has_lines(text, lines) && triples_of(alloc, text)?.as_slice() == triples.as_slice())
         }
     }
 }
