@@ -1,13 +1,13 @@
 -- Items in numbered groups.
-use Rattle.std.proofs.Common.{ℕ, ◌+◌, ◌<◌, List, [], ◌∷◌, arith, ◌≤◌, ⊎_elim, ◌≡◌, sym, ap, true, false, length, take, refl, subst, ◌++◌, ◌∙◌, get_or, ◌⊎◌, inl, inr, Contains, zero, suc, add-one, length-append}
+use Rattle.std.proofs.Common.{ℕ, ◌+◌, ◌-◌, ◌<◌, List, [], ◌∷◌, arith, ◌≤◌, ⊎_elim, ◌≡◌, sym, ap, true, false, length, take, refl, subst, ◌++◌, ◌∙◌, get_or, ◌⊎◌, inl, inr, Contains, zero, suc, add-one, length-append}
 use Rattle.item_groups.specs.declared.groups.Grouped.{Grouped}
 use Rattle.std.proofs.Math.ListN.{set}
 use Rattle.item_groups.specs.declared.groups.Chains.{Chains}
 use Rattle.item_groups.specs.Groups.{AreChains, IsNextOf, group_of, groups_below}
 use Rattle.std.proofs.lemmas.Bool.{cases_eq, cases_lt, cases_Bool}
-use Rattle.std.specs.Prelude.{◌==◌, map, slice_get, filter, unwrap_or}
+use Rattle.std.specs.Prelude.{◌==◌, replicate, map, slice_get, filter, unwrap_or}
 use Rattle.std.proofs.lemmas.Bool.Decides.{nat_tests}
-use Rattle.std.proofs.lemmas.List.{take_more, get_or_default, get_or-set_same, get_or-set_other, length-set}
+use Rattle.std.proofs.lemmas.List.{length-replicate, get_or-replicate, take_more, get_or_default, get_or-set_same, get_or-set_other, length-set}
 use Rattle.std.specs.List.Sorted.{IsNonDecreasingBy}
 use Rattle.plain_laws.proofs.Laws.{get_or-list_below, length-list_below, slice_get-list_below, Contains-cons_cases, Contains-cons_first, Contains-cons_later, joined_below-same}
 use Rattle.plain_laws.specs.Plain.{joined_below, list_below}
@@ -99,6 +99,22 @@ next_wider members i from place other next =
           (cases_lt k (from + 1));
       own = next.own;
     }
+
+-- before any member is put, no link leads to one
+pub unlinked : {X : Type 0} (members : List (Grouped X)) (chains : Chains) (count none : ℕ) → chains.firsts.items ≡ replicate count none → chains.nexts.items ≡ replicate (length members) none
+    → length members ≤ none → AreChains members (length members - 0) chains
+unlinked members chains count none firsts nexts le = record {
+  long = ap length nexts ∙ length-replicate (length members) none;
+  first = λ group lt.
+      let within : group < count = omega (arith, lt, ap length firsts ∙ length-replicate count none) in
+      let is : get_or chains.firsts.items group 0 ≡ none = ap (λ l. get_or l group 0) firsts ∙ get_or-replicate count group none 0 within in
+      record {
+        forward = omega (arith, is, le);
+        none = λ k d from to below own. absurd (omega (arith, from, below));
+        own = λ d below. absurd (omega (arith, is, below, le));
+      };
+  next = λ k d from below lt. absurd (omega (arith, from, below));
+}
 
 module _ {X : Type 0} (members : List (Grouped X)) (place : ℕ) (d : Grouped X) (lt : place < length members) where
   -- the group of the member at a place
