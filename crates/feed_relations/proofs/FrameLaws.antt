@@ -23,23 +23,7 @@ use Rattle.feed_faults.specs.FareRelations.{is_one_filled, do_frames_overlap, is
 use Rattle.feed_faults.specs.AcceptedFeed.{row_number}
 use Rattle.feed_relations.specs.declared.frames.Frame.{Frame}
 use Rattle.feed_relations.proofs.KeyLaws.{own_same}
-use Rattle.feed_relations.proofs.SeenLaws.{AreSeen}
-
--- the timeframe of a row
-abbrev pub frame_of : FileTable → ℕ → Frame
-frame_of table row =
-    record {
-      group = row_number table TimeframeGroupId (field table row TimeframeGroupId);
-      service = row_number table ServiceId (field table row ServiceId);
-      start = frame_start table row;
-      end = frame_end table row;
-    }
-
--- by group, service, start and end
-abbrev pub frame_order : Frame → Frame → Ordering
-frame_order a b =
-    ordering_then (nat_cmp a.group b.group)
-    (ordering_then (nat_cmp a.service b.service) (ordering_then (nat_cmp a.start b.start) (nat_cmp a.end b.end)))
+use Rattle.feed_relations.specs.Frames.{AreSeen, frame_of, frame_order}
 
 pub frame_total : IsTotalOrder frame_order
 frame_total =

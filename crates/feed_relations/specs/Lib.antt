@@ -1,3 +1,4 @@
 pub mod JudgedBy
 pub mod RowKeys
 pub mod FittingChecks
+pub mod Frames

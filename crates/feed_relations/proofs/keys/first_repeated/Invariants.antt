@@ -1,7 +1,7 @@
 use Rattle.std.proofs.Common.{◌≡◌, None}
 use Rattle.plain_laws.specs.Plain.{find_below}
 use Rattle.feed_relations.specs.RowKeys.{row_key, key_order, is_key_repeated}
-use Rattle.feed_relations.proofs.SeenLaws.{AreSeen}
+use Rattle.feed_relations.specs.Frames.{AreSeen}
 use Rattle.feed_relations.proofs.keys.first_repeated.Given as goal
 
 abbrev pub invariant-loop-row : goal.invariant-loop-row

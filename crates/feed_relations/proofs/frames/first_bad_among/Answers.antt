@@ -1,6 +1,5 @@
 use Rattle.std.proofs.Common.{◌≡◌, ◌∙◌, ◌<◌, sym, true, false, nat_lt, arith, rules}
 use Rattle.std.specs.Prelude.{not}
-use Rattle.std.specs.Option.{MatchOption}
 use Rattle.std.proofs.lemmas.Grind.{common_steps}
 use Rattle.std.proofs.lemmas.Bool.Decides.{nat_tests}
 use Rattle.feed_files.specs.declared.names.ColumnName.TheVariants.{StartTime, EndTime}
@@ -9,25 +8,23 @@ use Rattle.plain_laws.proofs.Laws.{find_below_found, find_below_next}
 use Rattle.feed_faults.specs.Records.{row_count, field}
 use Rattle.feed_faults.specs.FeedTables.{table_in}
 use Rattle.feed_faults.specs.FieldValues.{frame_start, frame_end}
-use Rattle.feed_faults.specs.FareRelations.{is_one_filled, is_bad_frame, do_frames_overlap}
-use Rattle.feed_faults.specs.RowKeys.{is_repeated}
+use Rattle.feed_faults.specs.FareRelations.{is_one_filled, is_bad_frame}
 use Rattle.feed_relations.specs.declared.frames.Frame.{Frame}
-use Rattle.feed_relations.proofs.FrameLaws.{frame_of, frame_order, frame_total, reaches, by_range, by_ways}
+use Rattle.feed_relations.specs.Frames.{frame_of, frame_order}
+use Rattle.feed_relations.proofs.FrameLaws.{frame_total, by_ways}
 use Rattle.feed_relations.proofs.SeenLaws.{seen_more}
-use Rattle.feed_relations.proofs.frames.first_bad_frame.Goals as goal
+use Rattle.feed_relations.proofs.frames.first_bad_among.Goals as goal
 
 pub returns-then-is_half : goal.returns-then-is_half
 returns-then-is_half g c =
     let table = table_in c.args.feed.now file.Timeframes in
     let frame : Frame = record { group = c.number.result; service = c.number-in-loop-row.result; start = c.frame_start.result; end = c.frame_end.result } in
     let is : frame ≡ frame_of table c.loop-row.row = search rules in
-    let said : MatchOption c.next_back.result (c.is_some_and-is_overlapping.result ≡ false) (λ k. c.is_some_and-is_overlapping.result ≡ reaches frame k.now) = search rules in
-    let within : c.loop-row.row < row_count table = omega (arith, c.loop-row-test.true, c.requires) in
-    let over : c.is_some_and-is_overlapping.result ≡ is_repeated (do_frames_overlap table) c.loop-row.row =
-    by_range table c.loop-row.row within c.loop-row.invariant.0 c.loop-row.seen c.loop-row.invariant.1 frame c.range.result _ c.next_back.result c.is_some_and-is_overlapping.result is (c.range.ensures.in_range tt) c.next_back.ensures.steps said in
+    let within : c.loop-row.row < row_count table = omega (arith, c.loop-row-test.true, c.requires.below) in
+    let over = c.is_overlapping-overlaps.ensures table c.loop-row.row within c.loop-row.invariant.0 c.loop-row.invariant.1 is in
     let one : c.is_one_filled-is_half.result ≡ is_one_filled (field table c.loop-row.row StartTime) (field table c.loop-row.row EndTime) = search rules in
     let late : not (nat_lt c.frame_start.result c.frame_end.result) ≡ not (nat_lt (frame_start table c.loop-row.row) (frame_end table c.loop-row.row)) = search rules in
-    let ways = by_ways table c.loop-row.row c.is_one_filled-is_half.result (not (nat_lt c.frame_start.result c.frame_end.result)) c.is_some_and-is_overlapping.result one late over in
+    let ways = by_ways table c.loop-row.row c.is_one_filled-is_half.result (not (nat_lt c.frame_start.result c.frame_end.result)) c.is_overlapping-overlaps.result one late over in
     let here : is_bad_frame table c.loop-row.row ≡ true = ways ∙ grind (arith, common_steps, nat_tests, c.then-is_half.either) in
     sym (find_below_found (is_bad_frame table) c.args.below c.loop-row.row c.loop-row-test.true c.loop-row.invariant.0 here)
 
@@ -36,14 +33,12 @@ loop-row-preserved g c =
     let table = table_in c.args.feed.now file.Timeframes in
     let frame : Frame = record { group = c.number.result; service = c.number-in-loop-row.result; start = c.frame_start.result; end = c.frame_end.result } in
     let is : frame ≡ frame_of table c.loop-row.row = search rules in
-    let said : MatchOption c.next_back.result (c.is_some_and-is_overlapping.result ≡ false) (λ k. c.is_some_and-is_overlapping.result ≡ reaches frame k.now) = search rules in
-    let within : c.loop-row.row < row_count table = omega (arith, c.loop-row-test.true, c.requires) in
-    let over : c.is_some_and-is_overlapping.result ≡ is_repeated (do_frames_overlap table) c.loop-row.row =
-    by_range table c.loop-row.row within c.loop-row.invariant.0 c.loop-row.seen c.loop-row.invariant.1 frame c.range.result _ c.next_back.result c.is_some_and-is_overlapping.result is (c.range.ensures.in_range tt) c.next_back.ensures.steps said in
+    let within : c.loop-row.row < row_count table = omega (arith, c.loop-row-test.true, c.requires.below) in
+    let over = c.is_overlapping-overlaps.ensures table c.loop-row.row within c.loop-row.invariant.0 c.loop-row.invariant.1 is in
     let one : c.is_one_filled-is_half.result ≡ is_one_filled (field table c.loop-row.row StartTime) (field table c.loop-row.row EndTime) = search rules in
     let late : not (nat_lt c.frame_start.result c.frame_end.result) ≡ not (nat_lt (frame_start table c.loop-row.row) (frame_end table c.loop-row.row)) = search rules in
-    let ways = by_ways table c.loop-row.row c.is_one_filled-is_half.result (not (nat_lt c.frame_start.result c.frame_end.result)) c.is_some_and-is_overlapping.result one late over in
-    let here : is_bad_frame table c.loop-row.row ≡ false = ways ∙ grind (arith, common_steps, c.if-is_half.false, c.if-frame.false, c.if-is_overlapping.false) in (
+    let ways = by_ways table c.loop-row.row c.is_one_filled-is_half.result (not (nat_lt c.frame_start.result c.frame_end.result)) c.is_overlapping-overlaps.result one late over in
+    let here : is_bad_frame table c.loop-row.row ≡ false = ways ∙ grind (arith, common_steps, c.if-is_half.false, c.if-frame.false, c.if-overlaps.false) in (
       find_below_next (is_bad_frame table) c.loop-row.row c.loop-row.invariant.0 here,
       seen_more frame_order (frame_of table) c.loop-row.seen c.loop-row.row c.loop-row.invariant.1 frame is c.insert.new.self frame_total c.in_ok-insert.ensures.updates,
     )
