@@ -61,17 +61,12 @@ table_lines feed query table entries size lines sound closed offers come counted
 }
 
 -- such lines are due for the plan
-pub plan_due : (timetable feed : FeedRows) (request : PlanRequest) (query : Query) (told : Status)
-    (text lines : List (List ℕ))
-    → timetable ≡ feed → Ok query ≡ query_of timetable request → told ≡ status.Answered → text ≡ lines
-    → DoTask (Task.Plans timetable query request.stats) lines → IsDue (task_of feed (Request.Plan request)) told text
-plan_due timetable feed request query told text lines same named answered whole done =
-    let over_feed : Ok query ≡ query_of feed request = named ∙ ap (λ (f : FeedRows). query_of f request) same in
-    subst (λ q. IsDue (task_by (λ query. Task.Plans feed query request.stats) q) told text) over_feed (
-      answered,
-      subst (λ f. DoTask (Task.Plans f query request.stats) text) same
-          (subst (DoTask (Task.Plans timetable query request.stats)) (sym whole) done),
-    )
+pub plan_due : (feed : FeedRows) (request : PlanRequest) (query : Query) (told : Status) (text lines : List (List ℕ))
+    → Ok query ≡ query_of feed request → told ≡ status.Answered → text ≡ lines
+    → DoTask (Task.Plans feed query request.stats) lines → IsDue (task_of feed (Request.Plan request)) told text
+plan_due feed request query told text lines named answered whole done =
+    subst (λ q. IsDue (task_by (λ query. Task.Plans feed query request.stats) q) told text) named
+    (answered, subst (DoTask (Task.Plans feed query request.stats)) (sym whole) done)
 
 -- some item of a list of values is such where the value of some item is
 any_map : {X Y : Type 0} (such : Y → Type 0) (value : X → Y) (items : List X) → Any (λ item. such (value item)) items
@@ -85,22 +80,20 @@ any_map such value items some = (
 )
 
 -- the triples of an exact answer to that plan are due
-pub gen_due : (timetable feed : FeedRows) (lines : ℕ) (plan : PlanRequest) (query : Query) (entries : List Entry)
-    (told : Status) (text : List (List ℕ)) → timetable ≡ feed → plan ≡ generated_plan lines
-    → Ok query ≡ query_of timetable plan → IsExactAnswer timetable query entries → CoversOffers timetable query entries
+pub gen_due : (feed : FeedRows) (lines : ℕ) (plan : PlanRequest) (query : Query) (entries : List Entry) (told : Status)
+    (text : List (List ℕ)) → plan ≡ generated_plan lines
+    → Ok query ≡ query_of feed plan → IsExactAnswer feed query entries → CoversOffers feed query entries
     → told ≡ status.Answered → text ≡ gen_lines feed (map (λ entry. entry.triple) entries)
     → IsDue (task_by (Task.Generates feed) (query_of feed (generated_plan lines))) told text
-gen_due timetable feed lines plan query entries told text same is named exact covers answered are =
-    let over_feed : Ok query ≡ query_of feed (generated_plan lines) =
-    named ∙ ap (λ (f : FeedRows). query_of f plan) same ∙ ap (query_of feed) is in
-    subst (λ q. IsDue (task_by (Task.Generates feed) q) told text) over_feed (
+gen_due feed lines plan query entries told text is named exact covers answered are =
+    subst (λ q. IsDue (task_by (Task.Generates feed) q) told text) (named ∙ ap (query_of feed) is) (
       answered,
       record {
         triples = map (λ entry. entry.triple) entries;
-        are_minimal = exact_triples feed query entries (subst (λ f. IsExactAnswer f query entries) same exact);
+        are_minimal = exact_triples feed query entries exact;
         covers = λ offered is_offered.
             any_map (λ triple. IsTrue (at_most triple offered)) (λ (entry : Entry). entry.triple) entries
-            (subst (λ f. CoversOffers f query entries) same covers offered is_offered);
+            (covers offered is_offered);
         are_lines = are;
       },
     )

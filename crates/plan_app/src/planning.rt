@@ -59,18 +59,28 @@ fn plan_text(
     }
 }
 
+// What a plan answers over a timetable.
+fn plan_over(alloc: Global, timetable: &Timetable, plan: &PlanWords) -> Result<Outcome, AllocError>
+    requires usual { IsUsualPlan plan.now }
+    ensures { IfOk result (IsOutcome (task_of timetable.now (Request.Plan (request_of plan.now)))) }
+{
+    let query = match query_of(timetable, plan) {
+        Ok(query) => query,
+        Err(fault) => return refused(alloc, Refusal::Usage(fault)),
+    };
+    let text = plan_text(alloc, timetable, &query, plan.stats)?;
+    Ok(answered(text))
+}
+
 // What a plan answers.
 fn plan_outcome(alloc: Global, feed: &Feed, plan: &PlanWords) -> Result<Outcome, AllocError>
     requires usual { IsUsualPlan plan.now }
     ensures { IfOk result (IsOutcome (task_of feed.now (Request.Plan (request_of plan.now)))) }
 {
-    let timetable = Timetable::build(alloc, feed)?;
-    let query = match query_of(&timetable, plan) {
-        Ok(query) => query,
-        Err(fault) => return refused(alloc, Refusal::Usage(fault)),
-    };
-    let text = plan_text(alloc, &timetable, &query, plan.stats)?;
-    Ok(answered(text))
+    match Timetable::build(alloc, feed) {
+        Ok(timetable) => plan_over(alloc, &timetable, plan),
+        Err(AllocError) => Err(AllocError),
+    }
 }
 
 // The plan over a generated feed: from its first stop to its last, which has this id, on 2025-06-02 at 07:00:00.
@@ -89,21 +99,30 @@ fn generated_plan(last: &str) -> PlanWords<'_>
     }
 }
 
-// What a generated feed answers: the plan from its first stop to its last.
+// What a generated feed answers over its timetable: the plan from its first stop to its last.
+fn gen_over(alloc: Global, timetable: &Timetable, words: &GenWords) -> Result<Outcome, AllocError>
+    requires usual { IsUsualGen words.now }
+    ensures { IfOk result (IsOutcome (task_by (Task.Generates timetable.now) (query_of timetable.now (generated_plan words.now.lines)))) }
+{
+    let last = stop_id(alloc, words.lines - 1, words.lines - 1)?;
+    let query = match query_of(timetable, &generated_plan(last.as_str())) {
+        Ok(query) => query,
+        Err(fault) => return refused(alloc, Refusal::Usage(fault)),
+    };
+    let found = round_entries(alloc, timetable, &query)?;
+    let text = gen_lines_of(alloc, timetable.feed(), &found)?;
+    Ok(answered(text))
+}
+
+// What a generated feed answers.
 fn gen_outcome(alloc: Global, feed: &Feed, words: &GenWords) -> Result<Outcome, AllocError>
     requires usual { IsUsualGen words.now }
     ensures { IfOk result (IsOutcome (task_by (Task.Generates feed.now) (query_of feed.now (generated_plan words.now.lines)))) }
 {
-    let timetable = Timetable::build(alloc, feed)?;
-    let last = stop_id(alloc, words.lines - 1, words.lines - 1)?;
-    let plan = generated_plan(last.as_str());
-    let query = match query_of(&timetable, &plan) {
-        Ok(query) => query,
-        Err(fault) => return refused(alloc, Refusal::Usage(fault)),
-    };
-    let found = round_entries(alloc, &timetable, &query)?;
-    let text = gen_lines_of(alloc, feed, &found)?;
-    Ok(answered(text))
+    match Timetable::build(alloc, feed) {
+        Ok(timetable) => gen_over(alloc, &timetable, words),
+        Err(AllocError) => Err(AllocError),
+    }
 }
 
 /// What a command answers over a feed.
