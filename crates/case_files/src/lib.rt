@@ -1,4 +1,4 @@
-//! Cases that are files: words, the files of a feed, calls that fail, and what must come.
+//! Cases that are files: words, the files of a feed, calls that fail, and what must come; and how a program is tried on them.
 #![tactic(auto)]
 
 mod archive;
@@ -6,8 +6,8 @@ mod case;
 mod failing_call;
 mod feed_texts;
 mod library;
+mod trial;
+mod trials;
 
-pub use case::{Case, Wanted};
-pub use failing_call::FailingCall;
-pub use feed_texts::FeedFiles;
-pub use library::Library;
+pub use trial::Program;
+pub use trials::try_named;

@@ -1,4 +1,4 @@
-//! Tests of fares and trips that no case of the whole program reaches: objects that only libraries take, and answers beside those
+//! Tests of fares, trips and plans that no case of the whole program reaches: objects that only libraries take, and answers beside those
 //! of plainer programs.
 #![tactic(auto)]
 
@@ -12,3 +12,5 @@ mod patterns;
 mod prices;
 #[cfg(test)]
 mod readings;
+#[cfg(test)]
+mod searches;

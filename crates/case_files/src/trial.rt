@@ -2,26 +2,32 @@
 ghost use Rattle.std.specs.Prelude.{IsTrue};
 ghost use Rattle.folder_io.specs.KeptFiles.{are_whole};
 
-use anyhow::Result;
+use crate::case::{Case, Wanted};
+use crate::failing_call::FailingCall;
 use bstr::ByteSlice;
-use case_files::{Case, FailingCall, Wanted};
 use folder_io::{Cut, Files, MemFolder, MemSink};
-use plan_app::{WordList, run};
+use plan_words::WordList;
 use std::alloc::{AllocError, Global};
 use std::fmt;
+
+/// The program that is tried.
+pub trait Program {
+    /// Runs the words over a folder, and writes to a sink. Answers the status.
+    fn run(alloc: Global, words: &WordList, folder: &mut MemFolder, sink: &mut MemSink) -> u8;
+}
 
 // More bytes than any case writes.
 const ROOM: u32 = 1_048_576;
 
-/// What a run came to.
+// What a run came to.
 #[derive(Drop)]
-pub(crate) struct Outcome {
+struct Outcome {
     status: u8,
     text: Vec<u8>,
 }
 
 /// A run that came to something else than its case says.
-pub(crate) struct Difference {
+pub struct Difference {
     call: Option<FailingCall>,
     came: Outcome,
 }
@@ -48,12 +54,15 @@ impl fmt::Display for Difference {
 ///
 /// # Errors
 /// Want of memory.
-pub(crate) fn first_difference(alloc: Global, case: &Case) -> Result<Option<Difference>> {
+pub fn first_difference<P: Program>(
+    alloc: Global,
+    case: &Case,
+) -> Result<Option<Difference>, AllocError> {
     if case.failing_calls.is_empty() {
-        return Ok(difference_in(alloc, case, None)?);
+        return difference_in::<P>(alloc, case, None);
     }
     for call in case.failing_calls.iter() {
-        let found = difference_in(alloc, case, Some(*call))?;
+        let found = difference_in::<P>(alloc, case, Some(*call))?;
         if found.is_some() {
             return Ok(found);
         }
@@ -62,18 +71,18 @@ pub(crate) fn first_difference(alloc: Global, case: &Case) -> Result<Option<Diff
 }
 
 // What the run where that call fails came to, if it is something else than the case says.
-fn difference_in(
+fn difference_in<P: Program>(
     alloc: Global,
     case: &Case,
     call: Option<FailingCall>,
 ) -> Result<Option<Difference>, AllocError> {
-    let came = outcome_of(alloc, &case.words, case.files.files(alloc)?, call)?;
+    let came = outcome_of::<P>(alloc, &case.words, case.files.files(alloc)?, call)?;
     let is_wanted = came.status == case.status && is_text(alloc, &came.text, &case.wanted)?;
     Ok((!is_wanted).then_some(Difference { call, came }))
 }
 
 // What the words come to over these files, where these calls fail.
-fn outcome_with(
+fn outcome_with<P: Program>(
     alloc: Global,
     words: &WordList,
     files: Files,
@@ -85,13 +94,13 @@ fn outcome_with(
 {
     let mut folder = MemFolder::new(alloc, files, opens, reads)?;
     let mut sink = MemSink::new(alloc, ROOM, writes)?;
-    let status = run(alloc, words, &mut folder, &mut sink).number();
+    let status = P::run(alloc, words, &mut folder, &mut sink);
     let text = sink.bytes().to_vec(alloc)?;
     Ok(Outcome { status, text })
 }
 
 // What the words come to over these files, where that call fails.
-fn outcome_of(
+fn outcome_of<P: Program>(
     alloc: Global,
     words: &WordList,
     files: Files,
@@ -100,10 +109,10 @@ fn outcome_of(
     requires { IsTrue (are_whole files) }
 {
     match call {
-        None => outcome_with(alloc, words, files, &[], &[], &[]),
-        Some(FailingCall::Open(call)) => outcome_with(alloc, words, files, &[call], &[], &[]),
-        Some(FailingCall::Read(call)) => outcome_with(alloc, words, files, &[], &[call], &[]),
-        Some(FailingCall::Write(cut)) => outcome_with(alloc, words, files, &[], &[], &[cut]),
+        None => outcome_with::<P>(alloc, words, files, &[], &[], &[]),
+        Some(FailingCall::Open(call)) => outcome_with::<P>(alloc, words, files, &[call], &[], &[]),
+        Some(FailingCall::Read(call)) => outcome_with::<P>(alloc, words, files, &[], &[call], &[]),
+        Some(FailingCall::Write(cut)) => outcome_with::<P>(alloc, words, files, &[], &[], &[cut]),
     }
 }
 
