@@ -1,3 +1,4 @@
+pub mod Gathered
 pub mod Horizons
 pub mod Moves
 pub mod Prospects

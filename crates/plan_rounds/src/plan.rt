@@ -1,16 +1,22 @@
 //! The exact answer to a query, by rounds.
-ghost use Rattle.std.specs.Prelude.{IfOk};
+ghost use Rattle.std.specs.Prelude.{◌≡◌, IfOk, true};
+ghost use Rattle.fare_automaton.specs.Terms.{terms};
 ghost use Rattle.feed_rows.specs.JourneyEntries.{CoversOffers, IsExactAnswer};
-ghost use Rattle.plan_rides.specs.InTime.{IsUsualQuery};
+ghost use Rattle.plan_rides.specs.InTime.{IsUsualQuery, deadline};
 ghost use Rattle.feed_rows.specs.ClosedTable.{IsClosedTable};
 ghost use Rattle.feed_rows.specs.SoundTable.{IsSoundTable};
 ghost use Rattle.plan_rides.specs.Asked.{asked};
+ghost use Rattle.plan_rounds.specs.Prospects.{AreProspects, no_prospects};
 ghost use Rattle.plan_rounds.specs.Searched.{IsTableOf, searched};
 ghost use Rattle.round_table.specs.Tables.{CoversAllOffers, table_by};
 
+use crate::prospects::Prospects;
 use crate::search::Search;
+use fare_automaton::Automaton;
+use fare_timeframes::Timeframes;
 use feed_rows::{Entry, Query};
 use feed_timetable::Timetable;
+use plan_rides::Rides;
 use round_table::RoundTable;
 use std::alloc::{AllocError, Global};
 
@@ -26,10 +32,54 @@ impl<'s, 'f> Search<'s, 'f> {
     }
 }
 
-/// The table of the query's rounds: of all labels, or of those alone that matter for the answer.
+/// The prospects of journeys that end in time; none for a search that is to be whole: it tries each ride.
+///
+/// # Errors
+/// Want of memory.
+fn first_prospects(alloc: Global, rides: &Rides, whole: bool) -> Result<Prospects, AllocError>
+    ensures are { IfOk result (AreProspects rides.now.feed rides.now.query (deadline rides.now.query)) }
+    ensures none { IfOk result (λ prospects. whole ≡ true → prospects ≡ no_prospects) }
+{
+    if whole {
+        return Ok(Prospects::none(alloc));
+    }
+    Prospects::of(alloc, rides, rides.deadline())
+}
+
+/// The table of the rounds over these rides, by what their legs cost: of all labels, or of those alone that matter for the answer.
 ///
 /// # Errors
 /// Want of memory; so counts that there would be 2^32 labels or more.
+fn table_at(
+    alloc: Global,
+    rides: &Rides,
+    automaton: &Automaton,
+    whole: bool,
+) -> Result<RoundTable, AllocError>
+    requires { automaton.now ≡ terms rides.now.feed rides.now.query.rider }
+    ensures { IfOk result (λ table. IsTableOf (searched rides.now whole) (table_by table)) }
+{
+    let timeframes = Timeframes::between(
+        alloc,
+        rides.timetable().feed(),
+        rides.query().departure,
+        rides.deadline(),
+    )?;
+    let prospects = first_prospects(alloc, rides, whole)?;
+    Search::new(alloc, rides, &timeframes, automaton, &prospects, whole).table(alloc)
+}
+
+/// The table of the rounds over these rides.
+fn table_over(alloc: Global, rides: &Rides, whole: bool) -> Result<RoundTable, AllocError>
+    ensures { IfOk result (λ table. IsTableOf (searched rides.now whole) (table_by table)) }
+{
+    match Automaton::compile(alloc, rides.timetable().feed(), rides.query().rider) {
+        Ok(automaton) => table_at(alloc, rides, &automaton, whole),
+        Err(AllocError) => Err(AllocError),
+    }
+}
+
+/// The table of the query's rounds.
 fn table_of(
     alloc: Global,
     timetable: &Timetable,
@@ -39,7 +89,10 @@ fn table_of(
     requires { IsUsualQuery query.now }
     ensures { IfOk result (λ table. IsTableOf (searched (asked timetable.now query.now) whole) (table_by table)) }
 {
-    Search::new(alloc, timetable, query, whole)?.table(alloc)
+    match Rides::of(alloc, timetable, query) {
+        Ok(rides) => table_over(alloc, &rides, whole),
+        Err(AllocError) => Err(AllocError),
+    }
 }
 
 /// The labels of a query, round by round: they are real, none is in excess or outdone by a final with fewer rides, they

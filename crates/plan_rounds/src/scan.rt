@@ -1,5 +1,5 @@
 //! How a round goes on from its labels: pattern by pattern, and position by position.
-ghost use Rattle.std.specs.Prelude.{◌≡◌, true, Some, int_le, slice_get, OnOk};
+ghost use Rattle.std.specs.Prelude.{◌≡◌, true, false, Some, int_le, slice_get, OnOk};
 ghost use Rattle.std.specs.List.Sorted.{IsNonDecreasingBy, IsPermutation};
 ghost use Rattle.plan_rides.specs.Reached.{HoldsFrom, IsReachedFrom};
 ghost use Rattle.round_labels.specs.Labels.{stand_of_label};
@@ -239,6 +239,38 @@ impl<'s, 'f> Search<'s, 'f> {
         self.offer_rides(found, bags, round, &source, reached, kept)
     }
 
+    /// Offers what one more ride leads to from the labels that reach these positions, position by position. The rides are kept for
+    /// labels that are near, and for the others.
+    fn offer_marked(
+        &self,
+        found: &mut Found<'_, 'f>,
+        bags: &mut StopBags,
+        round: &Round<'_, 'f>,
+        marks: &Marks,
+        by_soon: &mut KeptRides,
+        by_all: &mut KeptRides,
+    ) -> Result<(), AllocError>
+        requires marks { AreMarks self.now round.now marks.now }
+        requires round { IsRound self.now round.now }
+        requires soon { by_soon.old.positions ≡ round.now.positions.now }
+        requires soon_fair { AreFairIn self.now round.now true by_soon.old.latest }
+        requires all { by_all.old.positions ≡ round.now.positions.now }
+        requires all_fair { AreFairIn self.now round.now false by_all.old.latest }
+        requires fares { HasFares self.now found.old }
+        ensures fares { HasFares self.now found.new }
+        ensures spreads { OnOk result (SpreadsIn self.now round.now (StepsFrom self.now.feed self.now.query round.now.labels.now round.now.count) bags.old bags.new) }
+    {
+        for k in 0..marks.reached.len() {
+            let reached = &marks.reached[k];
+            if marks.near[reached.number as usize] {
+                self.offer_from(found, bags, round, reached, by_soon)?;
+            } else {
+                self.offer_from(found, bags, round, reached, by_all)?;
+            }
+        }
+        Ok(())
+    }
+
     /// Offers what one more ride leads to from the labels of the last round, position by position. What `marks` holds is lost.
     pub(crate) fn scan(
         &self,
@@ -258,16 +290,9 @@ impl<'s, 'f> Search<'s, 'f> {
         let mut by_soon = self.kept_for(round, true, soon);
         let all = mem::replace(&mut found.all, Vec::new(alloc));
         let mut by_all = self.kept_for(round, false, all);
-        for k in 0..marks.reached.len() {
-            let reached = &marks.reached[k];
-            if marks.near[reached.number as usize] {
-                self.offer_from(found, bags, round, reached, &mut by_soon)?;
-            } else {
-                self.offer_from(found, bags, round, reached, &mut by_all)?;
-            }
-        }
+        let offered = self.offer_marked(found, bags, round, marks, &mut by_soon, &mut by_all);
         found.soon = by_soon.into_room();
         found.all = by_all.into_room();
-        Ok(())
+        offered
     }
 }

@@ -7,8 +7,11 @@ ghost use Rattle.round_laws.specs.LabelSteps.{facts_after, start_facts};
 ghost use Rattle.feed_rows.specs.SoundFeed.{IsSoundFeed};
 ghost use Rattle.feed_rows.specs.StopLinks.{stop_set};
 ghost use Rattle.plan_rides.specs.Asked.{asked};
+ghost use Rattle.fare_automaton.specs.Terms.{terms};
+ghost use Rattle.fare_timeframes.specs.BuiltTimeframes.{AreTimeframesOf};
 ghost use Rattle.plan_rides.specs.InTime.{IsRight, IsUsualQuery, deadline};
 ghost use Rattle.round_labels.specs.Labels.{IsBounded, IsSmall, facts_of, stand_of_label};
+ghost use Rattle.plan_rounds.specs.Gathered.{IsGathered};
 ghost use Rattle.plan_rounds.specs.Moves.{AreMovesOf, HasFares};
 ghost use Rattle.feed_rows.specs.declared.fares.Triple.{Triple};
 ghost use Rattle.round_table.specs.Finals.{AddsEnds, EndsBelow, HasEnds, is_bettered};
@@ -41,14 +44,12 @@ use transit_base::{Moment, StopId};
 /// cover all partial journeys but those that a final outdoes, or those alone that matter for the answer.
 pub struct Search<'s, 'f> {
     pub(crate) alloc: Global,
-    /// That of the rides.
-    timetable: &'s Timetable<'f>,
-    rides: Rides<'s, 'f>,
-    timeframes: Timeframes,
+    rides: &'s Rides<'s, 'f>,
+    timeframes: &'s Timeframes,
     /// The fares for the query's rider.
-    pub(crate) automaton: Automaton<'f>,
+    pub(crate) automaton: &'s Automaton<'f>,
     /// Those of journeys that end in time; none where the search is to be whole.
-    prospects: Prospects,
+    prospects: &'s Prospects,
     /// Whether some change takes back what a leg before it cost.
     pub(crate) takes_back: bool,
     pub(crate) whole: bool,
@@ -59,7 +60,6 @@ impl<'s, 'f> Drop for Search<'s, 'f> {
     fn drop(self) {
         let Search {
             alloc: _,
-            timetable: _,
             rides: _,
             timeframes: _,
             automaton: _,
@@ -81,9 +81,9 @@ impl<'s, 'f> Model for Search<'s, 'f> {
 
     ghost Value = { Searched };
 
-    ghost view = { λ s. searched s.rides s.whole };
+    ghost view = { λ s. searched s.rides.now s.whole };
 
-    ghost invariant = { λ s. AreTimeframesOf s.rides.feed s.timeframes × (s.automaton ≡ terms s.rides.feed s.rides.query.rider) × (s.takes_back ≡ some_takes_back s.rides.feed) × AreProspects s.rides.feed s.rides.query (deadline s.rides.query) s.prospects × (s.whole ≡ true → s.prospects ≡ no_prospects) × (s.timetable.now ≡ s.rides.feed) };
+    ghost invariant = { λ s. AreTimeframesOf s.rides.now.feed s.timeframes.now × (s.automaton.now ≡ terms s.rides.now.feed s.rides.now.query.rider) × (s.takes_back ≡ some_takes_back s.rides.now.feed) × AreProspects s.rides.now.feed s.rides.now.query (deadline s.rides.now.query) s.prospects.now × (s.whole ≡ true → s.prospects.now ≡ no_prospects) };
 }
 
 /// A label with its number among those so far, from which a round goes on.
@@ -130,57 +130,39 @@ impl<'a, 'f> Drop for Found<'a, 'f> {
     }
 }
 
-/// The prospects of journeys that end in time; none for a search that is to be whole: it tries each ride.
-///
-/// # Errors
-/// Want of memory.
-fn first_prospects(alloc: Global, rides: &Rides, whole: bool) -> Result<Prospects, AllocError>
-    ensures are { IfOk result (AreProspects rides.now.feed rides.now.query (deadline rides.now.query)) }
-    ensures none { IfOk result (λ prospects. whole ≡ true → prospects ≡ no_prospects) }
-{
-    if whole {
-        return Ok(Prospects::none(alloc));
-    }
-    Prospects::of(alloc, rides, rides.deadline())
-}
-
 impl<'s, 'f> Search<'s, 'f> {
-    /// The search for the query over the timetable: for labels that cover all partial journeys but those that a final
-    /// outdoes, where it is to be whole, and else for those that matter for the answer.
-    ///
-    /// # Errors
-    /// Want of memory.
+    /// The search by these rides, for labels that cover all partial journeys but those that a final outdoes, where it is to be
+    /// whole, and else for those that matter for the answer.
     pub fn new(
         alloc: Global,
-        timetable: &'s Timetable<'f>,
-        query: &'s Query,
+        rides: &'s Rides<'s, 'f>,
+        timeframes: &'s Timeframes,
+        automaton: &'s Automaton<'f>,
+        prospects: &'s Prospects,
         whole: bool,
-    ) -> Result<Search<'s, 'f>, AllocError>
-        requires { IsUsualQuery query.now }
-        ensures { IfOk result (λ search. search ≡ searched (asked timetable.now query.now) whole) }
+    ) -> Search<'s, 'f>
+        requires timeframes { AreTimeframesOf rides.now.feed timeframes.now }
+        requires automaton { automaton.now ≡ terms rides.now.feed rides.now.query.rider }
+        requires prospects { AreProspects rides.now.feed rides.now.query (deadline rides.now.query) prospects.now }
+        requires none { whole ≡ true → prospects.now ≡ no_prospects }
+        ensures { result ≡ searched rides.now whole }
     {
-        let feed = timetable.feed();
-        let rides = Rides::of(alloc, timetable, query)?;
-        let timeframes = Timeframes::between(alloc, feed, query.departure, rides.deadline())?;
-        let automaton = Automaton::compile(alloc, feed, query.rider)?;
-        let prospects = first_prospects(alloc, &rides, whole)?;
-        Ok(Search {
+        Search {
             alloc,
-            timetable,
             rides,
             timeframes,
             automaton,
             prospects,
-            takes_back: takes_back(feed),
+            takes_back: takes_back(rides.timetable().feed()),
             whole,
-        })
+        }
     }
 
     /// The rides of the query.
-    pub(crate) fn rides(&self) -> &Rides<'s, 'f>
+    pub(crate) fn rides(&self) -> &'s Rides<'s, 'f>
         ensures { result.now ≡ asked self.now.feed self.now.query }
     {
-        &self.rides
+        self.rides
     }
 
     /// The greatest number of rides.
@@ -197,14 +179,14 @@ impl<'s, 'f> Search<'s, 'f> {
         ensures sound { IsSoundFeed self.now.feed }
     {
         let _feed = self.feed();
-        self.timetable.members(self.rides.query().from)
+        self.rides.timetable().members(self.rides.query().from)
     }
 
     /// The stops at which journeys end.
     pub(crate) fn lasts(&self) -> &'s [StopId]
         ensures { result.now ≡ stop_set self.now.feed self.now.query.to }
     {
-        self.timetable.members(self.rides.query().to)
+        self.rides.timetable().members(self.rides.query().to)
     }
 
     /// How many stops the feed has.
@@ -221,7 +203,7 @@ impl<'s, 'f> Search<'s, 'f> {
         ensures value { result.now ≡ self.now.feed }
         ensures sound { IsSoundFeed self.now.feed }
     {
-        self.timetable.feed()
+        self.rides.timetable().feed()
     }
 
     /// Offers the label without rides at a first stop.
@@ -331,15 +313,15 @@ impl<'s, 'f> Search<'s, 'f> {
     pub(crate) fn prospects_by(&self, deadline: Moment) -> Result<Prospects, AllocError>
         ensures { IfOk result (AreProspects self.now.feed self.now.query deadline.0) }
     {
-        Prospects::of(self.alloc, &self.rides, deadline)
+        Prospects::of(self.alloc, self.rides, deadline)
     }
 
     /// The prospects of journeys that end in time; none where the search is to be whole.
-    pub(crate) fn prospects(&self) -> &Prospects
+    pub(crate) fn prospects(&self) -> &'s Prospects
         ensures are { AreProspects self.now.feed self.now.query (deadline self.now.query) result.now }
         ensures none { self.now.whole ≡ true → result.now ≡ no_prospects }
     {
-        &self.prospects
+        self.prospects
     }
 
     /// Offers what one more ride leads to from the labels with so many rides. What `marks` holds is lost.
@@ -400,24 +382,39 @@ impl<'s, 'f> Search<'s, 'f> {
         self.add_ends(labels, begin, front)
     }
 
-    /// The labels of all rounds, and the best that they end in.
-    ///
-    /// # Errors
-    /// Want of memory; so counts that there would be 2^32 labels or more.
-    pub fn labels(&self) -> Result<(LabelList, Front<Final>), AllocError>
-        ensures whole { IfOk result (λ all. AreWhole self.now.feed self.now.query (Lacks self.now all.1) all.0) }
-        ensures numbers { IfOk result (λ all. length all.0 < 2 ^ 32) }
-        ensures ended { IfOk result (λ all. AddsEnds self.now.feed self.now.query all.0 (EndsBelow self.now.feed self.now.query all.0 (length all.0)) [] all.1) }
+    /// Goes on by one more ride a round, from the labels without rides, with room for what is found. What `marks` holds is lost.
+    fn spread_by(
+        &self,
+        found: &mut Found<'_, 'f>,
+        marks: &mut Marks,
+        bags: &mut StopBags,
+        labels: &mut LabelList,
+        front: &mut Front<Final>,
+    ) -> Result<(), AllocError>
+        requires start { IsGathered self.now 0 labels.old bags.old front.old }
+        requires fares { HasFares self.now found.old }
+        ensures { OnOk result (IsGathered self.now self.now.query.rides labels.new bags.new front.new) }
+    {
+        for count in 0..self.limit() {
+            self.spread(found, bags, labels, count, front.items(), marks)?;
+            self.gather(count + 1, bags, labels, front)?;
+        }
+        Ok(())
+    }
+
+    /// Goes on by one more ride a round, from the labels without rides.
+    fn spread_all(
+        &self,
+        bags: &mut StopBags,
+        labels: &mut LabelList,
+        front: &mut Front<Final>,
+    ) -> Result<(), AllocError>
+        requires { IsGathered self.now 0 labels.old bags.old front.old }
+        ensures { OnOk result (IsGathered self.now self.now.query.rides labels.new bags.new front.new) }
     {
         let alloc = self.alloc;
-        let limit = self.limit();
-        let mut bags = StopBags::empty(alloc);
-        self.offer_starts(&mut bags)?;
-        let mut labels = LabelList::empty(alloc);
-        let mut front = Front::empty(alloc);
-        self.gather(0, &bags, &mut labels, &mut front)?;
         let mut found = Found {
-            known: KnownOptions::of(alloc, &self.automaton),
+            known: KnownOptions::of(alloc, self.automaton),
             leg: blank_leg(alloc),
             places: Vec::new(alloc),
             moves: Vec::new(alloc),
@@ -428,17 +425,26 @@ impl<'s, 'f> Search<'s, 'f> {
             reached: Vec::new(alloc),
             near: Vec::new(alloc),
         };
-        for count in 0..limit {
-            self.spread(
-                &mut found,
-                &mut bags,
-                &labels,
-                count,
-                front.items(),
-                &mut marks,
-            )?;
-            self.gather(count + 1, &bags, &mut labels, &mut front)?;
-        }
+        self.spread_by(&mut found, &mut marks, bags, labels, front)
+    }
+
+    /// The labels of all rounds, and the best that they end in.
+    ///
+    /// # Errors
+    /// Want of memory; so counts that there would be 2^32 labels or more.
+    pub fn labels(&self) -> Result<(LabelList, Front<Final>), AllocError>
+        ensures whole { IfOk result (λ all. AreWhole self.now.feed self.now.query (Lacks self.now all.1) all.0) }
+        ensures numbers { IfOk result (λ all. length all.0 < 2 ^ 32) }
+        ensures ended { IfOk result (λ all. AddsEnds self.now.feed self.now.query all.0 (EndsBelow self.now.feed self.now.query all.0 (length all.0)) [] all.1) }
+    {
+        let alloc = self.alloc;
+        let _limit = self.limit();
+        let mut bags = StopBags::empty(alloc);
+        self.offer_starts(&mut bags)?;
+        let mut labels = LabelList::empty(alloc);
+        let mut front = Front::empty(alloc);
+        self.gather(0, &bags, &mut labels, &mut front)?;
+        self.spread_all(&mut bags, &mut labels, &mut front)?;
         Ok((labels, front))
     }
 }

@@ -20,12 +20,12 @@ step_into-requires-clause-options c =
 
 pub returns-in-None-clause-moves : goal.returns-in-None-clause-moves
 returns-in-None-clause-moves c =
-    moves_of_starts c.start_into.result c.self.inside.automaton c.args.self.now.feed c.args.self.now.query c.args.label.now c.args.found.now.leg
+    moves_of_starts c.start_into.result c.self.inside.automaton.now c.args.self.now.feed c.args.self.now.query c.args.label.now c.args.found.now.leg
     c.start_into.new.moves.items (c.self.invariant.1 ∙ ap (λ (a : Searched). terms a.feed a.query.rider) c.self.view_is) c.feed-feed.ensures.sound
     c.requires.bounded c.in-None.is c.start_into.ensures
 
 pub returns-in-Some-clause-moves : goal.returns-in-Some-clause-moves
 returns-in-Some-clause-moves c =
-    moves_of_steps c.step_into.result c.self.inside.automaton c.args.self.now.feed c.args.self.now.query c.args.label.now c.in-Some.state c.args.found.now.leg
+    moves_of_steps c.step_into.result c.self.inside.automaton.now c.args.self.now.feed c.args.self.now.query c.args.label.now c.in-Some.state c.args.found.now.leg
     c.step_into.new.moves.items (c.self.invariant.1 ∙ ap (λ (a : Searched). terms a.feed a.query.rider) c.self.view_is) c.feed-feed.ensures.sound
     c.requires.bounded c.in-Some.is c.step_into.ensures

@@ -38,7 +38,7 @@ returns-clause-spreads c =
     let query = c.args.self.now.query in
     let source = c.args.source.now in
     let moves = c.find_moves.new.found.moves in
-    let frames = subst (λ (a : Searched). AreTimeframesOf a.feed c.self.inside.timeframes) c.self.view_is c.self.invariant.0 in
+    let frames = subst (λ (a : Searched). AreTimeframesOf a.feed c.self.inside.timeframes.now) c.self.view_is c.self.invariant.0 in
     let are = subst (λ leg. AreMovesOf feed query source.label.now leg moves.items) (c.in_ok-leg_facts_into.ensures feed frames) c.in_ok-find_moves.ensures.moves in
     spreads_same feed query (Lacks c.args.self.now c.args.finals.now) source.labels.now _ _ _ _ _ c.loop-k.invariant
     (λ b. leads_by feed query source c.requires.source c.args.caught.now c.requires.right moves.items c.loop-k.k b are

@@ -7,8 +7,8 @@ use Rattle.plan_rounds.specs.Searched.{Lacks}
 use Rattle.plan_rounds.proofs.ScanLaws.{steps_all, steps_more, steps_none}
 use Rattle.plan_rounds.proofs.SourceLaws.{from_all}
 use Rattle.plan_rounds.proofs.SpreadLaws.{spreads_but, spreads_more, spreads_none}
-use Rattle.plan_rounds.proofs.search.Search.scan.Goals as goal
-use Rattle.plan_rounds.proofs.search.Search.scan.Goals.{then-index+in_ok-offer_from, else-index+in_ok-offer_from-2}
+use Rattle.plan_rounds.proofs.search.Search.offer_marked.Goals as goal
+use Rattle.plan_rounds.proofs.search.Search.offer_marked.Goals.{then-index+in_ok-offer_from, else-index+in_ok-offer_from-2}
 
 pub loop-k-init : goal.loop-k-init
 loop-k-init c =
@@ -16,43 +16,43 @@ loop-k-init c =
     let round = c.args.round.now in
     record {
       spreads = spreads_none me.feed me.query (Lacks me round.finals.now) round.labels.now (round.count + 1)
-          (StepsAtFirst me round c.mark.new.marks.reached.items 0) c.args.bags.now
-          (λ b steps. absurd (steps_none me round c.mark.new.marks.reached.items b steps));
+          (StepsAtFirst me round c.args.marks.now.reached.items 0) c.args.bags.now
+          (λ b steps. absurd (steps_none me round c.args.marks.now.reached.items b steps));
       fares = c.requires.fares;
-      soon = c.kept_for-by_soon.ensures.positions;
-      soon_fair = c.kept_for-by_soon.ensures.fair;
-      all = c.kept_for-by_all.ensures.positions;
-      all_fair = c.kept_for-by_all.ensures.fair;
+      soon = c.requires.soon;
+      soon_fair = c.requires.soon_fair;
+      all = c.requires.all;
+      all_fair = c.requires.all_fair;
     }
 
 pub index-requires : goal.index-requires
 index-requires c =
     let round = c.args.round.now in
-    let marks = c.mark.new.marks in
+    let marks = c.args.marks.now in
     let reached = c.index-reached.result.now in
     let lt : c.loop-k.k < length marks.reached.items = omega (arith, c.loop-k-test.true, c.len-k-end.ensures, marks.reached.ok.0) in
     let marked = subst (IsMarked round) (sym c.index-reached.ensures)
-    (c.in_ok-mark.ensures.reached.right _ (Contains-get_or marks.reached.items c.loop-k.k reached lt)) in
+    (c.requires.marks.reached.right _ (Contains-get_or marks.reached.items c.loop-k.k reached lt)) in
     let within = slice_get_within round.labels.now reached.number marked.label marked.is in
-    let many = c.in_ok-mark.ensures.many in
+    let many = c.requires.marks.many in
     omega (arith, within, many, marks.near.ok.0)
 
 pub offer_from-requires-clause-fair : goal.offer_from-requires-clause-fair
 offer_from-requires-clause-fair c x at b to counts late =
     let round = c.args.round.now in
-    let near = c.mark.new.marks.near in
+    let near = c.args.marks.now.near in
     let number = c.index-reached.result.now.number in
     let within = slice_get_within round.labels.now number x at in
-    let many = c.in_ok-mark.ensures.many in
+    let many = c.requires.marks.many in
     let lt : number < length near.items = omega (arith, within, many) in
     let is = slice_get_read near.items (length near.items) number c.index.result.now refl lt c.index.ensures ∙ ap Some c.if-index.true in
-    c.loop-k.invariant.soon_fair number x at counts (λ e. c.in_ok-mark.ensures.near number x at is) b to counts late
+    c.loop-k.invariant.soon_fair number x at counts (λ e. c.requires.marks.near number x at is) b to counts late
 
 pub loop-k-preserved : goal.loop-k-preserved
 loop-k-preserved c =
     let me = c.args.self.now in
     let round = c.args.round.now in
-    let list = c.mark.new.marks.reached in
+    let list = c.args.marks.now.reached in
     let k = c.loop-k.k in
     let was = c.loop-k.invariant in
     let reached = c.index-reached.result.now in
@@ -85,9 +85,9 @@ pub returns-clause-spreads : goal.returns-clause-spreads
 returns-clause-spreads c =
     let me = c.args.self.now in
     let round = c.args.round.now in
-    let list = c.mark.new.marks.reached in
+    let list = c.args.marks.now.reached in
     let whole : length list.items ≤ c.loop-k.k = omega (arith, c.loop-k-test.false, c.len-k-end.ensures, list.ok.0) in
     spreads_but me.feed me.query (Lacks me round.finals.now) round.labels.now (round.count + 1) _ _ _ _ c.loop-k.invariant.spreads
     (λ b from. ⊎_elim (λ among. inl (steps_all me round list.items c.loop-k.k b whole among)) inr
-    (c.in_ok-mark.ensures.reached.all b
+    (c.requires.marks.reached.all b
     (from_all me.feed me.query round.labels.now round.count (length round.labels.now) b (omega arith) from)))

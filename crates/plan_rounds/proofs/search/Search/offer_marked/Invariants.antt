@@ -1,7 +1,7 @@
 use Rattle.std.proofs.Common.{◌≡◌, true, false}
 use Rattle.plan_rounds.specs.Moves.{HasFares}
 use Rattle.plan_rounds.specs.Scans.{AreFairIn, SpreadsIn, StepsAtFirst}
-use Rattle.plan_rounds.proofs.search.Search.scan.Given as goal
+use Rattle.plan_rounds.proofs.search.Search.offer_marked.Given as goal
 
 abbrev pub invariant-loop-k : goal.invariant-loop-k
 invariant-loop-k l = record {

@@ -1,0 +1,67 @@
+use Rattle.std.proofs.Common.{refl, sym, subst, List, ◌+◌, arith}
+use Rattle.round_table.specs.declared.finals.Final.{Final}
+use Rattle.round_table.specs.Finals.{HasEnds, is_bettered}
+use Rattle.round_labels.specs.Labels.{labels_of}
+use Rattle.round_laws.proofs.FutilityLaws.{lack_more}
+use Rattle.round_laws.specs.LinkedTables.{CoversStarts}
+use Rattle.plan_rounds.specs.Gathered.{IsGathered}
+use Rattle.plan_rounds.specs.Searched.{Lacks}
+use Rattle.plan_rounds.specs.Stores.{AreStored, AreClosedTo, Spreads, StepsFrom}
+use Rattle.plan_rounds.proofs.StoreLaws.{stored_more, ending_more, closed_more, closed_weaker, starts_more}
+use Rattle.plan_rounds.proofs.search.Search.spread_by.Goals as goal
+
+pub gather-requires-clause-ending : goal.gather-requires-clause-ending
+gather-requires-clause-ending c =
+    let feed = c.args.self.now.feed in
+    let query = c.args.self.now.query in
+    let was = c.loop-count.invariant.are in
+    ending_more feed query (Lacks c.args.self.now c.items.result.now) (c.loop-count.count + 1) c.loop-count.labels _ c.loop-count.bags
+    c.spread.new.bags was.stored
+    c.in_ok-spread.ensures.spreads
+    c.limit-count-end.ensures.usual (omega (arith, c.loop-count-test.true, c.limit-count-end.ensures.is))
+
+pub gather-requires-clause-ended : goal.gather-requires-clause-ended
+gather-requires-clause-ended c = c.loop-count.invariant.are.ended
+
+pub spread-requires-clause-ended : goal.spread-requires-clause-ended
+spread-requires-clause-ended c =
+    let feed = c.args.self.now.feed in
+    let query = c.args.self.now.query in
+    subst (HasEnds feed query c.loop-count.labels) (sym c.items.ensures.value) c.loop-count.invariant.are.ended.all
+
+pub loop-count-init : goal.loop-count-init
+loop-count-init c = record { are = c.requires.start; fares = c.requires.fares; }
+
+pub loop-count-preserved : goal.loop-count-preserved
+loop-count-preserved c =
+    let feed = c.args.self.now.feed in
+    let query = c.args.self.now.query in
+    let was = c.loop-count.invariant.are in
+    let old = Lacks c.args.self.now c.loop-count.front in
+    let labels = c.loop-count.labels in
+    let spreads =
+    subst (λ (fs : List Final). Spreads feed query (Lacks c.args.self.now fs) labels (c.loop-count.count + 1) (StepsFrom feed query labels c.loop-count.count) c.loop-count.bags c.spread.new.bags)
+    c.items.ensures.value
+    c.in_ok-spread.ensures.spreads in
+    let all = c.in_ok-gather.ensures in
+    let closed =
+    closed_more feed query old (c.loop-count.count + 1) labels _ c.loop-count.bags c.spread.new.bags was.stored spreads c.loop-count.count refl was.closed (λ b h. h) in
+    record {
+      are = record {
+      stored = subst (λ ls. AreStored feed query (c.loop-count.count + 1 + 1) ls c.spread.new.bags) (sym all.value)
+          (stored_more feed query old (c.loop-count.count + 1) labels _ c.loop-count.bags c.spread.new.bags was.stored spreads all.apart);
+      apart = all.apart;
+      closed = subst (AreClosedTo feed query (Lacks c.args.self.now c.gather.new.front) (c.loop-count.count + 1)) (sym all.value)
+          (closed_weaker feed query old (Lacks c.args.self.now c.gather.new.front) (c.loop-count.count + 1) _
+          (λ b. lack_more feed query c.args.self.now.whole (is_bettered c.loop-count.front) (is_bettered c.gather.new.front) b all.still) closed);
+      starts = subst (λ ls. CoversStarts feed query (labels_of ls)) (sym all.value) (starts_more feed query labels _ was.starts);
+      ended = all.ended;
+      numbers = all.numbers;
+      };
+      fares = c.in_ok-spread.ensures.fares;
+    }
+
+pub returns : goal.returns
+returns c =
+    subst (λ count. IsGathered c.args.self.now count c.loop-count.labels c.loop-count.bags c.loop-count.front)
+    (omega (arith, c.loop-count-test.false, c.loop-count.auto.count-end, c.limit-count-end.ensures.is)) c.loop-count.invariant.are
