@@ -1,5 +1,5 @@
 -- Positions of patterns that a traveller gets to, and the rides from there.
-use Rattle.std.specs.Prelude.{◌≡◌, ◌⊎◌, ⊤, ℕ, true, List, Contains, Option, Some, ℤ, pos, ◌+ℤ◌, ◌≤ℤ◌}
+use Rattle.std.specs.Prelude.{◌≡◌, ◌⊎◌, ⊤, ℕ, true, List, [], Contains, Option, None, Some, IfSome, ℤ, pos, ◌+ℤ◌, ◌≤ℤ◌}
 use Rattle.transit_base.specs.declared.moments.Moment.{Moment}
 use Rattle.feed_rows.specs.declared.journeys.Query.{Query}
 use Rattle.feed_rows.specs.declared.journeys.Ride.{Ride}
@@ -86,11 +86,14 @@ pub record HoldsFrom (me : Positioned) (latest : List (Option Moment)) (reached 
   pub right : (caught : CaughtRide) → Contains rides caught →
       IsFound me.feed me.query reached.stop.0 caught.facts.departure.0 caught
 
--- positions, how late rides from them may arrive, and rides
-pub record Keeping : Type 0 where
-  pub positions : Positioned
-  pub latest : List (Option Moment)
+-- the position that was asked for last, and rides
+pub record Kept : Type 0 where
+  pub of : Option Reached
   pub rides : List CaughtRide
 
-abbrev pub keeping : Positioned → List (Option Moment) → List CaughtRide → Keeping
-keeping positions latest rides = record { positions = positions; latest = latest; rides = rides }
+abbrev pub none_kept : Kept
+none_kept = record { of = None; rides = [] }
+
+-- the rides are those from the position, where there is one
+abbrev pub AreKept : Positioned → List (Option Moment) → Kept → Type 0
+AreKept me latest kept = IfSome kept.of (λ of. HoldsFrom me latest of kept.rides)

@@ -1,12 +1,13 @@
 //! The rides from positions, kept from one traveller to the next.
-ghost use Rattle.std.specs.Prelude.{◌≡◌, true, [], OnOk};
+ghost use Rattle.std.specs.Prelude.{◌≡◌, true, List, Option, OnOk};
 ghost use Rattle.plan_rides.specs.Departures.{Serves};
 ghost use Rattle.plan_rides.specs.InTime.{AreLastDepartures};
-ghost use Rattle.plan_rides.specs.Reached.{HoldsFrom, IsNoLater, keeping};
+ghost use Rattle.plan_rides.specs.Reached.{AreKept, HoldsFrom, IsNoLater, Positioned, none_kept};
+ghost use Rattle.transit_base.specs.declared.moments.Moment.{Moment};
 
 use crate::caught::CaughtRide;
 use crate::positions::{Positions, Reached};
-use std::alloc::AllocError;
+use std::alloc::{AllocError, Global};
 use std::marker::Model;
 use transit_base::Moment;
 
@@ -22,68 +23,50 @@ impl Reached {
     }
 }
 
-/// The rides from the position that was asked for last, which serve for all who get there later. Contracts see the positions,
-/// how late the rides may arrive at stops, and the rides.
-pub struct KeptRides<'p, 'f> {
-    positions: &'p Positions<'p, 'f>,
-    /// By stop; none where they needn't arrive at all. At a stop past their end any moment will do.
-    latest: &'p [Option<Moment>],
-    /// When the last departure from each stop gets somewhere early enough.
-    lasts: &'p [Option<Moment>],
+/// The rides from the position that was asked for last, which serve for all who get there later. Contracts see that position and
+/// the rides.
+pub struct KeptRides {
     of: Option<Reached>,
     rides: Vec<CaughtRide>,
 }
 
 // Written out, so that what holds one needn't look into it to let go of it.
-impl<'p, 'f> Drop for KeptRides<'p, 'f> {
+impl Drop for KeptRides {
     fn drop(self) {
-        let KeptRides {
-            positions: _,
-            latest: _,
-            lasts: _,
-            of: _,
-            rides: _,
-        } = self;
+        let KeptRides { of: _, rides: _ } = self;
     }
 }
 
-impl<'p, 'f> Model for KeptRides<'p, 'f> {
-    ghost use Rattle.std.specs.Prelude.{IfSome};
-    ghost use Rattle.plan_rides.specs.InTime.{AreLastDepartures};
-    ghost use Rattle.plan_rides.specs.Reached.{HoldsFrom, Keeping, keeping};
-    ghost use Rattle.plan_rides.specs.declared.positions.Reached.{Reached};
+impl Model for KeptRides {
+    ghost use Rattle.plan_rides.specs.Reached.{Kept};
 
-    ghost Value = { Keeping };
+    ghost Value = { Kept };
 
-    ghost view = { λ s. keeping s.positions.now s.latest.now s.rides.items };
-
-    ghost invariant = { λ s. AreLastDepartures s.positions.now.feed s.positions.now.query s.latest.now s.lasts.now × IfSome s.of (λ (of : Reached). HoldsFrom s.positions.now s.latest.now of s.rides.items) };
+    ghost view = { λ s. record { of = s.of; rides = s.rides.items } };
 }
 
-impl<'p, 'f> KeptRides<'p, 'f> {
-    /// None yet, with the room of this list, whose rides are lost.
-    pub fn none(
-        positions: &'p Positions<'p, 'f>,
-        latest: &'p [Option<Moment>],
-        lasts: &'p [Option<Moment>],
-        mut room: Vec<CaughtRide>,
-    ) -> KeptRides<'p, 'f>
-        requires { AreLastDepartures positions.now.feed positions.now.query latest.now lasts.now }
-        ensures { result ≡ keeping positions.now latest.now [] }
+impl KeptRides {
+    /// None yet.
+    pub fn none(alloc: Global) -> KeptRides
+        ensures { result ≡ none_kept }
     {
-        room.clear();
         KeptRides {
-            positions,
-            latest,
-            lasts,
             of: None,
-            rides: room,
+            rides: Vec::new(alloc),
         }
+    }
+
+    /// Lets go of the rides, but not of their room.
+    pub fn clear(&mut self)
+        ensures { self.new ≡ none_kept }
+    {
+        self.of = None;
+        self.rides.clear();
     }
 
     // Whether the rides that are kept serve for the position.
     fn serve(&self, reached: &Reached) -> bool
-        ensures { result ≡ true → HoldsFrom self.now.positions self.now.latest reached.now self.now.rides }
+        ensures { result ≡ true → (me : Positioned) (latest : List (Option Moment)) → AreKept me latest self.now → HoldsFrom me latest reached.now self.now.rides }
     {
         match &self.of {
             Some(of) => of.is_no_later(reached),
@@ -91,23 +74,30 @@ impl<'p, 'f> KeptRides<'p, 'f> {
         }
     }
 
-    /// Keeps those from the position for whoever gets there.
+    /// Keeps those from the position for whoever gets there: that arrive at a stop no later than the latest moment there, at none
+    /// where that is none, and at any at a stop past their end. `lasts` says when the last departure from each stop gets
+    /// somewhere early enough. What is kept was so by the same moments.
     ///
     /// # Errors
     /// Want of memory.
-    pub fn keep(&mut self, reached: &Reached) -> Result<(), AllocError>
-        requires { Serves self.old.positions.feed self.old.positions.patterns reached.now.stop.0 reached.now.serving }
-        ensures positions { self.new.positions ≡ self.old.positions }
-        ensures latest { self.new.latest ≡ self.old.latest }
-        ensures holds { OnOk result (HoldsFrom self.new.positions self.new.latest reached.now self.new.rides) }
+    pub fn keep(
+        &mut self,
+        positions: &Positions,
+        latest: &[Option<Moment>],
+        lasts: &[Option<Moment>],
+        reached: &Reached,
+    ) -> Result<(), AllocError>
+        requires serves { Serves positions.now.feed positions.now.patterns reached.now.stop.0 reached.now.serving }
+        requires lasts { AreLastDepartures positions.now.feed positions.now.query latest.now lasts.now }
+        requires kept { AreKept positions.now latest.now self.old }
+        ensures kept { OnOk result (AreKept positions.now latest.now self.new) }
+        ensures holds { OnOk result (HoldsFrom positions.now latest.now reached.now self.new.rides) }
     {
         if self.serve(reached) {
             return Ok(());
         }
-        self.of = None;
-        self.rides.clear();
-        self.positions
-            .add_rides(self.latest, self.lasts, reached, &mut self.rides)?;
+        self.clear();
+        positions.add_rides(latest, lasts, reached, &mut self.rides)?;
         self.of = Some(*reached);
         Ok(())
     }
@@ -117,19 +107,5 @@ impl<'p, 'f> KeptRides<'p, 'f> {
         ensures { result.now ≡ self.now.rides }
     {
         &self.rides
-    }
-
-    /// The list of the rides, for its room.
-    pub fn into_room(self) -> Vec<CaughtRide>
-        ensures { result.items ≡ self.entry.rides }
-    {
-        let KeptRides {
-            positions: _,
-            latest: _,
-            lasts: _,
-            of: _,
-            rides,
-        } = self;
-        rides
     }
 }

@@ -7,7 +7,8 @@ use Rattle.feed_rows.specs.PartialJourneys.{LabelFacts}
 use Rattle.plan_rides.specs.Boarding.{MayRide}
 use Rattle.plan_rides.specs.Departures.{TakesServing}
 use Rattle.plan_rides.specs.InTime.{AreLastDepartures, IsUsualQuery, IsWithinWindow, is_early}
-use Rattle.plan_rides.specs.Reached.{IsReachedFrom, Positioned}
+use Rattle.plan_rides.specs.Reached.{HoldsFrom, IsReachedFrom, Positioned}
+use Rattle.plan_rides.specs.declared.caught.CaughtRide.{CaughtRide}
 use Rattle.plan_rides.specs.declared.positions.Reached.{Reached}
 use Rattle.round_table.specs.declared.finals.Final.{Final}
 use Rattle.round_labels.specs.declared.label.Label.{Label}
@@ -127,6 +128,13 @@ abbrev pub IsFairIn : Searched → Round → Label → List (Option Moment) → 
 IsFairIn task round x latest =
     (b : LabelFacts) (to : StepsTo task.feed task.query (facts_of x) b) → x.rides ≡ round.count →
     is_early latest to.2.facts.to.0 to.2.facts.arrival.0 ≡ false → Lacks task round.finals.now b
+
+-- rides serve for the label at the position: among them are those from there that arrive early enough, by moments that are fair
+-- to it
+pub record ServeFor (task : Searched) (round : Round) (x : Label) (reached : Reached) (rides : List CaughtRide) : Type 0 where
+  pub latest : List (Option Moment)
+  pub fair : IsFairIn task round x latest
+  pub holds : HoldsFrom round.positions.now latest reached rides
 
 -- the prospects are fair to the labels with so many rides, of which they are near where only such are meant
 abbrev pub AreFairIn : Searched → Round → Bool → List (Option Moment) → Type 0

@@ -1,6 +1,7 @@
 //! The exact answer to a query, by rounds.
 ghost use Rattle.std.specs.Prelude.{◌≡◌, IfOk, true};
 ghost use Rattle.fare_automaton.specs.Terms.{terms};
+ghost use Rattle.fare_timeframes.specs.BuiltTimeframes.{AreTimeframesOf};
 ghost use Rattle.feed_rows.specs.JourneyEntries.{CoversOffers, IsExactAnswer};
 ghost use Rattle.plan_rides.specs.InTime.{IsUsualQuery, deadline};
 ghost use Rattle.feed_rows.specs.ClosedTable.{IsClosedTable};
@@ -10,6 +11,7 @@ ghost use Rattle.plan_rounds.specs.Prospects.{AreProspects, no_prospects};
 ghost use Rattle.plan_rounds.specs.Searched.{IsTableOf, searched};
 ghost use Rattle.round_table.specs.Tables.{CoversAllOffers, table_by};
 
+use crate::bounds::takes_back;
 use crate::prospects::Prospects;
 use crate::search::Search;
 use fare_automaton::Automaton;
@@ -46,6 +48,37 @@ fn first_prospects(alloc: Global, rides: &Rides, whole: bool) -> Result<Prospect
     Prospects::of(alloc, rides, rides.deadline())
 }
 
+/// The table of the search by these.
+///
+/// # Errors
+/// Want of memory; so counts that there would be 2^32 labels or more.
+fn table_with(
+    alloc: Global,
+    rides: &Rides,
+    timeframes: &Timeframes,
+    automaton: &Automaton,
+    prospects: &Prospects,
+    whole: bool,
+) -> Result<RoundTable, AllocError>
+    requires timeframes { AreTimeframesOf rides.now.feed timeframes.now }
+    requires automaton { automaton.now ≡ terms rides.now.feed rides.now.query.rider }
+    requires prospects { AreProspects rides.now.feed rides.now.query (deadline rides.now.query) prospects.now }
+    requires none { whole ≡ true → prospects.now ≡ no_prospects }
+    ensures { IfOk result (λ table. IsTableOf (searched rides.now whole) (table_by table)) }
+{
+    let takes_back = takes_back(rides.timetable().feed());
+    let search = Search {
+        alloc,
+        rides,
+        timeframes,
+        automaton,
+        prospects,
+        takes_back,
+        whole,
+    };
+    search.table(alloc)
+}
+
 /// The table of the rounds over these rides, by what their legs cost: of all labels, or of those alone that matter for the answer.
 ///
 /// # Errors
@@ -59,14 +92,11 @@ fn table_at(
     requires { automaton.now ≡ terms rides.now.feed rides.now.query.rider }
     ensures { IfOk result (λ table. IsTableOf (searched rides.now whole) (table_by table)) }
 {
-    let timeframes = Timeframes::between(
-        alloc,
-        rides.timetable().feed(),
-        rides.query().departure,
-        rides.deadline(),
-    )?;
+    let feed = rides.timetable().feed();
+    let departure = rides.query().departure;
+    let timeframes = Timeframes::between(alloc, feed, departure, rides.deadline())?;
     let prospects = first_prospects(alloc, rides, whole)?;
-    Search::new(alloc, rides, &timeframes, automaton, &prospects, whole).table(alloc)
+    table_with(alloc, rides, &timeframes, automaton, &prospects, whole)
 }
 
 /// The table of the rounds over these rides.

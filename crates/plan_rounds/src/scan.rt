@@ -1,10 +1,11 @@
 //! How a round goes on from its labels: pattern by pattern, and position by position.
 ghost use Rattle.std.specs.Prelude.{◌≡◌, true, false, Some, int_le, slice_get, OnOk};
 ghost use Rattle.std.specs.List.Sorted.{IsNonDecreasingBy, IsPermutation};
-ghost use Rattle.plan_rides.specs.Reached.{HoldsFrom, IsReachedFrom};
+ghost use Rattle.plan_rides.specs.InTime.{AreLastDepartures};
+ghost use Rattle.plan_rides.specs.Reached.{AreKept, IsReachedFrom};
 ghost use Rattle.round_labels.specs.Labels.{stand_of_label};
 ghost use Rattle.plan_rounds.specs.Moves.{HasFares};
-ghost use Rattle.plan_rounds.specs.Scans.{AddsMarks, AreFairFor, AreFairIn, AreMarks, HasLasts, IsFairIn, IsMarked, IsNear, IsRound, SpreadsIn, StepsAt, StepsFromPosition, place_of};
+ghost use Rattle.plan_rounds.specs.Scans.{AddsMarks, AreFairFor, AreFairIn, AreMarks, HasLasts, IsFairIn, IsMarked, IsNear, IsRound, ServeFor, SpreadsIn, StepsAt, StepsFromPosition, place_of};
 ghost use Rattle.plan_rounds.specs.Sources.{IsSource, SpreadsFrom};
 ghost use Rattle.plan_rounds.specs.Stores.{StepsFrom};
 ghost use Rattle.round_labels.specs.declared.label.Label.{Label};
@@ -16,28 +17,16 @@ use plan_rides::{CaughtRide, KeptRides, Positions, Reached, Traveller};
 use round_labels::{LabelList, StopBags};
 use round_table::Final;
 use std::alloc::AllocError;
-use std::mem;
+use transit_base::Moment;
 
 /// What a round goes on from: the labels, how many rides those of the last round have, where riders may board, and what is found.
+#[derive(Clone, Copy)]
 pub struct Round<'r, 'f> {
     pub(crate) positions: &'r Positions<'r, 'f>,
     pub(crate) labels: &'r LabelList,
     pub(crate) count: u8,
     pub(crate) finals: &'r [Final],
     pub(crate) horizon: &'r Option<Horizon>,
-}
-
-// Written out, so that what holds one needn't look into it to let go of it.
-impl<'r, 'f> Drop for Round<'r, 'f> {
-    fn drop(self) {
-        let Round {
-            positions: _,
-            labels: _,
-            count: _,
-            finals: _,
-            horizon: _,
-        } = self;
-    }
 }
 
 /// The positions that the labels of a round reach, by pattern and position, and by number which of the labels are near: those
@@ -54,6 +43,26 @@ impl Drop for Marks {
             reached: _,
             near: _,
         } = self;
+    }
+}
+
+/// By what the rides of a round are tried: how late they may arrive at each stop, and when the last of them departs from there.
+#[derive(Clone, Copy)]
+pub struct Cutoffs<'p> {
+    pub(crate) latest: &'p [Option<Moment>],
+    pub(crate) lasts: &'p [Option<Moment>],
+}
+
+/// The rides from the position that was looked at last: those that are tried by the prospects of the horizon, and the others.
+pub struct Kept {
+    pub(crate) soon: KeptRides,
+    pub(crate) all: KeptRides,
+}
+
+// Written out, so that what holds one needn't look into it to let go of it.
+impl Drop for Kept {
+    fn drop(self) {
+        let Kept { soon: _, all: _ } = self;
     }
 }
 
@@ -110,25 +119,18 @@ impl<'s, 'f> Search<'s, 'f> {
         }
     }
 
-    /// No rides yet, to be kept for labels that are near or for the others, with the room of this list, whose rides are lost.
-    fn kept_for<'p>(
-        &'p self,
-        round: &'p Round<'p, 'f>,
-        near: bool,
-        room: Vec<CaughtRide>,
-    ) -> KeptRides<'p, 'f>
+    /// By what the rides of the round are tried from labels that are near, or from the others.
+    fn cutoffs_for<'p>(&'p self, round: &'p Round<'p, 'f>, near: bool) -> Cutoffs<'p>
         requires { IsRound self.now round.now }
-        ensures positions { result.positions ≡ round.now.positions.now }
-        ensures fair { AreFairIn self.now round.now near result.latest }
+        ensures lasts { AreLastDepartures round.now.positions.now.feed round.now.positions.now.query result.latest.now result.lasts.now }
+        ensures fair { AreFairIn self.now round.now near result.latest.now }
     {
         let more = usize::from(self.limit() - round.count - 1);
         let prospects = self.prospects_for(round.horizon, near);
-        KeptRides::none(
-            round.positions,
-            prospects.latest(more),
-            prospects.lasts(more),
-            room,
-        )
+        Cutoffs {
+            latest: prospects.latest(more),
+            lasts: prospects.lasts(more),
+        }
     }
 
     /// Appends the positions that the label reaches.
@@ -188,20 +190,18 @@ impl<'s, 'f> Search<'s, 'f> {
         round: &Round<'_, 'f>,
         source: &Source,
         reached: &Reached,
-        kept: &KeptRides,
+        rides: &[CaughtRide],
     ) -> Result<(), AllocError>
         requires round { IsRound self.now round.now }
         requires source { IsSource self.now.feed self.now.query source.now }
         requires labels { source.now.labels.now ≡ round.now.labels.now }
         requires counts { source.now.label.now.rides ≡ round.now.count }
         requires from { IsReachedFrom round.now.positions.now (stand_of_label source.now.label.now) reached.now }
-        requires fair { IsFairIn self.now round.now source.now.label.now kept.now.latest }
-        requires holds { HoldsFrom round.now.positions.now kept.now.latest reached.now kept.now.rides }
+        requires serve { ServeFor self.now round.now source.now.label.now reached.now rides.now }
         requires fares { HasFares self.now found.old }
         ensures fares { HasFares self.now found.new }
         ensures spreads { OnOk result (SpreadsFrom self.now round.now.finals.now source.now (StepsAt self.now round.now.positions.now source.now.label.now reached.now) bags.old bags.new) }
     {
-        let rides = kept.rides();
         for k in 0..rides.len() {
             if departs_since(&rides[k], reached) {
                 self.offer_ride(found, bags, source, round.finals, &rides[k])?;
@@ -217,67 +217,69 @@ impl<'s, 'f> Search<'s, 'f> {
         bags: &mut StopBags,
         round: &Round<'_, 'f>,
         reached: &Reached,
+        cutoffs: &Cutoffs,
         kept: &mut KeptRides,
     ) -> Result<(), AllocError>
         requires round { IsRound self.now round.now }
         requires marked { IsMarked round.now reached.now }
-        requires positions { kept.old.positions ≡ round.now.positions.now }
-        requires fair { (x : Label) → slice_get round.now.labels.now reached.now.number ≡ Some x → IsFairIn self.now round.now x kept.old.latest }
+        requires lasts { AreLastDepartures round.now.positions.now.feed round.now.positions.now.query cutoffs.now.latest.now cutoffs.now.lasts.now }
+        requires kept { AreKept round.now.positions.now cutoffs.now.latest.now kept.old }
+        requires fair { (x : Label) → slice_get round.now.labels.now reached.now.number ≡ Some x → IsFairIn self.now round.now x cutoffs.now.latest.now }
         requires fares { HasFares self.now found.old }
-        ensures positions { kept.new.positions ≡ kept.old.positions }
-        ensures latest { kept.new.latest ≡ kept.old.latest }
+        ensures kept { OnOk result (AreKept round.now.positions.now cutoffs.now.latest.now kept.new) }
         ensures fares { HasFares self.now found.new }
         ensures spreads { OnOk result (SpreadsIn self.now round.now (StepsFromPosition self.now round.now reached.now) bags.old bags.new) }
     {
-        kept.keep(reached)?;
+        kept.keep(round.positions, cutoffs.latest, cutoffs.lasts, reached)?;
         let label = round.labels.get(reached.number as usize);
         let source = Source {
             labels: round.labels,
             number: reached.number,
             label: &label,
         };
-        self.offer_rides(found, bags, round, &source, reached, kept)
+        self.offer_rides(found, bags, round, &source, reached, kept.rides())
     }
 
-    /// Offers what one more ride leads to from the labels that reach these positions, position by position. The rides are kept for
-    /// labels that are near, and for the others.
+    /// Offers what one more ride leads to from the labels that reach these positions, position by position. What `kept` holds is
+    /// lost.
     fn offer_marked(
         &self,
         found: &mut Found<'_, 'f>,
         bags: &mut StopBags,
         round: &Round<'_, 'f>,
         marks: &Marks,
-        by_soon: &mut KeptRides,
-        by_all: &mut KeptRides,
+        kept: &mut Kept,
     ) -> Result<(), AllocError>
-        requires marks { AreMarks self.now round.now marks.now }
         requires round { IsRound self.now round.now }
-        requires soon { by_soon.old.positions ≡ round.now.positions.now }
-        requires soon_fair { AreFairIn self.now round.now true by_soon.old.latest }
-        requires all { by_all.old.positions ≡ round.now.positions.now }
-        requires all_fair { AreFairIn self.now round.now false by_all.old.latest }
+        requires marks { AreMarks self.now round.now marks.now }
         requires fares { HasFares self.now found.old }
         ensures fares { HasFares self.now found.new }
         ensures spreads { OnOk result (SpreadsIn self.now round.now (StepsFrom self.now.feed self.now.query round.now.labels.now round.now.count) bags.old bags.new) }
     {
+        let soon = self.cutoffs_for(round, true);
+        let all = self.cutoffs_for(round, false);
+        kept.soon.clear();
+        kept.all.clear();
         for k in 0..marks.reached.len() {
             let reached = &marks.reached[k];
             if marks.near[reached.number as usize] {
-                self.offer_from(found, bags, round, reached, by_soon)?;
+                self.offer_from(found, bags, round, reached, &soon, &mut kept.soon)?;
             } else {
-                self.offer_from(found, bags, round, reached, by_all)?;
+                self.offer_from(found, bags, round, reached, &all, &mut kept.all)?;
             }
         }
         Ok(())
     }
 
-    /// Offers what one more ride leads to from the labels of the last round, position by position. What `marks` holds is lost.
+    /// Offers what one more ride leads to from the labels of the last round, position by position. What `marks` and `kept` hold is
+    /// lost.
     pub(crate) fn scan(
         &self,
         found: &mut Found<'_, 'f>,
         bags: &mut StopBags,
         round: &Round<'_, 'f>,
         marks: &mut Marks,
+        kept: &mut Kept,
     ) -> Result<(), AllocError>
         requires round { IsRound self.now round.now }
         requires fares { HasFares self.now found.old }
@@ -285,14 +287,6 @@ impl<'s, 'f> Search<'s, 'f> {
         ensures spreads { OnOk result (SpreadsIn self.now round.now (StepsFrom self.now.feed self.now.query round.now.labels.now round.now.count) bags.old bags.new) }
     {
         self.mark(round, marks)?;
-        let alloc = self.alloc;
-        let soon = mem::replace(&mut found.soon, Vec::new(alloc));
-        let mut by_soon = self.kept_for(round, true, soon);
-        let all = mem::replace(&mut found.all, Vec::new(alloc));
-        let mut by_all = self.kept_for(round, false, all);
-        let offered = self.offer_marked(found, bags, round, marks, &mut by_soon, &mut by_all);
-        found.soon = by_soon.into_room();
-        found.all = by_all.into_room();
-        offered
+        self.offer_marked(found, bags, round, marks, kept)
     }
 }

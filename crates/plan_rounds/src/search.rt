@@ -7,8 +7,6 @@ ghost use Rattle.round_laws.specs.LabelSteps.{facts_after, start_facts};
 ghost use Rattle.feed_rows.specs.SoundFeed.{IsSoundFeed};
 ghost use Rattle.feed_rows.specs.StopLinks.{stop_set};
 ghost use Rattle.plan_rides.specs.Asked.{asked};
-ghost use Rattle.fare_automaton.specs.Terms.{terms};
-ghost use Rattle.fare_timeframes.specs.BuiltTimeframes.{AreTimeframesOf};
 ghost use Rattle.plan_rides.specs.InTime.{IsRight, IsUsualQuery, deadline};
 ghost use Rattle.round_labels.specs.Labels.{IsBounded, IsSmall, facts_of, stand_of_label};
 ghost use Rattle.plan_rounds.specs.Gathered.{IsGathered};
@@ -23,17 +21,16 @@ ghost use Rattle.round_labels.specs.Labels.{covers};
 ghost use Rattle.round_labels.specs.Bags.{gathered};
 ghost use Rattle.plan_rounds.specs.Stores.{AreStored, AreWhole, IsNever, IsStartOf, Spreads, StepsBy, StepsFrom};
 
-use crate::bounds::takes_back;
 use crate::horizon::Horizon;
 use crate::moves::is_bettered;
 use crate::prospects::Prospects;
-use crate::scan::{Marks, Round};
+use crate::scan::{Kept, Marks, Round};
 use fare_automaton::{Automaton, KnownOptions};
 use fare_timeframes::{Timeframes, blank_leg};
 use feed_rows::{ChangeChoice, Feed, LegFacts, Move, Query};
 use feed_timetable::Timetable;
 use pareto_front::Front;
-use plan_rides::{CaughtRide, Rides};
+use plan_rides::{CaughtRide, KeptRides, Rides};
 use round_labels::{Label, LabelList, StopBags};
 use round_table::Final;
 use std::alloc::{AllocError, Global};
@@ -42,32 +39,18 @@ use transit_base::{Moment, StopId};
 
 /// A query over a timetable, with what is computed once for it. Contracts see the feed, the query, and whether the labels are to
 /// cover all partial journeys but those that a final outdoes, or those alone that matter for the answer.
+#[derive(Drop)]
 pub struct Search<'s, 'f> {
     pub(crate) alloc: Global,
-    rides: &'s Rides<'s, 'f>,
-    timeframes: &'s Timeframes,
+    pub(crate) rides: &'s Rides<'s, 'f>,
+    pub(crate) timeframes: &'s Timeframes,
     /// The fares for the query's rider.
     pub(crate) automaton: &'s Automaton<'f>,
     /// Those of journeys that end in time; none where the search is to be whole.
-    prospects: &'s Prospects,
+    pub(crate) prospects: &'s Prospects,
     /// Whether some change takes back what a leg before it cost.
     pub(crate) takes_back: bool,
     pub(crate) whole: bool,
-}
-
-// Written out, so that what holds one needn't look into it to let go of it.
-impl<'s, 'f> Drop for Search<'s, 'f> {
-    fn drop(self) {
-        let Search {
-            alloc: _,
-            rides: _,
-            timeframes: _,
-            automaton: _,
-            prospects: _,
-            takes_back: _,
-            whole: _,
-        } = self;
-    }
 }
 
 impl<'s, 'f> Model for Search<'s, 'f> {
@@ -87,21 +70,11 @@ impl<'s, 'f> Model for Search<'s, 'f> {
 }
 
 /// A label with its number among those so far, from which a round goes on.
+#[derive(Clone, Copy)]
 pub struct Source<'l> {
     pub(crate) labels: &'l LabelList,
     pub(crate) number: u32,
     pub(crate) label: &'l Label,
-}
-
-// Written out, so that what holds one needn't look into it to let go of it.
-impl<'l> Drop for Source<'l> {
-    fn drop(self) {
-        let Source {
-            labels: _,
-            number: _,
-            label: _,
-        } = self;
-    }
 }
 
 /// What can be paid for legs, kept by their kinds, and what is found for one ride after another, kept for its memory.
@@ -111,9 +84,6 @@ pub struct Found<'a, 'f> {
     pub(crate) leg: LegFacts,
     places: Vec<Option<ChangeChoice>>,
     moves: Vec<Move>,
-    /// Room for rides that are tried by the prospects of the horizon, and for the others.
-    pub(crate) soon: Vec<CaughtRide>,
-    pub(crate) all: Vec<CaughtRide>,
 }
 
 // Written out, so that what holds one needn't look into it to let go of it.
@@ -124,40 +94,11 @@ impl<'a, 'f> Drop for Found<'a, 'f> {
             leg: _,
             places: _,
             moves: _,
-            soon: _,
-            all: _,
         } = self;
     }
 }
 
 impl<'s, 'f> Search<'s, 'f> {
-    /// The search by these rides, for labels that cover all partial journeys but those that a final outdoes, where it is to be
-    /// whole, and else for those that matter for the answer.
-    pub fn new(
-        alloc: Global,
-        rides: &'s Rides<'s, 'f>,
-        timeframes: &'s Timeframes,
-        automaton: &'s Automaton<'f>,
-        prospects: &'s Prospects,
-        whole: bool,
-    ) -> Search<'s, 'f>
-        requires timeframes { AreTimeframesOf rides.now.feed timeframes.now }
-        requires automaton { automaton.now ≡ terms rides.now.feed rides.now.query.rider }
-        requires prospects { AreProspects rides.now.feed rides.now.query (deadline rides.now.query) prospects.now }
-        requires none { whole ≡ true → prospects.now ≡ no_prospects }
-        ensures { result ≡ searched rides.now whole }
-    {
-        Search {
-            alloc,
-            rides,
-            timeframes,
-            automaton,
-            prospects,
-            takes_back: takes_back(rides.timetable().feed()),
-            whole,
-        }
-    }
-
     /// The rides of the query.
     pub(crate) fn rides(&self) -> &'s Rides<'s, 'f>
         ensures { result.now ≡ asked self.now.feed self.now.query }
@@ -324,7 +265,7 @@ impl<'s, 'f> Search<'s, 'f> {
         self.prospects
     }
 
-    /// Offers what one more ride leads to from the labels with so many rides. What `marks` holds is lost.
+    /// Offers what one more ride leads to from the labels with so many rides. What `marks` and `kept` hold is lost.
     fn spread(
         &self,
         found: &mut Found<'_, 'f>,
@@ -333,6 +274,7 @@ impl<'s, 'f> Search<'s, 'f> {
         count: u8,
         finals: &[Final],
         marks: &mut Marks,
+        kept: &mut Kept,
     ) -> Result<(), AllocError>
         requires few { count < self.now.query.rides }
         requires numbers { length labels.now < 2 ^ 32 }
@@ -352,7 +294,7 @@ impl<'s, 'f> Search<'s, 'f> {
             finals,
             horizon: &horizon,
         };
-        self.scan(found, bags, &round, marks)
+        self.scan(found, bags, &round, marks, kept)
     }
 
     /// Adds the labels that have so many rides, and what they end in.
@@ -382,11 +324,13 @@ impl<'s, 'f> Search<'s, 'f> {
         self.add_ends(labels, begin, front)
     }
 
-    /// Goes on by one more ride a round, from the labels without rides, with room for what is found. What `marks` holds is lost.
+    /// Goes on by one more ride a round, from the labels without rides, with room for what is found. What `marks` and `kept` hold
+    /// is lost.
     fn spread_by(
         &self,
         found: &mut Found<'_, 'f>,
         marks: &mut Marks,
+        kept: &mut Kept,
         bags: &mut StopBags,
         labels: &mut LabelList,
         front: &mut Front<Final>,
@@ -396,7 +340,7 @@ impl<'s, 'f> Search<'s, 'f> {
         ensures { OnOk result (IsGathered self.now self.now.query.rides labels.new bags.new front.new) }
     {
         for count in 0..self.limit() {
-            self.spread(found, bags, labels, count, front.items(), marks)?;
+            self.spread(found, bags, labels, count, front.items(), marks, kept)?;
             self.gather(count + 1, bags, labels, front)?;
         }
         Ok(())
@@ -418,14 +362,16 @@ impl<'s, 'f> Search<'s, 'f> {
             leg: blank_leg(alloc),
             places: Vec::new(alloc),
             moves: Vec::new(alloc),
-            soon: Vec::new(alloc),
-            all: Vec::new(alloc),
         };
         let mut marks = Marks {
             reached: Vec::new(alloc),
             near: Vec::new(alloc),
         };
-        self.spread_by(&mut found, &mut marks, bags, labels, front)
+        let mut kept = Kept {
+            soon: KeptRides::none(alloc),
+            all: KeptRides::none(alloc),
+        };
+        self.spread_by(&mut found, &mut marks, &mut kept, bags, labels, front)
     }
 
     /// The labels of all rounds, and the best that they end in.

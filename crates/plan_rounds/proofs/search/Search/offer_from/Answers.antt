@@ -1,7 +1,7 @@
-use Rattle.std.proofs.Common.{◌≡◌, ◌+◌, ◌∙◌, ap, subst, sym, false}
+use Rattle.std.proofs.Common.{◌+◌, ◌∙◌, ap, subst, sym}
 use Rattle.std.proofs.lemmas.Option.{same_Some}
 use Rattle.std.proofs.lemmas.Result.{on_ok_weaker}
-use Rattle.plan_rides.specs.InTime.{is_early}
+use Rattle.plan_rides.specs.Reached.{HoldsFrom}
 use Rattle.plan_rounds.specs.Scans.{StepsAt}
 use Rattle.plan_rounds.specs.Searched.{Lacks}
 use Rattle.round_labels.specs.declared.label.Label.{Label}
@@ -16,10 +16,12 @@ offer_rides-requires-clause-source c =
     source_of _ _ _ c.get-label.ensures
     (c.requires.round.origins c.args.reached.now.number _ c.get-label.ensures (ap (λ (x : Label). x.rides) same ∙ marked.counts))
 
-pub offer_rides-requires-clause-fair : goal.offer_rides-requires-clause-fair
-offer_rides-requires-clause-fair c b to counts late =
-    c.requires.fair c.get-label.result c.get-label.ensures b to counts
-    (subst (λ l. is_early l to.2.facts.to.0 to.2.facts.arrival.0 ≡ false) c.in_ok-keep.ensures.latest late)
+pub offer_rides-requires-clause-serve : goal.offer_rides-requires-clause-serve
+offer_rides-requires-clause-serve c = record {
+  latest = c.args.cutoffs.now.latest.now;
+  fair = c.requires.fair c.get-label.result c.get-label.ensures;
+  holds = subst (HoldsFrom c.args.round.now.positions.now c.args.cutoffs.now.latest.now c.args.reached.now) (sym c.rides.ensures) c.in_ok-keep.ensures.holds;
+}
 
 pub returns-clause-spreads : goal.returns-clause-spreads
 returns-clause-spreads c =

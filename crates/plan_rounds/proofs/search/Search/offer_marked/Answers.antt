@@ -1,8 +1,9 @@
-use Rattle.std.proofs.Common.{◌∙◌, ◌+◌, ◌<◌, ◌≤◌, ap, arith, length, refl, subst, sym, true, false, ⊎_elim, inl, inr}
+use Rattle.std.proofs.Common.{◌∙◌, ◌+◌, ◌<◌, ◌≤◌, ap, arith, length, refl, subst, sym, ⊎_elim, inl, inr}
 use Rattle.std.specs.Prelude.{Some}
 use Rattle.std.proofs.lemmas.List.Elements.{Contains-get_or}
 use Rattle.std.proofs.lemmas.Option.{slice_get_read, slice_get_within}
-use Rattle.plan_rounds.specs.Scans.{AreFairIn, IsMarked, StepsAtFirst}
+use Rattle.plan_rides.specs.Reached.{AreKept}
+use Rattle.plan_rounds.specs.Scans.{IsMarked, StepsAtFirst}
 use Rattle.plan_rounds.specs.Searched.{Lacks}
 use Rattle.plan_rounds.proofs.ScanLaws.{steps_all, steps_more, steps_none}
 use Rattle.plan_rounds.proofs.SourceLaws.{from_all}
@@ -19,10 +20,8 @@ loop-k-init c =
           (StepsAtFirst me round c.args.marks.now.reached.items 0) c.args.bags.now
           (λ b steps. absurd (steps_none me round c.args.marks.now.reached.items b steps));
       fares = c.requires.fares;
-      soon = c.requires.soon;
-      soon_fair = c.requires.soon_fair;
-      all = c.requires.all;
-      all_fair = c.requires.all_fair;
+      soon = subst (AreKept round.positions.now c.cutoffs_for-soon.result.latest.now) (sym c.clear.ensures) tt;
+      all = subst (AreKept round.positions.now c.cutoffs_for-all.result.latest.now) (sym c.clear-2.ensures) tt;
     }
 
 pub index-requires : goal.index-requires
@@ -46,7 +45,7 @@ offer_from-requires-clause-fair c x at b to counts late =
     let many = c.requires.marks.many in
     let lt : number < length near.items = omega (arith, within, many) in
     let is = slice_get_read near.items (length near.items) number c.index.result.now refl lt c.index.ensures ∙ ap Some c.if-index.true in
-    c.loop-k.invariant.soon_fair number x at counts (λ e. c.requires.marks.near number x at is) b to counts late
+    c.cutoffs_for-soon.ensures.fair number x at counts (λ e. c.requires.marks.near number x at is) b to counts late
 
 pub loop-k-preserved : goal.loop-k-preserved
 loop-k-preserved c =
@@ -64,20 +63,16 @@ loop-k-preserved c =
             spreads = rw w.bags-is (spreads_more me.feed me.query (Lacks me round.finals.now) round.labels.now (round.count + 1) _ _ _ _ _ _
                 was.spreads w.in_ok-offer_from.ensures.spreads (λ b. steps_more me round list.items k reached b at));
             fares = rw w.found-is w.in_ok-offer_from.ensures.fares;
-            soon = rw w.by_soon-is (w.in_ok-offer_from.ensures.positions ∙ was.soon);
-            soon_fair = rw w.by_soon-is (subst (AreFairIn me round true) (sym w.in_ok-offer_from.ensures.latest) was.soon_fair);
-            all = rw w.by_all-is was.all;
-            all_fair = rw w.by_all-is was.all_fair;
+            soon = rw w.kept-is w.in_ok-offer_from.ensures.kept;
+            all = rw w.kept-is was.all;
           }
       | else-index+in_ok-offer_from-2 w ↦
           record {
             spreads = rw w.bags-is (spreads_more me.feed me.query (Lacks me round.finals.now) round.labels.now (round.count + 1) _ _ _ _ _ _
                 was.spreads w.in_ok-offer_from-2.ensures.spreads (λ b. steps_more me round list.items k reached b at));
             fares = rw w.found-is w.in_ok-offer_from-2.ensures.fares;
-            soon = rw w.by_soon-is was.soon;
-            soon_fair = rw w.by_soon-is was.soon_fair;
-            all = rw w.by_all-is (w.in_ok-offer_from-2.ensures.positions ∙ was.all);
-            all_fair = rw w.by_all-is (subst (AreFairIn me round false) (sym w.in_ok-offer_from-2.ensures.latest) was.all_fair);
+            soon = rw w.kept-is was.soon;
+            all = rw w.kept-is w.in_ok-offer_from-2.ensures.kept;
           }
     ]
 

@@ -1,8 +1,7 @@
-use Rattle.std.proofs.Common.{length, sym, ◌∙◌, subst, pos, ⊎_elim, inl, inr, slice_index_or}
+use Rattle.std.proofs.Common.{length, sym, ◌∙◌, pos, ⊎_elim, inl, inr, slice_index_or}
 use Rattle.std.specs.Prelude.{None}
 use Rattle.std.proofs.lemmas.List.Elements.{Contains-get_or}
 use Rattle.std.proofs.lemmas.Option.{slice_get-get_or}
-use Rattle.plan_rides.specs.Reached.{HoldsFrom}
 use Rattle.plan_rides.specs.declared.caught.CaughtRide.{CaughtRide}
 use Rattle.plan_rounds.specs.Searched.{Lacks}
 use Rattle.plan_rounds.proofs.RideSteps.{by_first, rides_more}
@@ -20,22 +19,20 @@ none =
 
 pub offer_ride-requires-clause-right : goal.offer_ride-requires-clause-right
 offer_ride-requires-clause-right c =
-    let rides = c.rides-rides.result.now in
-    let kept = c.args.kept.now in
-    let holds = subst (HoldsFrom c.args.round.now.positions.now kept.latest c.args.reached.now) (sym c.rides-rides.ensures) c.requires.holds in
-    right_from c.args.self.now c.args.round.now c.args.source.now c.args.reached.now kept.latest rides c.requires.round c.requires.source
-    c.requires.from holds (slice_index_or rides c.loop-k.k none) (Contains-get_or rides c.loop-k.k none c.loop-k-test.true) (sym c.departs_since.ensures ∙ c.if-departs_since.true)
+    let rides = c.args.rides.now in
+    let serve = c.requires.serve in
+    right_from c.args.self.now c.args.round.now c.args.source.now c.args.reached.now serve.latest rides c.requires.round c.requires.source
+    c.requires.from serve.holds (slice_index_or rides c.loop-k.k none) (Contains-get_or rides c.loop-k.k none c.loop-k-test.true) (sym c.departs_since.ensures ∙ c.if-departs_since.true)
 
 pub loop-k-preserved : goal.loop-k-preserved
 loop-k-preserved c =
     let me = c.args.self.now in
     let source = c.args.source.now in
-    let rides = c.rides-rides.result.now in
-    let kept = c.args.kept.now in
+    let rides = c.args.rides.now in
+    let serve = c.requires.serve in
     let k = c.loop-k.k in
     let was = c.loop-k.invariant in
     let lack = Lacks me c.args.round.now.finals.now in
-    let holds = subst (HoldsFrom c.args.round.now.positions.now kept.latest c.args.reached.now) (sym c.rides-rides.ensures) c.requires.holds in
     let at = slice_get-get_or rides k none c.loop-k-test.true in
     elim c.if-departs_since.branch [
       | then-departs_since+in_ok-offer_ride w ↦
@@ -47,8 +44,8 @@ loop-k-preserved c =
       | else-departs_since w ↦
           record {
             spreads = rw w.bags-is (spreads_same me.feed me.query lack source.labels.now _ _ _ _ _ was.spreads
-                (λ b. by_passed me c.args.round.now source c.args.reached.now kept.latest rides c.requires.round c.requires.source
-                c.requires.from holds k (slice_index_or rides k none) b at (sym c.departs_since.ensures ∙ w.if-departs_since.false)));
+                (λ b. by_passed me c.args.round.now source c.args.reached.now serve.latest rides c.requires.round c.requires.source
+                c.requires.from serve.holds k (slice_index_or rides k none) b at (sym c.departs_since.ensures ∙ w.if-departs_since.false)));
             fares = rw w.found-is was.fares;
           }
     ]
@@ -57,10 +54,9 @@ pub returns-clause-spreads : goal.returns-clause-spreads
 returns-clause-spreads c =
     let me = c.args.self.now in
     let source = c.args.source.now in
-    let rides = c.rides-rides.result.now in
-    let kept = c.args.kept.now in
-    let holds = subst (HoldsFrom c.args.round.now.positions.now kept.latest c.args.reached.now) (sym c.rides-rides.ensures) c.requires.holds in
+    let rides = c.args.rides.now in
+    let serve = c.requires.serve in
     spreads_but me.feed me.query (Lacks me c.args.round.now.finals.now) source.labels.now _ _ _ _ _ c.loop-k.invariant.spreads
     (λ b step. ⊎_elim (λ by. inl (by_first me.feed me.query source rides (length rides) c.loop-k.k b c.loop-k-test.false by)) inr
-    (steps_from me c.args.round.now source c.args.reached.now kept.latest rides c.requires.round c.requires.source c.requires.from holds b
-    c.requires.counts c.requires.fair step))
+    (steps_from me c.args.round.now source c.args.reached.now serve.latest rides c.requires.round c.requires.source c.requires.from serve.holds b
+    c.requires.counts serve.fair step))

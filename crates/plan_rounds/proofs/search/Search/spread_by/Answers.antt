@@ -30,7 +30,7 @@ spread-requires-clause-ended c =
     subst (HasEnds feed query c.loop-count.labels) (sym c.items.ensures.value) c.loop-count.invariant.are.ended.all
 
 pub loop-count-init : goal.loop-count-init
-loop-count-init c = record { are = c.requires.start; fares = c.requires.fares; }
+loop-count-init c = record { are = c.requires.start; fares = c.requires.fares }
 
 pub loop-count-preserved : goal.loop-count-preserved
 loop-count-preserved c =
@@ -48,15 +48,15 @@ loop-count-preserved c =
     closed_more feed query old (c.loop-count.count + 1) labels _ c.loop-count.bags c.spread.new.bags was.stored spreads c.loop-count.count refl was.closed (λ b h. h) in
     record {
       are = record {
-      stored = subst (λ ls. AreStored feed query (c.loop-count.count + 1 + 1) ls c.spread.new.bags) (sym all.value)
-          (stored_more feed query old (c.loop-count.count + 1) labels _ c.loop-count.bags c.spread.new.bags was.stored spreads all.apart);
-      apart = all.apart;
-      closed = subst (AreClosedTo feed query (Lacks c.args.self.now c.gather.new.front) (c.loop-count.count + 1)) (sym all.value)
-          (closed_weaker feed query old (Lacks c.args.self.now c.gather.new.front) (c.loop-count.count + 1) _
-          (λ b. lack_more feed query c.args.self.now.whole (is_bettered c.loop-count.front) (is_bettered c.gather.new.front) b all.still) closed);
-      starts = subst (λ ls. CoversStarts feed query (labels_of ls)) (sym all.value) (starts_more feed query labels _ was.starts);
-      ended = all.ended;
-      numbers = all.numbers;
+        stored = subst (λ ls. AreStored feed query (c.loop-count.count + 1 + 1) ls c.spread.new.bags) (sym all.value)
+            (stored_more feed query old (c.loop-count.count + 1) labels _ c.loop-count.bags c.spread.new.bags was.stored spreads all.apart);
+        apart = all.apart;
+        closed = subst (AreClosedTo feed query (Lacks c.args.self.now c.gather.new.front) (c.loop-count.count + 1)) (sym all.value)
+            (closed_weaker feed query old (Lacks c.args.self.now c.gather.new.front) (c.loop-count.count + 1) _
+            (λ b. lack_more feed query c.args.self.now.whole (is_bettered c.loop-count.front) (is_bettered c.gather.new.front) b all.still) closed);
+        starts = subst (λ ls. CoversStarts feed query (labels_of ls)) (sym all.value) (starts_more feed query labels _ was.starts);
+        ended = all.ended;
+        numbers = all.numbers;
       };
       fares = c.in_ok-spread.ensures.fares;
     }

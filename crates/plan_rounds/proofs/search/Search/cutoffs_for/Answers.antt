@@ -1,15 +1,11 @@
-use Rattle.std.proofs.Common.{◌≡◌, ◌∙◌, ◌+◌, ap, arith}
-use Rattle.plan_rides.specs.Reached.{Keeping}
+use Rattle.std.proofs.Common.{◌≡◌, ◌+◌, arith}
 use Rattle.plan_rounds.proofs.ScanLaws.{fair_in, lasts_in}
-use Rattle.plan_rounds.proofs.search.Search.kept_for.Goals as goal
+use Rattle.plan_rounds.proofs.search.Search.cutoffs_for.Goals as goal
 
-pub none-requires : goal.none-requires
-none-requires c =
+pub returns-clause-lasts : goal.returns-clause-lasts
+returns-clause-lasts c =
     lasts_in c.args.self.now c.args.round.now c.prospects_for-prospects.result.now c.from-more.result _ _ c.requires
     c.prospects_for-prospects.ensures.lasts c.latest.ensures c.lasts.ensures
-
-pub returns-clause-positions : goal.returns-clause-positions
-returns-clause-positions c = ap (λ (k : Keeping). k.positions) c.none.ensures
 
 pub returns-clause-fair : goal.returns-clause-fair
 returns-clause-fair c =
@@ -21,4 +17,4 @@ returns-clause-fair c =
     let few = c.requires.few in
     let left : round.count + 1 + more ≡ me.query.rides = omega (arith, from, limit, few) in
     fair_in me round c.args.near c.prospects_for-prospects.result.now more _ c.requires c.prospects_for-prospects.ensures.fair left
-    (ap (λ (k : Keeping). k.latest) c.none.ensures ∙ c.latest.ensures)
+    c.latest.ensures
