@@ -8,7 +8,7 @@ use Rattle.feed_files.specs.declared.names.FileName.{FileName}
 use Rattle.feed_files.specs.declared.faults.FaultKind.TheVariants as kind
 use Rattle.plain_laws.specs.Plain.{when, any_below, first_below, first_in}
 use Rattle.plain_laws.proofs.Laws.{option_or-assoc}
-use Rattle.feed_faults.specs.Records.{FileTable, header, row_count, column_of}
+use Rattle.feed_faults.specs.Records.{FileTable, row_count, column_of}
 use Rattle.feed_faults.specs.FaultPlaces.{file_fault, column_fault}
 use Rattle.feed_faults.specs.FileColumns.{columns_of}
 use Rattle.feed_faults.specs.declared.columns.ColumnRule.{ColumnRule}
