@@ -8,11 +8,18 @@ ghost use Rattle.feed_rows.specs.FareSums.{amount_of};
 ghost use Rattle.ticket_explain.specs.LineParts.{is_near};
 
 use feed_rows::{
-    Call, ChangeChoice, Choice, Feed, Journey, LEAST_SHIFT, LegChoice, MOST_SHIFT, ProductRow,
-    Ride, RideFacts,
+    Call, Feed, Journey, LEAST_SHIFT, MOST_SHIFT, ProductRow, Ride, RideFacts, RideList,
 };
 use feed_timetable::Timetable;
+use plain_laws::ItemList;
 use transit_base::{Money, ProductRowId, StopId, TripId, XferId};
+
+/// The item at a place; none past the end.
+pub fn item_at<T: Drop>(list: &ItemList<T>, place: usize) -> Option<&T>
+    ensures { option_map (λ item. item.now) result ≡ slice_get list.now place }
+{
+    list.items().get(place)
+}
 
 /// The code of the feed's currency; empty where no product has a row.
 pub fn currency(feed: &Feed) -> &[u8]
@@ -28,7 +35,7 @@ pub fn currency(feed: &Feed) -> &[u8]
 pub fn stop_id(feed: &Feed, stop: StopId) -> Option<&[u8]>
     ensures { option_map (λ id. id.now) result ≡ stop_text feed.now stop }
 {
-    let row = feed.stops.items().get(stop.0 as usize)?;
+    let row = item_at(&feed.stops, stop.0 as usize)?;
     Some(row.id.bytes())
 }
 
@@ -36,7 +43,7 @@ pub fn stop_id(feed: &Feed, stop: StopId) -> Option<&[u8]>
 pub fn product_name<'f>(feed: &'f Feed, row: &ProductRow) -> Option<&'f [u8]>
     ensures { option_map (λ name. name.now) result ≡ product_text feed.now row.now }
 {
-    let name = feed.product_names.items().get(row.product.0 as usize)?;
+    let name = item_at(&feed.product_names, row.product.0 as usize)?;
     Some(name.bytes())
 }
 
@@ -47,7 +54,7 @@ pub fn medium_id<'f>(feed: &'f Feed, row: &ProductRow) -> Option<&'f [u8]>
     let Some(medium) = row.medium else {
         return Some(&[]);
     };
-    let row = feed.media.items().get(medium.0 as usize)?;
+    let row = item_at(&feed.media, medium.0 as usize)?;
     Some(row.id.bytes())
 }
 
@@ -56,7 +63,7 @@ pub fn medium_id<'f>(feed: &'f Feed, row: &ProductRow) -> Option<&'f [u8]>
 pub fn amount_of(feed: &Feed, row: ProductRowId) -> Money
     ensures { result.0 ≡ amount_of feed.now row }
 {
-    match feed.products.items().get(row.0 as usize) {
+    match item_at(&feed.products, row.0 as usize) {
         Some(product) => product.amount,
         None => Money(0),
     }
@@ -66,7 +73,7 @@ pub fn amount_of(feed: &Feed, row: ProductRowId) -> Money
 pub fn rule_kind(feed: &Feed, rule: XferId) -> Option<u8>
     ensures { result ≡ option_map (λ row. row.kind) (slice_get feed.now.transfer_rules rule.0) }
 {
-    let row = feed.transfer_rules.items().get(rule.0 as usize)?;
+    let row = item_at(&feed.transfer_rules, rule.0 as usize)?;
     Some(row.kind)
 }
 
@@ -102,11 +109,10 @@ pub fn facts_of(timetable: &Timetable, ride: &Ride) -> Option<RideFacts>
 }
 
 /// Where and when the ride at a place goes; none where there is none, or it is no ride of the feed.
-pub fn facts_at(timetable: &Timetable, rides: &[Ride], place: usize) -> Option<RideFacts>
+pub fn facts_at(timetable: &Timetable, rides: &RideList, place: usize) -> Option<RideFacts>
     ensures { result ≡ facts_at timetable.now rides.now place }
 {
-    let ride = rides.get(place)?;
-    facts_of(timetable, ride)
+    facts_of(timetable, item_at(rides, place)?)
 }
 
 /// Where the traveller stands before the ride at a place.
@@ -117,27 +123,6 @@ pub fn stop_before(timetable: &Timetable, journey: &Journey, place: usize) -> Op
     if place == 0 {
         return Some(journey.first);
     }
-    let before = facts_at(timetable, journey.rides.items(), place - 1)?;
+    let before = facts_at(timetable, &journey.rides, place - 1)?;
     Some(before.to)
-}
-
-/// The ride at a place; none where there is none.
-pub fn ride_at(journey: &Journey, place: usize) -> Option<Ride>
-    ensures { result ≡ slice_get journey.now.rides place }
-{
-    journey.rides.items().get(place).copied()
-}
-
-/// The choice for a leg; none where there is none.
-pub fn leg_at(choice: &Choice, leg: usize) -> Option<LegChoice>
-    ensures { result ≡ slice_get choice.now.legs leg }
-{
-    choice.legs.items().get(leg).copied()
-}
-
-/// The choice for a change, if it is arranged; none where there is no such change.
-pub fn change_at(choice: &Choice, change: usize) -> Option<Option<ChangeChoice>>
-    ensures { result ≡ slice_get choice.now.changes change }
-{
-    choice.changes.items().get(change).copied()
 }

@@ -6,7 +6,7 @@ ghost use Rattle.feed_rows.specs.EntryText.{start_text, run_fields, way_fields, 
 ghost use Rattle.ticket_explain.specs.LineParts.{head_text, whole_ride, ride_between, ride_on, ride_line_in};
 
 use crate::line::Line;
-use crate::lookups::{call_at, stop_id};
+use crate::lookups::{call_at, item_at, stop_id};
 use feed_rows::{Call, Ride, RideFacts};
 use feed_timetable::Timetable;
 use std::alloc::AllocError;
@@ -111,7 +111,7 @@ fn write_ride_in(
     ensures { IfOk result (λ written. when written line.new ≡ ride_line_in timetable.now ride.now facts.now) }
 {
     let feed = timetable.feed();
-    let Some(trip) = feed.trips.items().get(ride.trip.0 as usize) else {
+    let Some(trip) = item_at(&feed.trips, ride.trip.0 as usize) else {
         return Ok(false);
     };
     write_ride_on(timetable, line, ride, facts, trip.id.bytes())

@@ -1,5 +1,5 @@
 //! The lines of a choice of tickets.
-ghost use Rattle.std.specs.Prelude.{◌≡◌, ◌+◌, ◌<◌, ◌^◌, ◌++◌, ◌∷◌, [], IfOk, OnOk, codes, decimal, pos};
+ghost use Rattle.std.specs.Prelude.{◌≡◌, ◌+◌, ◌<◌, ◌^◌, ◌++◌, ◌∷◌, [], IfOk, OnOk, codes, decimal, option_map, pos};
 ghost use Rattle.plain_laws.specs.Plain.{when};
 ghost use Rattle.feed_rows.specs.Lines.{fields_text};
 ghost use Rattle.feed_rows.specs.MoneyText.{money_text};
@@ -8,7 +8,7 @@ ghost use Rattle.feed_rows.specs.EntryText.{ticket_fields, leg_line, change_fiel
 ghost use Rattle.ticket_explain.specs.LineParts.{ended, kind_text, leg_cost, leg_head, change_head, leg_part, arranged_part, change_part, leg_lines_in};
 
 use crate::line::Line;
-use crate::lookups::{amount_of, change_at, leg_at, medium_id, product_name, rule_kind};
+use crate::lookups::{amount_of, item_at, medium_id, product_name, rule_kind};
 use crate::text::Text;
 use crate::travel::push_if;
 use feed_rows::{ChangeChoice, Choice, Feed, LegChoice};
@@ -42,7 +42,7 @@ fn write_ticket(
 ) -> Result<bool, AllocError>
     ensures { IfOk result (λ written. when written line.new ≡ ended line.old (ticket_fields feed.now id amount.0)) }
 {
-    let Some(row) = feed.products.items().get(id.0 as usize) else {
+    let Some(row) = item_at(&feed.products, id.0 as usize) else {
         return Ok(false);
     };
     let Some(product) = product_name(feed, row) else {
@@ -181,7 +181,7 @@ fn write_change(
 fn transfer_kind(feed: &Feed, choice: &Choice, change: usize) -> Option<u8>
     ensures { result ≡ transfer_kind feed.now choice.now change }
 {
-    let place = choice.changes.items().get(change)?;
+    let place = item_at(&choice.changes, change)?;
     let pick = (*place)?;
     rule_kind(feed, pick.rule)
 }
@@ -237,14 +237,14 @@ fn push_leg(
     line: &mut Line,
     leg: usize,
     charged: bool,
-    pick: Option<LegChoice>,
+    pick: Option<&LegChoice>,
 ) -> Result<(), AllocError>
     requires { leg + 1 < 2 ^ 64 }
-    ensures { OnOk result (text.new ≡ text.old ++ leg_part feed.now leg charged pick) }
+    ensures { OnOk result (text.new ≡ text.old ++ leg_part feed.now leg charged (option_map (λ p. p.now) pick.entry)) }
 {
     match pick {
         Some(pick) => {
-            let written = write_leg(feed, line, leg, charged, &pick)?;
+            let written = write_leg(feed, line, leg, charged, pick)?;
             push_if(text, line, written)
         }
         None => Ok(()),
@@ -279,13 +279,13 @@ fn push_change(
     text: &mut Text,
     line: &mut Line,
     change: usize,
-    place: Option<Option<ChangeChoice>>,
+    place: Option<&Option<ChangeChoice>>,
 ) -> Result<(), AllocError>
     requires { change + 1 < 2 ^ 64 }
-    ensures { OnOk result (text.new ≡ text.old ++ change_part feed.now change place) }
+    ensures { OnOk result (text.new ≡ text.old ++ change_part feed.now change (option_map (λ p. p.now) place.entry)) }
 {
     match place {
-        Some(pick) => push_arranged(feed, text, line, change, pick),
+        Some(pick) => push_arranged(feed, text, line, change, *pick),
         None => Ok(()),
     }
 }
@@ -303,8 +303,8 @@ fn push_leg_parts(
     ensures { OnOk result (text.new ≡ text.old ++ leg_lines_in feed.now choice.now leg) }
 {
     let charged = is_charged(feed, choice, leg);
-    push_leg(feed, text, line, leg, charged, leg_at(choice, leg))?;
-    push_change(feed, text, line, leg, change_at(choice, leg))
+    push_leg(feed, text, line, leg, charged, item_at(&choice.legs, leg))?;
+    push_change(feed, text, line, leg, item_at(&choice.changes, leg))
 }
 
 // Adds the line of a leg, and that of the change after it, where it is arranged.

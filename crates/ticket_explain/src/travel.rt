@@ -1,12 +1,12 @@
 //! The lines of a journey's walks and rides, in order of travel.
-ghost use Rattle.std.specs.Prelude.{◌≡◌, ◌++◌, ◌∷◌, [], IfOk, OnOk, codes, decimal};
+ghost use Rattle.std.specs.Prelude.{◌≡◌, ◌++◌, ◌∷◌, [], IfOk, OnOk, codes, decimal, option_map};
 ghost use Rattle.plain_laws.specs.Plain.{when};
 ghost use Rattle.feed_rows.specs.Lines.{line as line_text};
 ghost use Rattle.feed_rows.specs.EntryText.{stay_line, walk_line, walk_lines, ride_lines, last_lines, travel_lines};
 ghost use Rattle.ticket_explain.specs.LineParts.{if_written, walk_part, ride_part, known_lines};
 
 use crate::line::Line;
-use crate::lookups::{facts_at, ride_at, stop_before, stop_id};
+use crate::lookups::{facts_at, item_at, stop_before, stop_id};
 use crate::rides::write_ride;
 use crate::text::Text;
 use feed_rows::{Journey, Ride, RideFacts};
@@ -115,14 +115,14 @@ fn push_ride(
     timetable: &Timetable,
     text: &mut Text,
     line: &mut Line,
-    ride: Option<Ride>,
+    ride: Option<&Ride>,
     facts: &RideFacts,
 ) -> Result<(), AllocError>
-    ensures { OnOk result (text.new ≡ text.old ++ ride_part timetable.now facts.now ride) }
+    ensures { OnOk result (text.new ≡ text.old ++ ride_part timetable.now facts.now (option_map (λ r. r.now) ride.entry)) }
 {
     match ride {
         Some(ride) => {
-            let written = write_ride(timetable, line, &ride, facts)?;
+            let written = write_ride(timetable, line, ride, facts)?;
             push_if(text, line, written)
         }
         None => Ok(()),
@@ -143,7 +143,7 @@ fn push_known_ride(
 {
     let before = stop_before(timetable, journey, place);
     push_walk_from(timetable, text, line, before, facts.from)?;
-    push_ride(timetable, text, line, ride_at(journey, place), facts)
+    push_ride(timetable, text, line, item_at(&journey.rides, place), facts)
 }
 
 // Adds the lines of the ride at a place: the walk to it, if there is one, and the ride.
@@ -157,7 +157,7 @@ fn push_ride_lines(
 ) -> Result<(), AllocError>
     ensures { OnOk result (text.new ≡ text.old ++ ride_lines timetable.now journey.now place) }
 {
-    match facts_at(timetable, journey.rides.items(), place) {
+    match facts_at(timetable, &journey.rides, place) {
         Some(facts) => push_known_ride(timetable, text, line, journey, place, &facts),
         None => Ok(()),
     }
@@ -193,7 +193,7 @@ fn push_last_lines(
     if rides == 0 {
         return push_direct_lines(timetable, text, line, journey);
     }
-    match facts_at(timetable, journey.rides.items(), rides - 1) {
+    match facts_at(timetable, &journey.rides, rides - 1) {
         Some(facts) => push_walk(timetable, text, line, facts.to, journey.last),
         None => Ok(()),
     }
