@@ -23,8 +23,8 @@ fn write_gen(feed: &Feed, line: &mut Line) -> Result<(), AllocError>
 
 // Writes the line of a triple.
 #[tactic(auto, unfolding(feed_rows::specs::GeneratedTexts::triple_line))]
-fn write_triple(feed: &Feed, line: &mut Line, triple: &Triple) -> Result<(), AllocError>
-    ensures { OnOk result (line.new ≡ triple_line feed.now triple.now) }
+fn write_triple(feed: &Feed, line: &mut Line, triple: Triple) -> Result<(), AllocError>
+    ensures { OnOk result (line.new ≡ triple_line feed.now triple) }
 {
     line.start(b"triple")?;
     line.moment(triple.arrival)?;
@@ -38,9 +38,9 @@ fn push_triple(
     feed: &Feed,
     text: &mut Text,
     line: &mut Line,
-    triple: &Triple,
+    triple: Triple,
 ) -> Result<(), AllocError>
-    ensures { OnOk result (text.new ≡ text.old ++ triple_line feed.now triple.now ∷ []) }
+    ensures { OnOk result (text.new ≡ text.old ++ triple_line feed.now triple ∷ []) }
 {
     write_triple(feed, line, triple)?;
     text.push(line.bytes())
@@ -56,9 +56,23 @@ fn push_triples(
     ensures { OnOk result (text.new ≡ text.old ++ map (triple_line feed.now) (map (λ entry. entry.triple) entries.now)) }
 {
     for entry in entries {
-        push_triple(feed, text, line, &entry.triple)?;
+        push_triple(feed, text, line, entry.triple)?;
     }
     Ok(())
+}
+
+// Adds the line of a generated feed, and those of the entries' triples.
+fn push_gen_lines(
+    feed: &Feed,
+    text: &mut Text,
+    line: &mut Line,
+    entries: &[Entry],
+) -> Result<(), AllocError>
+    ensures { OnOk result (text.new ≡ text.old ++ gen_lines feed.now (map (λ entry. entry.triple) entries.now)) }
+{
+    write_gen(feed, line)?;
+    text.push(line.bytes())?;
+    push_triples(feed, text, line, entries)
 }
 
 /// The lines of a plan over a generated feed: how many rows its main files have, and the triples of the entries.
@@ -72,8 +86,6 @@ pub fn gen_lines_of(alloc: Global, feed: &Feed, entries: &[Entry]) -> Result<Tex
 {
     let mut text = Text::empty(alloc);
     let mut line = Line::empty(alloc);
-    write_gen(feed, &mut line)?;
-    text.push(line.bytes())?;
-    push_triples(feed, &mut text, &mut line, entries)?;
+    push_gen_lines(feed, &mut text, &mut line, entries)?;
     Ok(text)
 }

@@ -35,6 +35,22 @@ fn write_price(feed: &Feed, line: &mut Line, rides: usize, price: Money) -> Resu
     write_sum(feed, line, price)
 }
 
+// Adds the line of the price of so many rides, and those of the tickets of the choice that pays them.
+fn push_price_lines(
+    feed: &Feed,
+    text: &mut Text,
+    line: &mut Line,
+    rides: usize,
+    choice: &Choice,
+    price: Money,
+) -> Result<(), AllocError>
+    ensures { OnOk result (text.new ≡ text.old ++ price_lines feed.now rides choice.now price.0) }
+{
+    write_price(feed, line, rides, price)?;
+    text.push(line.bytes())?;
+    push_fare_lines(feed, text, line, choice)
+}
+
 /// The lines of the price of so many rides, and of the tickets of the choice that pays them.
 ///
 /// # Errors
@@ -52,9 +68,7 @@ pub fn price_lines_of(
 {
     let mut text = Text::empty(alloc);
     let mut line = Line::empty(alloc);
-    write_price(feed, &mut line, rides, price)?;
-    text.push(line.bytes())?;
-    push_fare_lines(feed, &mut text, &mut line, choice)?;
+    push_price_lines(feed, &mut text, &mut line, rides, choice, price)?;
     Ok(text)
 }
 
