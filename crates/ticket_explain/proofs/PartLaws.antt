@@ -6,17 +6,18 @@ use Rattle.std.proofs.lemmas.Option.{same_Some, none-some}
 use Rattle.feed_rows.specs.declared.journeys.Ride.{Ride}
 use Rattle.feed_rows.specs.declared.journeys.Call.{Call}
 use Rattle.feed_rows.specs.declared.rows.TransferRuleRow.{TransferRuleRow}
+use Rattle.feed_rows.specs.declared.rows.TripRow.{TripRow}
+use Rattle.feed_rows.specs.Calls.{calls_of}
 use Rattle.std.proofs.lemmas.List.{append-nil}
-use Rattle.feed_rows.specs.declared.fares.Choice.{Choice}
 use Rattle.feed_rows.specs.declared.fares.LegChoice.{LegChoice}
 use Rattle.feed_rows.specs.declared.fares.ChangeChoice.{ChangeChoice}
 use Rattle.feed_rows.specs.declared.journeys.Journey.{Journey}
 use Rattle.feed_rows.specs.declared.journeys.RideFacts.{RideFacts}
 use Rattle.feed_rows.specs.FeedRows.{FeedRows}
 use Rattle.feed_rows.specs.Journeys.{facts_at}
-use Rattle.feed_rows.specs.EntryText.{run_fields, way_fields, ride_line, ride_lines, leg_lines, ticket_fields, leg_line, change_fields, change_line, stop_before, last_lines, walk_lines}
+use Rattle.feed_rows.specs.EntryText.{run_fields, way_fields, ride_line, ride_lines, ticket_fields, leg_line, change_fields, change_line, stop_before, last_lines, walk_lines}
 use Rattle.feed_rows.specs.Lines.{fields_text, line}
-use Rattle.ticket_explain.specs.LineParts.{head_text, ended, kind_text, leg_cost, leg_head, change_head, whole_ride, ride_between, ride_on, ride_line_in, walk_part, ride_part, known_lines, leg_part, arranged_part, change_part, leg_lines_in}
+use Rattle.ticket_explain.specs.LineParts.{head_text, ended, kind_text, leg_cost, leg_head, change_head, whole_ride, ride_between, walk_part, ride_part, known_lines}
 
 -- before a later ride the traveller stands at the end of the one before it
 pub before_ride : (feed : FeedRows) (journey : Journey) (place : ℕ) → 0 < place → stop_before feed journey place ≡ option_map (λ (ride : RideFacts). ride.to) (facts_at feed journey.rides (place - 1))
@@ -69,10 +70,28 @@ pub ride_ended : (feed : FeedRows) (ride : Ride) (facts : RideFacts) (trip : Lis
 unfolding whole_ride
 ride_ended feed ride facts trip boarding alighting from to = head_ended (codes "ride") (run_fields feed ride trip boarding alighting) (way_fields facts from to)
 
--- the line of a ride is that of its parts
-pub ride_line_is : (feed : FeedRows) (ride : Ride) (facts : RideFacts) → ride_line_in feed ride facts ≡ ride_line feed ride facts
-unfolding ride_line ride_line_in ride_on ride_between whole_ride
-ride_line_is feed ride facts = refl
+-- the line of a ride whose trip and calls are known is that between the calls
+pub ride_line_known : (feed : FeedRows) (ride : Ride) (facts : RideFacts) (row : TripRow) (boarding alighting : Call) →
+    Some row ≡ slice_get feed.trips ride.trip.0 → Some boarding ≡ slice_get (calls_of feed ride.trip) ride.from → Some alighting ≡ slice_get (calls_of feed ride.trip) ride.to
+    → ride_between feed ride facts row.id boarding alighting ≡ ride_line feed ride facts
+unfolding ride_line ride_between whole_ride
+ride_line_known feed ride facts row boarding alighting trip from to = rw (← trip, ← from, ← to) refl
+
+-- without one of them there is none
+pub ride_line_tripless : (feed : FeedRows) (ride : Ride) (facts : RideFacts) → None ≡ slice_get feed.trips ride.trip.0 → None ≡ ride_line feed ride facts
+unfolding ride_line
+ride_line_tripless feed ride facts none = rw (← none) refl
+
+pub ride_line_unboarded : (feed : FeedRows) (ride : Ride) (facts : RideFacts) (row : TripRow) →
+    Some row ≡ slice_get feed.trips ride.trip.0 → None ≡ slice_get (calls_of feed ride.trip) ride.from → None ≡ ride_line feed ride facts
+unfolding ride_line
+ride_line_unboarded feed ride facts row trip none = rw (← trip, ← none) refl
+
+pub ride_line_unended : (feed : FeedRows) (ride : Ride) (facts : RideFacts) (row : TripRow) (boarding : Call) →
+    Some row ≡ slice_get feed.trips ride.trip.0 → Some boarding ≡ slice_get (calls_of feed ride.trip) ride.from → None ≡ slice_get (calls_of feed ride.trip) ride.to
+    → None ≡ ride_line feed ride facts
+unfolding ride_line
+ride_line_unended feed ride facts row boarding trip from none = rw (← trip, ← from, ← none) refl
 
 -- the lines of a ride, where its facts are known and where there are none
 pub ride_lines_known : (feed : FeedRows) (journey : Journey) (i : ℕ) (facts : RideFacts) → facts_at feed journey.rides i ≡ Some facts → known_lines feed journey i facts ≡ ride_lines feed journey i
@@ -82,8 +101,3 @@ ride_lines_known feed journey i facts is = rw is refl
 pub ride_lines_none : (text : List (List ℕ)) (feed : FeedRows) (journey : Journey) (i : ℕ) → facts_at feed journey.rides i ≡ None → text ≡ text ++ ride_lines feed journey i
 unfolding ride_lines
 ride_lines_none text feed journey i none = rw none (sym (append-nil text))
-
--- the lines of a leg and of the change after it are those of their parts
-pub leg_lines_are : (feed : FeedRows) (choice : Choice) (i : ℕ) → leg_lines_in feed choice i ≡ leg_lines feed choice i
-unfolding leg_lines leg_lines_in leg_part change_part arranged_part
-leg_lines_are feed choice i = refl

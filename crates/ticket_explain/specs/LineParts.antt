@@ -8,12 +8,10 @@ use Rattle.feed_rows.specs.declared.journeys.Ride.{Ride}
 use Rattle.feed_rows.specs.declared.journeys.RideFacts.{RideFacts}
 use Rattle.feed_rows.specs.declared.journeys.Call.{Call}
 use Rattle.feed_rows.specs.declared.journeys.Journey.{Journey}
-use Rattle.feed_rows.specs.declared.fares.Choice.{Choice}
 use Rattle.feed_rows.specs.declared.fares.LegChoice.{LegChoice}
 use Rattle.feed_rows.specs.declared.fares.ChangeChoice.{ChangeChoice}
 use Rattle.feed_rows.specs.FeedRows.{FeedRows}
-use Rattle.feed_rows.specs.Calls.{calls_of}
-use Rattle.feed_rows.specs.FareSums.{amount_of, is_charged, transfer_kind}
+use Rattle.feed_rows.specs.FareSums.{amount_of}
 use Rattle.plain_laws.specs.Plain.{when}
 use Rattle.feed_rows.specs.Lines.{fields_text, line}
 use Rattle.feed_rows.specs.EntryText.{stop_text, stop_before, walk_lines, run_fields, way_fields, ride_line, leg_line, change_line}
@@ -49,17 +47,6 @@ ride_between feed ride facts trip boarding alighting =
     option_and_then
     (λ from. option_map (λ to. whole_ride feed ride facts trip boarding alighting from to) (stop_text feed facts.to))
     (stop_text feed facts.from)
-
--- the line of a ride of a trip with this id
-unfoldable pub ride_on : FeedRows → Ride → RideFacts → List ℕ → Option (List ℕ)
-ride_on feed ride facts trip =
-    option_and_then
-    (λ boarding. option_and_then (λ alighting. ride_between feed ride facts trip boarding alighting) (slice_get (calls_of feed ride.trip) ride.to))
-    (slice_get (calls_of feed ride.trip) ride.from)
-
--- the line of a ride, in these parts
-unfoldable pub ride_line_in : FeedRows → Ride → RideFacts → Option (List ℕ)
-ride_line_in feed ride facts = option_and_then (λ trip. ride_on feed ride facts trip.id) (slice_get feed.trips ride.trip.0)
 
 -- the walk from where the traveller stands
 unfoldable pub walk_part : FeedRows → Option StopId → StopId → List (List ℕ)
@@ -100,8 +87,3 @@ leg_head i charged pick = head_text (codes "leg") (decimal (i + 1) ∷ kind_text
 -- the front of a change's line
 unfoldable pub change_head : ℕ → ℕ → ChangeChoice → List ℕ
 change_head i kind pick = head_text (codes "change") (decimal (i + 1) ∷ decimal kind ∷ decimal (pick.rule.0 + 1) ∷ [])
-
--- the lines of a leg and of the change after it, in these parts
-unfoldable pub leg_lines_in : FeedRows → Choice → ℕ → List (List ℕ)
-leg_lines_in feed choice i =
-    leg_part feed i (is_charged (transfer_kind feed choice) i) (slice_get choice.legs i) ++ change_part feed i (slice_get choice.changes i)

@@ -13,8 +13,8 @@ use std::alloc::{AllocError, Global};
 
 // Writes the head line of an entry.
 #[tactic(auto, unfolding(feed_rows::specs::EntryText::journey_line))]
-fn write_journey(feed: &Feed, line: &mut Line, triple: &Triple) -> Result<(), AllocError>
-    ensures { OnOk result (line.new ≡ journey_line feed.now triple.now) }
+fn write_journey(feed: &Feed, line: &mut Line, triple: Triple) -> Result<(), AllocError>
+    ensures { OnOk result (line.new ≡ journey_line feed.now triple) }
 {
     line.start(b"journey")?;
     line.moment(triple.arrival)?;
@@ -33,7 +33,7 @@ fn push_entry(
     ensures { OnOk result (text.new ≡ text.old ++ entry_lines timetable.now entry.now) }
 {
     let feed = timetable.feed();
-    write_journey(feed, line, &entry.triple)?;
+    write_journey(feed, line, entry.triple)?;
     text.push(line.bytes())?;
     push_travel_lines(timetable, text, line, &entry.journey)?;
     push_fare_lines(feed, text, line, &entry.choice)

@@ -3,7 +3,7 @@ ghost use Rattle.std.specs.Prelude.{◌≡◌, ◌<◌, ◌++◌, ◌∷◌, len
 ghost use Rattle.plain_laws.specs.Plain.{when};
 ghost use Rattle.feed_rows.specs.Lines.{fields_text};
 ghost use Rattle.feed_rows.specs.EntryText.{start_text, run_fields, way_fields, ride_line};
-ghost use Rattle.ticket_explain.specs.LineParts.{head_text, whole_ride, ride_between, ride_on, ride_line_in};
+ghost use Rattle.ticket_explain.specs.LineParts.{head_text, whole_ride, ride_between};
 
 use crate::line::Line;
 use crate::lookups::{call_at, item_at, stop_id};
@@ -12,9 +12,9 @@ use feed_timetable::Timetable;
 use std::alloc::AllocError;
 
 // Adds when a ride's run departs from its first stop, or that its trip has no frequency rows.
-fn write_start(timetable: &Timetable, line: &mut Line, ride: &Ride) -> Result<(), AllocError>
-    requires { ride.now.trip.0 < length timetable.now.trips }
-    ensures { OnOk result (line.new ≡ line.old ++ 9 ∷ start_text timetable.now ride.now) }
+fn write_start(timetable: &Timetable, line: &mut Line, ride: Ride) -> Result<(), AllocError>
+    requires { ride.trip.0 < length timetable.now.trips }
+    ensures { OnOk result (line.new ≡ line.old ++ 9 ∷ start_text timetable.now ride) }
 {
     if !timetable.has_frequencies(ride.trip) {
         return line.field(b"-");
@@ -26,13 +26,13 @@ fn write_start(timetable: &Timetable, line: &mut Line, ride: &Ride) -> Result<()
 fn write_run(
     timetable: &Timetable,
     line: &mut Line,
-    ride: &Ride,
+    ride: Ride,
     trip: &[u8],
-    boarding: &Call,
-    alighting: &Call,
+    boarding: Call,
+    alighting: Call,
 ) -> Result<(), AllocError>
-    requires { ride.now.trip.0 < length timetable.now.trips }
-    ensures { OnOk result (line.new ≡ head_text (codes "ride") (run_fields timetable.now ride.now trip.now boarding.now alighting.now)) }
+    requires { ride.trip.0 < length timetable.now.trips }
+    ensures { OnOk result (line.new ≡ head_text (codes "ride") (run_fields timetable.now ride trip.now boarding alighting)) }
 {
     line.start(b"ride")?;
     line.field(trip)?;
@@ -43,8 +43,8 @@ fn write_run(
 }
 
 // Writes the second half of a ride's line.
-fn write_way(line: &mut Line, facts: &RideFacts, from: &[u8], to: &[u8]) -> Result<(), AllocError>
-    ensures { OnOk result (line.new ≡ line.old ++ fields_text (way_fields facts.now from.now to.now)) }
+fn write_way(line: &mut Line, facts: RideFacts, from: &[u8], to: &[u8]) -> Result<(), AllocError>
+    ensures { OnOk result (line.new ≡ line.old ++ fields_text (way_fields facts from.now to.now)) }
 {
     line.field(from)?;
     line.moment(facts.departure)?;
@@ -58,14 +58,14 @@ fn write_way(line: &mut Line, facts: &RideFacts, from: &[u8], to: &[u8]) -> Resu
 fn write_ride_between(
     timetable: &Timetable,
     line: &mut Line,
-    ride: &Ride,
-    facts: &RideFacts,
+    ride: Ride,
+    facts: RideFacts,
     trip: &[u8],
-    boarding: &Call,
-    alighting: &Call,
+    boarding: Call,
+    alighting: Call,
 ) -> Result<bool, AllocError>
-    requires { ride.now.trip.0 < length timetable.now.trips }
-    ensures { IfOk result (λ written. when written line.new ≡ ride_between timetable.now ride.now facts.now trip.now boarding.now alighting.now) }
+    requires { ride.trip.0 < length timetable.now.trips }
+    ensures { IfOk result (λ written. when written line.new ≡ ride_between timetable.now ride facts trip.now boarding alighting) }
 {
     let feed = timetable.feed();
     let Some(from) = stop_id(feed, facts.from) else {
@@ -79,56 +79,28 @@ fn write_ride_between(
     Ok(true)
 }
 
-// Writes the line of a ride of a trip with this id; whether the feed has the calls and their stops.
-#[tactic(auto, unfolding(crate::specs::LineParts::ride_on))]
-fn write_ride_on(
+/// Writes the line of a ride with these facts; whether the feed has what it says.
+///
+/// # Errors
+/// Want of memory.
+pub fn write_ride(
     timetable: &Timetable,
     line: &mut Line,
-    ride: &Ride,
-    facts: &RideFacts,
-    trip: &[u8],
+    ride: Ride,
+    facts: RideFacts,
 ) -> Result<bool, AllocError>
-    requires { ride.now.trip.0 < length timetable.now.trips }
-    ensures { IfOk result (λ written. when written line.new ≡ ride_on timetable.now ride.now facts.now trip.now) }
+    ensures { IfOk result (λ written. when written line.new ≡ ride_line timetable.now ride facts) }
 {
+    let feed = timetable.feed();
+    let Some(row) = item_at(&feed.trips, ride.trip.0 as usize) else {
+        return Ok(false);
+    };
     let Some(boarding) = call_at(timetable, ride.trip, ride.from) else {
         return Ok(false);
     };
     let Some(alighting) = call_at(timetable, ride.trip, ride.to) else {
         return Ok(false);
     };
-    write_ride_between(timetable, line, ride, facts, trip, &boarding, &alighting)
-}
-
-// Writes the line of a ride, part by part; whether the feed has what it says.
-#[tactic(auto, unfolding(crate::specs::LineParts::ride_line_in))]
-fn write_ride_in(
-    timetable: &Timetable,
-    line: &mut Line,
-    ride: &Ride,
-    facts: &RideFacts,
-) -> Result<bool, AllocError>
-    ensures { IfOk result (λ written. when written line.new ≡ ride_line_in timetable.now ride.now facts.now) }
-{
-    let feed = timetable.feed();
-    let Some(trip) = item_at(&feed.trips, ride.trip.0 as usize) else {
-        return Ok(false);
-    };
-    write_ride_on(timetable, line, ride, facts, trip.id.bytes())
-}
-
-/// Writes the line of a ride with these facts; whether the feed has what it says.
-///
-/// # Errors
-/// Want of memory.
-#[tactic(auto, using(crate::proofs::PartLaws::ride_line_is))]
-pub fn write_ride(
-    timetable: &Timetable,
-    line: &mut Line,
-    ride: &Ride,
-    facts: &RideFacts,
-) -> Result<bool, AllocError>
-    ensures { IfOk result (λ written. when written line.new ≡ ride_line timetable.now ride.now facts.now) }
-{
-    write_ride_in(timetable, line, ride, facts)
+    let trip = row.id.bytes();
+    write_ride_between(timetable, line, ride, facts, trip, boarding, alighting)
 }

@@ -5,7 +5,7 @@ ghost use Rattle.feed_rows.specs.Lines.{fields_text};
 ghost use Rattle.feed_rows.specs.MoneyText.{money_text};
 ghost use Rattle.feed_rows.specs.FareSums.{transfer_kind, starts_chain, is_included_on_entry, is_included_on_leaving, is_charged};
 ghost use Rattle.feed_rows.specs.EntryText.{ticket_fields, leg_line, change_fields, change_line, leg_lines, fare_lines};
-ghost use Rattle.ticket_explain.specs.LineParts.{ended, kind_text, leg_cost, leg_head, change_head, leg_part, arranged_part, change_part, leg_lines_in};
+ghost use Rattle.ticket_explain.specs.LineParts.{ended, kind_text, leg_cost, leg_head, change_head, leg_part, change_part};
 
 use crate::line::Line;
 use crate::lookups::{amount_of, item_at, medium_id, product_name, rule_kind};
@@ -15,21 +15,19 @@ use feed_rows::{ChangeChoice, Choice, Feed, LegChoice};
 use std::alloc::AllocError;
 use transit_base::{Money, ProductRowId};
 
-// Adds a product row's number, product, medium and amount, and ends the line.
-fn write_ticket_of(
-    feed: &Feed,
+// Adds a product, a medium and an amount of a currency with so many decimals, and ends the line.
+fn write_product(
     line: &mut Line,
-    id: ProductRowId,
     product: &[u8],
     medium: &[u8],
     amount: Money,
+    decimals: u8,
 ) -> Result<(), AllocError>
-    ensures { OnOk result (line.new ≡ line.old ++ fields_text (decimal (id.0 + 1) ∷ product.now ∷ medium.now ∷ money_text feed.now.decimals amount.0 ∷ [])) }
+    ensures { OnOk result (line.new ≡ line.old ++ fields_text (product.now ∷ medium.now ∷ money_text decimals amount.0 ∷ [])) }
 {
-    line.number(u64::from(id.0) + 1)?;
     line.field(product)?;
     line.field(medium)?;
-    line.money(amount, feed.decimals)?;
+    line.money(amount, decimals)?;
     line.end()
 }
 
@@ -51,7 +49,8 @@ fn write_ticket(
     let Some(medium) = medium_id(feed, row) else {
         return Ok(false);
     };
-    write_ticket_of(feed, line, id, product, medium, amount)?;
+    line.number(u64::from(id.0) + 1)?;
+    write_product(line, product, medium, amount, feed.decimals)?;
     Ok(true)
 }
 
@@ -81,10 +80,10 @@ fn write_leg_head(
     line: &mut Line,
     leg: usize,
     charged: bool,
-    pick: &LegChoice,
+    pick: LegChoice,
 ) -> Result<(), AllocError>
     requires { leg + 1 < 2 ^ 64 }
-    ensures { OnOk result (line.new ≡ leg_head leg charged pick.now) }
+    ensures { OnOk result (line.new ≡ leg_head leg charged pick) }
 {
     line.start(b"leg")?;
     line.number(leg as u64 + 1)?;
@@ -99,10 +98,10 @@ fn write_leg(
     line: &mut Line,
     leg: usize,
     charged: bool,
-    pick: &LegChoice,
+    pick: LegChoice,
 ) -> Result<bool, AllocError>
     requires { leg + 1 < 2 ^ 64 }
-    ensures { IfOk result (λ written. when written line.new ≡ leg_line feed.now leg charged pick.now) }
+    ensures { IfOk result (λ written. when written line.new ≡ leg_line feed.now leg charged pick) }
 {
     write_leg_head(line, leg, charged, pick)?;
     write_ticket(
@@ -119,10 +118,10 @@ fn write_change_head(
     line: &mut Line,
     change: usize,
     kind: u8,
-    pick: &ChangeChoice,
+    pick: ChangeChoice,
 ) -> Result<(), AllocError>
     requires { change + 1 < 2 ^ 64 }
-    ensures { OnOk result (line.new ≡ change_head change kind pick.now) }
+    ensures { OnOk result (line.new ≡ change_head change kind pick) }
 {
     line.start(b"change")?;
     line.number(change as u64 + 1)?;
@@ -131,14 +130,11 @@ fn write_change_head(
 }
 
 // Adds what stands for no product row, and ends the line.
-fn write_no_ticket(feed: &Feed, line: &mut Line) -> Result<(), AllocError>
-    ensures { OnOk result (line.new ≡ line.old ++ fields_text (codes "-" ∷ [] ∷ [] ∷ money_text feed.now.decimals (pos 0) ∷ [])) }
+fn write_no_ticket(line: &mut Line, decimals: u8) -> Result<(), AllocError>
+    ensures { OnOk result (line.new ≡ line.old ++ fields_text (codes "-" ∷ [] ∷ [] ∷ money_text decimals (pos 0) ∷ [])) }
 {
     line.field(b"-")?;
-    line.field(b"")?;
-    line.field(b"")?;
-    line.money(Money(0), feed.decimals)?;
-    line.end()
+    write_product(line, b"", b"", Money(0), decimals)
 }
 
 // Adds a change's product row, or what stands for none, and ends the line; whether the feed has what it says.
@@ -152,7 +148,7 @@ fn write_change_ticket(
     match product {
         Some(row) => write_ticket(feed, line, row, amount_of(feed, row)),
         None => {
-            write_no_ticket(feed, line)?;
+            write_no_ticket(line, feed.decimals)?;
             Ok(true)
         }
     }
@@ -164,10 +160,10 @@ fn write_change(
     feed: &Feed,
     line: &mut Line,
     change: usize,
-    pick: &ChangeChoice,
+    pick: ChangeChoice,
 ) -> Result<bool, AllocError>
     requires { change + 1 < 2 ^ 64 }
-    ensures { IfOk result (λ written. when written line.new ≡ change_line feed.now change pick.now) }
+    ensures { IfOk result (λ written. when written line.new ≡ change_line feed.now change pick) }
 {
     let Some(kind) = rule_kind(feed, pick.rule) else {
         return Ok(false);
@@ -244,28 +240,7 @@ fn push_leg(
 {
     match pick {
         Some(pick) => {
-            let written = write_leg(feed, line, leg, charged, pick)?;
-            push_if(text, line, written)
-        }
-        None => Ok(()),
-    }
-}
-
-// Adds the line of a change, where it is arranged.
-#[tactic(auto, unfolding(crate::specs::LineParts::arranged_part))]
-fn push_arranged(
-    feed: &Feed,
-    text: &mut Text,
-    line: &mut Line,
-    change: usize,
-    pick: Option<ChangeChoice>,
-) -> Result<(), AllocError>
-    requires { change + 1 < 2 ^ 64 }
-    ensures { OnOk result (text.new ≡ text.old ++ arranged_part feed.now change pick) }
-{
-    match pick {
-        Some(pick) => {
-            let written = write_change(feed, line, change, &pick)?;
+            let written = write_leg(feed, line, leg, charged, *pick)?;
             push_if(text, line, written)
         }
         None => Ok(()),
@@ -273,7 +248,7 @@ fn push_arranged(
 }
 
 // Adds the line of a change, where there is one and it is arranged.
-#[tactic(auto, unfolding(crate::specs::LineParts::change_part))]
+#[tactic(auto, unfolding(crate::specs::LineParts::change_part, crate::specs::LineParts::arranged_part))]
 fn push_change(
     feed: &Feed,
     text: &mut Text,
@@ -285,30 +260,16 @@ fn push_change(
     ensures { OnOk result (text.new ≡ text.old ++ change_part feed.now change (option_map (λ p. p.now) place.entry)) }
 {
     match place {
-        Some(pick) => push_arranged(feed, text, line, change, *pick),
-        None => Ok(()),
+        Some(Some(pick)) => {
+            let written = write_change(feed, line, change, *pick)?;
+            push_if(text, line, written)
+        }
+        _ => Ok(()),
     }
 }
 
-// Adds the line of a leg, and that of the change after it, part by part.
-#[tactic(auto, unfolding(crate::specs::LineParts::leg_lines_in))]
-fn push_leg_parts(
-    feed: &Feed,
-    text: &mut Text,
-    line: &mut Line,
-    choice: &Choice,
-    leg: usize,
-) -> Result<(), AllocError>
-    requires { leg + 1 < 2 ^ 64 }
-    ensures { OnOk result (text.new ≡ text.old ++ leg_lines_in feed.now choice.now leg) }
-{
-    let charged = is_charged(feed, choice, leg);
-    push_leg(feed, text, line, leg, charged, item_at(&choice.legs, leg))?;
-    push_change(feed, text, line, leg, item_at(&choice.changes, leg))
-}
-
 // Adds the line of a leg, and that of the change after it, where it is arranged.
-#[tactic(auto, using(crate::proofs::PartLaws::leg_lines_are))]
+#[tactic(auto, unfolding(feed_rows::specs::EntryText::leg_lines, crate::specs::LineParts::leg_part, crate::specs::LineParts::change_part, crate::specs::LineParts::arranged_part))]
 fn push_leg_lines(
     feed: &Feed,
     text: &mut Text,
@@ -319,7 +280,9 @@ fn push_leg_lines(
     requires { leg + 1 < 2 ^ 64 }
     ensures { OnOk result (text.new ≡ text.old ++ leg_lines feed.now choice.now leg) }
 {
-    push_leg_parts(feed, text, line, choice, leg)
+    let charged = is_charged(feed, choice, leg);
+    push_leg(feed, text, line, leg, charged, item_at(&choice.legs, leg))?;
+    push_change(feed, text, line, leg, item_at(&choice.changes, leg))
 }
 
 /// Adds the fare lines of a choice.

@@ -116,13 +116,13 @@ fn push_ride(
     text: &mut Text,
     line: &mut Line,
     ride: Option<&Ride>,
-    facts: &RideFacts,
+    facts: RideFacts,
 ) -> Result<(), AllocError>
-    ensures { OnOk result (text.new ≡ text.old ++ ride_part timetable.now facts.now (option_map (λ r. r.now) ride.entry)) }
+    ensures { OnOk result (text.new ≡ text.old ++ ride_part timetable.now facts (option_map (λ r. r.now) ride.entry)) }
 {
     match ride {
         Some(ride) => {
-            let written = write_ride(timetable, line, ride, facts)?;
+            let written = write_ride(timetable, line, *ride, facts)?;
             push_if(text, line, written)
         }
         None => Ok(()),
@@ -137,9 +137,9 @@ fn push_known_ride(
     line: &mut Line,
     journey: &Journey,
     place: usize,
-    facts: &RideFacts,
+    facts: RideFacts,
 ) -> Result<(), AllocError>
-    ensures { OnOk result (text.new ≡ text.old ++ known_lines timetable.now journey.now place facts.now) }
+    ensures { OnOk result (text.new ≡ text.old ++ known_lines timetable.now journey.now place facts) }
 {
     let before = stop_before(timetable, journey, place);
     push_walk_from(timetable, text, line, before, facts.from)?;
@@ -158,7 +158,7 @@ fn push_ride_lines(
     ensures { OnOk result (text.new ≡ text.old ++ ride_lines timetable.now journey.now place) }
 {
     match facts_at(timetable, &journey.rides, place) {
-        Some(facts) => push_known_ride(timetable, text, line, journey, place, &facts),
+        Some(facts) => push_known_ride(timetable, text, line, journey, place, facts),
         None => Ok(()),
     }
 }
