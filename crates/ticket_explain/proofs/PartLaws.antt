@@ -8,16 +8,15 @@ use Rattle.feed_rows.specs.declared.journeys.Call.{Call}
 use Rattle.feed_rows.specs.declared.rows.TransferRuleRow.{TransferRuleRow}
 use Rattle.feed_rows.specs.declared.rows.TripRow.{TripRow}
 use Rattle.feed_rows.specs.Calls.{calls_of}
-use Rattle.std.proofs.lemmas.List.{append-nil}
 use Rattle.feed_rows.specs.declared.fares.LegChoice.{LegChoice}
 use Rattle.feed_rows.specs.declared.fares.ChangeChoice.{ChangeChoice}
 use Rattle.feed_rows.specs.declared.journeys.Journey.{Journey}
 use Rattle.feed_rows.specs.declared.journeys.RideFacts.{RideFacts}
 use Rattle.feed_rows.specs.FeedRows.{FeedRows}
 use Rattle.feed_rows.specs.Journeys.{facts_at}
-use Rattle.feed_rows.specs.EntryText.{run_fields, way_fields, ride_line, ride_lines, ticket_fields, leg_line, change_fields, change_line, stop_before, last_lines, walk_lines}
+use Rattle.feed_rows.specs.EntryText.{run_fields, way_fields, ride_line, ticket_fields, leg_line, change_fields, change_line, stop_before, last_lines, walk_lines}
 use Rattle.feed_rows.specs.Lines.{fields_text, line}
-use Rattle.ticket_explain.specs.LineParts.{head_text, ended, kind_text, leg_cost, leg_head, change_head, whole_ride, ride_between, walk_part, ride_part, known_lines}
+use Rattle.ticket_explain.specs.LineParts.{head_text, ended, kind_text, leg_cost, leg_head, change_head, whole_ride, ride_between}
 
 -- before a later ride the traveller stands at the end of the one before it
 pub before_ride : (feed : FeedRows) (journey : Journey) (place : ℕ) → 0 < place → stop_before feed journey place ≡ option_map (λ (ride : RideFacts). ride.to) (facts_at feed journey.rides (place - 1))
@@ -92,12 +91,3 @@ pub ride_line_unended : (feed : FeedRows) (ride : Ride) (facts : RideFacts) (row
     → None ≡ ride_line feed ride facts
 unfolding ride_line
 ride_line_unended feed ride facts row boarding trip from none = rw (← trip, ← from, ← none) refl
-
--- the lines of a ride, where its facts are known and where there are none
-pub ride_lines_known : (feed : FeedRows) (journey : Journey) (i : ℕ) (facts : RideFacts) → facts_at feed journey.rides i ≡ Some facts → known_lines feed journey i facts ≡ ride_lines feed journey i
-unfolding ride_lines known_lines walk_part ride_part
-ride_lines_known feed journey i facts is = rw is refl
-
-pub ride_lines_none : (text : List (List ℕ)) (feed : FeedRows) (journey : Journey) (i : ℕ) → facts_at feed journey.rides i ≡ None → text ≡ text ++ ride_lines feed journey i
-unfolding ride_lines
-ride_lines_none text feed journey i none = rw none (sym (append-nil text))

@@ -1,5 +1,5 @@
 -- Lines in parts: what stands before the last fields, and whether a line is written at all.
-use Rattle.std.specs.Prelude.{ℕ, ◌+◌, Bool, ◌&&◌, nat_lt, if◌then◌else◌, List, [], ◌∷◌, ◌++◌, length, Option, codes, decimal, ℤ, pos, negsuc, int_le, slice_get, option_map, option_and_then}
+use Rattle.std.specs.Prelude.{ℕ, ◌+◌, Bool, ◌&&◌, nat_lt, if◌then◌else◌, List, [], ◌∷◌, ◌++◌, length, Option, codes, decimal, ℤ, pos, negsuc, int_le, option_map, option_and_then}
 use Rattle.std.specs.Option.{option_map_or, option_to_list}
 use Rattle.feed_rows.specs.Limits.{least_shift, most_shift}
 use Rattle.transit_base.specs.declared.numbers.StopId.{StopId}
@@ -7,14 +7,13 @@ use Rattle.transit_base.specs.declared.numbers.ProductRowId.{ProductRowId}
 use Rattle.feed_rows.specs.declared.journeys.Ride.{Ride}
 use Rattle.feed_rows.specs.declared.journeys.RideFacts.{RideFacts}
 use Rattle.feed_rows.specs.declared.journeys.Call.{Call}
-use Rattle.feed_rows.specs.declared.journeys.Journey.{Journey}
 use Rattle.feed_rows.specs.declared.fares.LegChoice.{LegChoice}
 use Rattle.feed_rows.specs.declared.fares.ChangeChoice.{ChangeChoice}
 use Rattle.feed_rows.specs.FeedRows.{FeedRows}
 use Rattle.feed_rows.specs.FareSums.{amount_of}
 use Rattle.plain_laws.specs.Plain.{when}
 use Rattle.feed_rows.specs.Lines.{fields_text, line}
-use Rattle.feed_rows.specs.EntryText.{stop_text, stop_before, walk_lines, run_fields, way_fields, ride_line, leg_line, change_line}
+use Rattle.feed_rows.specs.EntryText.{stop_text, walk_lines, run_fields, way_fields, ride_line, leg_line, change_line}
 
 -- the ride is of a trip of the feed, and its day and shift are small
 abbrev pub is_near : FeedRows → Ride → Bool
@@ -55,10 +54,6 @@ walk_part feed from to = option_map_or (λ stop. walk_lines feed stop to) from [
 -- the ride, if there is one
 unfoldable pub ride_part : FeedRows → RideFacts → Option Ride → List (List ℕ)
 ride_part feed facts ride = option_map_or (λ r. option_to_list (ride_line feed r facts)) ride []
-
--- the lines of ride i, which has these facts
-unfoldable pub known_lines : FeedRows → Journey → ℕ → RideFacts → List (List ℕ)
-known_lines feed journey i facts = walk_part feed (stop_before feed journey i) facts.from ++ ride_part feed facts (slice_get journey.rides i)
 
 -- the leg, if there is one
 unfoldable pub leg_part : FeedRows → ℕ → Bool → Option LegChoice → List (List ℕ)

@@ -1,6 +1,9 @@
 //! The lines of a plan over a generated feed.
-ghost use Rattle.std.specs.Prelude.{◌≡◌, ◌++◌, ◌∷◌, [], IfOk, OnOk, map};
+ghost use Rattle.std.specs.Prelude.{◌≡◌, ◌++◌, ◌∷◌, [], IfOk, OnOk, codes, decimal, map};
 ghost use Rattle.std.specs.List.{concat};
+ghost use Rattle.transit_base.specs.DateTexts.{moment_text};
+ghost use Rattle.feed_rows.specs.Lines.{line as line_text};
+ghost use Rattle.feed_rows.specs.MoneyText.{money_text};
 ghost use Rattle.feed_rows.specs.GeneratedTexts.{gen_line, triple_line, gen_text};
 ghost use Rattle.ticket_explain.specs.CommandLines.{gen_lines};
 
@@ -21,19 +24,19 @@ fn write_gen(feed: &Feed, line: &mut Line) -> Result<(), AllocError>
     line.end()
 }
 
-// Writes the line of a triple.
-#[tactic(auto, unfolding(feed_rows::specs::GeneratedTexts::triple_line))]
-fn write_triple(feed: &Feed, line: &mut Line, triple: Triple) -> Result<(), AllocError>
-    ensures { OnOk result (line.new ≡ triple_line feed.now triple) }
+// Writes the line of a triple, whose price is in a currency with so many decimals.
+fn write_triple(line: &mut Line, triple: Triple, decimals: u8) -> Result<(), AllocError>
+    ensures { OnOk result (line.new ≡ line_text (codes "triple") (moment_text triple.arrival.0 ∷ decimal triple.rides ∷ money_text decimals triple.price.0 ∷ [])) }
 {
     line.start(b"triple")?;
     line.moment(triple.arrival)?;
     line.number(u64::from(triple.rides))?;
-    line.money(triple.price, feed.decimals)?;
+    line.money(triple.price, decimals)?;
     line.end()
 }
 
 // Adds the line of a triple.
+#[tactic(auto, unfolding(feed_rows::specs::GeneratedTexts::triple_line))]
 fn push_triple(
     feed: &Feed,
     text: &mut Text,
@@ -42,7 +45,7 @@ fn push_triple(
 ) -> Result<(), AllocError>
     ensures { OnOk result (text.new ≡ text.old ++ triple_line feed.now triple ∷ []) }
 {
-    write_triple(feed, line, triple)?;
+    write_triple(line, triple, feed.decimals)?;
     text.push(line.bytes())
 }
 

@@ -3,7 +3,7 @@ ghost use Rattle.std.specs.Prelude.{◌≡◌, ◌++◌, ◌∷◌, [], IfOk, On
 ghost use Rattle.plain_laws.specs.Plain.{when};
 ghost use Rattle.feed_rows.specs.Lines.{line as line_text};
 ghost use Rattle.feed_rows.specs.EntryText.{stay_line, walk_line, walk_lines, ride_lines, last_lines, travel_lines};
-ghost use Rattle.ticket_explain.specs.LineParts.{if_written, walk_part, ride_part, known_lines};
+ghost use Rattle.ticket_explain.specs.LineParts.{if_written, walk_part, ride_part};
 
 use crate::line::Line;
 use crate::lookups::{facts_at, item_at, stop_before, stop_id};
@@ -129,25 +129,8 @@ fn push_ride(
     }
 }
 
-// Adds the walk to the ride at a place, if there is one, and the ride, which has these facts.
-#[tactic(auto, unfolding(crate::specs::LineParts::known_lines))]
-fn push_known_ride(
-    timetable: &Timetable,
-    text: &mut Text,
-    line: &mut Line,
-    journey: &Journey,
-    place: usize,
-    facts: RideFacts,
-) -> Result<(), AllocError>
-    ensures { OnOk result (text.new ≡ text.old ++ known_lines timetable.now journey.now place facts) }
-{
-    let before = stop_before(timetable, journey, place);
-    push_walk_from(timetable, text, line, before, facts.from)?;
-    push_ride(timetable, text, line, item_at(&journey.rides, place), facts)
-}
-
 // Adds the lines of the ride at a place: the walk to it, if there is one, and the ride.
-#[tactic(auto, using(crate::proofs::PartLaws::ride_lines_known, crate::proofs::PartLaws::ride_lines_none))]
+#[tactic(auto, unfolding(feed_rows::specs::EntryText::ride_lines, crate::specs::LineParts::walk_part, crate::specs::LineParts::ride_part))]
 fn push_ride_lines(
     timetable: &Timetable,
     text: &mut Text,
@@ -157,10 +140,12 @@ fn push_ride_lines(
 ) -> Result<(), AllocError>
     ensures { OnOk result (text.new ≡ text.old ++ ride_lines timetable.now journey.now place) }
 {
-    match facts_at(timetable, &journey.rides, place) {
-        Some(facts) => push_known_ride(timetable, text, line, journey, place, facts),
-        None => Ok(()),
-    }
+    let Some(facts) = facts_at(timetable, &journey.rides, place) else {
+        return Ok(());
+    };
+    let before = stop_before(timetable, journey, place);
+    push_walk_from(timetable, text, line, before, facts.from)?;
+    push_ride(timetable, text, line, item_at(&journey.rides, place), facts)
 }
 
 // Adds the last line of a journey without rides.
