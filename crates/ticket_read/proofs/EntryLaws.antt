@@ -1,6 +1,6 @@
 -- The text of entries is read back as these entries, and what is read are entries of the query.
 use Rattle.std.proofs.Common.{◌≡◌, refl, sym, ◌∙◌, ap, subst, ℕ, ◌≤◌, Bool, true, false, List, [], ◌∷◌, ◌++◌, length, map, Option, Some, None, arith, append_assoc}
-use Rattle.std.specs.Prelude.{option_map, option_and_then, nat_le, All, ℤ, pos, ◌+ℤ◌, int_le}
+use Rattle.std.specs.Prelude.{option_map, option_and_then, nat_le, All, bytes_eq, ℤ, pos, ◌+ℤ◌, int_le}
 use Rattle.std.specs.List.{concat}
 use Rattle.std.proofs.lemmas.Bool.{and_parts}
 use Rattle.std.proofs.lemmas.Bool.Decides.{nat_tests}
@@ -311,10 +311,11 @@ pub only_read : (feed : FeedRows) (query : Query) (reader : Asked) (text : List 
 only_read feed query reader text read sound same is entries t =
     is ∙ ap (λ (a : Asked). read_entries a.feed a.query text) same ∙ ap (read_entries feed query) (sym t.text_is) ∙ text_read feed query entries sound t.right
 
--- the text of what is read
-pub is_text : (feed : FeedRows) (entries kept : List Entry) (lines : List (List ℕ)) (bytes : List ℕ) → kept ≡ entries → lines ≡ lines_of_entries feed kept → bytes ≡ concat lines
-    → bytes ≡ text_of_entries feed entries
-is_text feed entries kept lines bytes same are is = is ∙ ap concat (are ∙ ap (lines_of_entries feed) same)
+-- whether this is the text of entries, where it was asked of what they are kept as
+pub is_text : (feed rows : FeedRows) (entries kept : List Entry) (text : List ℕ) (is : Bool) → rows ≡ feed → kept ≡ entries → is ≡ bytes_eq (text_of_entries rows kept) text
+    → is ≡ bytes_eq (text_of_entries feed entries) text
+is_text feed rows entries kept text is same are asked =
+    asked ∙ ap (λ (its : FeedRows). bytes_eq (text_of_entries its kept) text) same ∙ ap (λ (es : List Entry). bytes_eq (text_of_entries feed es) text) are
 
 -- what is read of a text, and has it as its text
 pub told_read : (feed : FeedRows) (query : Query) (reader : Asked) (text : List ℕ) (read : Option (List Entry)) (entries : List Entry) → reader ≡ asked feed query

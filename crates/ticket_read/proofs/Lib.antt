@@ -1,3 +1,4 @@
+pub mod ArrivalLaws
 pub mod CutLaws
 pub mod EntryLaws
 pub mod ItemLaws

@@ -1,6 +1,5 @@
 //! The entries whose text this is.
 ghost use Rattle.std.specs.Prelude.{◌≡◌, IfOk, IfSome, List, Some};
-ghost use Rattle.std.specs.List.{concat};
 ghost use Rattle.feed_rows.specs.declared.fares.Entry.{Entry};
 ghost use Rattle.ticket_read.specs.Judgement.{IsNearQuery};
 ghost use Rattle.ticket_read.specs.EntryTexts.{IsTextOf, HasOneListByText};
@@ -9,18 +8,6 @@ use crate::reader::Reader;
 use feed_rows::{Entries, Query};
 use feed_timetable::Timetable;
 use std::alloc::{AllocError, Global};
-use ticket_explain::{Text, text_of};
-
-// The bytes of all lines.
-fn bytes_of(alloc: Global, lines: &Text) -> Result<Vec<u8>, AllocError>
-    ensures { IfOk result (λ bytes. bytes.items ≡ concat lines.now) }
-{
-    let mut bytes = Vec::new(alloc);
-    for number in 0..lines.lines() {
-        bytes.extend_from_slice(lines.line(number))?;
-    }
-    Ok(bytes)
-}
 
 /// The entries of the query whose text this is, byte by byte. None exactly where it is the text of no list of entries of
 /// the query. The entries may stand in any order, and more than once; a text is that of one list alone.
@@ -38,14 +25,8 @@ pub fn entries_of(
     ensures only { IfOk result (λ read. (entries : List Entry) → IsTextOf timetable.now query.now entries text.now → read ≡ Some entries) }
     ensures one { HasOneListByText timetable.now query.now }
 {
-    let reader = Reader::new(alloc, timetable, query)?;
-    let Some(entries) = reader.read(alloc, text)? else {
-        return Ok(None);
-    };
-    let lines = text_of(alloc, timetable, entries.items())?;
-    let bytes = bytes_of(alloc, &lines)?;
-    if bytes.as_slice() != text {
-        return Ok(None);
+    match Reader::new(alloc, timetable, query) {
+        Ok(reader) => reader.entries(alloc, text),
+        Err(AllocError) => Err(AllocError),
     }
-    Ok(Some(entries))
 }

@@ -1,17 +1,19 @@
 //! What a line tells, by its fields.
-ghost use Rattle.std.specs.Prelude.{◌≡◌, ◌<◌, ◌≤◌, map, pos, IfSome, length, option_map};
+ghost use Rattle.std.specs.Prelude.{◌≡◌, ◌<◌, ◌≤◌, map, pos, IfOk, IfSome, length, option_map};
 ghost use Rattle.transit_base.specs.Limits.{most_time};
 ghost use Rattle.feed_rows.specs.Rides.{ride_facts};
 ghost use Rattle.feed_rows.specs.RideWords.{start_value};
 ghost use Rattle.feed_rows.specs.Queries.{find_trip};
+ghost use Rattle.ticket_read.specs.Cuts.{field, fields_in};
 ghost use Rattle.ticket_read.specs.Items.{number_in, row_in, day_in, shift_by, place_in, stop_in, run_of, ride_of, ride_item, walk_item, stay_item, leg_item, change_row, change_item, item_of};
 
-use crate::cuts::field;
+use crate::cuts::{field, fields_of};
 use crate::drafts::Item;
 use crate::journeys::facts_of;
 use feed_rows::{ChangeChoice, LegChoice, Ride};
 use feed_text::{day_of_parts, int_of, time_of};
 use feed_timetable::Timetable;
+use std::alloc::{AllocError, Global};
 use transit_base::{Day, MOST_TIME, ProductRowId, RuleId, StopId, TripId, XferId};
 
 // The number of a field, of 32 bits.
@@ -80,13 +82,13 @@ fn shift_by(timetable: &Timetable, trip: TripId, start: Option<u32>) -> i64
     }
 }
 
-// The place of the call that a field names by its `stop_sequence`.
+// The place of the call that the field at a place names by its `stop_sequence`.
 #[tactic(auto, unfolding(crate::specs::Items::place_in))]
-fn place_in(timetable: &Timetable, trip: TripId, text: &[u8]) -> Option<u32>
+fn place_in(timetable: &Timetable, fields: &[&[u8]], trip: TripId, place: usize) -> Option<u32>
     requires { trip.0 < length timetable.now.trips }
-    ensures { result ≡ place_in timetable.now trip text.now }
+    ensures { result ≡ place_in timetable.now trip (field (map (λ text. text.now) fields.now) place) }
 {
-    let sequence = number_in(text)?;
+    let sequence = number_in(field(fields, place))?;
     timetable.call_position(trip, sequence)
 }
 
@@ -98,8 +100,8 @@ fn run_of(timetable: &Timetable, fields: &[&[u8]], trip: TripId) -> Option<Ride>
 {
     let day = day_in(field(fields, 2))?;
     let start = start_in(field(fields, 3))?;
-    let from = place_in(timetable, trip, field(fields, 4))?;
-    let to = place_in(timetable, trip, field(fields, 5))?;
+    let from = place_in(timetable, fields, trip, 4)?;
+    let to = place_in(timetable, fields, trip, 5)?;
     Some(Ride {
         trip,
         day,
@@ -193,9 +195,9 @@ fn change_item(fields: &[&[u8]]) -> Option<Item>
     }))
 }
 
-/// What a line tells, by its word and its fields; none where it is no line of an entry.
+// What a line tells, by its word and its fields; none where it is no line of an entry.
 #[tactic(auto, unfolding(crate::specs::Items::item_of))]
-pub fn item_of(timetable: &Timetable, fields: &[&[u8]]) -> Option<Item>
+fn item_of(timetable: &Timetable, fields: &[&[u8]]) -> Option<Item>
     ensures { result ≡ item_of timetable.now (map (λ text. text.now) fields.now) }
 {
     let word = field(fields, 0);
@@ -218,4 +220,19 @@ pub fn item_of(timetable: &Timetable, fields: &[&[u8]]) -> Option<Item>
         return change_item(fields);
     }
     None
+}
+
+/// What a line tells; none where it is no line of an entry.
+///
+/// # Errors
+/// Want of memory.
+pub fn item_in(
+    timetable: &Timetable,
+    alloc: Global,
+    line: &[u8],
+) -> Result<Option<Item>, AllocError>
+    ensures { IfOk result (λ item. item ≡ item_of timetable.now (fields_in line.now)) }
+{
+    let fields = fields_of(alloc, line)?;
+    Ok(item_of(timetable, fields.as_slice()))
 }

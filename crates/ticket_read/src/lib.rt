@@ -7,5 +7,6 @@ mod entries;
 mod items;
 mod journeys;
 mod reader;
+mod texts;
 
 pub use entries::entries_of;

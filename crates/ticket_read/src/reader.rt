@@ -1,15 +1,18 @@
 //! The entries of a query that the lines of a text tell.
-ghost use Rattle.std.specs.Prelude.{◌≡◌, ◌≤◌, length, map, option_map, IfOk, IfSome};
+ghost use Rattle.std.specs.Prelude.{◌≡◌, ◌≤◌, length, map, option_map, IfOk, IfSome, List, Some};
 ghost use Rattle.feed_rows.specs.JourneyEntries.{rides_price};
 ghost use Rattle.feed_rows.specs.SoundFeed.{IsSoundFeed};
 ghost use Rattle.transit_base.specs.declared.moments.Money.{Money};
 ghost use Rattle.ticket_read.specs.Judgement.{asked, IsNearQuery, judged, entry_of};
+ghost use Rattle.feed_rows.specs.declared.fares.Entry.{Entry};
+ghost use Rattle.ticket_read.specs.EntryTexts.{IsTextOf};
 ghost use Rattle.ticket_read.specs.Readings.{start, closed, begun, told, read_line, read_entries};
 
-use crate::cuts::{field, fields_of, line_parts};
+use crate::cuts::{field, line_parts};
 use crate::drafts::{Draft, Item};
-use crate::items::item_of;
+use crate::items::item_in;
 use crate::journeys::{arrival_of, legs_of};
+use crate::texts::is_text_of;
 use fare_price::{Fares, verify};
 use fare_timeframes::Timeframes;
 use feed_rows::{Choice, Entries, Entry, Journey, Query, Ride, Triple};
@@ -74,13 +77,15 @@ impl<'s, 'f> Reader<'s, 'f> {
         ensures sound { IsSoundFeed timetable.now }
     {
         let timeframes = Timeframes::build(alloc, timetable.feed())?;
-        let fares = Fares::build(alloc, timetable.feed())?;
-        Ok(Reader {
-            timetable,
-            query,
-            timeframes,
-            fares,
-        })
+        match Fares::build(alloc, timetable.feed()) {
+            Ok(fares) => Ok(Reader {
+                timetable,
+                query,
+                timeframes,
+                fares,
+            }),
+            Err(AllocError) => Err(AllocError),
+        }
     }
 
     // The price of rides by a choice; none where one is no ride of the feed, or the choice doesn't pay them.
@@ -213,20 +218,16 @@ impl<'s, 'f> Reader<'s, 'f> {
     ) -> Result<Option<Reading>, AllocError>
         ensures { IfOk result (λ after. after ≡ read_line self.now.feed self.now.query reading line.now) }
     {
-        let fields = fields_of(alloc, line)?;
-        let Some(item) = item_of(self.timetable, fields.as_slice()) else {
+        let Some(item) = item_in(self.timetable, alloc, line)? else {
             return Ok(None);
         };
         self.take(alloc, reading, item)
     }
 
-    /// The entries that the lines of a text tell; none where they tell none, or others than those of the query. Only what
-    /// the entries need is read, so a text that is not theirs may tell them too.
-    ///
-    /// # Errors
-    /// Want of memory.
+    // The entries that the lines of a text tell; none where they tell none, or others than those of the query. Only what
+    // the entries need is read, so a text that is not theirs may tell them too.
     #[tactic(auto, unfolding(crate::specs::Readings::read_entries))]
-    pub fn read(&self, alloc: Global, text: &[u8]) -> Result<Option<Entries>, AllocError>
+    fn read(&self, alloc: Global, text: &[u8]) -> Result<Option<Entries>, AllocError>
         ensures { IfOk result (λ entries. entries ≡ read_entries self.now.feed self.now.query text.now) }
     {
         let lines = line_parts(alloc, text)?;
@@ -245,5 +246,23 @@ impl<'s, 'f> Reader<'s, 'f> {
             return Ok(None);
         };
         Ok(Some(last.done))
+    }
+
+    /// The entries whose text this is, byte by byte. None exactly where it is the text of no list of entries of the query.
+    ///
+    /// # Errors
+    /// Want of memory.
+    pub fn entries(&self, alloc: Global, text: &[u8]) -> Result<Option<Entries>, AllocError>
+        requires { IsSoundFeed self.now.feed }
+        ensures told { IfOk result (λ read. IfSome read (λ entries. IsTextOf self.now.feed self.now.query entries text.now)) }
+        ensures only { IfOk result (λ read. (entries : List Entry) → IsTextOf self.now.feed self.now.query entries text.now → read ≡ Some entries) }
+    {
+        let Some(entries) = self.read(alloc, text)? else {
+            return Ok(None);
+        };
+        if is_text_of(alloc, self.timetable, entries.items(), text)? {
+            return Ok(Some(entries));
+        }
+        Ok(None)
     }
 }

@@ -1,0 +1,26 @@
+use Rattle.std.proofs.Common.{sym, pos, ◌+ℤ◌, ◌≤ℤ◌, arith}
+use Rattle.std.proofs.lemmas.Int.{ints}
+use Rattle.feed_timetable.specs.Standings.{stand_of}
+use Rattle.plain_laws.proofs.Laws.{le-int_le}
+use Rattle.ticket_read.proofs.ArrivalLaws.{arrival_unasked, arrival_unstood, arrival_unended, arrival_is}
+use Rattle.ticket_read.proofs.journeys.arrival_of.Goals as goal
+
+pub returns-then-not-is_asked-clause-value : goal.returns-then-not-is_asked-clause-value
+returns-then-not-is_asked-clause-value c = arrival_unasked c.args.timetable.now c.args.query.now c.args.journey.now (sym c.if-not-is_asked.ensures)
+
+pub returns-in_err-standing-clause-value : goal.returns-in_err-standing-clause-value
+returns-in_err-standing-clause-value c =
+    rw c.from_residual.ensures (
+    arrival_unstood c.args.timetable.now c.args.query.now c.args.journey.now (sym c.if-not-is_asked.ensures) c.in_err-standing.ensures.value)
+
+pub returns-in_err-arrival-clause-value : goal.returns-in_err-arrival-clause-value
+returns-in_err-arrival-clause-value c =
+    rw c.from_residual-in_err-arrival.ensures (
+    arrival_unended c.args.timetable.now c.args.query.now c.args.journey.now (stand_of c.in_ok-standing.standing) (sym c.if-not-is_asked.ensures)
+    c.in_ok-standing.ensures.value c.in_err-arrival.ensures)
+
+pub returns-clause-value : goal.returns-clause-value
+returns-clause-value c =
+    let soon : c.in_ok-arrival.arrival.0 ≤ℤ (c.args.query.now.departure.0 +ℤ pos c.args.query.now.window) = omega (arith, ints) in
+    arrival_is c.args.timetable.now c.args.query.now c.args.journey.now (stand_of c.in_ok-standing.standing) c.in_ok-arrival.arrival.0
+    (sym c.if-not-is_asked.ensures) c.in_ok-standing.ensures.value c.in_ok-arrival.ensures (le-int_le _ _ soon)
