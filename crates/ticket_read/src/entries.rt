@@ -5,6 +5,8 @@ ghost use Rattle.ticket_read.specs.Judgement.{IsNearQuery};
 ghost use Rattle.ticket_read.specs.EntryTexts.{IsTextOf, HasOneListByText};
 
 use crate::reader::Reader;
+use fare_price::Fares;
+use fare_timeframes::Timeframes;
 use feed_rows::{Entries, Query};
 use feed_timetable::Timetable;
 use std::alloc::{AllocError, Global};
@@ -25,8 +27,9 @@ pub fn entries_of(
     ensures only { IfOk result (λ read. (entries : List Entry) → IsTextOf timetable.now query.now entries text.now → read ≡ Some entries) }
     ensures one { HasOneListByText timetable.now query.now }
 {
-    match Reader::new(alloc, timetable, query) {
-        Ok(reader) => reader.entries(alloc, text),
+    let timeframes = Timeframes::build(alloc, timetable.feed())?;
+    match Fares::build(alloc, timetable.feed()) {
+        Ok(fares) => Reader::new(timetable, query, &timeframes, &fares).entries(alloc, text),
         Err(AllocError) => Err(AllocError),
     }
 }

@@ -3,6 +3,7 @@ ghost use Rattle.std.specs.Prelude.{◌≡◌, ◌≤◌, length, map, option_ma
 ghost use Rattle.feed_rows.specs.JourneyEntries.{rides_price};
 ghost use Rattle.feed_rows.specs.SoundFeed.{IsSoundFeed};
 ghost use Rattle.transit_base.specs.declared.moments.Money.{Money};
+ghost use Rattle.fare_timeframes.specs.BuiltTimeframes.{AreTimeframesOf};
 ghost use Rattle.ticket_read.specs.Judgement.{asked, IsNearQuery, judged, entry_of};
 ghost use Rattle.feed_rows.specs.declared.fares.Entry.{Entry};
 ghost use Rattle.ticket_read.specs.EntryTexts.{IsTextOf};
@@ -34,8 +35,8 @@ pub struct Reading {
 pub struct Reader<'s, 'f> {
     timetable: &'s Timetable<'f>,
     query: &'s Query,
-    timeframes: Timeframes,
-    fares: Fares<'f>,
+    timeframes: &'s Timeframes,
+    fares: &'s Fares<'f>,
 }
 
 // Written out, so that what holds one needn't look into it to let go of it.
@@ -59,32 +60,27 @@ impl<'s, 'f> Model for Reader<'s, 'f> {
 
     ghost view = { λ s. asked s.timetable.now s.query.now };
 
-    ghost invariant = { λ s. IsNearQuery s.query.now × AreTimeframesOf s.timetable.now s.timeframes × (s.fares ≡ s.timetable.now) };
+    ghost invariant = { λ s. IsNearQuery s.query.now × AreTimeframesOf s.timetable.now s.timeframes.now × (s.fares.now ≡ s.timetable.now) };
 }
 
 impl<'s, 'f> Reader<'s, 'f> {
-    /// The reader for the query over the timetable.
-    ///
-    /// # Errors
-    /// Want of memory.
+    /// The reader for the query over the timetable, with its timeframes and fares.
     pub fn new(
-        alloc: Global,
         timetable: &'s Timetable<'f>,
         query: &'s Query,
-    ) -> Result<Reader<'s, 'f>, AllocError>
-        requires { IsNearQuery query.now }
-        ensures value { IfOk result (λ reader. reader ≡ asked timetable.now query.now) }
-        ensures sound { IsSoundFeed timetable.now }
+        timeframes: &'s Timeframes,
+        fares: &'s Fares<'f>,
+    ) -> Reader<'s, 'f>
+        requires near { IsNearQuery query.now }
+        requires timeframes { AreTimeframesOf timetable.now timeframes.now }
+        requires fares { fares.now ≡ timetable.now }
+        ensures { result ≡ asked timetable.now query.now }
     {
-        let timeframes = Timeframes::build(alloc, timetable.feed())?;
-        match Fares::build(alloc, timetable.feed()) {
-            Ok(fares) => Ok(Reader {
-                timetable,
-                query,
-                timeframes,
-                fares,
-            }),
-            Err(AllocError) => Err(AllocError),
+        Reader {
+            timetable,
+            query,
+            timeframes,
+            fares,
         }
     }
 
@@ -98,10 +94,10 @@ impl<'s, 'f> Reader<'s, 'f> {
         requires few { length rides.now ≤ self.now.query.rides }
         ensures { IfOk result (λ price. option_map (λ (m : Money). m.0) price ≡ rides_price self.now.feed rides.now choice.now self.now.query.rider) }
     {
-        let Some(legs) = legs_of(alloc, self.timetable, &self.timeframes, rides)? else {
+        let Some(legs) = legs_of(alloc, self.timetable, self.timeframes, rides)? else {
             return Ok(None);
         };
-        Ok(verify(&self.fares, legs.as_slice(), choice, self.query.rider))
+        Ok(verify(self.fares, legs.as_slice(), choice, self.query.rider))
     }
 
     // The entry of a journey and a choice; none where they are none of the query.

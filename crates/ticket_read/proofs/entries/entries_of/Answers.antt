@@ -2,16 +2,19 @@ use Rattle.ticket_read.proofs.EntryLaws.{one_list_by_text}
 use Rattle.ticket_read.proofs.entries.entries_of.Goals as goal
 
 pub entries-requires : goal.entries-requires
-entries-requires c = rw c.in-Ok.ensures.value c.in-Ok.ensures.sound
+entries-requires c = rw c.new.ensures c.feed.ensures.sound
 
 pub returns-in-Ok-clause-told : goal.returns-in-Ok-clause-told
-returns-in-Ok-clause-told c = rw c.in-Ok.ensures.value at c.entries.ensures.told
+returns-in-Ok-clause-told c = rw c.new.ensures at c.entries.ensures.told
 
 pub returns-in-Ok-clause-only : goal.returns-in-Ok-clause-only
-returns-in-Ok-clause-only c = rw c.in-Ok.ensures.value at c.entries.ensures.only
+returns-in-Ok-clause-only c = rw c.new.ensures at c.entries.ensures.only
 
 pub returns-in-Ok-clause-one : goal.returns-in-Ok-clause-one
-returns-in-Ok-clause-one c = one_list_by_text c.args.timetable.now c.args.query.now c.new.ensures.sound
+returns-in-Ok-clause-one c = one_list_by_text c.args.timetable.now c.args.query.now c.feed.ensures.sound
 
-pub returns-in-Err-clause-one : goal.returns-in-Err-clause-one
-returns-in-Err-clause-one c = one_list_by_text c.args.timetable.now c.args.query.now c.new.ensures.sound
+pub returns-clause-one : goal.returns-clause-one
+returns-clause-one c = one_list_by_text c.args.timetable.now c.args.query.now c.feed.ensures.sound
+
+pub returns-in_err-timeframes-clause-one : goal.returns-in_err-timeframes-clause-one
+returns-in_err-timeframes-clause-one c = one_list_by_text c.args.timetable.now c.args.query.now c.feed.ensures.sound
