@@ -1,6 +1,8 @@
 -- What can be paid for a leg is decided by all but its moments.
 use Rattle.std.proofs.Common.{◌≡◌, refl, sym, ◌∙◌, ap, subst, ℕ, ◌<◌, List, [], ◌∷◌, ◌++◌, length, All, Option, Some, None}
-use Rattle.std.specs.Prelude.{slice_get, option_map}
+use Rattle.std.specs.Prelude.{slice_get, option_map, Result, Ok, Err, IfOk, OnOk, OnErr}
+use Rattle.std.specs.declared.alloc.AllocError.{AllocError}
+use Rattle.std.proofs.lemmas.List.Elements.{All-push}
 use Rattle.std.specs.Option.{option_map_or}
 use Rattle.std.proofs.lemmas.Option.{same_Some, slice_get_within}
 use Rattle.transit_base.specs.declared.numbers.RiderId.{RiderId}
@@ -50,16 +52,18 @@ picks_kept terms lists leg number all kind = by (slice_get lists number) refl ki
         (subst (λ (k : LegFacts). ArePicks terms.feed terms.rider k own.items) (same_Some own.kind (timeless leg) e)
         (All-slice_get (HasPicks terms) lists number own at all))
 
--- a list that is kept last is of its kind, and the others stay so
-pub kind_last : (lists more : List (KindList LegChoice)) (leg : LegFacts) (picks : List LegChoice) (number : ℕ) → more ≡ lists ++ kept_for leg picks ∷ []
-    → number ≡ length lists → IsOfKind more leg number
-kind_last lists more leg picks number is last =
+-- a list that is kept last is of its kind
+pub kind_last : (lists more : List (KindList LegChoice)) (leg : LegFacts) (picks : List LegChoice) (result : Result ℕ AllocError)
+    → IfOk result (λ number. number ≡ length lists) → OnOk result (more ≡ lists ++ kept_for leg picks ∷ []) → IfOk result (IsOfKind more leg)
+kind_last lists more leg picks (Ok number) last is =
     ap (λ (ls : List (KindList LegChoice)). option_map (λ (l : KindList LegChoice). l.kind) (slice_get ls number)) is
     ∙ ap (option_map (λ (l : KindList LegChoice). l.kind)) (slice_get-push_last lists (kept_for leg picks) number last)
+kind_last lists more leg picks (Err e) last is = tt
 
-pub kind_still : (lists more : List (KindList LegChoice)) (own : KindList LegChoice) (leg : LegFacts) (number : ℕ) → more ≡ lists ++ own ∷ []
-    → IsOfKind lists leg number → IsOfKind more leg number
-kind_still lists more own leg number is before =
+-- and the others stay so, whether it is kept or not
+pub kind_still : (lists more : List (KindList LegChoice)) (own : KindList LegChoice) (leg : LegFacts) (number : ℕ) (result : Result ℕ AllocError)
+    → OnOk result (more ≡ lists ++ own ∷ []) → OnErr result (more ≡ lists) → IsOfKind lists leg number → IsOfKind more leg number
+kind_still lists more own leg number (Ok kept) is same before =
     ap (λ (ls : List (KindList LegChoice)). option_map (λ (l : KindList LegChoice). l.kind) (slice_get ls number)) is
     ∙ ap (option_map (λ (l : KindList LegChoice). l.kind)) (slice_get-push_before lists own number (within (slice_get lists number) refl before)) ∙ before
   where
@@ -67,3 +71,10 @@ kind_still lists more own leg number is before =
         → number < length lists
     within None at e = absurd (cc)
     within (Some o) at e = slice_get_within lists number o at
+kind_still lists more own leg number (Err e) is same before = subst (λ ls. IsOfKind ls leg number) (sym same) before
+
+-- and each holds what can be paid
+pub picks_still : (terms : FareTerms) (lists more : List (KindList LegChoice)) (own : KindList LegChoice) (result : Result ℕ AllocError)
+    → OnOk result (more ≡ lists ++ own ∷ []) → OnErr result (more ≡ lists) → All (HasPicks terms) lists → HasPicks terms own → All (HasPicks terms) more
+picks_still terms lists more own (Ok number) is same all has = subst (All (HasPicks terms)) (sym is) (All-push (HasPicks terms) lists own all has)
+picks_still terms lists more own (Err e) is same all has = subst (All (HasPicks terms)) (sym same) all

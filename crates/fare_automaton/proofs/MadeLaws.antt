@@ -25,7 +25,7 @@ use Rattle.fare_automaton.specs.Changes.{leg_of}
 use Rattle.fare_automaton.specs.Options.{ArePicks, HasPlaces, place_list, first_made, next_made, made_at}
 use Rattle.fare_laws.specs.BareMoves.{bare}
 use Rattle.fare_laws.proofs.MoveLaws.{place_by, first_tells, first_is_bare, first_when, next_tells, next_when}
-use Rattle.fare_automaton.proofs.OptionLaws.{added_more, are_places}
+use Rattle.fare_automaton.proofs.OptionLaws.{are_places}
 
 -- the list of the option with this number
 pub made_of : (made : LegChoice → List Move) (picks : List LegChoice) (i : ℕ) (pick : LegChoice) → slice_get picks i ≡ Some pick →
@@ -33,12 +33,13 @@ pub made_of : (made : LegChoice → List Move) (picks : List LegChoice) (i : ℕ
 made_of made picks i pick is = rw is refl
 
 -- the lists so far, with that of the next option
-pub added_made : (old before now : List Move) (made : LegChoice → List Move) (picks : List LegChoice) (i : ℕ) (d : LegChoice) → i < length picks →
-    before ≡ old ++ joined_below i (made_at made picks) → now ≡ before ++ made (get_or picks i d) →
-    now ≡ old ++ joined_below (i + 1) (made_at made picks)
-added_made old before now made picks i d lt is more =
-    added_more old before now i (made_at made picks) is
-    (more ∙ ap (λ (xs : List Move). before ++ xs) (sym (made_of made picks i (get_or picks i d) (slice_get-get_or picks i d lt))))
+pub added_made : (before now : List Move) (made : LegChoice → List Move) (picks : List LegChoice) (i : ℕ) (d : LegChoice) → i < length picks →
+    before ≡ joined_below i (made_at made picks) → now ≡ before ++ made (get_or picks i d) → now ≡ joined_below (i + 1) (made_at made picks)
+added_made before now made picks i d lt is more =
+    let next : i + 1 ≡ suc i = omega arith in
+    more ∙ ap (λ (xs : List Move). xs ++ made (get_or picks i d)) is
+    ∙ ap (λ (xs : List Move). joined_below i (made_at made picks) ++ xs) (sym (made_of made picks i (get_or picks i d) (slice_get-get_or picks i d lt)))
+    ∙ ap (λ (k : ℕ). joined_below k (made_at made picks)) (sym next)
 
 -- the moves are exactly those of this pick, each once
 record AreOf (step : Move → Option Move) (pick : LegChoice) (moves : List Move) : Type 0 where

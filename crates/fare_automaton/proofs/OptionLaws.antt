@@ -29,13 +29,6 @@ use Rattle.fare_automaton.proofs.PickedLaws.{flat_map-picks, map-picks}
 
 -- ---- lists
 
--- the lists so far, with the next
-pub added_more : {X : Type 0} (old before now : List X) (n : ℕ) (f : ℕ → List X) → before ≡ old ++ joined_below n f →
-    now ≡ before ++ f n → now ≡ old ++ joined_below (n + 1) f
-added_more old before now n f is made =
-    let next : n + 1 ≡ suc n = omega arith in
-    made ∙ ap (λ xs. xs ++ f n) is ∙ append_assoc old (joined_below n f) (f n) ∙ ap (λ (k : ℕ). old ++ joined_below k f) (sym next)
-
 -- what a list of one holds, where there is one
 one_if : {X : Type 0} (b : Bool) (x y : X) → Contains (if b then x ∷ [] else []) y → (b ≡ true) × (x ≡ y)
 one_if true x y (zero, lt, is) = (refl, is)

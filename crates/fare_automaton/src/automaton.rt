@@ -115,13 +115,6 @@ impl<'f> Automaton<'f> {
         feed
     }
 
-    /// The rider.
-    pub(crate) fn rider(&self) -> Option<RiderId>
-        ensures { result ≡ self.now.rider }
-    {
-        self.rider
-    }
-
     /// The row of `fare_leg_rules.txt` with this number.
     pub(crate) fn leg_row(&self, rule: RuleId) -> Option<&'f LegRuleRow>
         ensures { option_copied result ≡ slice_get self.now.feed.leg_rules rule.0 }

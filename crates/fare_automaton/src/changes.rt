@@ -39,17 +39,18 @@ pub struct Change {
 pub fn change_after(state: &FareState, next: &GroupedLeg) -> Option<Change>
     ensures { option_map asked_of result ≡ asked_after state.now (leg_of next.now) }
 {
-    let from = state.group?;
-    let to = next.group?;
-    Some(Change {
-        from,
-        to,
-        count: count_after(state.count, from, to),
-        departure: state.departure,
-        arrival: state.arrival,
-        next_departure: next.departure,
-        next_arrival: next.arrival,
-    })
+    match (state.group, next.group) {
+        (Some(from), Some(to)) => Some(Change {
+            from,
+            to,
+            count: count_after(state.count, from, to),
+            departure: state.departure,
+            arrival: state.arrival,
+            next_departure: next.departure,
+            next_arrival: next.arrival,
+        }),
+        _ => None,
+    }
 }
 
 /// The count of a change between these groups after so many changes.

@@ -1,7 +1,6 @@
 //! Whether row numbers are an option for a leg after a fare state.
 ghost use Rattle.std.specs.Prelude.{◌≡◌, ◌&&◌, ◌==◌, option_map, is_none};
 ghost use Rattle.plain_laws.specs.Plain.{at_and, empty_or, filled_and};
-ghost use Rattle.feed_rows.specs.LegRules.{is_selected_rule};
 ghost use Rattle.feed_rows.specs.FareChoices.{is_open, chosen_leg, is_leg_choice, is_change_product};
 ghost use Rattle.feed_rows.specs.FareSteps.{leg_taken, place_taken, is_whole, is_row_after, is_place_after};
 ghost use Rattle.fare_automaton.specs.Changes.{leg_of, asked_of};
@@ -9,41 +8,32 @@ ghost use Rattle.fare_automaton.specs.Changes.{leg_of, asked_of};
 use crate::automaton::Automaton;
 use crate::changes::{Change, GroupedLeg};
 use feed_rows::{ChangeChoice, LegChoice, LegFacts, Move, ProductRow};
-use transit_base::{ProductId, ProductRowId, RiderId, RuleId};
+use transit_base::{ProductId, ProductRowId, RiderId};
 
 impl<'f> Automaton<'f> {
     /// The leg as changes see it, with the leg group of the rule; none where there is no such rule.
     pub(crate) fn chosen_leg(&self, leg: &LegFacts, pick: &LegChoice) -> Option<GroupedLeg>
         ensures { option_map leg_of result ≡ chosen_leg self.now.feed leg.now pick.now }
     {
-        let rule = self.leg_row(pick.rule)?;
-        Some(GroupedLeg {
-            group: rule.group,
-            departure: leg.departure,
-            arrival: leg.arrival,
-        })
+        match self.leg_row(pick.rule) {
+            Some(rule) => Some(GroupedLeg {
+                group: rule.group,
+                departure: leg.departure,
+                arrival: leg.arrival,
+            }),
+            None => None,
+        }
     }
 
     /// Whether the leg selects the rule, and the row is an open row of its product.
     pub(crate) fn is_leg_choice(&self, leg: &LegFacts, taken: &Move) -> bool
         ensures { result ≡ is_leg_choice self.now.feed self.now.rider leg.now (leg_taken taken.now) }
     {
-        self.selects_rule(leg, taken.rule) && self.is_row_of_rule(taken.rule, taken.product)
-    }
-
-    /// Whether the leg selects the rule.
-    pub(crate) fn selects_rule(&self, leg: &LegFacts, rule: RuleId) -> bool
-        ensures { result ≡ at_and self.now.feed.leg_rules rule.0 (is_selected_rule self.now.feed leg.now) }
-    {
-        self.leg_rules.selects(leg, rule)
-    }
-
-    /// Whether the row is an open row of the rule's product.
-    pub(crate) fn is_row_of_rule(&self, rule: RuleId, row: ProductRowId) -> bool
-        ensures { result ≡ at_and self.now.feed.leg_rules rule.0 (λ r. at_and self.now.feed.products row.0 (is_open r.product self.now.rider)) }
-    {
-        match self.leg_row(rule) {
-            Some(own) => self.is_open_row(own.product, row),
+        match self.leg_row(taken.rule) {
+            Some(own) => {
+                self.leg_rules.selects(leg, taken.rule)
+                    && self.is_open_row(own.product, taken.product)
+            }
             None => false,
         }
     }
@@ -53,7 +43,7 @@ impl<'f> Automaton<'f> {
         ensures { result ≡ at_and self.now.feed.products row.0 (is_open product self.now.rider) }
     {
         match self.product_row(row) {
-            Some(priced) => is_open(product, self.rider(), priced),
+            Some(priced) => is_open(product, self.rider, priced),
             None => false,
         }
     }
@@ -63,10 +53,12 @@ impl<'f> Automaton<'f> {
     fn is_change_product(&self, product: Option<ProductId>, row: Option<ProductRowId>) -> bool
         ensures { result ≡ is_change_product self.now.feed self.now.rider product row }
     {
-        match (product, row) {
-            (Some(named), Some(chosen)) => self.is_open_row(named, chosen),
-            (None, None) => true,
-            _ => false,
+        match product {
+            Some(named) => match row {
+                Some(chosen) => self.is_open_row(named, chosen),
+                None => false,
+            },
+            None => row.is_none(),
         }
     }
 
@@ -87,11 +79,12 @@ impl<'f> Automaton<'f> {
     pub(crate) fn is_place_after(&self, change: Option<Change>, place: Option<ChangeChoice>) -> bool
         ensures { result ≡ is_place_after self.now.feed self.now.rider (option_map asked_of change) place }
     {
-        match (change, place) {
-            (Some(asked), Some(pick)) => self.is_row_after(&asked, &pick),
-            (Some(asked), None) => !self.is_arranged(&asked),
-            (None, Some(_)) => false,
-            (None, None) => true,
+        match change {
+            Some(asked) => match place {
+                Some(pick) => self.is_row_after(&asked, &pick),
+                None => !self.is_arranged(&asked),
+            },
+            None => place.is_none(),
         }
     }
 }

@@ -64,8 +64,7 @@ impl<'a, 'f> KnownOptions<'a, 'f> {
             return Ok(number);
         }
         let picks = self.automaton.options(alloc, leg)?;
-        let number = self.table.keep(alloc, leg, picks)?;
-        Ok(number)
+        self.table.keep(alloc, leg, picks)
     }
 
     /// What is kept under the number, which is what can be paid for each leg of its kind.

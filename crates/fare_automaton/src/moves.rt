@@ -177,9 +177,13 @@ impl<'f> Automaton<'f> {
     fn place_kind(&self, place: Option<ChangeChoice>) -> Option<u8>
         ensures { result ≡ place_kind self.now.feed place }
     {
-        let pick = place?;
-        let row = self.transfer_row(pick.rule)?;
-        Some(row.kind)
+        match place {
+            Some(pick) => match self.transfer_row(pick.rule) {
+                Some(row) => Some(row.kind),
+                None => None,
+            },
+            None => None,
+        }
     }
 
     /// What the place of a change adds to the sum, in minor units.

@@ -1,9 +1,8 @@
 //! What can be paid for a leg, and what may fill the place of a change.
-ghost use Rattle.std.specs.Prelude.{◌≡◌, ◌++◌, flat_map, map, option_map, IfOk, OnOk, Some};
+ghost use Rattle.std.specs.Prelude.{◌≡◌, ◌++◌, [], ◌∷◌, flat_map, map, option_map, IfOk, OnOk, Some};
 ghost use Rattle.transit_base.specs.declared.numbers.ProductRowId.{ProductRowId};
 ghost use Rattle.transit_base.specs.declared.numbers.RuleId.{RuleId};
 ghost use Rattle.fare_transfer_rules.specs.declared.groups.ClassedRow.{ClassedRow};
-ghost use Rattle.feed_rows.specs.LegRules.{selected_rules};
 ghost use Rattle.fare_automaton.specs.Changes.{asked_of};
 ghost use Rattle.fare_automaton.specs.Options.{ArePicks, pick_of, rule_picks, place_of, product_places, chosen_places, place_list};
 
@@ -11,7 +10,7 @@ use crate::automaton::Automaton;
 use crate::changes::Change;
 use crate::rows::is_chosen;
 use fare_transfer_rules::ClassedRow;
-use feed_rows::{ChangeChoice, LegChoice, LegFacts, RuleList};
+use feed_rows::{ChangeChoice, LegChoice, LegFacts};
 use std::alloc::{AllocError, Global};
 use transit_base::{ProductId, ProductRowId, RuleId, XferId};
 
@@ -24,17 +23,10 @@ impl<'f> Automaton<'f> {
     pub fn options(&self, alloc: Global, leg: &LegFacts) -> Result<Vec<LegChoice>, AllocError>
         ensures { IfOk result (λ picks. ArePicks self.now.feed self.now.rider leg.now picks.items) }
     {
-        let rules = self.selected_rules(alloc, leg)?;
+        let rules = self.leg_rules.selected(alloc, leg)?;
         let mut picks = Vec::new(alloc);
         self.push_picks(rules.items(), &mut picks)?;
         Ok(picks)
-    }
-
-    /// The rules that the leg selects, in file order.
-    fn selected_rules(&self, alloc: Global, leg: &LegFacts) -> Result<RuleList, AllocError>
-        ensures { IfOk result (λ rules. rules ≡ selected_rules self.now.feed leg.now) }
-    {
-        self.leg_rules.selected(alloc, leg)
     }
 
     /// Adds each of the rules with each open row of its product.
@@ -73,10 +65,7 @@ impl<'f> Automaton<'f> {
         places.clear();
         match change {
             Some(asked) => self.add_places(&asked, places),
-            None => {
-                places.push(None)?;
-                Ok(())
-            }
+            None => push_place(places, None),
         }
     }
 
@@ -93,8 +82,7 @@ impl<'f> Automaton<'f> {
         if least.is_some() {
             self.push_places(change, least, among, places)
         } else {
-            places.push(None)?;
-            Ok(())
+            push_place(places, None)
         }
     }
 
@@ -145,11 +133,11 @@ impl<'f> Automaton<'f> {
         match product {
             Some(own) => push_product_rows(rule, self.open_rows(own), places),
             None => {
-                places.push(Some(ChangeChoice {
+                let alone = ChangeChoice {
                     rule,
                     product: None,
-                }))?;
-                Ok(())
+                };
+                push_place(places, Some(alone))
             }
         }
     }
@@ -181,10 +169,24 @@ fn push_product_rows(
     ensures { OnOk result (places.new.items ≡ places.old.items ++ map (λ (row : ProductRowId). place_of rule.0 (Some row.0)) rows.now) }
 {
     for row in rows {
-        places.push(Some(ChangeChoice {
+        let place = ChangeChoice {
             rule,
             product: Some(*row),
-        }))?;
+        };
+        push_place(places, Some(place))?;
     }
     Ok(())
+}
+
+/// Adds the place.
+fn push_place(
+    places: &mut Vec<Option<ChangeChoice>>,
+    place: Option<ChangeChoice>,
+) -> Result<(), AllocError>
+    ensures { OnOk result (places.new.items ≡ places.old.items ++ place ∷ []) }
+{
+    match places.push(place) {
+        Ok(()) => Ok(()),
+        Err(_) => Err(AllocError),
+    }
 }

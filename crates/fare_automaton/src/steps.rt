@@ -2,7 +2,6 @@
 ghost use Rattle.std.specs.Prelude.{◌≡◌, ◌≤◌, ◌^◌, ◌++◌, length, map, nat_abs, IfOk, OnOk, IsTrue, Some, None, [], ◌∷◌};
 ghost use Rattle.std.specs.Option.{ForSome};
 ghost use Rattle.plain_laws.specs.Plain.{joined_below};
-ghost use Rattle.feed_rows.specs.declared.states.FareState.{FareState};
 ghost use Rattle.feed_rows.specs.FareSteps.{next_move};
 ghost use Rattle.fare_automaton.specs.Steps.{AreStarts, AreSteps};
 ghost use Rattle.fare_automaton.specs.Changes.{leg_of};
@@ -65,18 +64,6 @@ impl<'f> Automaton<'f> {
         ensures { OnOk result (AreStarts self.now.feed self.now.rider leg.now moves.new.items) }
     {
         moves.clear();
-        self.push_starts(leg, options, moves)
-    }
-
-    /// Adds the moves of a first leg with these options.
-    fn push_starts(
-        &self,
-        leg: &LegFacts,
-        options: &[LegChoice],
-        moves: &mut Vec<Move>,
-    ) -> Result<(), AllocError>
-        ensures { OnOk result (moves.new.items ≡ moves.old.items ++ joined_below (length options.now) (made_at (first_made self.now.feed leg.now) options.now)) }
-    {
         for number in 0..options.len() {
             self.push_first(leg, &options[number], moves)?;
         }
@@ -120,22 +107,6 @@ impl<'f> Automaton<'f> {
         ensures { OnOk result (AreSteps self.now.feed self.now.rider state.now held.0 leg.now moves.new.items) }
     {
         moves.clear();
-        self.push_steps(state, held, leg, options, places, moves)
-    }
-
-    /// Adds the moves of a leg with these options after the state.
-    fn push_steps(
-        &self,
-        state: &FareState,
-        held: Money,
-        leg: &LegFacts,
-        options: &[LegChoice],
-        places: &mut Vec<Option<ChangeChoice>>,
-        moves: &mut Vec<Move>,
-    ) -> Result<(), AllocError>
-        requires held { nat_abs held.0 ≤ 10 ^ 16 }
-        ensures { OnOk result (moves.new.items ≡ moves.old.items ++ joined_below (length options.now) (made_at (next_made self.now.feed self.now.rider state.now held.0 leg.now) options.now)) }
-    {
         let mut known = None;
         for number in 0..options.len() {
             known = self.push_next(state, held, leg, &options[number], known, places, moves)?;
@@ -204,39 +175,30 @@ impl<'f> Automaton<'f> {
         ensures { OnOk result (moves.new.items ≡ moves.old.items ++ map (λ place. next_move self.now.feed state.now held.0 (leg_of next.now) (bare pick.now place)) places.now) }
     {
         for place in places {
-            self.push_move(state, held, next, pick, *place, moves)?;
+            moves.push(self.move_by(state, held, next, pick, *place))?;
         }
         Ok(())
     }
 
-    /// Adds the move of the leg by this place of the change to it.
-    fn push_move(
+    /// The move of the leg by this place of the change to it. Where the change isn't arranged, what was held is paid, and
+    /// the leg is held as a first one is.
+    fn move_by(
         &self,
         state: &FareState,
         held: Money,
         next: &GroupedLeg,
         pick: &LegChoice,
         place: Option<ChangeChoice>,
-        moves: &mut Vec<Move>,
-    ) -> Result<(), AllocError>
+    ) -> Move
         requires held { nat_abs held.0 ≤ 10 ^ 16 }
-        ensures { OnOk result (moves.new.items ≡ moves.old.items ++ next_move self.now.feed state.now held.0 (leg_of next.now) (bare pick.now place) ∷ []) }
+        ensures { result ≡ next_move self.now.feed state.now held.0 (leg_of next.now) (bare pick.now place) }
     {
         match place {
-            Some(_) => moves.push(self.next_move(state, held, next, &bare(pick, place)))?,
-            None => moves.push(self.unarranged_move(held, next, pick))?,
-        }
-        Ok(())
-    }
-
-    /// The move of a leg to which the change isn't arranged: what was held is paid, and the leg is held as a first one
-    /// is.
-    fn unarranged_move(&self, held: Money, next: &GroupedLeg, pick: &LegChoice) -> Move
-        ensures { (state : FareState) → result ≡ next_move self.now.feed state held.0 (leg_of next.now) (bare pick.now None) }
-    {
-        Move {
-            paid: held,
-            ..self.first_move(next, &bare(pick, None))
+            Some(_) => self.next_move(state, held, next, &bare(pick, place)),
+            None => Move {
+                paid: held,
+                ..self.first_move(next, &bare(pick, None))
+            },
         }
     }
 }

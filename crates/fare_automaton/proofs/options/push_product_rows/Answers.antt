@@ -8,4 +8,4 @@ use Rattle.fare_automaton.proofs.options.push_product_rows.Goals as goal
 pub loop-row-preserved : goal.loop-row-preserved
 loop-row-preserved c =
     map_added (λ (row : ProductRowId). place_of c.args.rule.0 (Some row.0)) c.args.rows.now c.loop-row.row-index _ _ _ _
-    c.loop-row-test.true c.loop-row.invariant c.in_ok-push.ensures.items
+    c.loop-row-test.true c.loop-row.invariant c.in_ok-push_place.ensures

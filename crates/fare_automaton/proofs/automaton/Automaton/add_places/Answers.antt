@@ -23,11 +23,12 @@ returns-then-is_some c =
     ∙ list_arranged feed rider change (c.if-is_some.ensures ∙ some_is feed change among are least is_least)))
     c.push_places.ensures
 
-pub returns-in_ok-push : goal.returns-in_ok-push
-returns-in_ok-push c =
+pub returns-else-is_some : goal.returns-else-is_some
+returns-else-is_some c =
     let feed = c.args.self.now.feed in
     let change = asked_of c.args.change.now in
-    c.in_ok-push.ensures.items
-    ∙ ap (λ (xs : List (Option ChangeChoice)). c.args.places.now.items ++ xs)
+    on_ok_weaker c.push_place.result
+    (λ is. is ∙ ap (λ (xs : List (Option ChangeChoice)). c.args.places.now.items ++ xs)
     (list_unarranged feed c.args.self.now.rider change
-    (c.if-is_some.ensures ∙ some_is feed change c.rows_between-among.result.now c.rows_between-among.ensures c.least_count-least.result c.least_count-least.ensures))
+    (c.if-is_some.ensures ∙ some_is feed change c.rows_between-among.result.now c.rows_between-among.ensures c.least_count-least.result c.least_count-least.ensures)))
+    c.push_place.ensures

@@ -3,6 +3,8 @@ use Rattle.std.proofs.Common.{◌∙◌, ap, List, ◌++◌}
 use Rattle.std.specs.Prelude.{flat_map}
 use Rattle.transit_base.specs.declared.numbers.RuleId.{RuleId}
 use Rattle.feed_rows.specs.declared.fares.LegChoice.{LegChoice}
+use Rattle.feed_rows.specs.LegRules.{selected_rules}
+use Rattle.fare_automaton.specs.Terms.{FareTerms}
 use Rattle.fare_automaton.specs.Options.{rule_picks}
 use Rattle.fare_automaton.proofs.OptionLaws.{are_picks, picks_are}
 use Rattle.fare_automaton.proofs.automaton.Automaton.options.Goals as goal
@@ -15,4 +17,4 @@ returns c =
     are_picks feed rider c.args.leg.now c.push_picks.new.picks.items
     (c.in_ok-push_picks.ensures
     ∙ ap (λ (xs : List LegChoice). xs ++ of_rules c.items.result.now) c.new-picks.ensures.items
-    ∙ ap of_rules (c.items.ensures.value ∙ c.in_ok-rules.ensures) ∙ picks_are feed rider c.args.leg.now)
+    ∙ ap of_rules (c.items.ensures.value ∙ c.in_ok-rules.ensures _ c.self.invariant.0 ∙ ap (λ (t : FareTerms). selected_rules t.feed c.args.leg.now) c.self.view_is) ∙ picks_are feed rider c.args.leg.now)

@@ -1,12 +1,18 @@
--- The moves of all options are all that there are.
-use Rattle.std.proofs.Common.{◌∙◌, ap, List, ◌++◌, length}
-use Rattle.std.proofs.lemmas.Result.{on_ok_weaker}
+-- The moves of one option more; and those of all options are all that there are.
+use Rattle.std.proofs.Common.{◌≡◌, ◌∙◌, ap, ℕ, length, arith}
 use Rattle.plain_laws.specs.Plain.{joined_below}
-use Rattle.feed_rows.specs.declared.states.Move.{Move}
 use Rattle.fare_automaton.specs.Options.{first_made, made_at}
-use Rattle.fare_automaton.proofs.MadeLaws.{starts_are}
+use Rattle.fare_automaton.proofs.MadeLaws.{added_made, starts_are}
 use Rattle.fare_laws.proofs.StartLaws.{start_extends}
 use Rattle.fare_automaton.proofs.automaton.Automaton.start_into.Goals as goal
+
+pub loop-number-init : goal.loop-number-init
+loop-number-init c = c.clear.ensures.items
+
+pub loop-number-preserved : goal.loop-number-preserved
+loop-number-preserved c =
+    added_made _ _ (first_made c.args.self.now.feed c.args.leg.now) c.args.options.now c.loop-number.number _ (omega arith)
+    c.loop-number.invariant c.in_ok-push_first.ensures
 
 pub returns : goal.returns
 returns c =
@@ -14,11 +20,8 @@ returns c =
     let rider = c.args.self.now.rider in
     let leg = c.args.leg.now in
     let options = c.args.options.now in
-    let moves = c.push_starts.new.moves.items in
-    let made = joined_below (length options) (made_at (first_made feed leg) options) in
-    on_ok_weaker c.push_starts.result
-    (λ is.
+    let moves = c.loop-number.moves.items in
+    let whole : c.loop-number.number ≡ length options = omega arith in
     let are = starts_are feed rider leg options moves c.requires.options
-    (is ∙ ap (λ (xs : List Move). xs ++ made) c.clear.ensures.items) in
-    record { exact = are; extends = λ choice pays. start_extends feed rider leg choice moves pays are })
-    c.push_starts.ensures
+    (c.loop-number.invariant ∙ ap (λ (n : ℕ). joined_below n (made_at (first_made feed leg) options)) whole) in
+    record { exact = are; extends = λ choice pays. start_extends feed rider leg choice moves pays are }

@@ -1,12 +1,22 @@
--- The moves of all options are all that there are.
-use Rattle.std.proofs.Common.{◌∙◌, ap, List, ◌++◌, length}
-use Rattle.std.proofs.lemmas.Result.{on_ok_weaker}
+-- The moves of one option more; and those of all options are all that there are.
+use Rattle.std.proofs.Common.{◌≡◌, ◌∙◌, ap, ℕ, length, arith}
+use Rattle.std.proofs.lemmas.Option.{none-some}
 use Rattle.plain_laws.specs.Plain.{joined_below}
-use Rattle.feed_rows.specs.declared.states.Move.{Move}
 use Rattle.fare_automaton.specs.Options.{next_made, made_at}
-use Rattle.fare_automaton.proofs.MadeLaws.{steps_are}
+use Rattle.fare_automaton.proofs.MadeLaws.{added_made, steps_are}
 use Rattle.fare_laws.proofs.ExtensionLaws.{step_extends}
 use Rattle.fare_automaton.proofs.automaton.Automaton.step_into.Goals as goal
+
+pub loop-number-init : goal.loop-number-init
+loop-number-init c = record { moves = c.clear.ensures.items; known = λ group is. absurd (none-some group is) }
+
+pub loop-number-preserved : goal.loop-number-preserved
+loop-number-preserved c = record {
+  moves = added_made _ _
+      (next_made c.args.self.now.feed c.args.self.now.rider c.args.state.now c.args.held.0 c.args.leg.now)
+      c.args.options.now c.loop-number.number _ (omega arith) c.loop-number.invariant.moves c.in_ok-known.ensures.moves;
+  known = c.in_ok-known.ensures.known;
+}
 
 pub returns : goal.returns
 returns c =
@@ -16,15 +26,12 @@ returns c =
     let held = c.args.held.0 in
     let leg = c.args.leg.now in
     let options = c.args.options.now in
-    let moves = c.push_steps.new.moves.items in
-    let made = joined_below (length options) (made_at (next_made feed rider state held leg) options) in
-    on_ok_weaker c.push_steps.result
-    (λ is.
+    let moves = c.loop-number.moves.items in
+    let whole : c.loop-number.number ≡ length options = omega arith in
     let are = steps_are feed rider state held leg options moves c.requires.options
-    (is ∙ ap (λ (xs : List Move). xs ++ made) c.clear.ensures.items) in
+    (c.loop-number.invariant.moves ∙ ap (λ (n : ℕ). joined_below n (made_at (next_made feed rider state held leg) options)) whole) in
     record {
       exact = are;
       extends = λ legs choice pays has_state has_held.
           step_extends feed rider legs choice leg state held moves pays has_state has_held are;
-    })
-    c.push_steps.ensures
+    }

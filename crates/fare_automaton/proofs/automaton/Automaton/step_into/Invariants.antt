@@ -1,14 +1,12 @@
 -- The moves of the options so far, and the places that are held.
-use Rattle.std.proofs.Common.{◌≡◌, ◌++◌}
+use Rattle.std.proofs.Common.{◌≡◌}
 use Rattle.std.specs.Option.{ForSome}
 use Rattle.plain_laws.specs.Plain.{joined_below}
 use Rattle.fare_automaton.specs.Options.{HasPlaces, next_made, made_at}
-use Rattle.fare_automaton.proofs.automaton.Automaton.push_steps.Given as goal
+use Rattle.fare_automaton.proofs.automaton.Automaton.step_into.Given as goal
 
 abbrev pub invariant-loop-number : goal.invariant-loop-number
 invariant-loop-number l = record {
-  moves : l.moves.items
-      ≡ l.fn.moves.items
-      ++ joined_below l.number (made_at (next_made l.self.feed l.self.rider l.state l.held.0 l.leg) l.options);
+  moves : l.moves.items ≡ joined_below l.number (made_at (next_made l.self.feed l.self.rider l.state l.held.0 l.leg) l.options);
   known : ForSome l.known (HasPlaces l.self.feed l.self.rider l.state l.leg l.places.items);
 }

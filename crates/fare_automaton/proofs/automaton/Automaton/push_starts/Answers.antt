@@ -1,9 +1,0 @@
--- The moves of one option more.
-use Rattle.std.proofs.Common.{arith}
-use Rattle.fare_automaton.specs.Options.{first_made}
-use Rattle.fare_automaton.proofs.MadeLaws.{added_made}
-use Rattle.fare_automaton.proofs.automaton.Automaton.push_starts.Goals as goal
-
-pub loop-number-preserved : goal.loop-number-preserved
-loop-number-preserved c =
-    added_made _ _ _ (first_made c.args.self.now.feed c.args.leg.now) c.args.options.now c.loop-number.number _ (omega arith) c.loop-number.invariant c.in_ok-push_first.ensures
