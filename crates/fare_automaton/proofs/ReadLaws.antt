@@ -17,7 +17,7 @@ use Rattle.feed_rows.specs.declared.rows.TransferRuleRow.{TransferRuleRow}
 use Rattle.feed_rows.specs.FeedRows.{FeedRows}
 use Rattle.feed_rows.specs.SoundFares.{AreSoundProducts}
 use Rattle.feed_rows.specs.FareChoices.{is_open, open_rows}
-use Rattle.feed_rows.specs.FareStates.{is_within, count_within, greatest_count, is_clock_read}
+use Rattle.feed_rows.specs.FareStates.{is_within, count_within, greatest_count, is_clock_read, counts_from_departure, counts_from_arrival}
 use Rattle.plain_laws.specs.Plain.{at_and, filled_and, list_below, picks_below}
 use Rattle.plain_laws.proofs.Laws.{All-slice_get, length-list_below, slice_get-list_below, picks_below-none}
 use Rattle.fare_transfer_rules.specs.declared.groups.ClassedRow.{ClassedRow}
@@ -60,7 +60,7 @@ greatest_picked {X} {Y} rows test id f h same (suc n) le = step (slice_get_cases
     step (inr past) before = absurd (let le' = past.0 in omega arith)
 
 -- the greatest count of the rows for changes within the group
-pub greatest_is : (feed : FeedRows) (group : LegGroupId) (rows : List TransferRuleRow) (among : List ClassedRow) → rows ≡ feed.transfer_rules
+greatest_is : (feed : FeedRows) (group : LegGroupId) (rows : List TransferRuleRow) (among : List ClassedRow) → rows ≡ feed.transfer_rules
     → AreRowsBetween feed group group among → fold max 0 (map (λ (r : ClassedRow). count_at rows r.row) among) ≡ greatest_count feed group
 unfolding greatest_count
 greatest_is feed group rows among same are =
@@ -72,10 +72,24 @@ greatest_is feed group rows among same are =
     ∙ ap (λ rs. fold max 0 (map (count_within feed group) rs)) (take_all (length feed.transfer_rules) feed.transfer_rules (omega arith))
 
 -- a limit of such a type that one of the rows from the group has
-pub limits_are : (feed : FeedRows) (group : LegGroupId) (counts : ℕ → Bool) (rows : List TransferRuleRow) (among : List ClassedRow) → rows ≡ feed.transfer_rules
+limits_are : (feed : FeedRows) (group : LegGroupId) (counts : ℕ → Bool) (rows : List TransferRuleRow) (among : List ClassedRow) → rows ≡ feed.transfer_rules
     → AreRowsFrom feed group among → some_limit counts rows among ≡ is_clock_read feed counts group
 unfolding is_clock_read
 limits_are feed group counts rows among same are = ap (λ rs. some_limit counts rs among) same ∙ are (has_limit counts)
+
+-- what the rows within the group and from it say is what is read
+pub reads_are : (feed : FeedRows) (group : LegGroupId) (rows : List TransferRuleRow) (within from : List ClassedRow) (count : ℕ) (departure arrival : Bool)
+    → rows ≡ feed.transfer_rules → AreRowsBetween feed group group within → AreRowsFrom feed group from
+    → count ≡ fold max 0 (map (λ (r : ClassedRow). count_at rows r.row) within)
+    → departure ≡ some_limit counts_from_departure rows from → arrival ≡ some_limit counts_from_arrival rows from
+    → record { greatest_count = count; departure = departure; arrival = arrival } ≡ reads_of feed group
+reads_are feed group rows within from count departure arrival same are_within are_from is_count is_departure is_arrival =
+    let greatest : count ≡ greatest_count feed group = is_count ∙ greatest_is feed group rows within same are_within in
+    let departs : departure ≡ is_clock_read feed counts_from_departure group =
+    is_departure ∙ limits_are feed group counts_from_departure rows from same are_from in
+    let arrives : arrival ≡ is_clock_read feed counts_from_arrival group =
+    is_arrival ∙ limits_are feed group counts_from_arrival rows from same are_from in
+    rw (greatest, departs, arrives) refl
 
 -- what is kept for a group
 pub read_is : (feed : FeedRows) (reads : List GroupReads) (group : LegGroupId) (own : GroupReads) → AreReads feed reads

@@ -23,20 +23,21 @@ impl<'f> Automaton<'f> {
     pub fn options(&self, alloc: Global, leg: &LegFacts) -> Result<Vec<LegChoice>, AllocError>
         ensures { IfOk result (λ picks. ArePicks self.now.feed self.now.rider leg.now picks.items) }
     {
-        let rules = self.leg_rules.selected(alloc, leg)?;
-        let mut picks = Vec::new(alloc);
-        self.push_picks(rules.items(), &mut picks)?;
-        Ok(picks)
+        match self.leg_rules.selected(alloc, leg) {
+            Ok(rules) => self.picks_of(alloc, rules.items()),
+            Err(AllocError) => Err(AllocError),
+        }
     }
 
-    /// Adds each of the rules with each open row of its product.
-    fn push_picks(&self, rules: &[RuleId], picks: &mut Vec<LegChoice>) -> Result<(), AllocError>
-        ensures { OnOk result (picks.new.items ≡ picks.old.items ++ flat_map (λ (rule : RuleId). rule_picks self.now.feed self.now.rider rule.0) rules.now) }
+    /// Each of the rules with each open row of its product.
+    fn picks_of(&self, alloc: Global, rules: &[RuleId]) -> Result<Vec<LegChoice>, AllocError>
+        ensures { IfOk result (λ picks. picks.items ≡ flat_map (λ (rule : RuleId). rule_picks self.now.feed self.now.rider rule.0) rules.now) }
     {
+        let mut picks = Vec::new(alloc);
         for rule in rules {
-            self.push_rule(*rule, picks)?;
+            self.push_rule(*rule, &mut picks)?;
         }
-        Ok(())
+        Ok(picks)
     }
 
     /// Adds the rule with each open row of its product.

@@ -1,7 +1,6 @@
 //! What the rows of `fare_transfer_rules.txt` read of changes from each leg group, found once.
 ghost use Rattle.std.specs.Prelude.{◌≡◌, IfOk, fold, map, max, slice_get};
 ghost use Rattle.std.specs.Option.{option_copied};
-ghost use Rattle.feed_rows.specs.FareStates.{greatest_count, is_clock_read};
 ghost use Rattle.plain_laws.specs.Plain.{at_and, filled_and};
 ghost use Rattle.fare_transfer_rules.specs.declared.groups.ClassedRow.{ClassedRow};
 ghost use Rattle.fare_transfer_rules.specs.BuiltTransferRules.{AreXferRulesOf};
@@ -56,19 +55,13 @@ pub fn reads_of(feed: &Feed, rules: &XferRules, group: LegGroupId) -> GroupReads
     requires { AreXferRulesOf feed.now rules.now }
     ensures { result ≡ reads_of feed.now group }
 {
+    let rows = feed.transfer_rules.items();
+    let from = rules.rows_from(group);
     GroupReads {
-        greatest_count: greatest_count(feed, rules, group),
-        departure: reads_clock(feed, rules, group, Clock::Departure),
-        arrival: reads_clock(feed, rules, group, Clock::Arrival),
+        greatest_count: greatest_among(rows, rules.rows_between(group, group)),
+        departure: some_limit(rows, from, Clock::Departure),
+        arrival: some_limit(rows, from, Clock::Arrival),
     }
-}
-
-/// The greatest number of changes within the group that a row counts; 0 where none does.
-fn greatest_count(feed: &Feed, rules: &XferRules, group: LegGroupId) -> u32
-    requires { AreXferRulesOf feed.now rules.now }
-    ensures { result ≡ greatest_count feed.now group }
-{
-    greatest_among(transfer_rows(feed), rules.rows_between(group, group))
 }
 
 /// The greatest count of these rows; 0 where none is a number.
@@ -90,14 +83,6 @@ fn count_at(rows: &[TransferRuleRow], row: XferId) -> u32
         Some(own) => own.count.unwrap_or(0),
         None => 0,
     }
-}
-
-/// Whether a row from the group has a limit that counts from this clock.
-fn reads_clock(feed: &Feed, rules: &XferRules, group: LegGroupId, clock: Clock) -> bool
-    requires { AreXferRulesOf feed.now rules.now }
-    ensures { result ≡ is_clock_read feed.now (counts_from clock) group }
-{
-    some_limit(transfer_rows(feed), rules.rows_from(group), clock)
 }
 
 /// Whether one of the rows has a limit that counts from the clock.
@@ -144,11 +129,4 @@ fn row_at(rows: &[TransferRuleRow], row: XferId) -> Option<&TransferRuleRow>
     ensures { option_copied result ≡ slice_get rows.now row.0 }
 {
     rows.get(row.0 as usize)
-}
-
-/// The rows of `fare_transfer_rules.txt`.
-fn transfer_rows(feed: &Feed) -> &[TransferRuleRow]
-    ensures { result.now ≡ feed.now.transfer_rules }
-{
-    feed.transfer_rules.items()
 }

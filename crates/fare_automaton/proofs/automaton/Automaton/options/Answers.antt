@@ -1,20 +1,22 @@
 -- The rules and rows, one after another, are exactly what can be paid.
-use Rattle.std.proofs.Common.{◌∙◌, ap, List, ◌++◌}
+use Rattle.std.proofs.Common.{◌∙◌, ap}
 use Rattle.std.specs.Prelude.{flat_map}
+use Rattle.std.proofs.lemmas.Result.{IfOk-weaker}
 use Rattle.transit_base.specs.declared.numbers.RuleId.{RuleId}
-use Rattle.feed_rows.specs.declared.fares.LegChoice.{LegChoice}
 use Rattle.feed_rows.specs.LegRules.{selected_rules}
 use Rattle.fare_automaton.specs.Terms.{FareTerms}
-use Rattle.fare_automaton.specs.Options.{rule_picks}
+use Rattle.fare_automaton.specs.Options.{ArePicks, rule_picks}
 use Rattle.fare_automaton.proofs.OptionLaws.{are_picks, picks_are}
 use Rattle.fare_automaton.proofs.automaton.Automaton.options.Goals as goal
 
-pub returns : goal.returns
-returns c =
+pub returns-in-Ok : goal.returns-in-Ok
+returns-in-Ok c =
     let feed = c.args.self.now.feed in
     let rider = c.args.self.now.rider in
-    let of_rules = flat_map (λ (rule : RuleId). rule_picks feed rider rule.0) in
-    are_picks feed rider c.args.leg.now c.push_picks.new.picks.items
-    (c.in_ok-push_picks.ensures
-    ∙ ap (λ (xs : List LegChoice). xs ++ of_rules c.items.result.now) c.new-picks.ensures.items
-    ∙ ap of_rules (c.items.ensures.value ∙ c.in_ok-rules.ensures _ c.self.invariant.0 ∙ ap (λ (t : FareTerms). selected_rules t.feed c.args.leg.now) c.self.view_is) ∙ picks_are feed rider c.args.leg.now)
+    let leg = c.args.leg.now in
+    IfOk-weaker c.picks_of.result _ (λ picks. ArePicks feed rider leg picks.items)
+    (λ picks is. are_picks feed rider leg picks.items
+    (is ∙ ap (flat_map (λ (rule : RuleId). rule_picks feed rider rule.0))
+    (c.items.ensures.value ∙ c.in-Ok.ensures _ c.self.invariant.0 ∙ ap (λ (t : FareTerms). selected_rules t.feed leg) c.self.view_is)
+    ∙ picks_are feed rider leg))
+    c.picks_of.ensures
