@@ -18,6 +18,11 @@ flat_added f xs i d old before now lt is made =
     made ∙ ap (λ ys. ys ++ f (get_or xs i d)) is ∙ flat_map_more f old (take i xs) (get_or xs i d)
     ∙ ap (λ ys. old ++ flat_map f ys) (sym (take_more xs i d lt))
 
+-- and one item more stands after those before it
+pub taken_more : {X : Type 0} (xs : List X) (i : ℕ) (d : X) (before now : List X) → i < length xs → before ≡ take i xs
+    → now ≡ before ++ get_or xs i d ∷ [] → now ≡ take (i + 1) xs
+taken_more xs i d before now lt is made = made ∙ ap (λ ys. ys ++ get_or xs i d ∷ []) is ∙ sym (take_more xs i d lt)
+
 -- at the end each item gave its own
 pub map_whole : {X Y : Type 0} (f : X → Y) (xs : List X) (i : ℕ) (old now : List Y) → length xs ≤ i
     → now ≡ old ++ map f (take i xs) → now ≡ old ++ map f xs
