@@ -1,9 +1,11 @@
 -- What can be paid for legs is decided by all but their moments, and is kept under numbers.
 use Rattle.std.proofs.Common.{◌≡◌, refl, sym, ◌∙◌, ap, subst, ℕ, zero, suc, ◌+◌, ◌-◌, ◌<◌, ◌⊎◌, inl, inr, List, [], ◌∷◌, ◌++◌, length, length-append, take, get_or, ◌≤◌, All, Option, Some, None, arith}
 use Rattle.std.specs.Option.{option_map_or}
-use Rattle.std.specs.Prelude.{slice_get, option_map}
+use Rattle.std.specs.Prelude.{slice_get, option_map, Result, Ok, Err, IfOk, OnOk, OnErr}
+use Rattle.std.specs.declared.alloc.AllocError.{AllocError}
 use Rattle.std.proofs.lemmas.Bool.{cases_lt}
 use Rattle.std.proofs.lemmas.List.{length_push, length-take, take_more}
+use Rattle.std.proofs.lemmas.List.Elements.{All-push}
 use Rattle.std.proofs.lemmas.Option.{same_Some, slice_get_within, slice_get-get_or}
 use Rattle.transit_base.specs.declared.numbers.RiderId.{RiderId}
 use Rattle.feed_rows.specs.declared.journeys.LegFacts.{LegFacts}
@@ -40,16 +42,18 @@ kept_here terms kept leg number all same = by (slice_get kept number) refl same
         ∙ timeless_offers terms.feed terms.rider leg)
 
 -- what is kept last
-pub kept_last : (terms : FareTerms) (kept more : List (KindList LegOffer)) (leg : LegFacts) (offers : List LegOffer) (number : ℕ)
-    → more ≡ kept ++ kept_for leg offers ∷ [] → number ≡ length kept → offers ≡ leg_offers terms.feed terms.rider leg → IsKept (known_of terms more) leg number
-kept_last terms kept more leg offers number is last made =
+pub kept_last : (terms : FareTerms) (kept more : List (KindList LegOffer)) (leg : LegFacts) (offers : List LegOffer) (result : Result ℕ AllocError)
+    → OnOk result (more ≡ kept ++ kept_for leg offers ∷ []) → IfOk result (λ number. number ≡ length kept)
+    → offers ≡ leg_offers terms.feed terms.rider leg → IfOk result (IsKept (known_of terms more) leg)
+kept_last terms kept more leg offers (Ok number) is last made =
     ap (λ (ls : List (KindList LegOffer)). option_map (λ (k : KindList LegOffer). k.items) (slice_get ls number)) is
     ∙ ap (option_map (λ (k : KindList LegOffer). k.items)) (slice_get-push_last kept (kept_for leg offers) number last) ∙ ap Some made
+kept_last terms kept more leg offers (Err e) is last made = tt
 
--- what was kept is kept on
-pub kept_still : (terms : FareTerms) (kept more : List (KindList LegOffer)) (own : KindList LegOffer) (leg : LegFacts) (number : ℕ)
-    → more ≡ kept ++ own ∷ [] → IsKept (known_of terms kept) leg number → IsKept (known_of terms more) leg number
-kept_still terms kept more own leg number is before =
+-- what was kept is kept on, whether a list is kept after it or not
+pub kept_still : (terms : FareTerms) (kept more : List (KindList LegOffer)) (own : KindList LegOffer) (leg : LegFacts) (number : ℕ) (result : Result ℕ AllocError)
+    → OnOk result (more ≡ kept ++ own ∷ []) → OnErr result (more ≡ kept) → IsKept (known_of terms kept) leg number → IsKept (known_of terms more) leg number
+kept_still terms kept more own leg number (Ok last) is same before =
     ap (λ (ls : List (KindList LegOffer)). option_map (λ (k : KindList LegOffer). k.items) (slice_get ls number)) is
     ∙ ap (option_map (λ (k : KindList LegOffer). k.items)) (slice_get-push_before kept own number (within (slice_get kept number) refl before)) ∙ before
   where
@@ -57,6 +61,13 @@ kept_still terms kept more own leg number is before =
         → number < length kept
     within None at e = absurd (cc)
     within (Some own) at e = slice_get_within kept number own at
+kept_still terms kept more own leg number (Err e) is same before = subst (λ ls. IsKept (known_of terms ls) leg number) (sym same) before
+
+-- and each list is right
+pub offers_still : (terms : FareTerms) (kept more : List (KindList LegOffer)) (own : KindList LegOffer) (result : Result ℕ AllocError)
+    → OnOk result (more ≡ kept ++ own ∷ []) → OnErr result (more ≡ kept) → All (HasOffers terms) kept → HasOffers terms own → All (HasOffers terms) more
+offers_still terms kept more own (Ok number) is same all has = subst (All (HasOffers terms)) (sym is) (All-push (HasOffers terms) kept own all has)
+offers_still terms kept more own (Err e) is same all has = subst (All (HasOffers terms)) (sym same) all
 
 -- ---- numbers
 

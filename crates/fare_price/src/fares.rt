@@ -154,12 +154,14 @@ impl<'s, 'f> RiderFares<'s, 'f> {
     ) -> Result<RiderFares<'s, 'f>, AllocError>
         ensures { IfOk result (λ of_rider. of_rider ≡ terms fares.now rider) }
     {
-        let least = fares.products.least_rows(alloc, rider)?;
-        Ok(RiderFares {
-            fares,
-            rider,
-            least,
-        })
+        match fares.products.least_rows(alloc, rider) {
+            Ok(least) => Ok(RiderFares {
+                fares,
+                rider,
+                least,
+            }),
+            Err(AllocError) => Err(AllocError),
+        }
     }
 
     /// The cheapest row of the product that is open to the rider.
@@ -174,8 +176,12 @@ impl<'s, 'f> RiderFares<'s, 'f> {
         ensures { result ≡ leg_offer self.now.feed self.now.rider rule }
     {
         let fares = self.fares;
-        let row = fares.leg_row(rule)?;
-        let least = self.least(row.product)?;
+        let Some(row) = fares.leg_row(rule) else {
+            return None;
+        };
+        let Some(least) = self.least(row.product) else {
+            return None;
+        };
         Some(LegOffer {
             pick: LegChoice {
                 rule,
@@ -218,7 +224,9 @@ impl<'s, 'f> RiderFares<'s, 'f> {
         ensures { result ≡ change_offer self.now.feed self.now.rider id }
     {
         let fares = self.fares;
-        let row = fares.transfer_row(id)?;
+        let Some(row) = fares.transfer_row(id) else {
+            return None;
+        };
         let kind = Some(row.kind);
         match row.product {
             None => Some(ChangeOffer {
@@ -229,17 +237,17 @@ impl<'s, 'f> RiderFares<'s, 'f> {
                 kind,
                 amount: 0,
             }),
-            Some(product) => {
-                let least = self.least(product)?;
-                Some(ChangeOffer {
+            Some(product) => match self.least(product) {
+                Some(least) => Some(ChangeOffer {
                     place: Some(ChangeChoice {
                         rule: id,
                         product: Some(least.row),
                     }),
                     kind,
                     amount: least.amount.0,
-                })
-            }
+                }),
+                None => None,
+            },
         }
     }
 
@@ -269,10 +277,12 @@ impl<'s, 'f> RiderFares<'s, 'f> {
     {
         offers.clear();
         if rows.is_empty() {
-            offers.push(unarranged())?;
-            return Ok(());
+            return push_some(offers, Some(unarranged()));
         }
-        self.push_offers(rows, offers)
+        for id in rows {
+            push_some(offers, self.change_offer(*id))?;
+        }
+        Ok(())
     }
 
     /// Replaces what `rows` holds by the rows that are selected for the change.
@@ -289,16 +299,6 @@ impl<'s, 'f> RiderFares<'s, 'f> {
             Some(facts) => fares.transfer_rules.select_into(&facts, rows),
             None => Ok(()),
         }
-    }
-
-    /// Adds what can be paid by these rows.
-    fn push_offers(&self, rows: &[XferId], offers: &mut Vec<ChangeOffer>) -> Result<(), AllocError>
-        ensures { OnOk result (offers.new.items ≡ offers.old.items ++ filter_map (change_offer self.now.feed self.now.rider) rows.now) }
-    {
-        for id in rows {
-            push_some(offers, self.change_offer(*id))?;
-        }
-        Ok(())
     }
 }
 

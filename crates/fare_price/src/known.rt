@@ -31,8 +31,7 @@ impl<'s, 'f> RiderFares<'s, 'f> {
             return Ok(number);
         }
         let offers = self.leg_offers(alloc, leg)?;
-        let number = kept.keep(alloc, leg, offers)?;
-        Ok(number)
+        kept.keep(alloc, leg, offers)
     }
 
     /// The same of each leg.

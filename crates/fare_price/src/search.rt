@@ -39,7 +39,10 @@ pub fn price(
     requires few { length legs.now ≤ 12 }
     ensures { IfOk result (IsLeastOrNone fares.now legs.now rider) }
 {
-    RiderFares::of(alloc, fares, rider)?.price(alloc, legs)
+    match RiderFares::of(alloc, fares, rider) {
+        Ok(of_rider) => of_rider.price(alloc, legs),
+        Err(AllocError) => Err(AllocError),
+    }
 }
 
 impl<'s, 'f> RiderFares<'s, 'f> {
@@ -109,30 +112,30 @@ impl<'s, 'f> RiderFares<'s, 'f> {
             changes: Vec::new(alloc),
         };
         for number in 0..legs.len() - 1 {
-            let base = steps.len();
-            keep(steps, &ways)?;
             let offers = offers_at(kept, numbers, number + 1);
-            ways = self.next_ways(alloc, &legs[number + 1], offers, base, &ways, &mut found)?;
+            ways = self.next_ways(alloc, &legs[number + 1], offers, steps, &ways, &mut found)?;
         }
         Ok(ways)
     }
 
-    /// The best ways to pay one leg more, after ways that are numbered on from `base`.
+    /// The best ways to pay one leg more, after these ways, which are put behind the steps.
     fn next_ways(
         &self,
         alloc: Global,
         leg: &LegFacts,
         offers: &[LegOffer],
-        base: usize,
+        steps: &mut Vec<Way>,
         ways: &Ways,
         found: &mut Found,
     ) -> Result<Ways, AllocError>
         requires offers { offers.now ≡ leg_offers self.now.feed self.now.rider leg.now }
         requires low { All (λ (offer : LegOffer). IsLow offer.amount) offers.now }
         requires bounded { All (λ (way : Way). IsBounded 11 way.stand) ways.now }
-        requires numbers { base + length ways.now < 2 ^ 64 }
-        ensures { IfOk result (Gathers is_as_good [] (next_ways self.now.feed self.now.rider leg.now base ways.now)) }
+        ensures kept { OnOk result (steps.new.items ≡ steps.old.items ++ ways.now) }
+        ensures best { IfOk result (Gathers is_as_good [] (next_ways self.now.feed self.now.rider leg.now (length steps.old.items) ways.now)) }
     {
+        let base = steps.len();
+        keep(steps, ways)?;
         let mut next = Ways::empty(alloc);
         for number in 0..ways.len() {
             let stand = ways.get(number).stand;
@@ -186,18 +189,10 @@ fn first_ways(alloc: Global, leg: &LegFacts, offers: &[LegOffer]) -> Result<Ways
     ensures { IfOk result (Gathers is_as_good [] (map (first_way leg.now) offers.now)) }
 {
     let mut ways = Ways::empty(alloc);
-    offer_first(&mut ways, leg, offers)?;
-    Ok(ways)
-}
-
-/// Offers the leg, paid by each of these.
-fn offer_first(ways: &mut Ways, leg: &LegFacts, offers: &[LegOffer]) -> Result<(), AllocError>
-    ensures { OnOk result (Gathers is_as_good ways.old (map (first_way leg.now) offers.now) ways.new) }
-{
     for offer in offers {
         ways.offer(first_way(leg, offer))?;
     }
-    Ok(())
+    Ok(ways)
 }
 
 /// The leg, paid by this.

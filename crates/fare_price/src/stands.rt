@@ -46,17 +46,18 @@ impl Stand {
         requires few { self.now.changes < 2 ^ 31 }
         ensures { result ≡ change_to (stand_of self.now).run (leg_of next.now) }
     {
-        let from = self.first.group?;
-        let to = next.group?;
-        Some(TransferFacts {
-            from,
-            to,
-            count: if from.0 == to.0 { self.changes + 1 } else { 1 },
-            first_departure: self.first.departure,
-            first_arrival: self.first.arrival,
-            next_departure: next.departure,
-            next_arrival: next.arrival,
-        })
+        match (self.first.group, next.group) {
+            (Some(from), Some(to)) => Some(TransferFacts {
+                from,
+                to,
+                count: if from.0 == to.0 { self.changes + 1 } else { 1 },
+                first_departure: self.first.departure,
+                first_arrival: self.first.arrival,
+                next_departure: next.departure,
+                next_arrival: next.arrival,
+            }),
+            _ => None,
+        }
     }
 
     /// Where fares stand after the next leg, which costs so much, and the change to it, of this type and at this charge.

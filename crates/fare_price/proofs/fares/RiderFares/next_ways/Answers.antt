@@ -1,4 +1,4 @@
-use Rattle.std.proofs.Common.{◌≡◌, sym, ◌∙◌, ap, subst, ◌+◌, [], length, arith}
+use Rattle.std.proofs.Common.{◌≡◌, sym, ◌∙◌, ap, subst, ℕ, ◌+◌, [], length, arith}
 use Rattle.std.specs.List.{flat_map}
 use Rattle.std.specs.Option.{option_map_or}
 use Rattle.label_bag.specs.Bags.{Gathers}
@@ -13,20 +13,21 @@ loop-number-preserved c =
     let feed = c.args.self.now.feed in
     let rider = c.args.self.now.rider in
     let leg = c.args.leg.now in
-    gathers_joined is_as_good c.loop-number.number (ways_at feed rider leg c.args.base c.args.ways.now) [] c.loop-number.next
+    gathers_joined is_as_good c.loop-number.number (ways_at feed rider leg c.len-base.result c.args.ways.now) [] c.loop-number.next
     c.offer_from.new.next _ c.loop-number.invariant
-    (ap (λ o. option_map_or (λ way. ways_from feed rider leg way.stand (c.args.base + c.loop-number.number)) o []) c.get.ensures
-    ∙ ap (flat_map (ways_by feed rider leg c.get.result.now.stand (c.args.base + c.loop-number.number)))
+    (ap (λ o. option_map_or (λ way. ways_from feed rider leg way.stand (c.len-base.result + c.loop-number.number)) o []) c.get.ensures
+    ∙ ap (flat_map (ways_by feed rider leg c.get.result.now.stand (c.len-base.result + c.loop-number.number)))
     (sym c.requires.offers))
     c.in_ok-offer_from.ensures
 
-pub returns : goal.returns
+pub returns-clause-best : goal.returns-clause-best
 unfolding next_ways
-returns c =
+returns-clause-best c =
     let all : c.loop-number.number ≡ length c.args.ways.now = omega arith in
-    subst (λ n. Gathers is_as_good []
-    (joined_below n (ways_at c.args.self.now.feed c.args.self.now.rider c.args.leg.now c.args.base c.args.ways.now))
-    c.loop-number.next) all c.loop-number.invariant
+    let counted : c.len-base.result ≡ length c.args.steps.now.items = omega (arith, c.len-base.ensures, c.args.steps.now.ok.0) in
+    let ways_of = λ (base : ℕ). ways_at c.args.self.now.feed c.args.self.now.rider c.args.leg.now base c.args.ways.now in
+    subst (λ (base : ℕ). Gathers is_as_good [] (joined_below (length c.args.ways.now) (ways_of base)) c.loop-number.next) counted
+    (subst (λ n. Gathers is_as_good [] (joined_below n (ways_of c.len-base.result)) c.loop-number.next) all c.loop-number.invariant)
 
 pub loop-number-init : goal.loop-number-init
 loop-number-init c = subst (Gathers is_as_good [] []) (sym c.empty-next.ensures) (gathers_none is_as_good [])

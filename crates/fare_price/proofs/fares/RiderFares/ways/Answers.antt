@@ -1,4 +1,4 @@
-use Rattle.std.proofs.Common.{◌≡◌, refl, sym, subst, ◌+◌, ◌-◌, ℕ, List, All, length, length-append, take, take_all, ap, ◌∙◌, arith}
+use Rattle.std.proofs.Common.{◌≡◌, refl, sym, subst, ◌+◌, ◌-◌, ℕ, List, All, length, take, take_all, arith}
 use Rattle.std.proofs.lemmas.Option.{slice_get_read}
 use Rattle.feed_rows.specs.declared.journeys.LegFacts.{LegFacts}
 use Rattle.fare_price.specs.declared.offers.LegOffer.{LegOffer}
@@ -38,21 +38,15 @@ pub next_ways-requires-clause-bounded : goal.next_ways-requires-clause-bounded
 next_ways-requires-clause-bounded c =
     ways_bounded _ _ _ _ _ c.loop-number.number 11 c.loop-number.invariant (omega arith)
 
-pub next_ways-requires-clause-numbers : goal.next_ways-requires-clause-numbers
-next_ways-requires-clause-numbers c =
-    let long : length c.keep.new.steps.items ≡ length c.loop-number.steps.items + length c.loop-number.ways =
-    ap length c.in_ok-keep.ensures ∙ length-append c.loop-number.steps.items c.loop-number.ways in
-    omega (arith, long, c.len-base.ensures, c.keep.new.steps.ok.0)
-
 pub loop-number-preserved : goal.loop-number-preserved
 loop-number-preserved c =
     next_layer-take c.args.self.now.feed c.args.self.now.rider c.args.legs.now c.index-legs-number.result
-    c.loop-number.steps.items c.loop-number.ways c.loop-number.number c.len-base.result c.in_ok-ways-2.ways
-    c.keep.new.steps.items c.feed-feed.ensures.sound
+    c.loop-number.steps.items c.loop-number.ways c.loop-number.number (length c.loop-number.steps.items) c.in_ok-ways-2.ways
+    c.next_ways.new.steps.items c.feed-feed.ensures.sound
     (slice_get_read c.args.legs.now (length c.args.legs.now) (c.loop-number.number + 1) c.index-legs-number.result refl
     (omega arith) c.index-legs-number.is)
-    (omega (arith, c.len-base.ensures, c.loop-number.steps.ok.0)) c.loop-number.invariant c.in_ok-ways-2.ensures
-    c.in_ok-keep.ensures
+    refl c.loop-number.invariant c.in_ok-ways-2.ensures.best
+    c.in_ok-ways-2.ensures.kept
 
 pub returns : goal.returns
 returns c =

@@ -1,12 +1,12 @@
-use Rattle.std.proofs.Common.{subst, ◌∷◌, []}
+use Rattle.std.proofs.Common.{subst, sym, ◌∷◌, []}
 use Rattle.label_bag.specs.Bags.{Gathers}
 use Rattle.fare_price.specs.declared.ways.Way.{Way}
 use Rattle.fare_price.specs.Ways.{is_as_good, first_way}
 use Rattle.fare_price.proofs.GatherLaws.{gathers_none, gathers_map, gathers_map-all}
-use Rattle.fare_price.proofs.search.offer_first.Goals as goal
+use Rattle.fare_price.proofs.search.first_ways.Goals as goal
 
 pub loop-offer-init : goal.loop-offer-init
-loop-offer-init c = gathers_none is_as_good _
+loop-offer-init c = subst (Gathers is_as_good [] []) (sym c.empty-ways.ensures) (gathers_none is_as_good [])
 
 pub loop-offer-preserved : goal.loop-offer-preserved
 loop-offer-preserved c =
