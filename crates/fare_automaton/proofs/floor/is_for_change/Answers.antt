@@ -1,0 +1,23 @@
+-- One that passes, and none.
+use Rattle.std.proofs.Common.{sym}
+use Rattle.std.proofs.lemmas.List.Folds.{list_any_at}
+use Rattle.feed_rows.specs.declared.rows.TransferRuleRow.{TransferRuleRow}
+use Rattle.feed_rows.specs.FareChoices.{is_open}
+use Rattle.plain_laws.specs.Plain.{filled_and}
+use Rattle.fare_automaton.proofs.AddedLaws.{none_more, none_passes}
+use Rattle.fare_automaton.proofs.floor.is_for_change.Goals as goal
+
+pub loop-rule-preserved : goal.loop-rule-preserved
+loop-rule-preserved c =
+    none_more (λ (rule : TransferRuleRow). filled_and rule.product (λ product. is_open product c.args.rider c.args.row.now))
+    c.args.rules.now c.loop-rule.rule-index _ c.loop-rule-test.true c.loop-rule.invariant c.if-is_of.ensures
+
+pub returns-then-is_of : goal.returns-then-is_of
+returns-then-is_of c =
+    sym (list_any_at (λ (rule : TransferRuleRow). filled_and rule.product (λ product. is_open product c.args.rider c.args.row.now))
+    c.args.rules.now c.loop-rule.rule-index _ c.loop-rule-test.true (sym c.if-is_of.ensures))
+
+pub returns : goal.returns
+returns c =
+    none_passes (λ (rule : TransferRuleRow). filled_and rule.product (λ product. is_open product c.args.rider c.args.row.now))
+    c.args.rules.now c.loop-rule.rule-index c.loop-rule-test.false c.loop-rule.invariant
