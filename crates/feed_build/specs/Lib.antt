@@ -1,2 +1,3 @@
 pub mod NameNumbers
+pub mod TableNames
 pub mod FeedParts

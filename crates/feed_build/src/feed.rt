@@ -6,9 +6,10 @@ ghost use Rattle.feed_faults.specs.Records.{row_count};
 ghost use Rattle.feed_faults.specs.FeedTables.{table_in};
 ghost use Rattle.feed_faults.specs.AcceptedFeed.{row_number, typed_rows, rows_of_tables, stop_time_row};
 ghost use Rattle.feed_soundness.specs.AcceptedTables.{AreFormed, AreRelated};
+ghost use Rattle.feed_build.specs.TableNames.{HasNames};
 ghost use Rattle.feed_build.specs.FeedParts.{AreTripFiles, AreFareFiles, AreNames};
 
-use crate::names::{NameHash, Numbering};
+use crate::names::Names;
 use crate::rows::FileRow;
 use feed_faults::IdColumn;
 use feed_files::{ColumnName, FileName};
@@ -28,27 +29,18 @@ pub struct Source<'t, C: CallTable> {
     pub alloc: Global,
     pub tables: &'t Tables<'t, C>,
     pub ids: &'t Ids<'t, C>,
-    /// The names of services.
-    pub services: Numbering<'t>,
-    /// The names of fare networks.
-    pub networks: Numbering<'t>,
-    /// The names of timeframe groups.
-    pub frames: Numbering<'t>,
-    /// The names of fare products.
-    pub products: Numbering<'t>,
-    /// The names of leg groups.
-    pub groups: Numbering<'t>,
+    pub names: &'t Names<'t>,
 }
 
 impl<'t, C: CallTable> Model for Source<'t, C> {
     ghost use Rattle.feed_faults.specs.FeedTables.{FeedTables};
-    ghost use Rattle.feed_build.specs.NameNumbers.{IsSource};
+    ghost use Rattle.feed_build.specs.TableNames.{IsSource};
 
     ghost Value = { FeedTables };
 
     ghost view = { λ s. s.tables.now };
 
-    ghost invariant = { λ s. IsSource s.tables.now s.ids.now s.services s.networks s.frames s.products s.groups };
+    ghost invariant = { λ s. IsSource s.tables.now s.ids.now s.names.now };
 }
 
 // Written out, so that what lets go of a source needn't look into it.
@@ -58,11 +50,7 @@ impl<'t, C: CallTable> Drop for Source<'t, C> {
             alloc: _,
             tables: _,
             ids: _,
-            services: _,
-            networks: _,
-            frames: _,
-            products: _,
-            groups: _,
+            names: _,
         } = self;
     }
 }
@@ -103,44 +91,6 @@ struct FeedNames {
 }
 
 impl<'t, C: CallTable> Source<'t, C> {
-    // The source of these tables.
-    fn of(
-        alloc: Global,
-        tables: &'t Tables<'t, C>,
-        ids: &'t Ids<'t, C>,
-    ) -> Result<Source<'t, C>, AllocError>
-        requires formed { AreFormed tables.now }
-        requires ids { ids.now ≡ tables.now }
-        ensures { IfOk result (λ source. source ≡ tables.now) }
-    {
-        let hash = NameHash::of(tables);
-        Ok(Source {
-            alloc,
-            tables,
-            ids,
-            services: Numbering::none(alloc, hash)
-                .with_column(tables.get(FileName::Trips), ColumnName::ServiceId)?
-                .with_column(tables.get(FileName::Calendar), ColumnName::ServiceId)?
-                .with_column(tables.get(FileName::CalendarDates), ColumnName::ServiceId)?
-                .with_column(tables.get(FileName::Timeframes), ColumnName::ServiceId)?,
-            networks: Numbering::none(alloc, hash)
-                .with_column(tables.get(FileName::Routes), ColumnName::NetworkId)?
-                .with_column(tables.get(FileName::Networks), ColumnName::NetworkId)?,
-            frames: Numbering::none(alloc, hash).with_column(
-                tables.get(FileName::Timeframes),
-                ColumnName::TimeframeGroupId,
-            )?,
-            products: Numbering::none(alloc, hash).with_column(
-                tables.get(FileName::FareProducts),
-                ColumnName::FareProductId,
-            )?,
-            groups: Numbering::none(alloc, hash).with_column(
-                tables.get(FileName::FareLegRules),
-                ColumnName::LegGroupId,
-            )?,
-        })
-    }
-
     /// The number of the earliest row that has the id in a column; that after the last row where no row has it.
     pub fn number(&self, column: IdColumn, id: &[u8]) -> u32
         ensures { result ≡ row_number (table_in self.now (id_place column).0) (id_place column).1 id.now }
@@ -195,11 +145,11 @@ impl<'t, C: CallTable> Source<'t, C> {
         ensures { IfOk result (AreNames self.now) }
     {
         Ok(FeedNames {
-            services: self.services.ids(self.alloc)?,
-            networks: self.networks.ids(self.alloc)?,
-            frames: self.frames.ids(self.alloc)?,
-            products: self.products.ids(self.alloc)?,
-            groups: self.groups.ids(self.alloc)?,
+            services: self.names.services.ids(self.alloc)?,
+            networks: self.names.networks.ids(self.alloc)?,
+            frames: self.names.frames.ids(self.alloc)?,
+            products: self.names.products.ids(self.alloc)?,
+            groups: self.names.groups.ids(self.alloc)?,
         })
     }
 
@@ -280,5 +230,32 @@ pub fn feed_of_tables<C: CallTable>(
     requires stop_times { stop_times ≡ typed_rows (table_in tables.now file.StopTimes) (stop_time_row tables.now) }
     ensures { IfOk result (λ feed. feed ≡ rows_of_tables tables.now) }
 {
-    Source::of(alloc, tables, ids)?.feed(stop_times)
+    match Names::of(alloc, tables) {
+        Ok(names) => feed_by_names(alloc, tables, ids, &names, stop_times),
+        Err(AllocError) => Err(AllocError),
+    }
+}
+
+// The feed of these tables, with their names.
+fn feed_by_names<'t, C: CallTable>(
+    alloc: Global,
+    tables: &'t Tables<'t, C>,
+    ids: &'t Ids<'t, C>,
+    names: &'t Names<'t>,
+    stop_times: StopTimeRows,
+) -> Result<Feed, AllocError>
+    requires formed { AreFormed tables.now }
+    requires related { AreRelated tables.now }
+    requires ids { ids.now ≡ tables.now }
+    requires names { HasNames tables.now names.now }
+    requires stop_times { stop_times ≡ typed_rows (table_in tables.now file.StopTimes) (stop_time_row tables.now) }
+    ensures { IfOk result (λ feed. feed ≡ rows_of_tables tables.now) }
+{
+    let source = Source {
+        alloc,
+        tables,
+        ids,
+        names,
+    };
+    source.feed(stop_times)
 }

@@ -1,10 +1,12 @@
 //! Names that have no rows of their own, numbered by their first appearance.
 ghost use Rattle.std.specs.Hash as fed;
 ghost use Rattle.std.specs.Hash.DefaultHasher.{initial, write};
-ghost use Rattle.std.specs.Prelude.{◌≡◌, ◌+◌, ◌<◌, ◌≤◌, ◌^◌, [], fold, length, IfOk};
+ghost use Rattle.std.specs.Prelude.{◌≡◌, ◌+◌, ◌<◌, ◌≤◌, ◌^◌, [], fold, length, IfOk, OnOk};
 ghost use Rattle.feed_faults.specs.Records.{row_count};
 ghost use Rattle.feed_faults.specs.AcceptedFeed.{name_number, with_column};
+ghost use Rattle.feed_soundness.specs.AcceptedTables.{AreFormed};
 ghost use Rattle.feed_build.specs.NameNumbers.{AreShort};
+ghost use Rattle.feed_build.specs.TableNames.{HasNone, HasNames};
 
 use feed_files::{ColumnName, FileName};
 use feed_rows::{Id, NameList};
@@ -97,25 +99,24 @@ impl<'t> Numbering<'t> {
         }
     }
 
-    /// These names and behind them the new ones of a column.
+    /// Puts the new names of a column behind these.
     ///
     /// # Errors
     /// Want of memory.
     #[tactic(auto, unfolding(feed_faults::specs::AcceptedFeed::with_name))]
-    pub fn with_column(self, table: &'t Table, column: ColumnName) -> Result<Self, AllocError>
+    pub fn add_column(&mut self, table: &'t Table, column: ColumnName) -> Result<(), AllocError>
         requires short { AreShort table.now column }
-        requires few { length self + row_count table.now < 2 ^ 32 }
-        ensures names { IfOk result (λ names. names ≡ with_column self.entry table.now column) }
-        ensures grows { IfOk result (λ names. length names ≤ length self.entry + row_count table.now) }
+        requires few { length self.old + row_count table.now < 2 ^ 32 }
+        ensures names { OnOk result (self.new ≡ with_column self.old table.now column) }
+        ensures grows { OnOk result (length self.new ≤ length self.old + row_count table.now) }
     {
-        let Numbering { mut names } = self;
         for row in 0..table.rows() {
             let name = table.field(row, column);
             if is_filled(name) {
-                names.insert(name)?;
+                self.names.insert(name)?;
             }
         }
-        Ok(Numbering { names })
+        Ok(())
     }
 
     /// The place of a name; the number of names where it isn't one of them.
@@ -141,5 +142,83 @@ impl<'t> Numbering<'t> {
             ids.push(Id::copy_of(alloc, names[place])?)?;
         }
         Ok(ids)
+    }
+}
+
+/// The names of a feed that have no rows of their own, by kind.
+#[derive(Drop)]
+pub struct Names<'t> {
+    /// The names of services.
+    pub services: Numbering<'t>,
+    /// The names of fare networks.
+    pub networks: Numbering<'t>,
+    /// The names of timeframe groups.
+    pub frames: Numbering<'t>,
+    /// The names of fare products.
+    pub products: Numbering<'t>,
+    /// The names of leg groups.
+    pub groups: Numbering<'t>,
+}
+
+impl<'t> Names<'t> {
+    /// The names of these tables.
+    ///
+    /// # Errors
+    /// Want of memory.
+    pub fn of<C: CallTable>(
+        alloc: Global,
+        tables: &'t Tables<'t, C>,
+    ) -> Result<Names<'t>, AllocError>
+        requires formed { AreFormed tables.now }
+        ensures { IfOk result (HasNames tables.now) }
+    {
+        let mut names = Names::none(alloc, NameHash::of(tables));
+        match names.add(tables) {
+            Ok(()) => Ok(names),
+            Err(AllocError) => Err(AllocError),
+        }
+    }
+
+    // No names yet.
+    fn none(alloc: Global, hash: NameHash) -> Names<'t>
+        ensures { HasNone result }
+    {
+        Names {
+            services: Numbering::none(alloc, hash),
+            networks: Numbering::none(alloc, hash),
+            frames: Numbering::none(alloc, hash),
+            products: Numbering::none(alloc, hash),
+            groups: Numbering::none(alloc, hash),
+        }
+    }
+
+    // Adds those of these tables, where there are none yet.
+    fn add<C: CallTable>(&mut self, tables: &'t Tables<'t, C>) -> Result<(), AllocError>
+        requires formed { AreFormed tables.now }
+        requires none { HasNone self.old }
+        ensures { OnOk result (HasNames tables.now self.new) }
+    {
+        let Names {
+            services,
+            networks,
+            frames,
+            products,
+            groups,
+        } = self;
+        services.add_column(tables.get(FileName::Trips), ColumnName::ServiceId)?;
+        services.add_column(tables.get(FileName::Calendar), ColumnName::ServiceId)?;
+        services.add_column(tables.get(FileName::CalendarDates), ColumnName::ServiceId)?;
+        services.add_column(tables.get(FileName::Timeframes), ColumnName::ServiceId)?;
+        networks.add_column(tables.get(FileName::Routes), ColumnName::NetworkId)?;
+        networks.add_column(tables.get(FileName::Networks), ColumnName::NetworkId)?;
+        frames.add_column(
+            tables.get(FileName::Timeframes),
+            ColumnName::TimeframeGroupId,
+        )?;
+        products.add_column(
+            tables.get(FileName::FareProducts),
+            ColumnName::FareProductId,
+        )?;
+        groups.add_column(tables.get(FileName::FareLegRules), ColumnName::LegGroupId)
     }
 }

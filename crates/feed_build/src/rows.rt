@@ -123,7 +123,7 @@ impl FileRow for RouteRow {
         let network = source.network_of_route(row);
         Ok(RouteRow {
             id: Id::copy_of(source.alloc, routes.field(row, ColumnName::RouteId))?,
-            network: filled(network, NetworkId(source.networks.number(network))),
+            network: filled(network, NetworkId(source.names.networks.number(network))),
         })
     }
 }
@@ -145,7 +145,7 @@ impl FileRow for TripRow {
         Ok(TripRow {
             id: Id::copy_of(source.alloc, trips.field(row, ColumnName::TripId))?,
             route: RouteId(source.number(IdColumn::Route, trips.field(row, ColumnName::RouteId))),
-            service: ServiceId(source.services.number(service)),
+            service: ServiceId(source.names.services.number(service)),
         })
     }
 }
@@ -177,7 +177,7 @@ impl FileRow for ServiceRow {
         ] = source.tables.numbers::<10>(FileName::Calendar, row);
         let service = calendar.field(row, ColumnName::ServiceId);
         Ok(ServiceRow {
-            service: ServiceId(source.services.number(service)),
+            service: ServiceId(source.names.services.number(service)),
             days: [
                 is_code(monday, SERVICE_AVAILABLE),
                 is_code(tuesday, SERVICE_AVAILABLE),
@@ -209,7 +209,7 @@ impl FileRow for ExceptionRow {
         let &[_, date, kind] = source.tables.numbers::<3>(FileName::CalendarDates, row);
         let service = dates.field(row, ColumnName::ServiceId);
         Ok(ExceptionRow {
-            service: ServiceId(source.services.number(service)),
+            service: ServiceId(source.names.services.number(service)),
             day: Day(date.unwrap_or(0)),
             added: is_code(kind, SERVICE_ADDED),
         })
@@ -296,10 +296,10 @@ impl FileRow for TimeframeRow {
         let group = frames.field(row, ColumnName::TimeframeGroupId);
         let service = frames.field(row, ColumnName::ServiceId);
         Ok(TimeframeRow {
-            frame: FrameId(source.frames.number(group)),
+            frame: FrameId(source.names.frames.number(group)),
             start: natural(start).unwrap_or(0),
             end: natural(end).unwrap_or(DAY_SECONDS),
-            service: ServiceId(source.services.number(service)),
+            service: ServiceId(source.names.services.number(service)),
         })
     }
 }
@@ -362,7 +362,7 @@ impl FileRow for ProductRow {
         let rider = products.field(row, ColumnName::RiderCategoryId);
         let medium = products.field(row, ColumnName::FareMediaId);
         Ok(ProductRow {
-            product: ProductId(source.products.number(product)),
+            product: ProductId(source.names.products.number(product)),
             rider: filled(
                 rider,
                 RiderId(source.number(IdColumn::RiderCategory, rider)),
@@ -397,13 +397,13 @@ impl FileRow for LegRuleRow {
         let to_frame = rules.field(row, ColumnName::ToTimeframeGroupId);
         let product = rules.field(row, ColumnName::FareProductId);
         Ok(LegRuleRow {
-            group: filled(group, LegGroupId(source.groups.number(group))),
-            network: filled(network, NetworkId(source.networks.number(network))),
+            group: filled(group, LegGroupId(source.names.groups.number(group))),
+            network: filled(network, NetworkId(source.names.networks.number(network))),
             from_area: filled(from_area, AreaId(source.number(IdColumn::Area, from_area))),
             to_area: filled(to_area, AreaId(source.number(IdColumn::Area, to_area))),
-            from_frame: filled(from_frame, FrameId(source.frames.number(from_frame))),
-            to_frame: filled(to_frame, FrameId(source.frames.number(to_frame))),
-            product: ProductId(source.products.number(product)),
+            from_frame: filled(from_frame, FrameId(source.names.frames.number(from_frame))),
+            to_frame: filled(to_frame, FrameId(source.names.frames.number(to_frame))),
+            product: ProductId(source.names.products.number(product)),
             priority: nat_of(priority),
         })
     }
@@ -433,12 +433,12 @@ impl FileRow for TransferRuleRow {
         };
         let product = rules.field(row, ColumnName::FareProductId);
         Ok(TransferRuleRow {
-            from: filled(from, LegGroupId(source.groups.number(from))),
-            to: filled(to, LegGroupId(source.groups.number(to))),
+            from: filled(from, LegGroupId(source.names.groups.number(from))),
+            to: filled(to, LegGroupId(source.names.groups.number(to))),
             count: natural(count),
             limit: filled(rules.field(row, ColumnName::DurationLimit), limit),
             kind: nat_of(kind) as u8,
-            product: filled(product, ProductId(source.products.number(product))),
+            product: filled(product, ProductId(source.names.products.number(product))),
         })
     }
 }
