@@ -258,21 +258,25 @@ gains_start feed query first old new sound gains =
       has = record { right = starts.right; starts = starts.starts; goes = refl };
     })
 
--- what is searched from all first stops is an exact answer
-pub exact_of_gains : (feed : FeedRows) (query : Query) (firsts : List StopId) (k : ℕ) (entries : List Entry) → firsts ≡ stop_set feed query.from → length firsts ≤ k →
-    Gains feed query (StartsAmong feed query firsts k) [] entries → IsFront (λ (a : Entry) (b : Entry). at_most a.triple b.triple) (λ (a : Entry) (b : Entry). is_before a.triple b.triple) entries →
+-- the entries from all first stops are all
+pub gains_entries : (feed : FeedRows) (query : Query) (firsts : List StopId) (k : ℕ) (old new : List Entry) → firsts ≡ stop_set feed query.from → length firsts ≤ k →
+    Gains feed query (StartsAmong feed query firsts k) old new → Gains feed query (IsEntry feed query) old new
+gains_entries feed query firsts k old new same all gains =
+    gains_same feed query (StartsAmong feed query firsts k) (IsEntry feed query) old new gains
+    (λ e right.
+    let member = member_of_stands_for feed query.from e.journey.first right.journey.starts in
+    let long = ap length same in
+    let lt = member.1 in
+    record { right = right; among = (member.0, omega arith, ap (λ stops. slice_get stops member.0) same ∙ member.2) })
+
+-- a front that covers all entries is an exact answer
+pub exact_of_gains : (feed : FeedRows) (query : Query) (none entries : List Entry) → none ≡ [] →
+    Gains feed query (IsEntry feed query) none entries → IsFront (λ (a : Entry) (b : Entry). at_most a.triple b.triple) (λ (a : Entry) (b : Entry). is_before a.triple b.triple) entries →
     IsExactAnswer feed query entries × CoversOffers feed query entries
-exact_of_gains feed query firsts k entries same all gains front = (
-  exact_of_front feed query entries (gains.right (All-nil (IsEntry feed query))) (λ i j d lt within. (front i j d lt within).earlier) (λ i j d lt within. (front i j d lt within).dearer) covered,
-  covers_offers feed query entries covered,
+exact_of_gains feed query none entries empty gains front = (
+  exact_of_front feed query entries (gains.right (subst (All (IsEntry feed query)) (sym empty) (All-nil (IsEntry feed query)))) (λ i j d lt within. (front i j d lt within).earlier) (λ i j d lt within. (front i j d lt within).dearer) gains.all,
+  covers_offers feed query entries gains.all,
 )
-  where
-    covered : (e : Entry) → IsEntry feed query e → covers_entry entries e
-    covered e right =
-        let member = member_of_stands_for feed query.from e.journey.first right.journey.starts in
-        let long = ap length same in
-        let lt = member.1 in
-        gains.all e (record { right = right; among = (member.0, omega arith, ap (λ stops. slice_get stops member.0) same ∙ member.2) })
 
 -- an entry with the rides of a path arrives when one gets to its last stop from where the path leads
 pub entry_arrival : (feed : FeedRows) (query : Query) (first : StopId) (stand : Stand) (taken : Taken) (e : Entry) →

@@ -1,7 +1,7 @@
 //! All journeys of a query, with the best of them kept.
 ghost use Rattle.std.specs.Prelude.{◌≡◌, ◌<◌, ◌≤◌, ◌+◌, ◌++◌, ◌∷◌, [], false, All, IfOk, OnOk, IsTrue, Some, None, length};
 ghost use Rattle.feed_rows.specs.Journeys.{stands_for};
-ghost use Rattle.feed_rows.specs.JourneyEntries.{IsExactAnswer, CoversOffers};
+ghost use Rattle.feed_rows.specs.JourneyEntries.{IsEntry, IsExactAnswer, CoversOffers};
 ghost use Rattle.feed_rows.specs.JourneyStands.{first_stand, stand_at_end};
 ghost use Rattle.feed_rows.specs.SoundFeed.{IsSoundFeed};
 ghost use Rattle.feed_rows.specs.StopLinks.{stop_set};
@@ -99,6 +99,13 @@ impl<'s, 'f> Search<'s, 'f> {
         ensures usual { IsUsualQuery self.now.query }
     {
         self.rides.query().rides
+    }
+
+    // The stops at which journeys start.
+    fn firsts(&self) -> &'s [StopId]
+        ensures { result.now ≡ stop_set self.now.feed self.now.query.from }
+    {
+        self.rides.timetable().members(self.rides.query().from)
     }
 
     // The stops at which journeys end.
@@ -305,6 +312,36 @@ impl<'s, 'f> Search<'s, 'f> {
         self.explore(alloc, first, standing, path, self.limit(), front)?;
         Ok(())
     }
+
+    // Offers the best entries of the query.
+    fn offer_all(
+        &self,
+        alloc: Global,
+        path: &mut Path,
+        front: &mut Front<Entry>,
+    ) -> Result<(), AllocError>
+        requires { path.old ≡ no_ride (terms self.now.feed self.now.query.rider) }
+        ensures { OnOk result (Gains self.now.feed self.now.query (IsEntry self.now.feed self.now.query) front.old front.new) }
+    {
+        let firsts = self.firsts();
+        for k in 0..firsts.len() {
+            self.offer_from(alloc, firsts[k], path, front)?;
+        }
+        Ok(())
+    }
+
+    // The exact answer to the query.
+    fn entries(&self, alloc: Global) -> Result<Vec<Entry>, AllocError>
+        ensures exact { IfOk result (λ entries. IsExactAnswer self.now.feed self.now.query entries.items) }
+        ensures covers { IfOk result (λ entries. CoversOffers self.now.feed self.now.query entries.items) }
+    {
+        let mut path = self.no_path(alloc);
+        let mut front = Front::empty(alloc);
+        match self.offer_all(alloc, &mut path, &mut front) {
+            Ok(()) => Ok(front.into_items()),
+            Err(AllocError) => Err(AllocError),
+        }
+    }
 }
 
 /// The exact answer to a query.
@@ -320,13 +357,26 @@ pub fn plain_entries(
     ensures exact { IfOk result (λ entries. IsExactAnswer timetable.now query.now entries.items) }
     ensures covers { IfOk result (λ entries. CoversOffers timetable.now query.now entries.items) }
 {
-    let fares = Fares::build(alloc, timetable.feed())?;
-    let search = Search::new(alloc, timetable, &fares, query)?;
-    let mut path = search.no_path(alloc);
-    let mut front = Front::empty(alloc);
-    let firsts = timetable.members(query.from);
-    for k in 0..firsts.len() {
-        search.offer_from(alloc, firsts[k], &mut path, &mut front)?;
+    match Fares::build(alloc, timetable.feed()) {
+        Ok(fares) => entries_by_fares(alloc, timetable, &fares, query),
+        Err(AllocError) => Err(AllocError),
     }
-    Ok(front.into_items())
+}
+
+// The exact answer to a query, by the fares of its feed.
+fn entries_by_fares<'s, 'f>(
+    alloc: Global,
+    timetable: &'s Timetable<'f>,
+    fares: &'s Fares<'f>,
+    query: &'s Query,
+) -> Result<Vec<Entry>, AllocError>
+    requires usual { IsUsualQuery query.now }
+    requires same { fares.now ≡ timetable.now }
+    ensures exact { IfOk result (λ entries. IsExactAnswer timetable.now query.now entries.items) }
+    ensures covers { IfOk result (λ entries. CoversOffers timetable.now query.now entries.items) }
+{
+    match Search::new(alloc, timetable, fares, query) {
+        Ok(search) => search.entries(alloc),
+        Err(AllocError) => Err(AllocError),
+    }
 }
