@@ -153,8 +153,8 @@ impl<'t, C: CallTable> Source<'t, C> {
         })
     }
 
-    // The feed, with these rows of stop_times.txt. Its parts are made apart, so that hardly anything is let go of where one can't
-    // be made.
+    // The feed, with these rows of stop_times.txt. Its parts are made apart and the shortest first, so that hardly anything is
+    // let go of where one can't be made.
     fn feed(&self, stop_times: StopTimeRows) -> Result<Feed, AllocError>
         requires related { AreRelated self.now }
         requires stop_times { stop_times ≡ typed_rows (table_in self.now file.StopTimes) (stop_time_row self.now) }
@@ -162,45 +162,26 @@ impl<'t, C: CallTable> Source<'t, C> {
     {
         let fare_leg_rules = self.tables.get(FileName::FareLegRules);
         let (currency, decimals) = self.currency();
+        let names = self.names()?;
         let trip_files = self.trip_files()?;
         let fare_files = self.fare_files()?;
-        let names = self.names()?;
-        let TripFiles {
-            stops,
-            routes,
-            trips,
-            services,
-            exceptions,
-            frequencies,
-            links,
-        } = trip_files;
-        let FareFiles {
-            areas,
-            stop_areas,
-            timeframes,
-            riders,
-            media,
-            products,
-            leg_rules,
-            transfer_rules,
-        } = fare_files;
         Ok(Feed {
-            stops,
-            routes,
-            trips,
+            stops: trip_files.stops,
+            routes: trip_files.routes,
+            trips: trip_files.trips,
             stop_times,
-            services,
-            exceptions,
-            frequencies,
-            links,
-            areas,
-            stop_areas,
-            timeframes,
-            riders,
-            media,
-            products,
-            leg_rules,
-            transfer_rules,
+            services: trip_files.services,
+            exceptions: trip_files.exceptions,
+            frequencies: trip_files.frequencies,
+            links: trip_files.links,
+            areas: fare_files.areas,
+            stop_areas: fare_files.stop_areas,
+            timeframes: fare_files.timeframes,
+            riders: fare_files.riders,
+            media: fare_files.media,
+            products: fare_files.products,
+            leg_rules: fare_files.leg_rules,
+            transfer_rules: fare_files.transfer_rules,
             service_names: names.services,
             network_names: names.networks,
             frame_names: names.frames,
