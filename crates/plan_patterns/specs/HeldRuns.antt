@@ -34,11 +34,14 @@ abbrev pub has_ended : Query → TripId → Day → List ℤ → List Call → B
 has_ended query trip day shifts calls =
     nat_lt 0 (length shifts) && ends_before query (run_with trip day shifts (length shifts - 1)) calls
 
--- of its runs on a day on which it runs those with the first n shifts that have a ride in the window
+-- of such a trip's runs on a day those with the first n shifts that have a ride in the window
+abbrev pub held_among : Query → TripId → Day → List ℤ → List Call → ℕ → List Run
+held_among query trip day shifts calls n =
+    picks_below n (λ place. has_ride query (run_with trip day shifts place) calls) (run_with trip day shifts)
+
+-- of a trip of the feed
 abbrev pub held_before : FeedRows → Query → TripId → Day → List ℤ → ℕ → List Run
-held_before feed query trip day shifts n =
-    picks_below n (λ place. has_ride query (run_with trip day shifts place) (calls_of feed trip))
-    (run_with trip day shifts)
+held_before feed query trip day shifts n = held_among query trip day shifts (calls_of feed trip) n
 
 -- all that have one, and none on a day on which it doesn't run
 unfoldable pub held_on_day : FeedRows → Query → TripId → Day → List Run

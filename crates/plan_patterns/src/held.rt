@@ -4,7 +4,7 @@ ghost use Rattle.feed_rows.specs.SoundFeed.{IsSoundFeed};
 ghost use Rattle.feed_rows.specs.Shifts.{shifts_of};
 ghost use Rattle.feed_timetable.specs.Standings.{AreShifts};
 ghost use Rattle.feed_rows.specs.Rides.{runs_on};
-ghost use Rattle.plan_patterns.specs.HeldRuns.{IsDayNear, active_days, days_of, ends_before, first_day, has_ended, held_of_trip, held_on_day, day_after_first, run_with};
+ghost use Rattle.plan_patterns.specs.HeldRuns.{IsDayNear, active_days, days_of, ends_before, first_day, has_ended, held_among, held_of_trip, held_on_day, day_after_first, run_with};
 ghost use Rattle.plan_patterns.specs.Runs.{AreHeld, AreTimed, AreTripsOf, IsNear, IsUsualSpan};
 
 use crate::runs::{Run, has_ride};
@@ -59,6 +59,30 @@ fn has_ended(query: &Query, trip: TripId, day: Day, shifts: &[i64], calls: &Call
     ends_before(query, &run, calls)
 }
 
+// Appends those of the runs of a trip with these calls on a day that have a ride within the query's window.
+fn add_held(
+    query: &Query,
+    trip: TripId,
+    day: Day,
+    shifts: &[i64],
+    calls: &Calls,
+    runs: &mut Vec<Run>,
+) -> Result<(), AllocError>
+    requires usual { IsUsualSpan query.now }
+    requires day { IsDayNear day }
+    requires bounds { AreShifts shifts.now }
+    requires times { AreTimed calls.now }
+    ensures { OnOk result (runs.new.items ≡ runs.old.items ++ held_among query.now trip day shifts.now calls.now (length shifts.now)) }
+{
+    for place in 0..shifts.len() {
+        let run = run_with(trip, day, shifts, place);
+        if has_ride(query, &run, calls) {
+            runs.push(run)?;
+        }
+    }
+    Ok(())
+}
+
 // Appends the runs of a trip on a day on which it runs that have a ride within the query's window.
 fn add_day(
     timetable: &Timetable,
@@ -81,13 +105,7 @@ fn add_day(
     if has_ended(query, trip, day, shifts, &calls) {
         return Ok(());
     }
-    for place in 0..shifts.len() {
-        let run = run_with(trip, day, shifts, place);
-        if has_ride(query, &run, &calls) {
-            runs.push(run)?;
-        }
-    }
-    Ok(())
+    add_held(query, trip, day, shifts, &calls, runs)
 }
 
 // The first day on which a run may have a ride within the query's window.

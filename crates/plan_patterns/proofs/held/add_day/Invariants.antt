@@ -1,6 +1,0 @@
-use Rattle.std.specs.Prelude.{◌≡◌, ◌++◌}
-use Rattle.plan_patterns.specs.HeldRuns.{held_before}
-use Rattle.plan_patterns.proofs.held.add_day.Given as goal
-
-abbrev pub invariant-loop-place : goal.invariant-loop-place
-invariant-loop-place l = l.runs.items ≡ l.fn.runs.items ++ held_before l.timetable l.query l.trip l.day l.shifts l.place
