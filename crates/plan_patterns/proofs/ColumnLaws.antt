@@ -1,5 +1,5 @@
 -- Columns of departures, in order.
-use Rattle.std.proofs.Common.{◌≡◌, sym, ◌∙◌, ap, subst, ℕ, ◌+◌, ◌-◌, ◌<◌, ◌≤◌, ◌⊎◌, inl, inr, ⊎_elim, Bool, true, false, List, [], ◌∷◌, ◌++◌, length, get_or, arith, ℤ, ◌≤ℤ◌, ◌<ℤ◌, int_lt, drop, map, take, Contains, AllPairs}
+use Rattle.std.proofs.Common.{◌≡◌, sym, ◌∙◌, ap, subst, ℕ, ◌+◌, ◌-◌, ◌<◌, ◌≤◌, ◌^◌, ◌⊎◌, inl, inr, ⊎_elim, Bool, true, false, List, [], ◌∷◌, ◌++◌, length, get_or, arith, ℤ, ◌≤ℤ◌, ◌<ℤ◌, int_lt, drop, map, take, Contains, All, AllPairs}
 use Rattle.std.specs.Prelude.{◌≢◌, ◌==◌, Some, slice_get}
 use Rattle.std.specs.List.Sorted.{IsPermutation, IsSortedByKey, IsPartitionedBy}
 use Rattle.std.specs.Cmp.{int_cmp_total}
@@ -7,19 +7,23 @@ use Rattle.std.specs.Ordering.{int_cmp, is_lt}
 use Rattle.std.proofs.lemmas.Bool.{cases_lt}
 use Rattle.std.proofs.lemmas.Bool.Decides.{nat_tests}
 use Rattle.std.proofs.lemmas.Int.{ints}
-use Rattle.std.proofs.lemmas.List.{get_or-drop, length-drop, length_push, map-append, take_more}
-use Rattle.std.proofs.lemmas.List.Elements.{All-drop}
+use Rattle.std.proofs.lemmas.List.{get_or-drop, get_or_append_left, get_or_push, length-drop, length-map, length_push, map_more}
+use Rattle.std.proofs.lemmas.List.Elements.{All-drop, All-push, All-weaker}
 use Rattle.std.proofs.lemmas.List.Sorted.{All-permutation, Contains-permutation, ranks_by, sorted_far}
 use Rattle.std.proofs.lemmas.Map.Keys.{IsDistinct-IsPermutation, apart_from_distinct, IsDistinct-from_apart}
 use Rattle.std.proofs.lemmas.Option.{get_or_from_slice_get, same_Some, slice_get_within}
 use Rattle.plain_laws.proofs.Laws.{All-drop_within, slice_get-old_item, slice_get-new_item}
+use Rattle.transit_base.specs.Limits.{most_time}
 use Rattle.feed_rows.specs.Calls.{calls_of}
 use Rattle.feed_rows.specs.FeedRows.{FeedRows}
 use Rattle.feed_rows.specs.declared.journeys.Call.{Call}
+use Rattle.plan_patterns.specs.declared.halts.Halt.{Halt}
 use Rattle.plan_patterns.specs.declared.pattern.Boarding.{Boarding}
+use Rattle.plan_patterns.specs.declared.pattern.Pattern.{Pattern}
 use Rattle.plan_patterns.specs.declared.runs.Run.{Run}
-use Rattle.plan_patterns.specs.Columns.{AreBoardable, AreColumns, AreFirst, AreInOrder, IsBoarding, IsColumn, IsSince}
-use Rattle.plan_patterns.specs.Runs.{moment_of}
+use Rattle.plan_patterns.specs.Columns.{AreBoardable, AreColumns, AreFirst, AreInOrder, CallsAtAll, IsBoarding, IsColumn, IsPattern, IsRunAt, IsSince, arrivals_of}
+use Rattle.plan_patterns.specs.Halts.{halt_of}
+use Rattle.plan_patterns.specs.Runs.{AreTimed, moment_of}
 
 -- items that a test tells apart are so in any order
 pub apart_moved : {X : Type 0} (same : X → X → Bool) → ((a b : X) → same a b ≡ same b a) → (xs ys : List X) → IsPermutation xs ys →
@@ -62,6 +66,24 @@ first_apart feed runs position n boardings first i j d lt within =
   where
     differ : (x y : ℕ) → x < y → (x == y) ≡ false
     differ x y lt = grind (arith, nat_tests)
+
+-- one run more
+pub first_more : (feed : FeedRows) (runs : List Run) (position n : ℕ) (boardings new : List Boarding) (boarding : Boarding) →
+    AreFirst feed runs position n boardings → IsBoarding feed runs position boarding → boarding.run ≡ n → new ≡ boardings ++ boarding ∷ [] → AreFirst feed runs position (n + 1) new
+first_more feed runs position n boardings new boarding before is number pushed =
+    subst (AreFirst feed runs position (n + 1)) (sym pushed) (record {
+      many = length_push boardings boarding ∙ ap (λ k. k + 1) before.many;
+      right = All-push (IsBoarding feed runs position) boardings boarding before.right is;
+      numbered = λ k d lt. step k d lt (cases_lt k n);
+    })
+  where
+    step : (k : ℕ) (d : Boarding) → k < n + 1 → (k < n) ⊎ (n ≤ k) → (get_or (boardings ++ boarding ∷ []) k d).run ≡ k
+    step k d lt (inl old) =
+        let many = before.many in
+        ap (λ (b : Boarding). b.run) (get_or_append_left boardings (boarding ∷ []) d k (omega arith)) ∙ before.numbered k d old
+    step k d lt (inr last) =
+        let many = before.many in
+        ap (λ (b : Boarding). b.run) (get_or_push boardings boarding d k (omega arith)) ∙ number ∙ omega arith
 
 -- the departures of all runs, in order
 pub column_of : (feed : FeedRows) (runs : List Run) (position : ℕ) (boardings column : List Boarding) → AreFirst feed runs position (length runs) boardings → IsPermutation boardings column → AreInOrder column → IsColumn feed runs position column
@@ -143,10 +165,39 @@ boardable_since feed runs position from column listed is since =
         (at.0 - since.first, omega arith, get_or-drop since.first column (at.0 - since.first) b ∙ ap (λ k. get_or column k b) place_is ∙ at.2)
 
 -- what is made of the first items of a list, with what is made of the next one
+pub made_next : {X : Type 0} {Y : Type 0} (f : X → Y) (xs : List X) (n : ℕ) (d : X) (made more : List Y) →
+    n < length xs → made ≡ map f (take n xs) → more ≡ made ++ f (get_or xs n d) ∷ [] → more ≡ map f (take (n + 1) xs)
+made_next f xs n d made more lt before grown =
+    grown ∙ ap (λ ys. ys ++ f (get_or xs n d) ∷ []) before ∙ sym (map_more f xs n d lt)
+
+-- the same where the next one is known
 pub made_more : {X : Type 0} {Y : Type 0} (f : X → Y) (xs : List X) (n : ℕ) (x : X) (made more : List Y) →
     slice_get xs n ≡ Some x → made ≡ map f (take n xs) → more ≡ made ++ f x ∷ [] → more ≡ map f (take (n + 1) xs)
 made_more f xs n x made more got before grown =
-    let next = take_more xs n x (slice_get_within xs n x got) in
-    let here = get_or_from_slice_get xs n x x got in
-    grown ∙ ap (λ ys. ys ++ f x ∷ []) before
-    ∙ sym (ap (map f) next ∙ map-append f (take n xs) (get_or xs n x ∷ []) ∙ ap (λ y. map f (take n xs) ++ f y ∷ []) here)
+    made_next f xs n x made more (slice_get_within xs n x got) before
+    (grown ∙ ap (λ y. made ++ f y ∷ []) (sym (get_or_from_slice_get xs n x x got)))
+
+-- the times of a call by its place
+pub timed_at : (calls : List Call) (k : ℕ) (call : Call) → AreTimed calls → slice_get calls k ≡ Some call → (call.arrival ≤ most_time) × (call.departure ≤ most_time)
+timed_at calls k call timed got =
+    subst (λ (c : Call). (c.arrival ≤ most_time) × (c.departure ≤ most_time)) (get_or_from_slice_get calls k call call got)
+    (timed k call (slice_get_within calls k call got))
+
+-- runs of trips with these halts call at as many positions
+pub calls_at_all : (feed : FeedRows) (halts : List Halt) (runs : List Run) → All (IsRunAt feed halts) runs → All (CallsAtAll feed (length halts)) runs
+calls_at_all feed halts runs at =
+    All-weaker (IsRunAt feed halts) (CallsAtAll feed (length halts))
+    (λ run is. record { known = is.known; calls = sym (length-map (calls_of feed run.trip) halt_of) ∙ ap length is.calls }) runs at
+
+-- a pattern of these halts and runs, with their columns
+pub pattern_is : (feed : FeedRows) (halts : List Halt) (runs : List Run) (pattern : Pattern) →
+    pattern.halts.items ≡ halts → pattern.runs.items ≡ runs → length halts < 2 ^ 32 → All (IsRunAt feed halts) runs →
+    pattern.stops.items ≡ map (λ (p : Halt). p.stop) halts → AreColumns feed runs (length halts) pattern.departures → pattern.arrivals ≡ map (arrivals_of feed) runs → IsPattern feed pattern
+pattern_is feed halts runs pattern halts_are runs_are few at stops departures arrivals = record {
+  stops = stops ∙ ap (map (λ (p : Halt). p.stop)) (sym halts_are);
+  few = subst (λ (hs : List Halt). length hs < 2 ^ 32) (sym halts_are) few;
+  runs = subst (All (IsRunAt feed pattern.halts.items)) (sym runs_are) (subst (λ (hs : List Halt). All (IsRunAt feed hs) runs) (sym halts_are) at);
+  departures = subst (λ (rs : List Run). AreColumns feed rs (length pattern.halts.items) pattern.departures) (sym runs_are)
+      (subst (λ (hs : List Halt). AreColumns feed runs (length hs) pattern.departures) (sym halts_are) departures);
+  arrivals = arrivals ∙ ap (map (arrivals_of feed)) (sym runs_are);
+}

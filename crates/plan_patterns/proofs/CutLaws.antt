@@ -24,7 +24,7 @@ use Rattle.plan_patterns.specs.declared.halts.Halt.{Halt}
 use Rattle.plan_patterns.specs.declared.runs.Run.{Run}
 use Rattle.plan_patterns.specs.Columns.{IsPattern, IsRunAt}
 use Rattle.plan_patterns.specs.Runs.{IsKnown}
-use Rattle.plan_patterns.specs.Cuts.{AreCut, AreInHaltOrder, AreTogether, AreWithHalts, IsCutTo, IsOwn, entry_halts, entry_runs, goes_on}
+use Rattle.plan_patterns.specs.Cuts.{AreCut, AreInHaltOrder, ArePatternsOf, AreTogether, AreWithHalts, IsCutTo, IsOwn, entry_halts, entry_runs, goes_on}
 use Rattle.plan_patterns.specs.Halts.{halt_cmp, halts_cmp, run_halts}
 
 -- lists of halts are ordered
@@ -113,6 +113,15 @@ own_entries feed halts runs together put is known = All-permutation (IsOwn feed)
 -- and are the same runs
 pub same_runs : (halts : List (List Halt)) (runs : List Run) (together : List RunWithHalts) → AreTogether halts runs together → IsPermutation runs (entry_runs together)
 same_runs halts runs together put = subst (λ rs. IsPermutation rs (entry_runs together)) put.are.runs_are (IsPermutation-map (λ (entry : RunWithHalts). entry.run) put.entries together put.moved)
+
+-- the patterns of the runs as they stand together are those of the runs
+pub patterns_together : (feed : FeedRows) (halts : List (List Halt)) (runs in_order : List Run) (together : List RunWithHalts) (patterns : List Pattern) →
+    AreTogether halts runs together → in_order ≡ entry_runs together → AreCut feed in_order patterns → ArePatternsOf feed runs patterns
+patterns_together feed halts runs in_order together patterns put is cut = record {
+  in_order = in_order;
+  moved = subst (IsPermutation runs) (sym is) (same_runs halts runs together put);
+  cut = cut;
+}
 
 -- of two lists neither of which comes before the other, both are one
 pub level : (a b : List Halt) → is_lt (halts_cmp a b) ≡ false → is_lt (halts_cmp b a) ≡ false → a ≡ b
@@ -252,11 +261,11 @@ cut_none feed entries patterns empty =
     })
 
 -- and at the end all
-pub cut_all : (feed : FeedRows) (entries : List RunWithHalts) (start at : ℕ) (patterns : List Pattern) → at ≡ length entries → IsCutTo feed entries start at patterns → AreCut feed (entry_runs entries) patterns
-cut_all feed entries start at patterns end cut =
+pub cut_all : (feed : FeedRows) (entries : List RunWithHalts) (runs : List Run) (start at : ℕ) (patterns : List Pattern) → runs ≡ entry_runs entries → at ≡ length entries → IsCutTo feed entries start at patterns → AreCut feed runs patterns
+cut_all feed entries runs start at patterns is end cut =
     let many = length-map entries (λ (entry : RunWithHalts). entry.run) in
     record {
       built = cut.built;
-      all = cut.all ∙ take_all start (entry_runs entries) (let last = cut.last end in omega arith);
+      all = cut.all ∙ take_all start (entry_runs entries) (let last = cut.last end in omega arith) ∙ sym is;
       apart = λ i j d lt within. unlike (get_or patterns i d).halts.items (get_or patterns j d).halts.items (cut.rises i j d lt within);
     }

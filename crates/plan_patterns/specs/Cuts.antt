@@ -58,6 +58,12 @@ pub record AreCut (feed : FeedRows) (runs : List Run) (patterns : List Pattern) 
   pub all : runs_in patterns ≡ runs
   pub apart : AllPairs (λ (p : Pattern) (q : Pattern). p.halts.items ≢ q.halts.items) patterns
 
+-- the same of the runs in some order
+pub record ArePatternsOf (feed : FeedRows) (runs : List Run) (patterns : List Pattern) : Type 0 where
+  pub in_order : List Run
+  pub moved : IsPermutation runs in_order
+  pub cut : AreCut feed in_order patterns
+
 -- the patterns of the runs before a place; those from there up to another have the same halts
 pub record IsCutTo (feed : FeedRows) (entries : List RunWithHalts) (start at : ℕ)
     (patterns : List Pattern) : Type 0 where

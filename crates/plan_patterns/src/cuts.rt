@@ -3,10 +3,11 @@ ghost use Rattle.std.specs.Prelude.{◌≡◌, ◌<◌, length, slice_index_or, 
 ghost use Rattle.std.specs.List.Sorted.{IsPermutation};
 ghost use Rattle.std.specs.Ordering.{is_lt};
 ghost use Rattle.plan_patterns.specs.declared.cuts.RunWithHalts.{RunWithHalts};
-ghost use Rattle.plan_patterns.specs.Cuts.{AreCut, AreInHaltOrder, AreTogether, AreWithHalts, IsOwn, entry_runs, goes_on};
+ghost use Rattle.plan_patterns.specs.Cuts.{AreCut, AreInHaltOrder, ArePatternsOf, AreTogether, AreWithHalts, IsOwn, entry_runs, goes_on};
 ghost use Rattle.plan_patterns.specs.Halts.{halts_cmp};
+ghost use Rattle.plan_patterns.specs.Runs.{IsKnown};
 
-use crate::halts::Halt;
+use crate::halts::{Halt, all_halts};
 use crate::pattern::Pattern;
 use crate::runs::Run;
 use feed_timetable::Timetable;
@@ -48,11 +49,8 @@ fn put_in_order(entries: &mut Vec<RunWithHalts>) -> Result<(), AllocError>
     Ok(())
 }
 
-/// The runs, each with the halts that have its number, and those with the same halts next to one another.
-///
-/// # Errors
-/// Want of memory.
-pub fn put_together<'h>(
+// The runs, each with the halts that have its number, and those with the same halts next to one another.
+fn put_together<'h>(
     alloc: Global,
     halts: &'h Groups<Halt>,
     runs: &[Run],
@@ -99,20 +97,18 @@ fn halts_from<'h>(entries: &[RunWithHalts<'h>], start: usize) -> &'h [Halt]
     entries[start].halts
 }
 
-/// The patterns of runs of which those of trips with the same halts stand next to one another.
-///
-/// # Errors
-/// Want of memory; so counts that there would be 2^32 runs of a pattern or more.
-pub fn cut(
+// The patterns of runs of which those of trips with the same halts stand next to one another.
+fn cut(
     alloc: Global,
     timetable: &Timetable,
     together: &[RunWithHalts],
+    runs: &[Run],
 ) -> Result<Vec<Pattern>, AllocError>
     requires own { All (IsOwn timetable.now) together.now }
     requires rises { AreInHaltOrder together.now }
-    ensures { IfOk result (λ patterns. AreCut timetable.now (entry_runs together.now) patterns.items) }
+    requires runs { runs.now ≡ entry_runs together.now }
+    ensures { IfOk result (λ patterns. AreCut timetable.now runs.now patterns.items) }
 {
-    let runs = runs_of(alloc, together)?;
     let mut patterns = Vec::new(alloc);
     let mut start = 0;
     for at in 0..together.len() {
@@ -123,4 +119,22 @@ pub fn cut(
         }
     }
     Ok(patterns)
+}
+
+/// The patterns of runs.
+///
+/// # Errors
+/// Want of memory; so counts that there would be 2^32 runs of a pattern or more.
+pub fn patterns_of(
+    alloc: Global,
+    timetable: &Timetable,
+    runs: &[Run],
+) -> Result<Vec<Pattern>, AllocError>
+    requires { All (IsKnown timetable.now) runs.now }
+    ensures { IfOk result (λ patterns. ArePatternsOf timetable.now runs.now patterns.items) }
+{
+    let halts = all_halts(alloc, timetable, runs)?;
+    let together = put_together(alloc, &halts, runs)?;
+    let in_order = runs_of(alloc, &together)?;
+    cut(alloc, timetable, &together, &in_order)
 }

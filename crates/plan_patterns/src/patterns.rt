@@ -7,8 +7,8 @@ ghost use Rattle.plan_patterns.specs.Grouping.{ArePatterns, halts_at, runs_at, p
 ghost use Rattle.plan_patterns.specs.Runs.{AreTripsOf, IsUsualSpan};
 ghost use Rattle.plan_patterns.specs.Servings.{AreServings, halts_in, servings_at};
 
-use crate::cuts::{cut, put_together};
-use crate::halts::{Halt, all_halts};
+use crate::cuts::patterns_of;
+use crate::halts::Halt;
 use crate::held::held_runs;
 use crate::pattern::{Boarding, Pattern, since};
 use crate::runs::Run;
@@ -54,6 +54,22 @@ impl<'t, 'f> Model for Patterns<'t, 'f> {
     ghost invariant = { λ s. All (IsPattern s.timetable.now) s.patterns.items × (length s.patterns.items < 2 ^ 32) × AreServings (halts_in s.patterns.items) (length s.timetable.now.stops) s.servings };
 }
 
+// The patterns of the runs of these trips that have a ride within the query's window.
+fn held_patterns(
+    alloc: Global,
+    timetable: &Timetable,
+    query: &Query,
+    trips: &[TripId],
+) -> Result<Vec<Pattern>, AllocError>
+    requires usual { IsUsualSpan query.now }
+    requires trips { AreTripsOf timetable.now trips.now }
+    ensures built { IfOk result (λ patterns. All (IsPattern timetable.now) patterns.items) }
+    ensures held { IfOk result (λ patterns. ArePatterns timetable.now query.now trips.now (map pattern_of patterns.items)) }
+{
+    let held = held_runs(alloc, timetable, query, trips)?;
+    patterns_of(alloc, timetable, &held)
+}
+
 impl<'t, 'f> Patterns<'t, 'f> {
     /// The runs of these trips that have a ride within the query's window, by patterns. No other trip is looked at.
     ///
@@ -70,15 +86,8 @@ impl<'t, 'f> Patterns<'t, 'f> {
         ensures feed { IfOk result (λ built. built.feed ≡ timetable.now) }
         ensures patterns { IfOk result (λ built. ArePatterns timetable.now query.now trips.now built.patterns) }
     {
-        let held = held_runs(alloc, timetable, query, trips)?;
-        let halts = all_halts(alloc, timetable, &held)?;
-        let together = put_together(alloc, &halts, &held)?;
-        let patterns = cut(alloc, timetable, &together)?;
-        if patterns.len() >= 1 << 32 {
-            return Err(AllocError);
-        }
-        let feed = timetable.feed();
-        let servings = servings_of(alloc, &patterns, feed.stops.items().len() as u32)?;
+        let patterns = held_patterns(alloc, timetable, query, trips)?;
+        let servings = servings_of(alloc, timetable, &patterns)?;
         Ok(Patterns {
             timetable,
             patterns,

@@ -5,6 +5,7 @@ ghost use Rattle.plan_patterns.specs.Servings.{AreServings, servings_in, grouped
 
 use crate::halts::Halt;
 use crate::pattern::Pattern;
+use feed_timetable::Timetable;
 use item_groups::{Grouped, Groups};
 use std::alloc::{AllocError, Global};
 
@@ -54,20 +55,23 @@ fn add_pattern(
 /// The positions of patterns at which riders may board, by their stops.
 ///
 /// # Errors
-/// Want of memory.
+/// Want of memory; so counts that there would be 2^32 patterns or more.
 pub fn servings_of(
     alloc: Global,
+    timetable: &Timetable,
     patterns: &[Pattern],
-    stops: u32,
 ) -> Result<Groups<Serving>, AllocError>
-    requires few { length patterns.now < 2 ^ 32 }
-    requires short { All (λ (p : Pattern). length p.halts.items < 2 ^ 32) patterns.now }
-    ensures { IfOk result (λ servings. AreServings (halts_in patterns.now) stops servings) }
+    requires { All (λ (p : Pattern). length p.halts.items < 2 ^ 32) patterns.now }
+    ensures few { IfOk result (λ servings. length patterns.now < 2 ^ 32) }
+    ensures by_stop { IfOk result (λ servings. AreServings (halts_in patterns.now) (length timetable.now.stops) servings) }
 {
+    if patterns.len() >= 1 << 32 {
+        return Err(AllocError);
+    }
     let mut servings = Vec::new(alloc);
     for number in 0..patterns.len() as u32 {
         add_pattern(&patterns[number as usize].halts, number, &mut servings)?;
     }
-    let by_stop = Groups::of(alloc, servings, stops)?;
-    Ok(by_stop)
+    let stops = timetable.feed().stops.items().len() as u32;
+    Groups::of(alloc, servings, stops)
 }

@@ -1,13 +1,21 @@
-use Rattle.std.proofs.Common.{◌≡◌, length, arith}
+use Rattle.std.proofs.Common.{◌≡◌, ◌∙◌, ap, length, arith}
 use Rattle.std.proofs.lemmas.List.{length-map}
+use Rattle.std.proofs.lemmas.Result.{IfOk-weaker}
+use Rattle.feed_rows.specs.FeedRows.{FeedRows}
+use Rattle.item_groups.specs.Groups.{groups_below}
 use Rattle.plan_patterns.specs.declared.pattern.Pattern.{Pattern}
 use Rattle.plan_patterns.specs.Servings.{halts_in}
-use Rattle.plan_patterns.proofs.ServingLaws.{by_stop}
+use Rattle.plan_patterns.proofs.ServingLaws.{by_stop, servings_more}
 use Rattle.plan_patterns.proofs.serving.servings_of.Goals as goal
 
-pub returns : goal.returns
-returns c =
-    let few = c.requires.few in
+pub loop-number-preserved : goal.loop-number-preserved
+loop-number-preserved c = servings_more c.args.patterns.now c.loop-number.number _ _ _ _ (omega (arith, c.loop-number-test.true)) c.deref.ensures.value c.loop-number.invariant c.in_ok-add_pattern.ensures
+
+pub returns-clause-by_stop : goal.returns-clause-by_stop
+returns-clause-by_stop c =
     let long = length-map c.args.patterns.now (λ (p : Pattern). p.halts.items) in
     let all : c.loop-number.number ≡ length (halts_in c.args.patterns.now) = omega arith in
-    by_stop _ _ _ _ _ all c.loop-number.invariant c.in_ok-by_stop.ensures
+    let stops = c.items.ensures.len ∙ ap (λ (feed : FeedRows). length feed.stops) (c.behind-timetable.view_is ∙ c.feed.ensures.value) in
+    IfOk-weaker c.of.result _ _
+    (λ servings are. by_stop (halts_in c.args.patterns.now) (length c.args.timetable.now.stops) c.loop-number.number c.loop-number.servings.items servings all c.loop-number.invariant (are ∙ ap (λ n. groups_below n c.loop-number.servings.items) stops))
+    c.of.ensures
