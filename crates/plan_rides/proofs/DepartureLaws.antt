@@ -1,6 +1,6 @@
 -- How the patterns of a window's runs give the departures from stops.
 use Rattle.std.proofs.Common.{◌≡◌, refl, sym, ◌∙◌, ap, subst, ℕ, zero, suc, set, ◌+◌, ◌++◌, ◌∷◌, ◌<◌, ◌≤◌, ◌⊎◌, inl, inr, ⊎_elim, Bool, true, false, List, length, get_or, arith, ℤ, pos, ◌≤ℤ◌}
-use Rattle.std.specs.Prelude.{◌==◌, ◌&&◌, ◌≢◌, [], Option, Some, None, slice_get, slice_index_or, option_map, unwrap_or, All, Contains, map}
+use Rattle.std.specs.Prelude.{◌==◌, ◌&&◌, ◌≢◌, Result, Ok, Err, IfOk, [], Option, Some, None, slice_get, slice_index_or, option_map, unwrap_or, All, Contains, map}
 use Rattle.std.specs.Option.{option_map_or}
 use Rattle.std.proofs.lemmas.Option.{same_Some, slice_get_within, slice_get-get_or, slice_get-map}
 use Rattle.std.proofs.lemmas.List.{get_or_default, get_or-map, get_or-set_other, get_or-set_same, length-map, length-replicate}
@@ -577,3 +577,8 @@ in_order feed stop position runs listed rises i j b lt within =
     subst (λ (x : Departure). x.at.0 ≤ℤ (get_or listed j b).at.0) (get_or-map make listed i b (make b) (omega (arith, lt, within)))
     (subst (λ (x : Departure). (get_or (map make listed) i (make b)).at.0 ≤ℤ x.at.0) (get_or-map make listed j b (make b) within)
     (rises i j (make b) lt (subst (λ n. j < n) (sym long) within)))
+
+-- what follows of two facts of what is there without an error
+pub of_both : {X Y : Type 0} (r : Result X Y) (P Q R : X → Type 0) → ((x : X) → P x → Q x → R x) → IfOk r P → IfOk r Q → IfOk r R
+of_both (Ok x) P Q R then p q = then x p q
+of_both (Err y) P Q R then p q = tt

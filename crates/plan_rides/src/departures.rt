@@ -147,8 +147,7 @@ pub fn patterns_of<'t, 'f>(
     ensures served { IfOk result (λ patterns. AreDepartures timetable.now sought.now patterns) }
 {
     let trips = boarded_trips(alloc, timetable, sought)?;
-    let patterns = Patterns::build(alloc, timetable, sought.query(), &trips)?;
-    Ok(patterns)
+    Patterns::build(alloc, timetable, sought.query(), &trips)
 }
 
 // Where a run departs from the stop, which is at this position, at the moment.

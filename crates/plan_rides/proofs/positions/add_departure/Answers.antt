@@ -1,5 +1,8 @@
-use Rattle.std.proofs.Common.{◌∙◌, arith, ap, length, sym}
+use Rattle.std.proofs.Common.{◌∙◌, ◌≤◌, arith, ap, length, sym}
 use Rattle.std.specs.Prelude.{slice_get}
+use Rattle.transit_base.specs.Limits.{most_time}
+use Rattle.feed_rows.specs.declared.journeys.Call.{Call}
+use Rattle.plain_laws.proofs.Laws.{All-slice_get}
 use Rattle.plan_rides.specs.Departures.{run_with}
 use Rattle.plan_rides.proofs.FoundLaws.{found_call, found_departure, found_first}
 use Rattle.plan_rides.proofs.LastLaws.{run_near}
@@ -24,3 +27,10 @@ loop-to-init c = record { later = omega arith; adds = found_first _ _ _ _ _ _ (o
 
 pub returns : goal.returns
 returns c = let same = ap length c.calls_of-calls.ensures.value in found_departure _ _ _ _ _ _ _ (omega arith) c.loop-to.invariant.adds
+
+pub add_ride-requires-clause-time : goal.add_ride-requires-clause-time
+add_ride-requires-clause-time c =
+    (All-slice_get (λ (call : Call). (call.arrival ≤ most_time) × (call.departure ≤ most_time)) c.calls_of-calls.result c.loop-to.to c.at.result c.at.ensures c.calls_of-calls.ensures.times).0
+
+pub add_ride-requires-clause-later : goal.add_ride-requires-clause-later
+add_ride-requires-clause-later c = omega (arith, c.loop-to.invariant.later)
