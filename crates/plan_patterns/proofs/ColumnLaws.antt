@@ -12,7 +12,7 @@ use Rattle.std.proofs.lemmas.List.Elements.{All-drop, All-push, All-weaker}
 use Rattle.std.proofs.lemmas.List.Sorted.{All-permutation, Contains-permutation, ranks_by, sorted_far}
 use Rattle.std.proofs.lemmas.Map.Keys.{IsDistinct-IsPermutation, apart_from_distinct, IsDistinct-from_apart}
 use Rattle.std.proofs.lemmas.Option.{get_or_from_slice_get, same_Some, slice_get_within}
-use Rattle.plain_laws.proofs.Laws.{All-drop_within, slice_get-old_item, slice_get-new_item}
+use Rattle.plain_laws.proofs.Laws.{All-drop_within, All-slice_get, slice_get-old_item, slice_get-new_item}
 use Rattle.transit_base.specs.Limits.{most_time}
 use Rattle.feed_rows.specs.Calls.{calls_of}
 use Rattle.feed_rows.specs.FeedRows.{FeedRows}
@@ -179,9 +179,7 @@ made_more f xs n x made more got before grown =
 
 -- the times of a call by its place
 pub timed_at : (calls : List Call) (k : ℕ) (call : Call) → AreTimed calls → slice_get calls k ≡ Some call → (call.arrival ≤ most_time) × (call.departure ≤ most_time)
-timed_at calls k call timed got =
-    subst (λ (c : Call). (c.arrival ≤ most_time) × (c.departure ≤ most_time)) (get_or_from_slice_get calls k call call got)
-    (timed k call (slice_get_within calls k call got))
+timed_at calls k call timed got = All-slice_get (λ (c : Call). (c.arrival ≤ most_time) × (c.departure ≤ most_time)) calls k call got timed
 
 -- runs of trips with these halts call at as many positions
 pub calls_at_all : (feed : FeedRows) (halts : List Halt) (runs : List Run) → All (IsRunAt feed halts) runs → All (CallsAtAll feed (length halts)) runs
