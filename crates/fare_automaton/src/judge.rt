@@ -53,12 +53,10 @@ impl<'f> Automaton<'f> {
     fn is_change_product(&self, product: Option<ProductId>, row: Option<ProductRowId>) -> bool
         ensures { result ≡ is_change_product self.now.feed self.now.rider product row }
     {
-        match product {
-            Some(named) => match row {
-                Some(chosen) => self.is_open_row(named, chosen),
-                None => false,
-            },
-            None => row.is_none(),
+        match (product, row) {
+            (Some(named), Some(chosen)) => self.is_open_row(named, chosen),
+            (None, None) => true,
+            _ => false,
         }
     }
 
@@ -79,12 +77,11 @@ impl<'f> Automaton<'f> {
     pub(crate) fn is_place_after(&self, change: Option<Change>, place: Option<ChangeChoice>) -> bool
         ensures { result ≡ is_place_after self.now.feed self.now.rider (option_map asked_of change) place }
     {
-        match change {
-            Some(asked) => match place {
-                Some(pick) => self.is_row_after(&asked, &pick),
-                None => !self.is_arranged(&asked),
-            },
-            None => place.is_none(),
+        match (change, place) {
+            (Some(asked), Some(pick)) => self.is_row_after(&asked, &pick),
+            (Some(asked), None) => !self.is_arranged(&asked),
+            (None, Some(_)) => false,
+            (None, None) => true,
         }
     }
 }
