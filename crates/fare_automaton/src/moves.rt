@@ -283,10 +283,8 @@ fn paid_by(held: i64, code: u8, amount: i64, charge: i64) -> i64
     ensures { result ≡ next_paid (pos 0) held (Some code) amount charge }
 {
     if code == 2 {
-        charge
-    } else if code == 0 {
-        held + charge
-    } else {
-        held + charge + amount
+        return charge;
     }
+    let before = held + charge;
+    if code == 0 { before } else { before + amount }
 }

@@ -13,11 +13,8 @@ returns-else-code-eq0 c =
     (grind (arith, nat_tests, c.if-code-eq2.false)) (grind (arith, nat_tests, c.if-code-eq0.false)))
     (omega (arith, ints, c.requires.held, c.requires.charge, c.requires.amount))
 
+pub overflow_add-before : goal.overflow_add-before
+overflow_add-before c = omega (arith, ints, c.requires.held, c.requires.charge)
+
 pub overflow_add-result : goal.overflow_add-result
-overflow_add-result c = omega (arith, ints, c.requires.held, c.requires.charge)
-
-pub overflow_add-result-else-code-eq0 : goal.overflow_add-result-else-code-eq0
-overflow_add-result-else-code-eq0 c = omega (arith, ints, c.requires.held, c.requires.charge)
-
-pub overflow_add-result-else-code-eq0-2 : goal.overflow_add-result-else-code-eq0-2
-overflow_add-result-else-code-eq0-2 c = omega (arith, ints, c.requires.held, c.requires.charge, c.requires.amount)
+overflow_add-result c = omega (arith, ints, c.requires.held, c.requires.charge, c.requires.amount)
