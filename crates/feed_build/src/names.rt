@@ -198,27 +198,27 @@ impl<'t> Names<'t> {
         requires none { HasNone self.old }
         ensures { OnOk result (HasNames tables.now self.new) }
     {
-        let Names {
-            services,
-            networks,
-            frames,
-            products,
-            groups,
-        } = self;
-        services.add_column(tables.get(FileName::Trips), ColumnName::ServiceId)?;
-        services.add_column(tables.get(FileName::Calendar), ColumnName::ServiceId)?;
-        services.add_column(tables.get(FileName::CalendarDates), ColumnName::ServiceId)?;
-        services.add_column(tables.get(FileName::Timeframes), ColumnName::ServiceId)?;
-        networks.add_column(tables.get(FileName::Routes), ColumnName::NetworkId)?;
-        networks.add_column(tables.get(FileName::Networks), ColumnName::NetworkId)?;
-        frames.add_column(
+        self.services
+            .add_column(tables.get(FileName::Trips), ColumnName::ServiceId)?;
+        self.services
+            .add_column(tables.get(FileName::Calendar), ColumnName::ServiceId)?;
+        self.services
+            .add_column(tables.get(FileName::CalendarDates), ColumnName::ServiceId)?;
+        self.services
+            .add_column(tables.get(FileName::Timeframes), ColumnName::ServiceId)?;
+        self.networks
+            .add_column(tables.get(FileName::Routes), ColumnName::NetworkId)?;
+        self.networks
+            .add_column(tables.get(FileName::Networks), ColumnName::NetworkId)?;
+        self.frames.add_column(
             tables.get(FileName::Timeframes),
             ColumnName::TimeframeGroupId,
         )?;
-        products.add_column(
+        self.products.add_column(
             tables.get(FileName::FareProducts),
             ColumnName::FareProductId,
         )?;
-        groups.add_column(tables.get(FileName::FareLegRules), ColumnName::LegGroupId)
+        self.groups
+            .add_column(tables.get(FileName::FareLegRules), ColumnName::LegGroupId)
     }
 }
