@@ -42,7 +42,7 @@ impl NameHash {
     /// The hash for the names of these tables.
     pub fn of<C: CallTable>(tables: &Tables<C>) -> NameHash {
         let mut hasher = DefaultHasher::new();
-        for (file, column) in NAME_COLUMNS {
+        for &(file, column) in &NAME_COLUMNS {
             let table = tables.get(file);
             for row in 0..table.rows() {
                 hasher.write(table.field(row, column));
