@@ -5,7 +5,7 @@ use crate::failing_call::FailingCall;
 use crate::feed_texts::FeedFiles;
 use anyhow::{Result, bail};
 use bstr::ByteSlice;
-use plan_words::WordList;
+use plan_arguments::WordList;
 use std::alloc::{AllocError, Global};
 use std::str;
 

@@ -6,7 +6,7 @@ use crate::case::{Case, Wanted};
 use crate::failing_call::FailingCall;
 use bstr::ByteSlice;
 use folder_io::{Cut, Files, MemFolder, MemSink};
-use plan_words::WordList;
+use plan_arguments::WordList;
 use std::alloc::{AllocError, Global};
 use std::fmt;
 

@@ -2,7 +2,7 @@
 ghost use Rattle.std.specs.Prelude.{◌≡◌, IfOk, map, string_bytes};
 ghost use Rattle.plan_arguments.specs.Arguments.{path_in, words_in};
 
-use plan_words::WordList;
+use crate::words::WordList;
 use std::alloc::{AllocError, Global};
 
 /// The folder's path, and the words of the command behind it.

@@ -3,6 +3,8 @@
 
 mod arguments;
 mod command;
+mod words;
 
 pub use arguments::{ArgumentError, read_arguments};
 pub use command::{Command, command_of};
+pub use words::WordList;

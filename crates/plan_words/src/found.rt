@@ -11,8 +11,8 @@ ghost use Rattle.plan_words.specs.Rides.{texts_of};
 ghost use Rattle.plan_words.specs.Words.{behind, form_of};
 
 use crate::grammar::Form;
-use crate::words::WordList;
 use clap::{Arg, ArgAction, ArgMatches, Command};
+use plan_arguments::WordList;
 use std::alloc::{AllocError, Global};
 
 // The command with one option more. Each use of an option is kept: whether it stands once is judged before.

@@ -6,8 +6,9 @@ ghost use Rattle.plain_laws.specs.Plain.{all_below, count_below};
 ghost use Rattle.feed_rows.specs.CommandWords.{is_one_of, is_dashed, joined_value, follows_option, role_at, is_taken, is_positional, positional_words, value_at, is_single_flag, is_single_option, fits_form, word_at};
 ghost use Rattle.plan_words.specs.Words.{behind};
 
-use crate::words::WordList;
+use crate::words::{count_behind, word_behind};
 use feed_rows::WordRole;
+use plan_arguments::WordList;
 
 /// The words that a command takes behind its name.
 #[derive(Clone, Copy)]
@@ -116,7 +117,7 @@ impl Form {
         requires { i < length (behind words.now) }
         ensures { result ≡ role_at (form_of self) (behind words.now) i }
     {
-        let word = words.behind(i);
+        let word = word_behind(words, i);
         if is_never_taken(word) {
             return WordRole::Refused;
         }
@@ -124,7 +125,7 @@ impl Form {
             return role_of_value(word);
         }
         if self.is_option(word) {
-            return if words.count_behind() > i + 1 {
+            return if count_behind(words) > i + 1 {
                 WordRole::OptionName
             } else {
                 WordRole::Refused
@@ -148,7 +149,7 @@ impl Form {
         requires { i < length (behind words.now) }
         ensures { result ≡ follows_option (form_of self) (behind words.now) i }
     {
-        i > 0 && self.is_option(words.behind(i - 1))
+        i > 0 && self.is_option(word_behind(words, i - 1))
     }
 
     // Whether the word of that number is positional.
@@ -186,7 +187,7 @@ impl Form {
     fn are_taken(self, words: &WordList) -> bool
         ensures { result ≡ all_below (length (behind words.now)) (λ i. is_taken (role_at (form_of self) (behind words.now) i)) }
     {
-        for i in 0..words.count_behind() {
+        for i in 0..count_behind(words) {
             if !self.is_taken(words, i) {
                 return false;
             }
@@ -200,7 +201,7 @@ impl Form {
         ensures { result ≡ length (positional_words (form_of self) (behind words.now)) }
     {
         let mut count = 0;
-        for i in 0..words.count_behind() {
+        for i in 0..count_behind(words) {
             if self.is_positional(words, i) {
                 count += 1;
             }
@@ -273,11 +274,11 @@ fn value_at<'a>(words: &'a WordList, option: &str, i: usize) -> Option<&'a [u8]>
     requires { i < length (behind words.now) }
     ensures { option_copied result ≡ value_at (behind words.now) option.now i }
 {
-    if words.behind(i) != option {
-        return joined_value(option, words.behind(i));
+    if word_behind(words, i) != option {
+        return joined_value(option, word_behind(words, i));
     }
-    if words.count_behind() > i + 1 {
-        Some(words.behind(i + 1).as_bytes())
+    if count_behind(words) > i + 1 {
+        Some(word_behind(words, i + 1).as_bytes())
     } else {
         None
     }
@@ -296,7 +297,7 @@ fn count_values(words: &WordList, option: &str) -> usize
     ensures { result ≡ count_below (length (behind words.now)) (λ i. is_some (value_at (behind words.now) option.now i)) }
 {
     let mut count = 0;
-    for i in 0..words.count_behind() {
+    for i in 0..count_behind(words) {
         if value_at(words, option, i).is_some() {
             count += 1;
         }
@@ -310,8 +311,8 @@ fn count_uses(words: &WordList, flag: &str) -> usize
     ensures { result ≡ count_below (length (behind words.now)) (λ i. bytes_eq (word_at (behind words.now) i) flag.now) }
 {
     let mut count = 0;
-    for i in 0..words.count_behind() {
-        if words.behind(i) == flag {
+    for i in 0..count_behind(words) {
+        if word_behind(words, i) == flag {
             count += 1;
         }
     }

@@ -10,6 +10,6 @@ mod values;
 mod words;
 
 pub use error::WordsError;
+pub use plan_arguments::WordList;
 pub use request::{Asked, GenWords, PlanWords, PriceWords, asked_of};
 pub use rides::{RideWord, RideWords};
-pub use words::WordList;

@@ -13,9 +13,9 @@ use crate::found::{all_named, found_in, is_set, named, value_of};
 use crate::grammar::Form;
 use crate::rides::{RideWords, rides_in};
 use crate::values::{date_in, number_in, option_number};
-use crate::words::WordList;
 use feed_rows::{USUAL_WINDOW, UsageFault};
 use feed_text::time_of;
+use plan_arguments::WordList;
 use transit_base::Moment;
 
 // The seconds within which a plan may ask to arrive, at most.
