@@ -8,7 +8,7 @@ use Rattle.std.proofs.Math.ListN.{replicate}
 use Rattle.std.proofs.lemmas.Bool.{cases_eq, cases_lt, and_from, and_parts}
 use Rattle.std.proofs.lemmas.Bool.Decides.{nat_tests}
 use mathlib.Core.Bool.{true≢false}
-use Rattle.std.proofs.lemmas.List.Elements.{All-append, All-cons, All-nil, All-contains, Contains-append_left, Contains-push}
+use Rattle.std.proofs.lemmas.List.Elements.{All-append, All-push, All-cons, All-nil, All-contains, Contains-append_left, Contains-push}
 use Rattle.transit_base.specs.declared.numbers.StopId.{StopId}
 use Rattle.transit_base.specs.declared.numbers.TripId.{TripId}
 use Rattle.feed_rows.specs.Calls.{calls_of}
@@ -577,6 +577,22 @@ in_order feed stop position runs listed rises i j b lt within =
     subst (λ (x : Departure). x.at.0 ≤ℤ (get_or listed j b).at.0) (get_or-map make listed i b (make b) (omega (arith, lt, within)))
     (subst (λ (x : Departure). (get_or (map make listed) i (make b)).at.0 ≤ℤ x.at.0) (get_or-map make listed j b (make b) within)
     (rises i j (make b) lt (subst (λ n. j < n) (sym long) within)))
+
+-- a trip that is marked is listed already
+pub trip_there : (marks : List Bool) (trips : List TripId) (trip : TripId) → AreListed marks trips → slice_index_or marks trip.0 false ≡ true → AddsTrip trip trips trips
+trip_there marks trips trip listed marked = record {
+  still = λ other has. has;
+  here = listed.all trip marked;
+  only = λ n lt all. all;
+}
+
+-- a trip that is listed last
+pub trip_added : (trip : TripId) (old new : List TripId) → new ≡ old ++ trip ∷ [] → AddsTrip trip old new
+trip_added trip old new pushed = subst (AddsTrip trip old) (sym pushed) (record {
+  still = λ other has. Contains-append_left old (trip ∷ []) other has;
+  here = Contains-push old trip;
+  only = λ n lt all. All-push (λ (t : TripId). t.0 < n) old trip all lt;
+})
 
 -- what follows of two facts of what is there without an error
 pub of_both : {X Y : Type 0} (r : Result X Y) (P Q R : X → Type 0) → ((x : X) → P x → Q x → R x) → IfOk r P → IfOk r Q → IfOk r R
