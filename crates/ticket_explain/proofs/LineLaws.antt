@@ -1,5 +1,5 @@
 -- Dates and times that have no text.
-use Rattle.std.proofs.Common.{◌≡◌, refl, sym, ◌++◌, ℕ, ◌<◌, ◌≤◌, false, List, [], ℤ, pos, negsuc, ◌+ℤ◌, ◌-ℤ◌, ◌<ℤ◌, arith}
+use Rattle.std.proofs.Common.{◌≡◌, refl, sym, ◌++◌, ℕ, ◌<◌, ◌≤◌, ◌==◌, false, List, [], ℤ, pos, negsuc, ◌+ℤ◌, ◌-ℤ◌, ◌<ℤ◌, arith}
 use Rattle.std.specs.Prelude.{nat_le}
 use Rattle.std.proofs.lemmas.List.{append-nil}
 use Rattle.std.proofs.lemmas.Int.{ints}
@@ -8,6 +8,7 @@ use Rattle.transit_base.specs.Limits.{most_time}
 use Rattle.transit_base.specs.Dates.{is_dated}
 use Rattle.transit_base.specs.DateTexts.{date_text, time_text}
 use Rattle.feed_rows.specs.EntryText.{service_time_text}
+use Rattle.feed_rows.specs.MoneyText.{money_text}
 
 -- a day without a date adds nothing
 pub undated : (text : List ℕ) (day : ℤ) → is_dated day ≡ false → text ≡ text ++ date_text day
@@ -44,3 +45,12 @@ far_before shift first far small = time_before (shift +ℤ pos first) (omega (ar
 
 pub far_past : (shift : ℤ) (first : ℕ) → pos most_time <ℤ shift → service_time_text (shift +ℤ pos first) ≡ []
 far_past shift first far = time_past (shift +ℤ pos first) (omega (arith, ints))
+
+-- an amount of a currency with other decimals than 0, 2 or 3 has no text
+pub moneyless : (decimals : ℕ) (amount : ℤ) → (decimals ≡ 0 → ⊥) → (decimals ≡ 2 → ⊥) → (decimals ≡ 3 → ⊥) → money_text decimals amount ≡ []
+unfolding money_text
+moneyless decimals amount zero two three =
+    let not_zero : (decimals == 0) ≡ false = grind (arith, nat_tests) in
+    let not_two : (decimals == 2) ≡ false = grind (arith, nat_tests) in
+    let not_three : (decimals == 3) ≡ false = grind (arith, nat_tests) in
+    rw (not_zero, not_two, not_three) refl

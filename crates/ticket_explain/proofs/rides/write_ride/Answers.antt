@@ -42,5 +42,7 @@ write_ride_between-requires c =
 pub returns : goal.returns
 returns c =
     let trip = c.in-Some.ensures ∙ same_trip (c.feed.view_is ∙ c.feed-feed.ensures.value) c.args.ride.trip.0 in
-    let line = ride_line_known c.args.timetable.now c.args.ride c.args.facts c.in-Some.row.now c.in-Some-call_at.boarding c.in-Some-call_at-2.alighting trip c.in-Some-call_at.ensures c.in-Some-call_at-2.ensures in
+    let line =
+    ride_line_known c.args.timetable.now c.args.ride c.args.facts c.in-Some.row.now c.in-Some-call_at.boarding c.in-Some-call_at-2.alighting
+    trip c.in-Some-call_at.ensures c.in-Some-call_at-2.ensures in
     rw (← line, ← c.bytes-trip.ensures.value) c.write_ride_between.ensures

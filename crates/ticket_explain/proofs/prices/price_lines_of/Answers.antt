@@ -1,0 +1,11 @@
+use Rattle.std.proofs.Common.{◌∙◌, ap}
+use Rattle.std.specs.List.{concat}
+use Rattle.ticket_explain.proofs.CommandLaws.{price_joined}
+use Rattle.ticket_explain.proofs.prices.price_lines_of.Goals as goal
+
+pub returns-clause-lines : goal.returns-clause-lines
+returns-clause-lines c = rw c.empty-text.ensures at c.in_ok-push_price_lines.ensures
+
+pub returns-clause-text : goal.returns-clause-text
+returns-clause-text c =
+    ap concat (rw c.empty-text.ensures at c.in_ok-push_price_lines.ensures) ∙ price_joined c.args.feed.now c.args.rides c.args.choice.now c.args.price.0
