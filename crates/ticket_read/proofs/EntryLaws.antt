@@ -30,6 +30,7 @@ use Rattle.ticket_read.specs.declared.drafts.Draft.{Draft}
 use Rattle.ticket_read.specs.declared.drafts.Item.{Item}
 use Rattle.ticket_read.specs.declared.drafts.Item.TheVariants as item
 use Rattle.ticket_read.specs.declared.reader.Reading.{Reading}
+use Rattle.ticket_read.proofs.ArrivalLaws.{few_rides}
 use Rattle.ticket_read.proofs.CutLaws.{ended, AreUnbroken, unbroken_both, lines_in-joined}
 use Rattle.ticket_read.proofs.ItemLaws.{head_tells}
 use Rattle.ticket_read.proofs.ReadingLaws.{reads_both, take_line, lines_read}
@@ -54,9 +55,6 @@ arrival_is feed query journey arrival j =
     let arrives = t.arrives in
     let in_time = le-int_le arrival (query.departure.0 +ℤ pos query.window) t.in_time in
     rw (asked, stands, arrives, in_time) refl
-
-few_rides : (rides most : ℕ) → nat_le rides most ≡ true → rides ≤ most
-few_rides rides most e = grind (arith, nat_tests)
 
 -- and what has one is a journey of the query
 pub journey_of : (feed : FeedRows) (query : Query) (journey : Journey) (arrival : ℤ) → journey_arrival feed query journey ≡ Some arrival → IsJourney feed query journey arrival

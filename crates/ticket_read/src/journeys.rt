@@ -79,7 +79,6 @@ fn is_asked(timetable: &Timetable, query: &Query, journey: &Journey) -> bool
 }
 
 /// The arrival of a journey of the query; none where it is none.
-#[tactic(auto, unfolding(crate::specs::Judgement::journey_arrival, crate::specs::Judgement::way_arrival))]
 pub fn arrival_of(timetable: &Timetable, query: &Query, journey: &Journey) -> Option<Moment>
     requires near { IsNearQuery query.now }
     ensures value { option_map (λ (m : Moment). m.0) result ≡ journey_arrival timetable.now query.now journey.now }
