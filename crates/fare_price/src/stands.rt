@@ -104,12 +104,10 @@ impl Stand {
         ensures { result ≡ next_paid self.now.paid self.now.held (Some code) amount charge }
     {
         if code == 2 {
-            self.paid + charge
-        } else if code == 0 {
-            self.paid + self.held + charge
-        } else {
-            self.paid + self.held + charge + amount
+            return self.paid + charge;
         }
+        let before = self.paid + self.held + charge;
+        if code == 0 { before } else { before + amount }
     }
 
     /// The first leg of the run after a next leg that stays with it or not.

@@ -20,17 +20,11 @@ returns-else-code-eq0 c =
 pub overflow_add-result : goal.overflow_add-result
 overflow_add-result c = omega (arith, ints, c.requires.bounded.paid, c.requires.charge)
 
-pub overflow_add-result-then-code-eq0 : goal.overflow_add-result-then-code-eq0
-overflow_add-result-then-code-eq0 c = omega (arith, ints, c.requires.bounded.paid, c.requires.bounded.held)
+pub overflow_add-before : goal.overflow_add-before
+overflow_add-before c = omega (arith, ints, c.requires.bounded.paid, c.requires.bounded.held)
 
-pub overflow_add-result-then-code-eq0-2 : goal.overflow_add-result-then-code-eq0-2
-overflow_add-result-then-code-eq0-2 c = omega (arith, ints, c.requires.bounded.paid, c.requires.bounded.held, c.requires.charge)
+pub overflow_add-before-2 : goal.overflow_add-before-2
+overflow_add-before-2 c = omega (arith, ints, c.requires.bounded.paid, c.requires.bounded.held, c.requires.charge)
 
 pub overflow_add-result-else-code-eq0 : goal.overflow_add-result-else-code-eq0
-overflow_add-result-else-code-eq0 c = omega (arith, ints, c.requires.bounded.paid, c.requires.bounded.held)
-
-pub overflow_add-result-else-code-eq0-2 : goal.overflow_add-result-else-code-eq0-2
-overflow_add-result-else-code-eq0-2 c = omega (arith, ints, c.requires.bounded.paid, c.requires.bounded.held, c.requires.charge)
-
-pub overflow_add-result-else-code-eq0-3 : goal.overflow_add-result-else-code-eq0-3
-overflow_add-result-else-code-eq0-3 c = omega (arith, ints, c.requires.bounded.paid, c.requires.bounded.held, c.requires.charge, c.requires.amount)
+overflow_add-result-else-code-eq0 c = omega (arith, ints, c.requires.bounded.paid, c.requires.bounded.held, c.requires.charge, c.requires.amount)
