@@ -1,7 +1,7 @@
 -- The ids of a column, each once: how they are listed, and that what is found of them is the earliest row with an id.
 use Rattle.std.proofs.Common.{All, AllPairs, ◌≡◌, refl, sym, ◌∙◌, ap, subst, ℕ, zero, suc, ◌+◌, ◌<◌, ◌≤◌, ◌⊎◌, inl, inr, ⊎_elim, Bool, true, false, ◌==◌, ◌&&◌, List, [], ◌∷◌, ◌++◌, length, get_or, IsPermutation, bytes_eq, ◌*◌, ◌^◌, min, arith, Option, Some, None, Err, nat_lt}
-use Rattle.std.specs.Prelude.{IfSome, Any}
-use Rattle.std.specs.List.{Contains, dedup, dedup_from}
+use Rattle.std.specs.Prelude.{◌≢◌, IfSome, Any, map, unwrap_or}
+use Rattle.std.specs.List.{Contains, dedup, dedup_from, list_any}
 use Rattle.std.specs.List.Sorted.{IsSortedByKey, IsStrictlySortedBy, IsSortedBy, IsBinarySearchResult, IsNonDecreasingBy, IsPartitionPoint}
 use Rattle.std.specs.Cmp.{IsTotalOrder}
 use Rattle.std.specs.Cmp.Lexicographic.{slice_cmp}
@@ -9,12 +9,17 @@ use Rattle.std.specs.Ordering.{nat_cmp, ordering_then, ordering_reverse, orderin
 use Rattle.std.specs.declared.cmp.Ordering.{Ordering}
 use Rattle.std.specs.declared.cmp.Ordering.TheVariants.{Less, Equal, Greater}
 use Rattle.std.proofs.lemmas.Bool.{cases_eq, cases_lt, cases_Bool, lt-ltb}
-use Rattle.std.proofs.lemmas.Bool.Decides.{nat_tests}
+use Rattle.std.proofs.lemmas.Bool.Decides.{Decides-eqb, nat_tests}
 use Rattle.std.proofs.lemmas.Cmp.{nat_cmp_total, nat_list_cmp_total, tied_itself, on_total, then_total}
 use Rattle.std.proofs.lemmas.Map.Text.{is_eq-slice_cmp}
 use Rattle.std.proofs.lemmas.Map.Keys.{Less-from_sorted}
+use Rattle.std.proofs.lemmas.Map.Made.{IsDistinct-from_AllPairs}
+use Rattle.std.proofs.lemmas.Map.Steps.{length-le_from_distinct_below}
+use Rattle.std.proofs.Math.Dec.{eqb}
+use Rattle.std.proofs.Math.ListN.{get_or-map}
 use Rattle.std.proofs.lemmas.Slice.Eq.{bytes_eq-Decides}
-use Rattle.std.proofs.lemmas.List.{get_or_default, length-append}
+use Rattle.std.proofs.lemmas.List.{get_or_default, length-append, length-map}
+use Rattle.std.proofs.lemmas.List.Folds.{Any-from_list_any}
 use Rattle.std.proofs.lemmas.List.Elements.{All-push, All-contains, Contains-append_left, Contains-push, Contains-get_or}
 use Rattle.std.proofs.lemmas.List.Kept.{IsStrictlySortedBy-dedup, Contains-from_dedup}
 use Rattle.std.proofs.lemmas.List.Sorted.{All-permutation, Contains-permutation, length_permutation, sorted_far, ranks_by, searchable_from_sorted}
@@ -357,3 +362,75 @@ is_doubled_by_first table name row lt = step (find_below_some test (row_count ta
 -- so it does by the earliest row with the field's text
 pub is_doubled_from_row : (table : FileTable) (name : ColumnName) (row : ℕ) (text : List ℕ) (first : Option ℕ) → row < row_count table → text ≡ field table row name → first ≡ row_of table name text → is_before first row ≡ is_doubled table name row
 is_doubled_from_row table name row text first lt same e = ap (λ o. is_before o row) (e ∙ ap (λ id. row_of table name id) same) ∙ sym (is_doubled_by_first table name row lt)
+
+-- where there are as many ids as rows, none stands in two rows
+module _ (table : FileTable) (name : ColumnName) (rows : List IdRow) (are : AreIdRows table name rows) (many : length rows ≡ row_count table)
+    (row first : ℕ) (lt : row < row_count table) (found : row_of table name (field table row name) ≡ Some first) (before : first < row) where
+  abbrev number : IdRow → ℕ
+  number entry = entry.row
+
+  own : (k : ℕ) (d : IdRow) → k < length rows → (get_or rows k d).id.now ≡ field table (get_or rows k d).row name
+  own k d inside = field_there table name (get_or rows k d).id.now (get_or rows k d).row (are.earliest k d inside)
+
+  -- the row has no id of its own
+  other : (k : ℕ) (d : IdRow) → k < length rows → row ≢ (get_or rows k d).row
+  other k d inside is =
+      let text : field table row name ≡ (get_or rows k d).id.now = ap (λ r. field table r name) is ∙ sym (own k d inside) in
+      let at : Some first ≡ Some (get_or rows k d).row = sym found ∙ ap (λ id. row_of table name id) text ∙ are.earliest k d inside in
+      let one : first ≡ (get_or rows k d).row = ap (λ o. unwrap_or o 0) at in
+      absurd (omega (arith, one, is, before))
+
+  -- and each id has another row
+  apart : (i j : ℕ) (d : IdRow) → i < j → j < length rows → (get_or rows i d).row ≢ (get_or rows j d).row
+  apart i j d below inside is =
+      let within : i < length rows = omega (arith, below, inside) in
+      let text : (get_or rows i d).id.now ≡ (get_or rows j d).id.now = own i d within ∙ ap (λ r. field table r name) is ∙ sym (own j d inside) in
+      let less = Less-from_sorted id_order rows i j d are.sorted below inside in
+      let tie = tied (get_or rows i d) (get_or rows j d) (are.keyed i d within) (are.keyed j d inside) text in
+      let no : true ≡ false = ap is_lt (sym less ∙ tie) in cc
+
+  some : IdRow
+  some = (are.all row lt).1
+
+  abbrev numbers : List ℕ
+  numbers = row ∷ map number rows
+
+  item : (k d : ℕ) → k < length rows → get_or (map number rows) k d ≡ (get_or rows k some).row
+  item k d inside = get_or_default (map number rows) k d (number some) (rw (length-map rows number) inside) ∙ get_or-map number rows k some
+
+  inside : (k d : ℕ) → suc k < length numbers → k < length rows
+  inside k d lt = let size = length-map rows number in omega (arith, lt, size)
+
+  pairs : AllPairs (λ (x y : ℕ). x ≢ y) numbers
+  pairs zero zero d below lt = absurd (omega (arith, below))
+  pairs (suc i) zero d below lt = absurd (omega (arith, below))
+  pairs zero (suc j) d below lt = rw (item j d (inside j d lt)) (other j some (inside j d lt))
+  pairs (suc i) (suc j) d below lt =
+      let at : j < length rows = inside j d lt in
+      let under : i < length rows = omega (arith, below, at) in
+      rw (item i d under, item j d at) (apart i j some (omega (arith, below)) at)
+
+  all_within : (k d : ℕ) → k < length numbers → get_or numbers k d < row_count table
+  all_within zero d at = lt
+  all_within (suc k) d at = rw (item k d (inside k d at)) (row_of_within table name (get_or rows k some).id.now (Some (get_or rows k some).row) (sym (are.earliest k some (inside k d at))))
+
+  small : (q : ℕ) → list_any (eqb q) numbers ≡ true → q < row_count table
+  small q e =
+      let hit = Any-from_list_any (eqb q) numbers e in
+      let same : q ≡ hit.1 = (Decides-eqb q hit.1).0 hit.4 in
+      rw (same, sym hit.3) (all_within hit.0 hit.1 hit.2)
+
+  pub too_many : ⊥
+  too_many =
+      let few = length-le_from_distinct_below numbers (row_count table) (IsDistinct-from_AllPairs Decides-eqb numbers pairs) small in
+      let size = length-map rows number in
+      absurd (omega (arith, few, size, many))
+
+-- so then no row's id stands in an earlier row
+pub none_doubled : (table : FileTable) (name : ColumnName) (rows : List IdRow) → AreIdRows table name rows → length rows ≡ row_count table
+    → (row : ℕ) → row < row_count table → is_doubled table name row ≡ false
+none_doubled table name rows are many row lt = is_doubled_by_first table name row lt ∙ step (row_of table name (field table row name)) refl
+  where
+    step : (o : Option ℕ) → row_of table name (field table row name) ≡ o → is_before o row ≡ false
+    step None e = refl
+    step (Some first) e = ⊎_elim (λ (below : first < row). absurd (too_many table name rows are many row first lt e below)) (λ (le : row ≤ first). grind (arith, nat_tests)) (cases_lt first row)

@@ -1,7 +1,8 @@
 -- The keys of ids: they fit, and short ids are told apart by them.
 use Rattle.std.proofs.Common.{lit<, ◌≡◌, refl, sym, ◌∙◌, ℕ, zero, suc, ◌+◌, ◌*◌, ◌^◌, ◌<◌, ◌≤◌, List, [], ◌∷◌, length, get_or, min, arith}
 use Rattle.std.proofs.Math.Nat.{mul-le-mul_right, pow-le-pow_right}
-use Rattle.feed_tables.specs.IdRows.{start_below, IsKeyOf}
+use Rattle.std.specs.Prelude.{◌≢◌}
+use Rattle.feed_tables.specs.IdRows.{start_below, IsKeyOf, no_key}
 
 abbrev pub AreBytes : List ℕ → Type 0
 AreBytes text = (k : ℕ) → get_or text k 0 < 256
@@ -85,3 +86,8 @@ same_id x y key first second few = same_bytes 7 x y first.bytes second.bytes lon
 
     starts : start_below 7 x ≡ start_below 7 y
     starts = omega (arith, keys, one_small, other_small)
+
+-- no id has the key of a slot without one
+pub has_key : (key : ℕ) (id : List ℕ) → IsKeyOf key id → key ≢ no_key
+has_key key [] is e = let number = is.number in absurd (omega (arith, number, e))
+has_key key (b ∷ id) is e = let number = is.number in absurd (omega (arith, number, e))

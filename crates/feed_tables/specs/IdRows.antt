@@ -1,5 +1,5 @@
 -- The ids of a column: their keys, the earliest row with each, and the slots in which they are looked for first.
-use Rattle.std.specs.Prelude.{◌≡◌, ℕ, zero, suc, ◌+◌, ◌*◌, ◌<◌, ◌≤◌, ◌^◌, ◌-◌, List, length, slice_index, min, true, Some, IfSome, All, Any}
+use Rattle.std.specs.Prelude.{◌≡◌, ◌≢◌, ℕ, zero, suc, ◌+◌, ◌*◌, ◌<◌, ◌≤◌, ◌^◌, List, length, slice_index, min, true, Some, IfSome, All, Any}
 use Rattle.std.specs.Cmp.Lexicographic.{slice_cmp}
 use Rattle.std.specs.List.Sorted.{IsStrictlySortedBy}
 use Rattle.std.specs.Ordering.{nat_cmp, ordering_then}
@@ -10,6 +10,7 @@ use Rattle.feed_faults.specs.Records.{FileTable, row_count, field}
 use Rattle.feed_faults.specs.RowKeys.{row_of}
 use Rattle.feed_text.specs.RowLimits.{row_limit}
 use Rattle.feed_tables.specs.declared.id_rows.IdRow.{IdRow}
+use Rattle.feed_tables.specs.declared.slots.Slot.{Slot}
 use Rattle.feed_tables.specs.declared.slots.Slots.{Slots}
 use Rattle.feed_tables.specs.declared.index.IdStart.{IdStart}
 
@@ -35,18 +36,25 @@ pub record AreIdRows (table : FileTable) (name : ColumnName) (rows : List IdRow)
   pub all : (row : ℕ) → row < row_count table → Any (λ (entry : IdRow). entry.id.now ≡ field table row name) rows
   pub few : length rows ≤ row_limit
 
--- an id of the grammar of ids with this key and this row
-abbrev pub IsEntry : ℕ → ℕ → IdRow → Type 0
-IsEntry key row entry = (entry.key ≡ key) × (entry.row ≡ row) × (is_id entry.id.now ≡ true)
+-- the key that a slot keeps by halves
+abbrev pub slot_key : Slot → ℕ
+slot_key slot = slot.low + slot.high * 2 ^ 32
+
+-- the key of a slot without an id, which no id has
+abbrev pub no_key : ℕ
+no_key = 1
+
+-- an id of the grammar of ids with the key and the row of a slot
+abbrev pub IsEntry : Slot → IdRow → Type 0
+IsEntry slot entry = (entry.key ≡ slot_key slot) × (entry.row ≡ slot.row) × (is_id entry.id.now ≡ true)
 
 -- there are buckets and slots, and a slot that isn't free has the key and the row of an id
 pub record AreSlots (rows : List IdRow) (slots : Slots) : Type 0 where
   pub piloted : 1 ≤ length slots.pilots.items
-  pub some : 1 ≤ length slots.rows.items
-  pub few : length slots.rows.items < 2 ^ 32
-  pub keyed : length slots.keys.items ≡ length slots.rows.items
-  pub are : (slot : ℕ) → slot < length slots.rows.items → slice_index slots.rows.items slot < 2 ^ 32 - 1
-      → Any (IsEntry (slice_index slots.keys.items slot) (slice_index slots.rows.items slot)) rows
+  pub few_pilots : length slots.pilots.items < 2 ^ 32
+  pub some : 1 ≤ length slots.entries.items
+  pub few : length slots.entries.items < 2 ^ 32
+  pub are : All (λ (slot : Slot). slot_key slot ≢ no_key → Any (IsEntry slot) rows) slots.entries.items
 
 -- the earliest row with a text is this one, and the text is an id by the grammar
 abbrev pub IsFound : FileTable → ColumnName → ℕ → List ℕ → Type 0

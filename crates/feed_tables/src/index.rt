@@ -88,12 +88,15 @@ impl<'t> IdIndex<'t> {
         requires { IsKeyOf key id.now }
         ensures { IfSome result (λ row. IsFound self.now.table self.now.name row id.now) }
     {
-        if slot >= self.slots.rows.len() || self.slots.keys[slot] != key {
+        if slot >= self.slots.entries.len() {
             return None;
         }
-        let row = self.slots.rows[slot];
-        if row < self.table.rows() && (id.len() <= 7 || self.table.field(row, self.name) == id) {
-            return Some(row);
+        let entry = self.slots.entries[slot];
+        if entry.key() != key {
+            return None;
+        }
+        if id.len() <= 7 || self.table.field(entry.row, self.name) == id {
+            return Some(entry.row);
         }
         None
     }
@@ -188,6 +191,10 @@ impl<'t> IdIndex<'t> {
         requires { row < row_count self.now.table }
         ensures { result ≡ is_doubled self.now.table self.now.name row }
     {
+        // Where there are as many ids as rows, each row has one of its own.
+        if self.rows.len() == self.table.rows() as usize {
+            return false;
+        }
         match self.row_of(self.table.field(row, self.name)) {
             Some(first) => first < row,
             None => false,

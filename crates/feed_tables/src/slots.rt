@@ -4,7 +4,7 @@
 //! grammar of ids alone have slots, so that one that is found there needs no judgement.
 ghost use Rattle.std.specs.Prelude.{◌≡◌, ◌≤◌, ◌<◌, ◌^◌, length, IfOk};
 ghost use Rattle.feed_text.specs.RowLimits.{row_limit};
-ghost use Rattle.feed_tables.specs.IdRows.{AreSlots};
+ghost use Rattle.feed_tables.specs.IdRows.{slot_key, AreSlots};
 
 use crate::id_rows::IdRow;
 use feed_text::id_ok;
@@ -14,14 +14,48 @@ use std::alloc::{AllocError, Global};
 // The row of a slot without an id: more than any table has.
 const FREE: u32 = u32::MAX;
 
+// The key of a slot without an id, which no id has: one with a first byte has a length too.
+const NO_KEY: u64 = 1;
+
+/// A slot: the key of its id and the earliest row with it. They stand together, so that a look-up reads one line of memory,
+/// and the key is kept by halves, so that they take twelve bytes.
+#[derive(Clone, Copy)]
+pub struct Slot {
+    low: u32,
+    high: u32,
+    /// The row; `FREE` where the slot has no id.
+    pub row: u32,
+}
+
+impl Slot {
+    // The slot of an id with this key.
+    fn of(key: u64, row: u32) -> Slot
+        ensures key { slot_key result ≡ key }
+        ensures row { result.row ≡ row }
+    {
+        Slot {
+            low: (key % (1 << 32)) as u32,
+            high: (key >> 32) as u32,
+            row,
+        }
+    }
+
+    /// The key of its id.
+    #[inline(always)]
+    pub fn key(&self) -> u64
+        ensures { result ≡ slot_key self.now }
+    {
+        u64::from(self.low) + u64::from(self.high) * (1 << 32)
+    }
+}
+
 /// A slot for most ids of a column.
 #[derive(Drop)]
 pub struct Slots {
     // By bucket.
     pub pilots: Vec<u8>,
-    // By slot: the key of its id, and the earliest row with it.
-    pub keys: Vec<u64>,
-    pub rows: Vec<u32>,
+    // By slot.
+    pub entries: Vec<Slot>,
 }
 
 // A hash with a number more.
@@ -38,28 +72,29 @@ fn hash_of(key: u64, id: &[u8]) -> u64 {
     for place in 7..id.len() {
         hash = mixed(hash, u64::from(id[place]));
     }
-    mixed(hash, id.len() as u64)
+    hash
 }
 
-// The bucket of a hash among so many.
-#[inline(always)]
-fn bucket_of(hash: u64, buckets: usize) -> usize
-    requires { 1 ≤ buckets }
-    ensures { result < buckets }
-{
-    (hash >> 32) as usize & (buckets - 1)
-}
-
-// The slot of a hash by the pilot of its bucket: as far among the slots as a number of 32 bits is among all of these.
+// As far among so many as the upper half of a hash is among all numbers of 32 bits.
 #[inline(always)]
 #[tactic(auto, using(crate::proofs::ShareLaws::share_below, crate::proofs::ShareLaws::share_fits))]
+fn share_of(hash: u64, count: usize) -> usize
+    requires some { 1 ≤ count }
+    requires few { count < 2 ^ 32 }
+    ensures { result < count }
+{
+    let share = (hash >> 32) as u32;
+    (u64::from(share) * count as u64 / (1 << 32)) as usize
+}
+
+// The slot of a hash by the pilot of its bucket.
+#[inline(always)]
 fn slot_by(hash: u64, pilot: u8, slots: usize) -> usize
     requires some { 1 ≤ slots }
     requires few { slots < 2 ^ 32 }
     ensures { result < slots }
 {
-    let share = (mixed(hash, u64::from(pilot)) >> 32) as u32;
-    (u64::from(share) * slots as u64 / (1 << 32)) as usize
+    share_of(mixed(hash, u64::from(pilot)), slots)
 }
 
 // An id by its place among the rows, and its hash.
@@ -74,26 +109,27 @@ impl Slots {
     #[inline(always)]
     pub fn slot_of(&self, key: u64, id: &[u8]) -> usize
         requires piloted { 1 ≤ length self.now.pilots.items }
-        requires some { 1 ≤ length self.now.rows.items }
-        requires few { length self.now.rows.items < 2 ^ 32 }
+        requires few_pilots { length self.now.pilots.items < 2 ^ 32 }
+        requires some { 1 ≤ length self.now.entries.items }
+        requires few { length self.now.entries.items < 2 ^ 32 }
     {
         let hash = hash_of(key, id);
-        let pilot = self.pilots[bucket_of(hash, self.pilots.len())];
-        slot_by(hash, pilot, self.rows.len())
+        let pilot = self.pilots[share_of(hash, self.pilots.len())];
+        slot_by(hash, pilot, self.entries.len())
     }
 
     // Whether the slots of these by a pilot are free, and each is another one.
     fn are_free(&self, members: &[Member], pilot: u8) -> bool
-        requires some { 1 ≤ length self.now.rows.items }
-        requires few { length self.now.rows.items < 2 ^ 32 }
+        requires some { 1 ≤ length self.now.entries.items }
+        requires few { length self.now.entries.items < 2 ^ 32 }
     {
         for i in 0..members.len() {
-            let slot = slot_by(members[i].hash, pilot, self.rows.len());
-            if self.rows[slot] != FREE {
+            let slot = slot_by(members[i].hash, pilot, self.entries.len());
+            if self.entries[slot].row != FREE {
                 return false;
             }
             for j in 0..i {
-                if slot_by(members[j].hash, pilot, self.rows.len()) == slot {
+                if slot_by(members[j].hash, pilot, self.entries.len()) == slot {
                     return false;
                 }
             }
@@ -115,9 +151,8 @@ impl Slots {
         for member in members {
             match rows.get(member.place) {
                 Some(entry) if id_ok(entry.id) => {
-                    let slot = slot_by(member.hash, pilot, self.rows.len());
-                    self.keys[slot] = entry.key;
-                    self.rows[slot] = entry.row;
+                    let slot = slot_by(member.hash, pilot, self.entries.len());
+                    self.entries[slot] = Slot::of(entry.key, entry.row);
                 }
                 _ => {}
             }
@@ -126,9 +161,10 @@ impl Slots {
 }
 
 // The greatest size of a bucket whose ids get slots. Hardly one is greater.
-const LARGEST: usize = 16;
+const LARGEST: usize = 12;
 
-/// Slots for these ids, of which a tenth stays free. Great buckets come first, while much is free.
+/// Slots for these ids, of which a tenth stays free, and two buckets for five of them. Great buckets come first, while much
+/// is free.
 ///
 /// # Errors
 /// Want of memory.
@@ -137,17 +173,16 @@ pub fn slots_of(alloc: Global, rows: &[IdRow]) -> Result<Slots, AllocError>
     ensures { IfOk result (AreSlots rows.now) }
 {
     let count = (rows.len() + rows.len() / 9 + 1).min(u32::MAX as usize);
-    let buckets = (rows.len() / 4).next_power_of_two();
+    let buckets = rows.len() * 2 / 5 + 1;
     let mut slots = Slots {
         pilots: vec![in alloc; 0u8; buckets]?,
-        keys: vec![in alloc; 0u64; count]?,
-        rows: vec![in alloc; FREE; count]?,
+        entries: vec![in alloc; Slot::of(NO_KEY, FREE); count]?,
     };
     let mut members = Vec::with_capacity(alloc, rows.len())?;
     for (place, entry) in rows.iter().enumerate() {
         let hash = hash_of(entry.key, entry.id);
         members.push(Grouped {
-            group: bucket_of(hash, buckets) as u32,
+            group: share_of(hash, buckets) as u32,
             item: Member { place, hash },
         })?;
     }

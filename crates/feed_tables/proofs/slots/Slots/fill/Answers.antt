@@ -7,8 +7,8 @@ pub loop-member-preserved : goal.loop-member-preserved
 loop-member-preserved c = elim c.match-get.branch [
   | in-Some-get w ↦
       let lookup = w.in-Some-get.ensures.lookup in (
-        put_id c.args.rows.now c.loop-member.self c.match-get.self _ w.slot_by-slot.result w.in-Some-get.entry.now c.loop-member.invariant.0 lookup.3.0 (sym lookup.1) (sym w.id_ok.ensures ∙ w.if-id_ok.true)
-            (rw w.self-is refl) (rw w.self-is refl) (rw w.self-is refl),
+        put_id c.args.rows.now c.loop-member.self c.match-get.self _ w.slot_by-slot.result w.in-Some-get.entry.now w.of.result c.loop-member.invariant.0 lookup.3.0 (sym lookup.1)
+            (sym w.id_ok.ensures ∙ w.if-id_ok.true) w.of.ensures.key w.of.ensures.row (rw w.self-is refl) (rw w.self-is refl),
         rw w.self-is c.loop-member.invariant.1,
       )
   | in-None-1 w ↦ rw w.self-is c.loop-member.invariant
