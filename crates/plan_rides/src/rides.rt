@@ -78,16 +78,20 @@ impl<'s, 'f> Rides<'s, 'f> {
         ensures { IfOk result (λ rides. rides ≡ asked timetable.now query.now) }
     {
         let sought = Sought::new(alloc, timetable, query)?;
-        let patterns = patterns_of(alloc, timetable, &sought)?;
-        let served = served_stops(alloc, &patterns, timetable, &sought)?;
-        Ok(Rides {
-            timetable,
-            query,
-            sought,
-            patterns,
-            served,
-            deadline: deadline(query),
-        })
+        match patterns_of(alloc, timetable, &sought) {
+            Ok(patterns) => {
+                let served = served_stops(alloc, &patterns, timetable, &sought)?;
+                Ok(Rides {
+                    timetable,
+                    query,
+                    sought,
+                    patterns,
+                    served,
+                    deadline: deadline(query),
+                })
+            }
+            Err(AllocError) => Err(AllocError),
+        }
     }
 
     /// The timetable.
