@@ -3,6 +3,7 @@ ghost use Rattle.std.specs.Prelude.{◌≡◌};
 ghost use Rattle.feed_faults.specs.FileColumns.{is_always_needed, columns_of, checks_of};
 
 use crate::checks::{IdColumn, RowCheck, RowRule};
+use crate::columns::Grammar::{Amount, Count, Currency, Date, Id};
 use crate::columns::{ColumnRule, EmptyField, Grammar};
 use feed_files::{ColumnName, FaultKind, FileName};
 use transit_base::{DAY_SECONDS, MOST_TIME};
@@ -24,19 +25,9 @@ type Row = (bool, &'static [ColumnRule], &'static [RowRule]);
 // The greatest integer of a column without a limit of its own.
 const MOST_INT: i64 = 2_147_483_647;
 
-const ID: Grammar = Grammar::Id;
-
-const COUNT: Grammar = Grammar::Count;
-
 const ANY_TIME: Grammar = Grammar::Time { most: MOST_TIME };
 
 const DAY_TIME: Grammar = Grammar::Time { most: DAY_SECONDS };
-
-const DATE: Grammar = Grammar::Date;
-
-const CURRENCY: Grammar = Grammar::Currency;
-
-const AMOUNT: Grammar = Grammar::Amount;
 
 // Integers from least to most.
 macro_rules! int {
@@ -63,13 +54,6 @@ macro_rules! column {
 macro_rules! must {
     ($name:ident, $grammar:expr) => {
         column!($name, Fault, $grammar)
-    };
-}
-
-// The same, where a row that names a place of GTFS-Flex instead has a fault of its own.
-macro_rules! must_or_flex {
-    ($name:ident, $grammar:expr) => {
-        column!($name, FaultOrFlex, $grammar)
     };
 }
 
@@ -115,9 +99,9 @@ macro_rules! known {
 const STOPS: Row = (
     true,
     &[
-        must!(StopId, ID),
+        must!(StopId, Id),
         may!(LocationType, int!(0, 4)),
-        may!(ParentStation, ID),
+        may!(ParentStation, Id),
     ],
     &[
         new_id!(StopId, Stop),
@@ -128,13 +112,13 @@ const STOPS: Row = (
 
 const ROUTES: Row = (
     true,
-    &[must!(RouteId, ID), may!(NetworkId, ID)],
+    &[must!(RouteId, Id), may!(NetworkId, Id)],
     &[new_id!(RouteId, Route)],
 );
 
 const TRIPS: Row = (
     true,
-    &[must!(RouteId, ID), must!(ServiceId, ID), must!(TripId, ID)],
+    &[must!(RouteId, Id), must!(ServiceId, Id), must!(TripId, Id)],
     &[
         new_id!(TripId, Trip),
         known!(RouteId, Route),
@@ -145,8 +129,8 @@ const TRIPS: Row = (
 const STOP_TIMES: Row = (
     true,
     &[
-        must!(TripId, ID),
-        must_or_flex!(StopId, ID),
+        must!(TripId, Id),
+        column!(StopId, FaultOrFlex, Id),
         must!(StopSequence, int!(0, MOST_INT)),
         may!(ArrivalTime, ANY_TIME),
         may!(DepartureTime, ANY_TIME),
@@ -166,7 +150,7 @@ const STOP_TIMES: Row = (
 const CALENDAR: Row = (
     false,
     &[
-        must!(ServiceId, ID),
+        must!(ServiceId, Id),
         must!(Monday, int!(0, 1)),
         must!(Tuesday, int!(0, 1)),
         must!(Wednesday, int!(0, 1)),
@@ -174,8 +158,8 @@ const CALENDAR: Row = (
         must!(Friday, int!(0, 1)),
         must!(Saturday, int!(0, 1)),
         must!(Sunday, int!(0, 1)),
-        must!(StartDate, DATE),
-        must!(EndDate, DATE),
+        must!(StartDate, Date),
+        must!(EndDate, Date),
     ],
     &[
         new_id!(ServiceId, Calendar),
@@ -186,8 +170,8 @@ const CALENDAR: Row = (
 const CALENDAR_DATES: Row = (
     false,
     &[
-        must!(ServiceId, ID),
-        must!(Date, DATE),
+        must!(ServiceId, Id),
+        must!(Date, Date),
         must!(ExceptionType, int!(1, 2)),
     ],
     &[rule!(Date, DoubledKey, RowCheck::NewKey)],
@@ -196,7 +180,7 @@ const CALENDAR_DATES: Row = (
 const FREQUENCIES: Row = (
     false,
     &[
-        must!(TripId, ID),
+        must!(TripId, Id),
         must!(StartTime, ANY_TIME),
         must!(EndTime, ANY_TIME),
         must!(HeadwaySecs, int!(1, MOST_INT)),
@@ -212,30 +196,30 @@ const TRANSFERS: Row = (
     false,
     &[
         may!(TransferType, int!(0, 5)),
-        must!(FromStopId, ID),
-        must!(ToStopId, ID),
+        must!(FromStopId, Id),
+        must!(ToStopId, Id),
         may!(MinTransferTime, int!(0, MOST_INT)),
     ],
     &[known!(FromStopId, Stop), known!(ToStopId, Stop)],
 );
 
-const AREAS: Row = (false, &[must!(AreaId, ID)], &[new_id!(AreaId, Area)]);
+const AREAS: Row = (false, &[must!(AreaId, Id)], &[new_id!(AreaId, Area)]);
 
 const STOP_AREAS: Row = (
     false,
-    &[must!(AreaId, ID), must!(StopId, ID)],
+    &[must!(AreaId, Id), must!(StopId, Id)],
     &[known!(AreaId, Area), known!(StopId, Stop)],
 );
 
 const NETWORKS: Row = (
     false,
-    &[must!(NetworkId, ID)],
+    &[must!(NetworkId, Id)],
     &[new_id!(NetworkId, Network)],
 );
 
 const ROUTE_NETWORKS: Row = (
     false,
-    &[must!(NetworkId, ID), must!(RouteId, ID)],
+    &[must!(NetworkId, Id), must!(RouteId, Id)],
     &[
         new_id!(RouteId, NetworkRoute),
         known!(NetworkId, Network),
@@ -246,10 +230,10 @@ const ROUTE_NETWORKS: Row = (
 const TIMEFRAMES: Row = (
     false,
     &[
-        must!(TimeframeGroupId, ID),
+        must!(TimeframeGroupId, Id),
         may!(StartTime, DAY_TIME),
         may!(EndTime, DAY_TIME),
-        must!(ServiceId, ID),
+        must!(ServiceId, Id),
     ],
     &[
         known!(ServiceId, Calendar, CalendarDate),
@@ -260,7 +244,7 @@ const TIMEFRAMES: Row = (
 const RIDER_CATEGORIES: Row = (
     false,
     &[
-        must!(RiderCategoryId, ID),
+        must!(RiderCategoryId, Id),
         may!(IsDefaultFareCategory, int!(0, 1)),
     ],
     &[new_id!(RiderCategoryId, RiderCategory)],
@@ -268,18 +252,18 @@ const RIDER_CATEGORIES: Row = (
 
 const FARE_MEDIA: Row = (
     false,
-    &[must!(FareMediaId, ID), may!(FareMediaType, int!(0, 4))],
+    &[must!(FareMediaId, Id), may!(FareMediaType, int!(0, 4))],
     &[new_id!(FareMediaId, FareMedia)],
 );
 
 const FARE_PRODUCTS: Row = (
     true,
     &[
-        must!(FareProductId, ID),
-        may!(RiderCategoryId, ID),
-        may!(FareMediaId, ID),
-        must!(Currency, CURRENCY),
-        must!(Amount, AMOUNT),
+        must!(FareProductId, Id),
+        may!(RiderCategoryId, Id),
+        may!(FareMediaId, Id),
+        must!(Currency, Currency),
+        must!(Amount, Amount),
     ],
     &[
         known!(RiderCategoryId, RiderCategory),
@@ -292,13 +276,13 @@ const FARE_PRODUCTS: Row = (
 const FARE_LEG_RULES: Row = (
     true,
     &[
-        may!(LegGroupId, ID),
-        may!(NetworkId, ID),
-        may!(FromAreaId, ID),
-        may!(ToAreaId, ID),
-        may!(FromTimeframeGroupId, ID),
-        may!(ToTimeframeGroupId, ID),
-        must!(FareProductId, ID),
+        may!(LegGroupId, Id),
+        may!(NetworkId, Id),
+        may!(FromAreaId, Id),
+        may!(ToAreaId, Id),
+        may!(FromTimeframeGroupId, Id),
+        may!(ToTimeframeGroupId, Id),
+        must!(FareProductId, Id),
         may!(RulePriority, int!(0, MOST_INT)),
     ],
     &[
@@ -314,13 +298,13 @@ const FARE_LEG_RULES: Row = (
 const FARE_TRANSFER_RULES: Row = (
     false,
     &[
-        may!(FromLegGroupId, ID),
-        may!(ToLegGroupId, ID),
-        may!(TransferCount, COUNT),
+        may!(FromLegGroupId, Id),
+        may!(ToLegGroupId, Id),
+        may!(TransferCount, Count),
         may!(DurationLimit, int!(1, MOST_INT)),
         may!(DurationLimitType, int!(0, 3)),
         must!(FareTransferType, int!(0, 2)),
-        may!(FareProductId, ID),
+        may!(FareProductId, Id),
     ],
     &[
         rule!(TransferCount, TransferFields, RowCheck::GoodCount),
