@@ -4,7 +4,6 @@ ghost use Rattle.feed_files.specs.declared.names.FileName.TheVariants as file;
 ghost use Rattle.feed_files.specs.HeldFiles.{HeldFile};
 ghost use Rattle.feed_files.specs.declared.names.FileName.{FileName};
 ghost use Rattle.feed_faults.specs.AcceptedFeed.{feed_of, rows_of_tables};
-ghost use Rattle.feed_faults.specs.FeedTables.{table_in};
 ghost use Rattle.feed_faults.specs.FirstFault.{first_relation_fault, first_fault};
 ghost use Rattle.feed_check.specs.FilesBehind.{AreReadTo, Accepts, Refuses};
 ghost use Rattle.feed_check.specs.FolderCalls.{AreCallsOfHeld};
@@ -21,38 +20,11 @@ use feed_calls::{StopTimes, read_stop_times};
 use feed_files::{FaultKind, FileName};
 use feed_relations::first_relation_fault;
 use feed_rows::Feed;
-use feed_tables::{CallIds, CallTable, Ids, ReadCalls, ReadTable, Tables, read_tables};
+use feed_tables::{CallIds, CallTable, Ids, ReadTable, Tables, read_tables};
 use feed_text::{Records, TextError, is_text};
 use folder_io::{FileBytes, Files};
 use std::alloc::Global;
 use std::marker::Brand;
-
-// The feed of tables whose files have no fault by themselves, by their rows by id and by what was read of stop_times.txt. `Fault`
-// is exactly the first fault of the files among each other.
-fn feed_by<C: CallTable>(
-    alloc: Global,
-    tables: &Tables<C>,
-    ids: &Ids<C>,
-    read: ReadCalls,
-) -> Result<Feed, TextError>
-    requires formed { AreFormed tables.now }
-    requires ids { ids.now ≡ tables.now }
-    requires calls { read ≡ read_calls (call_ids tables.now) (table_in tables.now file.StopTimes) }
-    ensures fault { IfErr result (IsErrorOf (first_relation_fault tables.now)) }
-    ensures sound { OnOk result (first_relation_fault tables.now ≡ None) }
-    ensures feed { IfOk result (λ feed. feed ≡ rows_of_tables tables.now) }
-{
-    if let Some(fault) = first_relation_fault(alloc, tables, ids, &read)? {
-        return Err(TextError::Fault(fault));
-    }
-    let Some(rows) = read.into_rows() else {
-        unreachable!();
-    };
-    match feed_of_tables(alloc, tables, ids, rows) {
-        Ok(feed) => Ok(feed),
-        Err(_) => Err(TextError::NoMemory),
-    }
-}
 
 // The feed of tables whose files have no fault by themselves, with what was read of stop_times.txt. `Fault` is exactly the first
 // fault of the files among each other.
@@ -73,10 +45,14 @@ fn related_feed<C: CallTable>(
 {
     let read = stop_times.calls;
     let tables: Tables<C> = Tables::of(first, others, read.len() as u32);
-    match Ids::of(alloc, &tables, calls) {
-        Ok(ids) => feed_by(alloc, &tables, &ids, read),
-        Err(_) => Err(TextError::NoMemory),
+    let ids = Ids::of(alloc, &tables, calls)?;
+    if let Some(fault) = first_relation_fault(alloc, &tables, &ids, &read)? {
+        return Err(TextError::Fault(fault));
     }
+    let Some(rows) = read.into_rows() else {
+        unreachable!();
+    };
+    Ok(feed_of_tables(alloc, &tables, &ids, rows)?)
 }
 
 /// The feed of files of which those up to stop_times.txt were read: these are the tables before it, and its stop times or its

@@ -1,9 +1,5 @@
 //! The feed that a folder holds.
-ghost use Rattle.std.specs.Prelude.{◌≡◌, List, IfOk, IfErr, OnOk};
-ghost use Rattle.feed_faults.specs.Records.{FileTable};
-ghost use Rattle.feed_tables.specs.IdColumns.{call_ids};
-ghost use Rattle.feed_tables.specs.KeptTables.{tables_with};
-ghost use Rattle.feed_tables.specs.RowNumbers.{TableOf};
+ghost use Rattle.std.specs.Prelude.{◌≡◌, IfOk, IfErr, OnOk};
 ghost use Rattle.folder_io.specs.FileReading.{OpensAll};
 ghost use Rattle.folder_io.specs.FolderCalls.{FolderState};
 ghost use Rattle.folder_io.specs.KeptFiles.{AreWithin};
@@ -58,31 +54,7 @@ impl From<TextError> for LoadError {
     }
 }
 
-// The feed of a folder of which the files before stop_times.txt were read, and have these tables, by their ids.
-fn load_by<F: Folder>(
-    alloc: Global,
-    folder: &mut F,
-    files: &mut Files,
-    first: &[ReadTable],
-    ids: &CallIds,
-) -> Result<Feed, LoadError>
-    requires within { AreWithin files.old }
-    requires begun { (start : FolderState) × IsBegun start first.now (F.state folder.old) }
-    requires ids { (calls : FileTable) (others : List TableOf) → ids.now ≡ call_ids (tables_with first.now calls others) }
-    ensures feed { IfOk result (λ feed. (start : FolderState) → IsBegun start first.now (F.state folder.old) → IsFeedOf start feed) }
-    ensures ok { OnOk result ((start : FolderState) → IsBegun start first.now (F.state folder.old) → OpensAll start (F.state folder.new)) }
-    ensures err { IfErr result (λ error. (start : FolderState) → IsBegun start first.now (F.state folder.old) → GivesUpLoading error start (F.state folder.new)) }
-    ensures holds { (F.state folder.new).holds ≡ (F.state folder.old).holds }
-{
-    let calls = folder_calls(alloc, folder, ids)?;
-    read_files(alloc, folder, files, 4, 18)?;
-    match feed_behind(alloc, files, first, ids, calls) {
-        Ok(feed) => Ok(feed),
-        Err(error) => Err(LoadError::from(error)),
-    }
-}
-
-// The same, where the rows by their ids are made first.
+// The feed of a folder of which the files before stop_times.txt were read, and have these tables.
 fn load_behind<F: Folder>(
     alloc: Global,
     folder: &mut F,
@@ -96,9 +68,14 @@ fn load_behind<F: Folder>(
     ensures err { IfErr result (λ error. (start : FolderState) → IsBegun start first.now (F.state folder.old) → GivesUpLoading error start (F.state folder.new)) }
     ensures holds { (F.state folder.new).holds ≡ (F.state folder.old).holds }
 {
-    match CallIds::of(alloc, first) {
-        Ok(ids) => load_by(alloc, folder, files, first, &ids),
-        Err(_) => Err(LoadError::NoMemory),
+    let Ok(ids) = CallIds::of(alloc, first) else {
+        return Err(LoadError::NoMemory);
+    };
+    let calls = folder_calls(alloc, folder, &ids)?;
+    read_files(alloc, folder, files, 4, 18)?;
+    match feed_behind(alloc, files, first, &ids, calls) {
+        Ok(feed) => Ok(feed),
+        Err(error) => Err(LoadError::from(error)),
     }
 }
 
