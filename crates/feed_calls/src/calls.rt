@@ -17,7 +17,7 @@ use feed_rows::CallTime;
 use feed_tables::{CallIds, IdIndex, IdStart, MOST_ROWS, ReadCall, ReadCalls};
 use feed_text::{
     Fields, RecordError, RecordRow, Records, SeenTable, Table, file_fault, header_fault, nat_of,
-    natural, read_column, read_found, row_fault,
+    natural, read_found, row_fault,
 };
 use std::alloc::{AllocError, Global};
 use std::io::Read;
@@ -155,11 +155,11 @@ fn read_call<R: Read>(
     };
     let trip = read_id(&ids.trips, trip_start, row, fields, trip, trip_id)?;
     let stop = read_id(&ids.stops, stop_start, row, fields, stop, stop_id)?;
-    let sequence = read_column(file, row, fields, sequence)?;
-    let arrival = read_column(file, row, fields, arrival)?;
-    let departure = read_column(file, row, fields, departure)?;
-    let pickup = read_column(file, row, fields, pickup)?;
-    let drop_off = read_column(file, row, fields, drop_off)?;
+    let sequence = read_found(file, row, fields, sequence, fields.field(sequence.name))?;
+    let arrival = read_found(file, row, fields, arrival, fields.field(arrival.name))?;
+    let departure = read_found(file, row, fields, departure, fields.field(departure.name))?;
+    let pickup = read_found(file, row, fields, pickup, fields.field(pickup.name))?;
+    let drop_off = read_found(file, row, fields, drop_off, fields.field(drop_off.name))?;
     Ok(ReadCall {
         trip: trip.map(TripId),
         stop: stop.map(StopId),

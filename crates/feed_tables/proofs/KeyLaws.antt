@@ -1,10 +1,10 @@
 -- The keys of ids: they fit, and short ids are told apart by them.
-use Rattle.std.proofs.Common.{lit<, ◌≡◌, refl, sym, ◌∙◌, ℕ, zero, suc, ◌+◌, ◌*◌, ◌^◌, ◌<◌, ◌≤◌, List, [], ◌∷◌, length, get_or, min, arith}
-use Rattle.std.proofs.Math.Nat.{mul-le-mul_right, pow-le-pow_right}
+use Rattle.std.proofs.Common.{◌≡◌, refl, sym, ◌∙◌, ℕ, zero, suc, ◌+◌, ◌*◌, ◌^◌, ◌<◌, ◌≤◌, List, [], ◌∷◌, length, get_or, min, arith}
+use Rattle.std.proofs.Math.Nat.{mul-le-mul_right}
 use Rattle.std.specs.Prelude.{◌≢◌}
 use Rattle.feed_tables.specs.IdRows.{start_below, IsKeyOf, no_key}
 
-abbrev pub AreBytes : List ℕ → Type 0
+abbrev AreBytes : List ℕ → Type 0
 AreBytes text = (k : ℕ) → get_or text k 0 < 256
 
 -- the number of a text, by its first byte
@@ -16,7 +16,7 @@ first_byte (suc n) b text =
     rw (before, power) (omega arith)
 
 -- so many bytes make a number below this power
-pub start_small : (n : ℕ) (text : List ℕ) → AreBytes text → start_below n text < 256 ^ n
+start_small : (n : ℕ) (text : List ℕ) → AreBytes text → start_below n text < 256 ^ n
 start_small zero text bytes = omega arith
 start_small (suc n) text bytes =
     let before = start_small n text bytes in
@@ -24,22 +24,6 @@ start_small (suc n) text bytes =
     let most : get_or text n 0 * 256 ^ n ≤ 255 * 256 ^ n = mul-le-mul_right (256 ^ n) byte in
     let power : 256 ^ suc n ≡ 256 ^ n * 256 = omega arith in
     rw power (omega (arith, before, most))
-
--- seven bytes are worth no more than this
-pub worth_fits : (n : ℕ) → n < 7 → 256 ^ n * 256 ≤ 256 ^ 7
-worth_fits n lt =
-    let few : suc n ≤ 7 = omega (arith, lt) in
-    let power : 256 ^ suc n ≤ 256 ^ 7 = pow-le-pow_right (lit< tt) few in
-    let next : 256 ^ suc n ≡ 256 ^ n * 256 = omega arith in
-    omega (arith, power, next)
-
--- so one byte more fits
-pub more_fits : (n start byte : ℕ) → start < 256 ^ n → byte < 256 → n < 7 → start + byte * 256 ^ n < 256 ^ 7
-more_fits n start byte small fits lt =
-    let at_most : byte ≤ 255 = omega (arith, fits) in
-    let most : byte * 256 ^ n ≤ 255 * 256 ^ n = mul-le-mul_right (256 ^ n) at_most in
-    let worth = worth_fits n lt in
-    omega (arith, small, most, worth)
 
 -- the bytes after the first
 later : (b : ℕ) (text : List ℕ) → AreBytes (b ∷ text) → AreBytes text

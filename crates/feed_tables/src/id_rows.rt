@@ -1,43 +1,32 @@
 //! The ids of a column: the key of each, a number by which short ids are told apart with none of their bytes read, and
 //! the earliest row with it.
-ghost use Rattle.std.specs.Prelude.{◌≡◌, ◌<◌, ◌^◌, IfOk};
-ghost use Rattle.feed_tables.specs.IdRows.{start_below, IsKeyOf, AreIdRows};
+ghost use Rattle.std.specs.Prelude.{◌≡◌, slice_index, IfOk};
+ghost use Rattle.feed_tables.specs.IdRows.{IsKeyOf, AreIdRows};
 
 use feed_files::ColumnName;
 use feed_text::Table;
 use std::alloc::{AllocError, Global};
 
-// The number that the first seven bytes of an id make, the first of them the least; past its end bytes count as 0.
-fn start_of(id: &[u8]) -> u64
-    ensures number { result ≡ start_below 7 id.now }
-    ensures small { result < 256 ^ 7 }
+// The byte of an id at a place; past its end 0.
+fn byte_of(id: &[u8], place: usize) -> u8
+    ensures { result ≡ slice_index id.now place }
 {
-    let mut start = 0u64;
-    let mut worth = 1u64;
-    for place in 0..7usize {
-        let byte = if place < id.len() { id[place] } else { 0 };
-        start += u64::from(byte) * worth;
-        worth *= 256;
-    }
-    start
+    if place < id.len() { id[place] } else { 0 }
 }
 
-/// An id's key: the number that its first seven bytes make, and above these its length. Where it has as many they are read
-/// without a loop, by a few loads, since the first byte is the least: a feed has more ids of stop times than of all else.
+/// An id's key: the number that its first seven bytes make, the first of them the least, and above these its length; past
+/// its end bytes count as 0. Where it has as many they are read by a few loads: a feed has more ids of stop times than of all
+/// else.
 #[inline(always)]
 pub fn key_of(id: &[u8]) -> u64
     ensures { IsKeyOf result id.now }
 {
-    let length = id.len().min(255) as u64;
-    let [a, b, c, d, e, f, g, ..] = id else {
-        return start_of(id) + length * (1 << 56);
-    };
-    let start = u64::from(*a)
-        + u64::from(*b) * (1 << 8)
-        + u64::from(*c) * (1 << 16)
-        + u64::from(*d) * (1 << 24);
-    let middle = u64::from(*e) + u64::from(*f) * (1 << 8);
-    start + middle * (1 << 32) + u64::from(*g) * (1 << 48) + length * (1 << 56)
+    let length = id.len().min(255) as u8;
+    if let [a, b, c, d, e, f, g, ..] = id {
+        return u64::from_le_bytes([*a, *b, *c, *d, *e, *f, *g, length]);
+    }
+    let [a, b, c, d, e, f, g]: [u8; 7] = std::array::from_fn(|place| byte_of(id, place));
+    u64::from_le_bytes([a, b, c, d, e, f, g, length])
 }
 
 /// An id, its key, and the earliest row with it.

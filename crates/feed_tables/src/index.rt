@@ -130,12 +130,7 @@ impl<'t> IdIndex<'t> {
                 known,
             };
         }
-        let slot = self.slots.slot_of(key, id);
-        IdStart {
-            slot,
-            key,
-            known: None,
-        }
+        self.start(id)
     }
 
     /// The earliest row with an id, where it is known or the slot in which it is looked for first has it; then the id is one

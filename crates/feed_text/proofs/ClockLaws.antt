@@ -140,7 +140,7 @@ eight_bytes (a ∷ b ∷ c ∷ d ∷ e ∷ f ∷ g ∷ h ∷ []) is = refl
 eight_bytes (a ∷ b ∷ c ∷ d ∷ e ∷ f ∷ g ∷ h ∷ i ∷ rest) is = absurd (omega (arith, is))
 
 -- the number that the first eight bytes of a text make, and what they are
-abbrev word_of : List ℕ → ℕ
+abbrev pub word_of : List ℕ → ℕ
 word_of text =
     eight (get_or text 0 0) (get_or text 1 0) (get_or text 2 0) (get_or text 3 0)
     (get_or text 4 0) (get_or text 5 0) (get_or text 6 0) (get_or text 7 0)

@@ -1,6 +1,6 @@
 -- Digits one by one.
 use Rattle.std.proofs.Common.{◌≡◌, ℕ, ◌+◌, ◌-◌, ◌*◌, ◌^◌, ◌<◌, ◌≤◌, List, [], ◌∷◌, Bool, true, false, zero, suc, sym, length, take, get_or, None, Some, nat_lt, ◌&&◌, refl, ap, ◌∙◌, arith, add-one}
-use Rattle.std.specs.Prelude.{nat_le}
+use Rattle.std.specs.Prelude.{nat_le, Option, IfSome, IfNone}
 use Rattle.std.specs.Char.{is_ascii_digit, digit_value}
 use Rattle.std.specs.Str.{all_ascii_digits}
 use Rattle.std.specs.Str.Parse.{digits_value}
@@ -83,39 +83,20 @@ grown bs i v e lt d = digits_value_more 10 bs i lt ∙ rw (← e, digit_is (get_
 small : (c : ℕ) → is_ascii_digit c ≡ true → c - 48 ≤ 9
 small c d = grind (arith, nat_tests)
 
--- one digit
-pub one_digit : (ones : ℕ) → is_ascii_digit ones ≡ true → Some (ones - 48) ≡ when_at_most (2 ^ 64 - 1) (number_value (ones ∷ []))
-one_digit ones o =
+-- one byte: the number of a digit, or none
+pub one_digit : (text : List ℕ) (value : Option ℕ) → length text ≡ 1
+    → IfSome value (λ v. (is_ascii_digit (get_or text 0 0) ≡ true) × (v ≡ get_or text 0 0 - 48))
+    → IfNone value (is_ascii_digit (get_or text 0 0) ≡ false)
+    → value ≡ when_at_most (2 ^ 64 - 1) (number_value text)
+one_digit [] value long some none = absurd (omega (arith, long))
+one_digit (ones ∷ []) None long some none = no_number (ones ∷ []) (2 ^ 64 - 1) 0 (omega arith) none
+one_digit (ones ∷ []) (Some v) long some none =
     let bs : List ℕ = ones ∷ [] in
+    let (o, is) = some in
     let one = grown bs 0 0 refl (omega arith) o in
-    let is : ones - 48 ≡ digits_value 10 (take 1 bs) = omega (arith, one) in
-    let digits = all_more bs 0 (omega arith) refl o in
     let low = small ones o in
-    whole bs (2 ^ 64 - 1) (ones - 48) digits (omega arith) is (omega (arith, low))
-
--- another byte
-pub no_digit : (ones : ℕ) → is_ascii_digit ones ≡ false → None ≡ when_at_most (2 ^ 64 - 1) (number_value (ones ∷ []))
-no_digit ones other = no_number (ones ∷ []) (2 ^ 64 - 1) 0 (omega arith) other
-
--- two digits
-pub two_digits : (tens ones : ℕ) → is_ascii_digit tens ≡ true → is_ascii_digit ones ≡ true
-    → Some ((tens - 48) * 10 + (ones - 48)) ≡ when_at_most (2 ^ 64 - 1) (number_value (tens ∷ ones ∷ []))
-two_digits tens ones t o =
-    let bs : List ℕ = tens ∷ ones ∷ [] in
-    let one = grown bs 0 0 refl (omega arith) t in
-    let first : tens - 48 ≡ digits_value 10 (take 1 bs) = omega (arith, one) in
-    let two = grown bs 1 (tens - 48) first (omega arith) o in
-    let digits = all_more bs 1 (omega arith) (all_more bs 0 (omega arith) refl t) o in
-    let few = small tens t in
-    let low = small ones o in
-    whole bs (2 ^ 64 - 1) ((tens - 48) * 10 + (ones - 48)) digits (omega arith) (sym two) (omega (arith, few, low))
-
--- another byte among two
-pub no_tens : (tens ones : ℕ) → is_ascii_digit tens ≡ false → None ≡ when_at_most (2 ^ 64 - 1) (number_value (tens ∷ ones ∷ []))
-no_tens tens ones other = no_number (tens ∷ ones ∷ []) (2 ^ 64 - 1) 0 (omega arith) other
-
-pub no_ones : (tens ones : ℕ) → is_ascii_digit ones ≡ false → None ≡ when_at_most (2 ^ 64 - 1) (number_value (tens ∷ ones ∷ []))
-no_ones tens ones other = no_number (tens ∷ ones ∷ []) (2 ^ 64 - 1) 1 (omega arith) other
+    whole bs (2 ^ 64 - 1) v (all_more bs 0 (omega arith) refl o) (omega arith) (omega (arith, one, is)) (omega (arith, low, is))
+one_digit (a ∷ b ∷ rest) value long some none = absurd (omega (arith, long))
 
 -- two digits whose number is at most this
 pub pair_within : (most tens ones : ℕ) → is_ascii_digit tens ≡ true → is_ascii_digit ones ≡ true → (tens - 48) * 10 + (ones - 48) ≤ most
@@ -127,3 +108,19 @@ pair_within most tens ones t o fits =
     let two = grown bs 1 (tens - 48) first (omega arith) o in
     let digits = all_more bs 1 (omega arith) (all_more bs 0 (omega arith) refl t) o in
     whole bs most ((tens - 48) * 10 + (ones - 48)) digits (omega arith) (sym two) fits
+
+-- two digits
+pub two_digits : (text : List ℕ) (tens ones : ℕ) → length text ≡ 2
+    → (is_ascii_digit (get_or text 0 0) ≡ true) × (tens ≡ get_or text 0 0 - 48)
+    → (is_ascii_digit (get_or text 1 0) ≡ true) × (ones ≡ get_or text 1 0 - 48)
+    → Some (tens * 10 + ones) ≡ when_at_most (2 ^ 64 - 1) (number_value text)
+two_digits [] tens ones long t o = absurd (omega (arith, long))
+two_digits (a ∷ []) tens ones long t o = absurd (omega (arith, long))
+two_digits (a ∷ b ∷ []) tens ones long (t, ten) (o, one) = rw (ten, one) (pair_within (2 ^ 64 - 1) a b t o (omega (arith, few, low)))
+  where
+    few : a - 48 ≤ 9
+    few = small a t
+
+    low : b - 48 ≤ 9
+    low = small b o
+two_digits (a ∷ b ∷ c ∷ rest) tens ones long t o = absurd (omega (arith, long))

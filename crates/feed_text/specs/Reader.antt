@@ -1,5 +1,5 @@
 -- How far records were read from a text.
-use Rattle.std.specs.Prelude.{◌≡◌, ◌-◌, ◌&&◌, nat_lt, get_or, length, ◌++◌, ◌∷◌, [], ℕ, List, Option, Some, None, IfSome, map, All, Bool, true, false}
+use Rattle.std.specs.Prelude.{◌≡◌, ◌++◌, ◌∷◌, [], ℕ, List, Option, Some, None, IfSome, map, All, Bool, true, false}
 use Rattle.std.specs.Str.{is_utf8}
 use Rattle.csv.specs.declared.reader.Trim.TheVariants as trim
 use Rattle.csv.specs.declared.parser.State.TheVariants as st
@@ -10,10 +10,6 @@ use Rattle.feed_faults.specs.Records.{FileTable, cut, table_of_bytes}
 use Rattle.feed_text.specs.declared.records.Records.{Records}
 use Rattle.feed_text.specs.declared.records.RecordError.{RecordError}
 use Rattle.feed_text.specs.declared.records.RecordError.TheVariants.{NotText, Stopped}
-
--- at both ends stand bytes behind the blank; so neither is a blank or a tab
-abbrev pub has_whole_ends : List ℕ → Bool
-has_whole_ends text = nat_lt 32 (get_or text 0 0) && nat_lt 32 (get_or text (length text - 1) 0)
 
 -- a record without a field counts as one of an empty field, and each field is cut
 abbrev pub cut_record : List (List ℕ) → List (List ℕ)

@@ -23,10 +23,7 @@ use std::alloc::AllocError;
 pub fn is_filled(text: &[u8]) -> bool
     ensures { result ≡ is_filled text.now }
 {
-    match text {
-        [] => false,
-        [_, ..] => true,
-    }
+    !text.is_empty()
 }
 
 // What a text of the grammar tells.
@@ -55,12 +52,7 @@ fn fits(grammar: Grammar, number: Option<i64>, text: &[u8]) -> bool
 {
     match grammar {
         Grammar::Id => id_ok(text),
-        Grammar::Int { .. }
-        | Grammar::Count
-        | Grammar::Time { .. }
-        | Grammar::Date
-        | Grammar::Currency
-        | Grammar::Amount => number.is_some(),
+        _ => number.is_some(),
     }
 }
 
@@ -130,22 +122,6 @@ pub fn read_found<F: Fields>(
     }
 }
 
-/// What the field of a row in a column tells, as `read_found` does.
-#[inline(always)]
-pub fn read_column<F: Fields>(
-    file: FileName,
-    row: u32,
-    fields: &F,
-    rule: ColumnRule,
-) -> Result<Option<i64>, FeedFault>
-    requires { row < row_limit }
-    ensures fault { IfErr result (λ fault. fault_of_field file row (F.at fields.now) rule ≡ Some fault) }
-    ensures sound { OnOk result (fault_of_field file row (F.at fields.now) rule ≡ None) }
-    ensures number { IfOk result (λ number. number ≡ field_number (F.at fields.now) rule) }
-{
-    read_found(file, row, fields, rule, fields.field(rule.name))
-}
-
 /// Whether a row of `transfers.txt` is passed over: it is of type 4 or 5, or it names routes or trips.
 #[tactic(auto, unfolding(feed_faults::specs::FormFaults::is_passed_over))]
 pub fn is_passed_over<F: Fields>(fields: &F) -> bool
@@ -187,7 +163,7 @@ pub fn read_fields<F: Fields>(
     numbers.clear();
     let rules = judged_columns(file, fields);
     for (i, rule) in rules.iter().enumerate() {
-        match read_column(file, row, fields, *rule) {
+        match read_found(file, row, fields, *rule, fields.field(rule.name)) {
             Ok(number) => numbers.push(number)?,
             Err(fault) => return Ok(Some(fault)),
         }

@@ -1,5 +1,6 @@
 //! Integers, times and dates, as fields write them.
-ghost use Rattle.std.specs.Prelude.{◌≡◌, ◌-◌, ◌^◌, ◌≤◌, ◌∷◌, [], ℕ, Some, IfSome, option_map};
+ghost use Rattle.std.specs.Prelude.{◌≡◌, ◌-◌, ◌^◌, ◌≤◌, ℕ, true, false, Some, IfSome, IfNone, option_map};
+ghost use Rattle.std.specs.Char.{is_ascii_digit};
 ghost use Rattle.feed_rows.specs.Numerals.{number_value, when_at_most};
 ghost use Rattle.feed_rows.specs.TimeGrammar.{time_value};
 ghost use Rattle.feed_rows.specs.WordValues.{day_value};
@@ -7,28 +8,17 @@ ghost use Rattle.feed_faults.specs.FieldGrammars.{int_value, count_value, date_v
 
 use transit_base::{Day, day_of};
 
-// The number that two digits write: the minutes and the seconds of a time, and most hours.
+// The number that a digit writes.
 #[inline(always)]
-#[tactic(auto, using(crate::proofs::DigitLaws::two_digits, crate::proofs::DigitLaws::no_tens, crate::proofs::DigitLaws::no_ones))]
-fn two_digits(tens: u8, ones: u8) -> Option<u64>
-    ensures { result ≡ when_at_most (2 ^ 64 - 1) (number_value (tens ∷ ones ∷ [])) }
+fn digit_of(digit: u8) -> Option<u64>
+    ensures some { IfSome result (λ value. (is_ascii_digit digit ≡ true) × (value ≡ digit - 48)) }
+    ensures none { IfNone result (is_ascii_digit digit ≡ false) }
 {
-    if !tens.is_ascii_digit() || !ones.is_ascii_digit() {
-        return None;
+    if digit.is_ascii_digit() {
+        Some(u64::from(digit - b'0'))
+    } else {
+        None
     }
-    Some(u64::from(tens - b'0') * 10 + u64::from(ones - b'0'))
-}
-
-// The number that one digit writes.
-#[inline(always)]
-#[tactic(auto, using(crate::proofs::DigitLaws::one_digit, crate::proofs::DigitLaws::no_digit))]
-fn one_digit(ones: u8) -> Option<u64>
-    ensures { result ≡ when_at_most (2 ^ 64 - 1) (number_value (ones ∷ [])) }
-{
-    if !ones.is_ascii_digit() {
-        return None;
-    }
-    Some(u64::from(ones - b'0'))
 }
 
 // The number that one or more digits write, where it is below 2^64. Inlined, as are its callers: most fields of a feed are
@@ -37,14 +27,11 @@ fn one_digit(ones: u8) -> Option<u64>
 pub(crate) fn number_of(text: &[u8]) -> Option<u64>
     ensures { result ≡ when_at_most (2 ^ 64 - 1) (number_value text.now) }
 {
-    if let [tens, ones] = text {
-        return two_digits(*tens, *ones);
-    }
-    if let [ones] = text {
-        return one_digit(*ones);
-    }
-    if text.is_empty() {
-        return None;
+    match text {
+        [] => return None,
+        [ones] => return digit_of(*ones),
+        [tens, ones] => return Some(digit_of(*tens)? * 10 + digit_of(*ones)?),
+        _ => {}
     }
     let mut value = 0u64;
     for b in text {
@@ -105,15 +92,7 @@ fn clock_of(text: &[u8]) -> Option<u32>
     let [a, b, c, d, e, f, g, h] = text else {
         return None;
     };
-    let start = u64::from(*a)
-        + u64::from(*b) * (1 << 8)
-        + u64::from(*c) * (1 << 16)
-        + u64::from(*d) * (1 << 24);
-    let end = u64::from(*e)
-        + u64::from(*f) * (1 << 8)
-        + u64::from(*g) * (1 << 16)
-        + u64::from(*h) * (1 << 24);
-    let word = start + end * (1 << 32);
+    let word = u64::from_le_bytes([*a, *b, *c, *d, *e, *f, *g, *h]);
     if word & 0xf0f0_fff0_f0ff_f0f0 != 0x3030_3a30_303a_3030 {
         return None;
     }
@@ -169,11 +148,7 @@ pub fn int_of(text: &[u8], least: i64, most: i64) -> Option<i64>
 pub fn count_of(text: &[u8]) -> Option<i64>
     ensures { result ≡ count_value text.now }
 {
-    let value = int_of(text, -1, 2_147_483_647)?;
-    if value == 0 {
-        return None;
-    }
-    Some(value)
+    int_of(text, -1, 2_147_483_647).filter(|value| *value != 0)
 }
 
 /// The day of the date whose year, month and day of the month these texts write in digits. None exactly where a text is

@@ -1,23 +1,14 @@
 //! The records of a text, one after another.
-ghost use Rattle.std.specs.Prelude.{◌≡◌, ◌<◌, ◌++◌, ◌∷◌, [], List, ℕ, Option, length, get_or, IfOk, IfErr, OnOk};
+ghost use Rattle.std.specs.Prelude.{◌≡◌, ◌++◌, ◌∷◌, [], List, ℕ, Option, length, get_or, IfOk, IfErr, OnOk};
 ghost use Rattle.feed_faults.specs.Records.{FileTable, cut};
 ghost use Rattle.csv.specs.Reading.{reader_source};
-ghost use Rattle.feed_text.specs.Reader.{StandsBehind, GoesOn, Explains, has_whole_ends, last_record};
+ghost use Rattle.feed_text.specs.Reader.{StandsBehind, GoesOn, Explains, last_record};
 
 use csv::{ErrorKind, Reader, ReaderBuilder, StringRecord};
 use std::alloc::{AllocError, Global};
 use std::io::Read;
 use std::marker::Model;
 use std::snapshot::Snapshot;
-
-// Whether neither end is a blank, by one comparison each.
-#[inline(always)]
-fn has_whole_ends(text: &[u8]) -> bool
-    requires { 0 < length text.now }
-    ensures { result ≡ has_whole_ends text.now }
-{
-    text[0] > b' ' && text[text.len() - 1] > b' '
-}
 
 // The text without the blanks at both ends.
 #[cold]
@@ -35,13 +26,13 @@ fn trimmed(mut text: &[u8]) -> &[u8]
     text
 }
 
-// The text without the blanks at both ends. Few texts have any, so that mostly two bytes are read.
+// The text without the blanks at both ends. Few texts have any, so that mostly two bytes are read, with one comparison each.
 #[inline(always)]
 #[tactic(auto, using(crate::proofs::CutLaws::cut_none, crate::proofs::CutLaws::cut_whole))]
 fn cut_of(text: &[u8]) -> &[u8]
     ensures { result.now ≡ cut text.now }
 {
-    if text.is_empty() || has_whole_ends(text) {
+    if text.is_empty() || (text[0] > b' ' && text[text.len() - 1] > b' ') {
         return text;
     }
     trimmed(text)

@@ -94,49 +94,6 @@ fn places_of(
         .collect(alloc)
 }
 
-// Keeps the records of a file's bytes, as long as there are no more data rows than so many. Answers whether there aren't.
-fn keep_records(
-    records: &mut Records<&[u8]>,
-    max_rows: u32,
-    fields: &mut Groups<u8>,
-    ends: &mut Vec<u32>,
-) -> Result<bool, AllocError>
-    requires few { max_rows ≤ row_limit }
-    requires no_fields { fields.old ≡ [] }
-    requires no_ends { ends.old.items ≡ [] }
-    ensures rise { OnOk result (Rise 0 ends.new.items (length fields.new)) }
-    ensures few { IfOk result (λ all. all ≡ true → length ends.new.items < 2 ^ 32) }
-    ensures all { IfOk result (λ all. (text : List ℕ) → StandsBehind (λ s. Some s.now) (Some text) [] records.old → when all (parts 0 ends.new.items fields.new) ≡ when (nat_le (row_count (table_of_bytes text)) max_rows) (table_of_bytes text)) }
-{
-    // The header, the rows, and one record more, which is one too many.
-    for _ in 0..u64::from(max_rows) + 2 {
-        match records.next() {
-            Ok(true) => push_record(fields, ends, records)?,
-            Ok(false) => return Ok(true),
-            // A read over bytes in memory fails for want of memory alone.
-            Err(_) => return Err(AllocError),
-        }
-    }
-    Ok(false)
-}
-
-// The table of the records of a file's bytes, where it has at most so many data rows.
-fn table_of(
-    alloc: Global,
-    records: &mut Records<&[u8]>,
-    max_rows: u32,
-) -> Result<Option<Table>, AllocError>
-    requires { max_rows ≤ row_limit }
-    ensures { IfOk result (λ table. (text : List ℕ) → StandsBehind (λ s. Some s.now) (Some text) [] records.old → table ≡ when (nat_le (row_count (table_of_bytes text)) max_rows) (table_of_bytes text)) }
-{
-    let mut fields = Groups::empty(alloc);
-    let mut ends = Vec::new(alloc);
-    if !keep_records(records, max_rows, &mut fields, &mut ends)? {
-        return Ok(None);
-    }
-    Ok(Some(Table::of(alloc, fields, ends)?))
-}
-
 // The table of a file's bytes, where it has at most so many data rows.
 pub(crate) fn table_within(
     alloc: Global,
@@ -147,7 +104,18 @@ pub(crate) fn table_within(
     ensures { IfOk result (λ table. table ≡ when (nat_le (row_count (table_of_bytes text.now)) max_rows) (table_of_bytes text.now)) }
 {
     let mut records = Records::of(alloc, text);
-    table_of(alloc, &mut records, max_rows)
+    let mut fields = Groups::empty(alloc);
+    let mut ends = Vec::new(alloc);
+    // The header, the rows, and one record more, which is one too many.
+    for _ in 0..u64::from(max_rows) + 2 {
+        match records.next() {
+            Ok(true) => push_record(&mut fields, &mut ends, &records)?,
+            Ok(false) => return Ok(Some(Table::of(alloc, fields, ends)?)),
+            // A read over bytes in memory fails for want of memory alone.
+            Err(_) => return Err(AllocError),
+        }
+    }
+    Ok(None)
 }
 
 /// Whether a file's bytes have a record. No more than two are read.
