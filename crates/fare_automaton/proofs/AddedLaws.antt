@@ -1,8 +1,6 @@
 -- Lists to which a loop adds what each item gives.
-use Rattle.std.proofs.Common.{◌≡◌, sym, ◌∙◌, ap, ℕ, ◌+◌, ◌<◌, ◌≤◌, Bool, false, ◌||◌, List, [], ◌∷◌, ◌++◌, take, get_or, length, map, append_assoc, take_all}
+use Rattle.std.proofs.Common.{◌≡◌, sym, ◌∙◌, ap, ℕ, ◌+◌, ◌<◌, ◌≤◌, List, [], ◌∷◌, ◌++◌, take, get_or, length, map, append_assoc, take_all}
 use Rattle.std.specs.Prelude.{flat_map}
-use Rattle.std.specs.List.{list_any}
-use Rattle.std.proofs.lemmas.List.Folds.{list_any_more}
 use Rattle.std.proofs.lemmas.List.{take_more, map_more, flat_map_more}
 
 -- one item more gives one thing
@@ -33,14 +31,3 @@ map_whole f xs i old now past is = is ∙ ap (λ ys. old ++ map f ys) (take_all 
 pub flat_whole : {X Y : Type 0} (f : X → List Y) (xs : List X) (i : ℕ) (old now : List Y) → length xs ≤ i
     → now ≡ old ++ flat_map f (take i xs) → now ≡ old ++ flat_map f xs
 flat_whole f xs i old now past is = is ∙ ap (λ ys. old ++ flat_map f ys) (take_all i xs past)
-
--- ---- tests
-
--- no item so far passes, and neither does the next
-pub none_more : {X : Type 0} (test : X → Bool) (xs : List X) (i : ℕ) (d : X) → i < length xs → list_any test (take i xs) ≡ false
-    → false ≡ test (get_or xs i d) → list_any test (take (i + 1) xs) ≡ false
-none_more test xs i d lt none fails = list_any_more test xs i d lt ∙ ap (λ b. b || test (get_or xs i d)) none ∙ sym fails
-
--- at the end none passes
-pub none_passes : {X : Type 0} (test : X → Bool) (xs : List X) (i : ℕ) → length xs ≤ i → list_any test (take i xs) ≡ false → false ≡ list_any test xs
-none_passes test xs i past none = sym none ∙ ap (list_any test) (take_all i xs past)

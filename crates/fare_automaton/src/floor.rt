@@ -50,24 +50,14 @@ fn least_for_changes(
 fn is_for_leg(rules: &[LegRuleRow], rider: Option<RiderId>, row: &ProductRow) -> bool
     ensures { result ≡ list_any (λ rule. is_open rule.product rider row.now) rules.now }
 {
-    for rule in rules {
-        if is_open(rule.product, rider, row) {
-            return true;
-        }
-    }
-    false
+    rules.iter().any(|rule| is_open(rule.product, rider, row))
 }
 
 /// Whether the row is open to the rider for one of the transfer rules.
 fn is_for_change(rules: &[TransferRuleRow], rider: Option<RiderId>, row: &ProductRow) -> bool
     ensures { result ≡ list_any (λ rule. filled_and rule.product (λ product. is_open product rider row.now)) rules.now }
 {
-    for rule in rules {
-        if is_of(rule.product, rider, row) {
-            return true;
-        }
-    }
-    false
+    rules.iter().any(|rule| is_of(rule.product, rider, row))
 }
 
 /// Whether there is a product, and the row is an open row of it.

@@ -89,12 +89,9 @@ fn count_at(rows: &[TransferRuleRow], row: XferId) -> u32
 fn some_limit(rows: &[TransferRuleRow], among: &[ClassedRow], clock: Clock) -> bool
     ensures { result ≡ some_limit (counts_from clock) rows.now among.now }
 {
-    for classed in among {
-        if limit_at(rows, classed.row, clock) {
-            return true;
-        }
-    }
-    false
+    among
+        .iter()
+        .any(|classed| limit_at(rows, classed.row, clock))
 }
 
 /// Whether the row has a limit that counts from the clock.
