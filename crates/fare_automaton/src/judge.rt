@@ -15,14 +15,12 @@ impl<'f> Automaton<'f> {
     pub(crate) fn chosen_leg(&self, leg: &LegFacts, pick: &LegChoice) -> Option<GroupedLeg>
         ensures { option_map leg_of result ≡ chosen_leg self.now.feed leg.now pick.now }
     {
-        match self.leg_row(pick.rule) {
-            Some(rule) => Some(GroupedLeg {
-                group: rule.group,
-                departure: leg.departure,
-                arrival: leg.arrival,
-            }),
-            None => None,
-        }
+        let rule = self.leg_row(pick.rule)?;
+        Some(GroupedLeg {
+            group: rule.group,
+            departure: leg.departure,
+            arrival: leg.arrival,
+        })
     }
 
     /// Whether the leg selects the rule, and the row is an open row of its product.

@@ -177,13 +177,7 @@ impl<'f> Automaton<'f> {
     fn place_kind(&self, place: Option<ChangeChoice>) -> Option<u8>
         ensures { result ≡ place_kind self.now.feed place }
     {
-        match place {
-            Some(pick) => match self.transfer_row(pick.rule) {
-                Some(row) => Some(row.kind),
-                None => None,
-            },
-            None => None,
-        }
+        Some(self.transfer_row(place?.rule)?.kind)
     }
 
     /// What the place of a change adds to the sum, in minor units.

@@ -186,8 +186,6 @@ fn push_place(
 ) -> Result<(), AllocError>
     ensures { OnOk result (places.new.items ≡ places.old.items ++ place ∷ []) }
 {
-    match places.push(place) {
-        Ok(()) => Ok(()),
-        Err(_) => Err(AllocError),
-    }
+    places.push(place)?;
+    Ok(())
 }

@@ -123,14 +123,12 @@ impl<'f> Fares<'f> {
     fn chosen_leg(&self, leg: &LegFacts, pick: &LegChoice) -> Option<GroupedLeg>
         ensures { option_map leg_of result ≡ chosen_leg self.now leg.now pick.now }
     {
-        match self.leg_row(pick.rule) {
-            Some(rule) => Some(GroupedLeg {
-                group: rule.group,
-                departure: leg.departure,
-                arrival: leg.arrival,
-            }),
-            None => None,
-        }
+        let rule = self.leg_row(pick.rule)?;
+        Some(GroupedLeg {
+            group: rule.group,
+            departure: leg.departure,
+            arrival: leg.arrival,
+        })
     }
 
     /// Whether the rule is selected by the leg, and the row is an open row of its product.
@@ -212,13 +210,7 @@ impl<'f> Fares<'f> {
     fn place_kind(&self, place: Option<ChangeChoice>) -> Option<u8>
         ensures { result ≡ place_kind self.now place }
     {
-        match place {
-            Some(pick) => match self.transfer_row(pick.rule) {
-                Some(row) => Some(row.kind),
-                None => None,
-            },
-            None => None,
-        }
+        Some(self.transfer_row(place?.rule)?.kind)
     }
 
     /// What the place of a change adds to the sum, in minor units.

@@ -176,12 +176,8 @@ impl<'s, 'f> RiderFares<'s, 'f> {
         ensures { result ≡ leg_offer self.now.feed self.now.rider rule }
     {
         let fares = self.fares;
-        let Some(row) = fares.leg_row(rule) else {
-            return None;
-        };
-        let Some(least) = self.least(row.product) else {
-            return None;
-        };
+        let row = fares.leg_row(rule)?;
+        let least = self.least(row.product)?;
         Some(LegOffer {
             pick: LegChoice {
                 rule,
@@ -224,9 +220,7 @@ impl<'s, 'f> RiderFares<'s, 'f> {
         ensures { result ≡ change_offer self.now.feed self.now.rider id }
     {
         let fares = self.fares;
-        let Some(row) = fares.transfer_row(id) else {
-            return None;
-        };
+        let row = fares.transfer_row(id)?;
         let kind = Some(row.kind);
         match row.product {
             None => Some(ChangeOffer {
@@ -237,17 +231,17 @@ impl<'s, 'f> RiderFares<'s, 'f> {
                 kind,
                 amount: 0,
             }),
-            Some(product) => match self.least(product) {
-                Some(least) => Some(ChangeOffer {
+            Some(product) => {
+                let least = self.least(product)?;
+                Some(ChangeOffer {
                     place: Some(ChangeChoice {
                         rule: id,
                         product: Some(least.row),
                     }),
                     kind,
                     amount: least.amount.0,
-                }),
-                None => None,
-            },
+                })
+            }
         }
     }
 

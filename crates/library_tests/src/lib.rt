@@ -1,5 +1,5 @@
-//! Tests of fares, trips and plans that no case of the whole program reaches: objects that only libraries take, and answers beside those
-//! of plainer programs.
+//! Tests of fares, trips and plans that no case of the whole program reaches: objects that only libraries take, and answers
+//! beside those of plainer programs.
 #![tactic(auto)]
 
 #[cfg(test)]
