@@ -99,11 +99,12 @@ impl<'t, C: CallTable> Source<'t, C> {
     }
 
     // The rows of a file, in order.
-    fn rows_of<R: FileRow>(&self) -> Result<ItemList<R>, AllocError>
-        ensures { IfOk result (λ rows. rows ≡ typed_rows (table_in self.now R.FILE) (R.row_in self.now)) }
+    fn rows_of<R: FileRow>(&self, file: FileName) -> Result<ItemList<R>, AllocError>
+        requires { file ≡ R.file }
+        ensures { IfOk result (λ rows. rows ≡ typed_rows (table_in self.now file) (R.row_in self.now)) }
     {
         let mut rows = ItemList::empty(self.alloc);
-        for row in 0..self.tables.rows(R::FILE) {
+        for row in 0..self.tables.rows(file) {
             rows.push(R::of(self, row)?)?;
         }
         Ok(rows)
@@ -114,12 +115,12 @@ impl<'t, C: CallTable> Source<'t, C> {
         ensures { IfOk result (AreTripFiles self.now) }
     {
         Ok(TripFiles {
-            stops: self.rows_of()?,
-            routes: self.rows_of()?,
-            trips: self.rows_of()?,
-            services: self.rows_of()?,
-            exceptions: self.rows_of()?,
-            frequencies: self.rows_of()?,
+            stops: self.rows_of(FileName::Stops)?,
+            routes: self.rows_of(FileName::Routes)?,
+            trips: self.rows_of(FileName::Trips)?,
+            services: self.rows_of(FileName::Calendar)?,
+            exceptions: self.rows_of(FileName::CalendarDates)?,
+            frequencies: self.rows_of(FileName::Frequencies)?,
             links: self.link_rows()?,
         })
     }
@@ -129,14 +130,14 @@ impl<'t, C: CallTable> Source<'t, C> {
         ensures { IfOk result (AreFareFiles self.now) }
     {
         Ok(FareFiles {
-            areas: self.rows_of()?,
-            stop_areas: self.rows_of()?,
-            timeframes: self.rows_of()?,
-            riders: self.rows_of()?,
-            media: self.rows_of()?,
-            products: self.rows_of()?,
-            leg_rules: self.rows_of()?,
-            transfer_rules: self.rows_of()?,
+            areas: self.rows_of(FileName::Areas)?,
+            stop_areas: self.rows_of(FileName::StopAreas)?,
+            timeframes: self.rows_of(FileName::Timeframes)?,
+            riders: self.rows_of(FileName::RiderCategories)?,
+            media: self.rows_of(FileName::FareMedia)?,
+            products: self.rows_of(FileName::FareProducts)?,
+            leg_rules: self.rows_of(FileName::FareLegRules)?,
+            transfer_rules: self.rows_of(FileName::FareTransferRules)?,
         })
     }
 

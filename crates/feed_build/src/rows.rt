@@ -53,37 +53,33 @@ fn is_code(number: Option<i64>, code: u32) -> bool
 
 /// A row of a feed that a row of one file gives.
 pub trait FileRow: Drop {
-    ghost use Rattle.std.specs.Prelude.{◌≡◌, ◌<◌, ℕ, Bool, true, IfOk, OnErr};
+    ghost use Rattle.std.specs.Prelude.{◌≡◌, ◌<◌, ℕ, Bool, true, false, IfOk, OnErr};
     ghost use Rattle.feed_files.specs.declared.names.FileName.{FileName};
     ghost use Rattle.feed_faults.specs.Records.{row_count};
     ghost use Rattle.feed_faults.specs.FeedTables.{FeedTables, table_in};
 
     /// The file.
-    ghost FILE: { FileName };
-
-    const FILE: FileName;
+    ghost file: { FileName };
 
     /// What a row of the file gives.
     ghost row_in: { FeedTables → ℕ → Self };
 
     /// Whether it has a copy of a text.
-    ghost copies: { Bool };
+    ghost copies: { Bool } = { false };
 
     /// The row of a number.
     ///
     /// # Errors
     /// Want of memory, for a copy.
     fn of<C: CallTable>(source: &Source<C>, row: u32) -> Result<Self, AllocError>
-        requires { row < row_count (table_in source.now FILE) }
+        requires { row < row_count (table_in source.now file) }
         ensures row { IfOk result (λ made. made ≡ row_in source.now row) }
         ensures memory { OnErr result (copies ≡ true) };
 }
 
 // A row of `stops.txt`. A platform alone has the station that it names.
 impl FileRow for StopRow {
-    ghost FILE = { file.Stops };
-
-    const FILE: FileName = FileName::Stops;
+    ghost file = { file.Stops };
 
     ghost row_in = { stop_row };
 
@@ -109,9 +105,7 @@ impl FileRow for StopRow {
 
 // A row of `routes.txt`.
 impl FileRow for RouteRow {
-    ghost FILE = { file.Routes };
-
-    const FILE: FileName = FileName::Routes;
+    ghost file = { file.Routes };
 
     ghost row_in = { route_row };
 
@@ -130,9 +124,7 @@ impl FileRow for RouteRow {
 
 // A row of `trips.txt`.
 impl FileRow for TripRow {
-    ghost FILE = { file.Trips };
-
-    const FILE: FileName = FileName::Trips;
+    ghost file = { file.Trips };
 
     ghost row_in = { trip_row };
 
@@ -152,13 +144,9 @@ impl FileRow for TripRow {
 
 // A row of `calendar.txt`.
 impl FileRow for ServiceRow {
-    ghost FILE = { file.Calendar };
-
-    const FILE: FileName = FileName::Calendar;
+    ghost file = { file.Calendar };
 
     ghost row_in = { service_row };
-
-    ghost copies = { false };
 
     #[tactic(auto, unfolding(feed_faults::specs::AcceptedFeed::service_row, feed_faults::specs::FieldValues::int_or_zero, feed_faults::specs::FieldValues::day_or_zero))]
     fn of<C: CallTable>(source: &Source<C>, row: u32) -> Result<ServiceRow, AllocError> {
@@ -195,13 +183,9 @@ impl FileRow for ServiceRow {
 
 // A row of `calendar_dates.txt`.
 impl FileRow for ExceptionRow {
-    ghost FILE = { file.CalendarDates };
-
-    const FILE: FileName = FileName::CalendarDates;
+    ghost file = { file.CalendarDates };
 
     ghost row_in = { exception_row };
-
-    ghost copies = { false };
 
     #[tactic(auto, unfolding(feed_faults::specs::AcceptedFeed::exception_row, feed_faults::specs::FieldValues::int_or_zero, feed_faults::specs::FieldValues::day_or_zero))]
     fn of<C: CallTable>(source: &Source<C>, row: u32) -> Result<ExceptionRow, AllocError> {
@@ -218,13 +202,9 @@ impl FileRow for ExceptionRow {
 
 // A row of `frequencies.txt`.
 impl FileRow for FrequencyRow {
-    ghost FILE = { file.Frequencies };
-
-    const FILE: FileName = FileName::Frequencies;
+    ghost file = { file.Frequencies };
 
     ghost row_in = { frequency_row };
-
-    ghost copies = { false };
 
     #[tactic(auto, unfolding(feed_faults::specs::AcceptedFeed::frequency_row), using(crate::proofs::ValueLaws::values))]
     fn of<C: CallTable>(source: &Source<C>, row: u32) -> Result<FrequencyRow, AllocError> {
@@ -242,9 +222,7 @@ impl FileRow for FrequencyRow {
 
 // A row of `areas.txt`.
 impl FileRow for AreaRow {
-    ghost FILE = { file.Areas };
-
-    const FILE: FileName = FileName::Areas;
+    ghost file = { file.Areas };
 
     ghost row_in = { area_row };
 
@@ -261,13 +239,9 @@ impl FileRow for AreaRow {
 
 // A row of `stop_areas.txt`.
 impl FileRow for StopAreaRow {
-    ghost FILE = { file.StopAreas };
-
-    const FILE: FileName = FileName::StopAreas;
+    ghost file = { file.StopAreas };
 
     ghost row_in = { stop_area_row };
-
-    ghost copies = { false };
 
     #[tactic(auto, unfolding(feed_faults::specs::AcceptedFeed::stop_area_row))]
     fn of<C: CallTable>(source: &Source<C>, row: u32) -> Result<StopAreaRow, AllocError> {
@@ -281,13 +255,9 @@ impl FileRow for StopAreaRow {
 
 // A row of `timeframes.txt`.
 impl FileRow for TimeframeRow {
-    ghost FILE = { file.Timeframes };
-
-    const FILE: FileName = FileName::Timeframes;
+    ghost file = { file.Timeframes };
 
     ghost row_in = { timeframe_row };
-
-    ghost copies = { false };
 
     #[tactic(auto, unfolding(feed_faults::specs::AcceptedFeed::timeframe_row), using(crate::proofs::ValueLaws::values))]
     fn of<C: CallTable>(source: &Source<C>, row: u32) -> Result<TimeframeRow, AllocError> {
@@ -306,9 +276,7 @@ impl FileRow for TimeframeRow {
 
 // A row of `rider_categories.txt`.
 impl FileRow for RiderRow {
-    ghost FILE = { file.RiderCategories };
-
-    const FILE: FileName = FileName::RiderCategories;
+    ghost file = { file.RiderCategories };
 
     ghost row_in = { rider_row };
 
@@ -327,9 +295,7 @@ impl FileRow for RiderRow {
 
 // A row of `fare_media.txt`.
 impl FileRow for MediumRow {
-    ghost FILE = { file.FareMedia };
-
-    const FILE: FileName = FileName::FareMedia;
+    ghost file = { file.FareMedia };
 
     ghost row_in = { medium_row };
 
@@ -346,13 +312,9 @@ impl FileRow for MediumRow {
 
 // A row of `fare_products.txt`.
 impl FileRow for ProductRow {
-    ghost FILE = { file.FareProducts };
-
-    const FILE: FileName = FileName::FareProducts;
+    ghost file = { file.FareProducts };
 
     ghost row_in = { product_row };
-
-    ghost copies = { false };
 
     #[tactic(auto, unfolding(feed_faults::specs::AcceptedFeed::product_row, feed_faults::specs::FieldValues::amount_or_zero))]
     fn of<C: CallTable>(source: &Source<C>, row: u32) -> Result<ProductRow, AllocError> {
@@ -375,13 +337,9 @@ impl FileRow for ProductRow {
 
 // A row of `fare_leg_rules.txt`.
 impl FileRow for LegRuleRow {
-    ghost FILE = { file.FareLegRules };
-
-    const FILE: FileName = FileName::FareLegRules;
+    ghost file = { file.FareLegRules };
 
     ghost row_in = { leg_rule_row };
-
-    ghost copies = { false };
 
     #[tactic(auto, unfolding(feed_faults::specs::AcceptedFeed::leg_rule_row), using(crate::proofs::ValueLaws::values))]
     fn of<C: CallTable>(source: &Source<C>, row: u32) -> Result<LegRuleRow, AllocError> {
@@ -411,13 +369,9 @@ impl FileRow for LegRuleRow {
 
 // A row of `fare_transfer_rules.txt`.
 impl FileRow for TransferRuleRow {
-    ghost FILE = { file.FareTransferRules };
-
-    const FILE: FileName = FileName::FareTransferRules;
+    ghost file = { file.FareTransferRules };
 
     ghost row_in = { transfer_rule_row };
-
-    ghost copies = { false };
 
     #[tactic(auto, unfolding(feed_faults::specs::AcceptedFeed::transfer_rule_row, feed_faults::specs::AcceptedFeed::limit_of), using(crate::proofs::ValueLaws::values))]
     fn of<C: CallTable>(source: &Source<C>, row: u32) -> Result<TransferRuleRow, AllocError> {
