@@ -1,3 +1,2 @@
 pub mod NameNumbers
 pub mod TableNames
-pub mod FeedParts

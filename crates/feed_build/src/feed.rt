@@ -1,23 +1,17 @@
 //! A feed from the tables of its files.
-ghost use Rattle.std.specs.Prelude.{◌≡◌, ◌<◌, ℕ, Ok, IfOk};
+ghost use Rattle.std.specs.Prelude.{◌≡◌, IfOk};
 ghost use Rattle.feed_files.specs.declared.names.FileName.TheVariants as file;
 ghost use Rattle.feed_faults.specs.RowChecks.{id_place};
-ghost use Rattle.feed_faults.specs.Records.{row_count};
 ghost use Rattle.feed_faults.specs.FeedTables.{table_in};
 ghost use Rattle.feed_faults.specs.AcceptedFeed.{row_number, typed_rows, rows_of_tables, stop_time_row};
 ghost use Rattle.feed_soundness.specs.AcceptedTables.{AreFormed, AreRelated};
 ghost use Rattle.feed_build.specs.TableNames.{HasNames};
-ghost use Rattle.feed_build.specs.FeedParts.{AreTripFiles, AreFareFiles, AreNames};
 
 use crate::names::Names;
 use crate::rows::FileRow;
 use feed_faults::IdColumn;
 use feed_files::{ColumnName, FileName};
-use feed_rows::{
-    AreaRows, ExceptionRows, Feed, FrequencyRows, LegRuleRows, LinkRows, MediumRows, NameList,
-    ProductRows, RiderRows, RouteRows, ServiceRows, StopAreaRows, StopRows, StopTimeRows,
-    TimeframeRows, TransferRuleRows, TripRows,
-};
+use feed_rows::{Feed, StopTimeRows};
 use feed_tables::{CallTable, Ids, Tables};
 use plain_laws::ItemList;
 use std::alloc::{AllocError, Global};
@@ -55,41 +49,6 @@ impl<'t, C: CallTable> Drop for Source<'t, C> {
     }
 }
 
-// The rows of the files of stops, trips and days, but those of stop_times.txt.
-#[derive(Drop)]
-struct TripFiles {
-    stops: StopRows,
-    routes: RouteRows,
-    trips: TripRows,
-    services: ServiceRows,
-    exceptions: ExceptionRows,
-    frequencies: FrequencyRows,
-    links: LinkRows,
-}
-
-// The rows of the files of fares.
-#[derive(Drop)]
-struct FareFiles {
-    areas: AreaRows,
-    stop_areas: StopAreaRows,
-    timeframes: TimeframeRows,
-    riders: RiderRows,
-    media: MediumRows,
-    products: ProductRows,
-    leg_rules: LegRuleRows,
-    transfer_rules: TransferRuleRows,
-}
-
-// The names that have no rows of their own.
-#[derive(Drop)]
-struct FeedNames {
-    services: NameList,
-    networks: NameList,
-    frames: NameList,
-    products: NameList,
-    groups: NameList,
-}
-
 impl<'t, C: CallTable> Source<'t, C> {
     /// The number of the earliest row that has the id in a column; that after the last row where no row has it.
     pub fn number(&self, column: IdColumn, id: &[u8]) -> u32
@@ -110,26 +69,23 @@ impl<'t, C: CallTable> Source<'t, C> {
         Ok(rows)
     }
 
-    // The rows of the files of stops, trips and days, but those of stop_times.txt.
-    fn trip_files(&self) -> Result<TripFiles, AllocError>
-        ensures { IfOk result (AreTripFiles self.now) }
+    // The feed, with these rows of stop_times.txt.
+    fn feed(&self, stop_times: StopTimeRows) -> Result<Feed, AllocError>
+        requires related { AreRelated self.now }
+        requires stop_times { stop_times ≡ typed_rows (table_in self.now file.StopTimes) (stop_time_row self.now) }
+        ensures { IfOk result (λ feed. feed ≡ rows_of_tables self.now) }
     {
-        Ok(TripFiles {
+        let fare_leg_rules = self.tables.get(FileName::FareLegRules);
+        let (currency, decimals) = self.currency();
+        Ok(Feed {
             stops: self.rows_of(FileName::Stops)?,
             routes: self.rows_of(FileName::Routes)?,
             trips: self.rows_of(FileName::Trips)?,
+            stop_times,
             services: self.rows_of(FileName::Calendar)?,
             exceptions: self.rows_of(FileName::CalendarDates)?,
             frequencies: self.rows_of(FileName::Frequencies)?,
             links: self.link_rows()?,
-        })
-    }
-
-    // The rows of the files of fares.
-    fn fare_files(&self) -> Result<FareFiles, AllocError>
-        ensures { IfOk result (AreFareFiles self.now) }
-    {
-        Ok(FareFiles {
             areas: self.rows_of(FileName::Areas)?,
             stop_areas: self.rows_of(FileName::StopAreas)?,
             timeframes: self.rows_of(FileName::Timeframes)?,
@@ -138,56 +94,11 @@ impl<'t, C: CallTable> Source<'t, C> {
             products: self.rows_of(FileName::FareProducts)?,
             leg_rules: self.rows_of(FileName::FareLegRules)?,
             transfer_rules: self.rows_of(FileName::FareTransferRules)?,
-        })
-    }
-
-    // The names that have no rows of their own.
-    fn names(&self) -> Result<FeedNames, AllocError>
-        ensures { IfOk result (AreNames self.now) }
-    {
-        Ok(FeedNames {
-            services: self.names.services.ids(self.alloc)?,
-            networks: self.names.networks.ids(self.alloc)?,
-            frames: self.names.frames.ids(self.alloc)?,
-            products: self.names.products.ids(self.alloc)?,
-            groups: self.names.groups.ids(self.alloc)?,
-        })
-    }
-
-    // The feed, with these rows of stop_times.txt. Its parts are made apart and the shortest first, so that hardly anything is
-    // let go of where one can't be made.
-    fn feed(&self, stop_times: StopTimeRows) -> Result<Feed, AllocError>
-        requires related { AreRelated self.now }
-        requires stop_times { stop_times ≡ typed_rows (table_in self.now file.StopTimes) (stop_time_row self.now) }
-        ensures { IfOk result (λ feed. feed ≡ rows_of_tables self.now) }
-    {
-        let fare_leg_rules = self.tables.get(FileName::FareLegRules);
-        let (currency, decimals) = self.currency();
-        let names = self.names()?;
-        let trip_files = self.trip_files()?;
-        let fare_files = self.fare_files()?;
-        Ok(Feed {
-            stops: trip_files.stops,
-            routes: trip_files.routes,
-            trips: trip_files.trips,
-            stop_times,
-            services: trip_files.services,
-            exceptions: trip_files.exceptions,
-            frequencies: trip_files.frequencies,
-            links: trip_files.links,
-            areas: fare_files.areas,
-            stop_areas: fare_files.stop_areas,
-            timeframes: fare_files.timeframes,
-            riders: fare_files.riders,
-            media: fare_files.media,
-            products: fare_files.products,
-            leg_rules: fare_files.leg_rules,
-            transfer_rules: fare_files.transfer_rules,
-            service_names: names.services,
-            network_names: names.networks,
-            frame_names: names.frames,
-            product_names: names.products,
-            group_names: names.groups,
+            service_names: self.names.services.ids(self.alloc)?,
+            network_names: self.names.networks.ids(self.alloc)?,
+            frame_names: self.names.frames.ids(self.alloc)?,
+            product_names: self.names.products.ids(self.alloc)?,
+            group_names: self.names.groups.ids(self.alloc)?,
             has_priority: fare_leg_rules.has(ColumnName::RulePriority),
             currency,
             decimals,
