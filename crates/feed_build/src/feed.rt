@@ -5,7 +5,6 @@ ghost use Rattle.feed_faults.specs.RowChecks.{id_place};
 ghost use Rattle.feed_faults.specs.FeedTables.{table_in};
 ghost use Rattle.feed_faults.specs.AcceptedFeed.{row_number, typed_rows, rows_of_tables, stop_time_row};
 ghost use Rattle.feed_soundness.specs.AcceptedTables.{AreFormed, AreRelated};
-ghost use Rattle.feed_build.specs.TableNames.{HasNames};
 
 use crate::names::Names;
 use crate::rows::FileRow;
@@ -123,32 +122,12 @@ pub fn feed_of_tables<C: CallTable>(
     requires stop_times { stop_times ≡ typed_rows (table_in tables.now file.StopTimes) (stop_time_row tables.now) }
     ensures { IfOk result (λ feed. feed ≡ rows_of_tables tables.now) }
 {
-    match Names::of(alloc, tables) {
-        Ok(names) => feed_by_names(alloc, tables, ids, &names, stop_times),
-        Err(AllocError) => Err(AllocError),
-    }
-}
-
-// The feed of these tables, with their names.
-fn feed_by_names<'t, C: CallTable>(
-    alloc: Global,
-    tables: &'t Tables<'t, C>,
-    ids: &'t Ids<'t, C>,
-    names: &'t Names<'t>,
-    stop_times: StopTimeRows,
-) -> Result<Feed, AllocError>
-    requires formed { AreFormed tables.now }
-    requires related { AreRelated tables.now }
-    requires ids { ids.now ≡ tables.now }
-    requires names { HasNames tables.now names.now }
-    requires stop_times { stop_times ≡ typed_rows (table_in tables.now file.StopTimes) (stop_time_row tables.now) }
-    ensures { IfOk result (λ feed. feed ≡ rows_of_tables tables.now) }
-{
+    let names = Names::of(alloc, tables)?;
     let source = Source {
         alloc,
         tables,
         ids,
-        names,
+        names: &names,
     };
     source.feed(stop_times)
 }
