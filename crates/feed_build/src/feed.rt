@@ -18,6 +18,7 @@ use std::marker::Model;
 
 /// The tables of a feed whose files have no fault by themselves, with their rows by id and with the names that have no rows of
 /// their own. Contracts see it as the tables.
+#[derive(Drop)]
 pub struct Source<'t, C: CallTable> {
     pub alloc: Global,
     pub tables: &'t Tables<'t, C>,
@@ -34,18 +35,6 @@ impl<'t, C: CallTable> Model for Source<'t, C> {
     ghost view = { λ s. s.tables.now };
 
     ghost invariant = { λ s. IsSource s.tables.now s.ids.now s.names.now };
-}
-
-// Written out, so that what lets go of a source needn't look into it.
-impl<'t, C: CallTable> Drop for Source<'t, C> {
-    fn drop(self) {
-        let Source {
-            alloc: _,
-            tables: _,
-            ids: _,
-            names: _,
-        } = self;
-    }
 }
 
 impl<'t, C: CallTable> Source<'t, C> {
