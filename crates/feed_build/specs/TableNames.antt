@@ -1,17 +1,18 @@
 -- The names of tables by kind, and what the rows of a feed are made of.
-use Rattle.std.specs.Prelude.{◌≡◌, []}
-use Rattle.feed_faults.specs.FeedTables.{FeedTables}
-use Rattle.feed_faults.specs.AcceptedFeed.{service_names, network_names, frame_names, product_names, group_names}
+use denote.Enum.Bare.{sameb}
+use Rattle.std.specs.Prelude.{◌≡◌, ℕ, List, [], fold, if◌then◌else◌}
+use Rattle.feed_files.specs.declared.names.ColumnName.{ColumnName}
+use Rattle.feed_files.specs.contracts.names.ColumnName.{the_type}
+use Rattle.feed_faults.specs.FeedTables.{FeedTables, table_in}
+use Rattle.feed_faults.specs.AcceptedFeed.{with_column, service_names, network_names, frame_names, product_names, group_names}
 use Rattle.feed_soundness.specs.AcceptedTables.{AreFormed}
 use Rattle.feed_build.specs.declared.names.Names.{Names}
+use Rattle.feed_build.specs.declared.names.TheConstants.{NAME_COLUMNS}
 
--- there are no names
-pub record HasNone (names : Names) : Type 0 where
-  pub services : names.services ≡ []
-  pub networks : names.networks ≡ []
-  pub frames : names.frames ≡ []
-  pub products : names.products ≡ []
-  pub groups : names.groups ≡ []
+-- the names in this column of the files that are given for it
+unfoldable pub names_by_column : FeedTables → ColumnName → List (List ℕ)
+names_by_column t column =
+    fold (λ names place. if sameb the_type place.1 column then with_column names (table_in t place.0) place.1 else names) [] NAME_COLUMNS
 
 -- the names of each kind are those of the tables
 pub record HasNames (t : FeedTables) (names : Names) : Type 0 where

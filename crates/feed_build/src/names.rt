@@ -6,7 +6,7 @@ ghost use Rattle.feed_faults.specs.Records.{row_count};
 ghost use Rattle.feed_faults.specs.AcceptedFeed.{name_number, with_column};
 ghost use Rattle.feed_soundness.specs.AcceptedTables.{AreFormed};
 ghost use Rattle.feed_build.specs.NameNumbers.{AreShort};
-ghost use Rattle.feed_build.specs.TableNames.{HasNone, HasNames};
+ghost use Rattle.feed_build.specs.TableNames.{names_by_column, HasNames};
 
 use feed_files::{ColumnName, FileName};
 use feed_rows::{Id, NameList};
@@ -17,7 +17,7 @@ use std::alloc::{AllocError, Global};
 use std::hash::{BuildHasher, DefaultHasher, Hasher};
 use std::marker::Model;
 
-// The columns of such names.
+// The columns of such names. Those of one kind stand in columns of one name.
 const NAME_COLUMNS: [(FileName, ColumnName); 9] = [
     (FileName::Trips, ColumnName::ServiceId),
     (FileName::Calendar, ColumnName::ServiceId),
@@ -84,8 +84,8 @@ impl<'t> Model for Numbering<'t> {
 }
 
 impl<'t> Numbering<'t> {
-    /// No names yet.
-    pub fn none(alloc: Global, hash: NameHash) -> Numbering<'t>
+    // No names yet.
+    fn none(alloc: Global, hash: NameHash) -> Numbering<'t>
         ensures { result ≡ [] }
     {
         Numbering {
@@ -93,12 +93,27 @@ impl<'t> Numbering<'t> {
         }
     }
 
-    /// Puts the new names of a column behind these.
-    ///
-    /// # Errors
-    /// Want of memory.
+    // Adds the names in this column of the files that `NAME_COLUMNS` gives it.
+    fn add<C: CallTable>(
+        &mut self,
+        tables: &'t Tables<'t, C>,
+        column: ColumnName,
+    ) -> Result<(), AllocError>
+        requires formed { AreFormed tables.now }
+        requires none { self.old ≡ [] }
+        ensures { OnOk result (self.new ≡ names_by_column tables.now column) }
+    {
+        for &(file, name) in &NAME_COLUMNS {
+            if name == column {
+                self.add_column(tables.get(file), name)?;
+            }
+        }
+        Ok(())
+    }
+
+    // Puts the new names of a column behind these.
     #[tactic(auto, unfolding(feed_faults::specs::AcceptedFeed::with_name))]
-    pub fn add_column(&mut self, table: &'t Table, column: ColumnName) -> Result<(), AllocError>
+    fn add_column(&mut self, table: &'t Table, column: ColumnName) -> Result<(), AllocError>
         requires short { AreShort table.now column }
         requires few { length self.old + row_count table.now < 2 ^ 32 }
         ensures names { OnOk result (self.new ≡ with_column self.old table.now column) }
@@ -166,53 +181,30 @@ impl<'t> Names<'t> {
         requires formed { AreFormed tables.now }
         ensures { IfOk result (HasNames tables.now) }
     {
-        let mut names = Names::none(alloc, NameHash::of(tables));
+        let hash = NameHash::of(tables);
+        let mut names = Names {
+            services: Numbering::none(alloc, hash),
+            networks: Numbering::none(alloc, hash),
+            frames: Numbering::none(alloc, hash),
+            products: Numbering::none(alloc, hash),
+            groups: Numbering::none(alloc, hash),
+        };
         match names.add(tables) {
             Ok(()) => Ok(names),
             Err(AllocError) => Err(AllocError),
         }
     }
 
-    // No names yet.
-    fn none(alloc: Global, hash: NameHash) -> Names<'t>
-        ensures { HasNone result }
-    {
-        Names {
-            services: Numbering::none(alloc, hash),
-            networks: Numbering::none(alloc, hash),
-            frames: Numbering::none(alloc, hash),
-            products: Numbering::none(alloc, hash),
-            groups: Numbering::none(alloc, hash),
-        }
-    }
-
     // Adds those of these tables, where there are none yet.
     fn add<C: CallTable>(&mut self, tables: &'t Tables<'t, C>) -> Result<(), AllocError>
         requires formed { AreFormed tables.now }
-        requires none { HasNone self.old }
+        requires none { self.old ≡ record { services = []; networks = []; frames = []; products = []; groups = [] } }
         ensures { OnOk result (HasNames tables.now self.new) }
     {
-        self.services
-            .add_column(tables.get(FileName::Trips), ColumnName::ServiceId)?;
-        self.services
-            .add_column(tables.get(FileName::Calendar), ColumnName::ServiceId)?;
-        self.services
-            .add_column(tables.get(FileName::CalendarDates), ColumnName::ServiceId)?;
-        self.services
-            .add_column(tables.get(FileName::Timeframes), ColumnName::ServiceId)?;
-        self.networks
-            .add_column(tables.get(FileName::Routes), ColumnName::NetworkId)?;
-        self.networks
-            .add_column(tables.get(FileName::Networks), ColumnName::NetworkId)?;
-        self.frames.add_column(
-            tables.get(FileName::Timeframes),
-            ColumnName::TimeframeGroupId,
-        )?;
-        self.products.add_column(
-            tables.get(FileName::FareProducts),
-            ColumnName::FareProductId,
-        )?;
-        self.groups
-            .add_column(tables.get(FileName::FareLegRules), ColumnName::LegGroupId)
+        self.services.add(tables, ColumnName::ServiceId)?;
+        self.networks.add(tables, ColumnName::NetworkId)?;
+        self.frames.add(tables, ColumnName::TimeframeGroupId)?;
+        self.products.add(tables, ColumnName::FareProductId)?;
+        self.groups.add(tables, ColumnName::LegGroupId)
     }
 }
