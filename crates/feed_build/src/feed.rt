@@ -1,10 +1,11 @@
 //! A feed from the tables of its files.
-ghost use Rattle.std.specs.Prelude.{◌≡◌, IfOk};
+ghost use Rattle.std.specs.Prelude.{◌≡◌, true, IfOk};
 ghost use Rattle.feed_files.specs.declared.names.FileName.TheVariants as file;
 ghost use Rattle.feed_faults.specs.RowChecks.{id_place};
 ghost use Rattle.feed_faults.specs.FeedTables.{table_in};
 ghost use Rattle.feed_faults.specs.AcceptedFeed.{row_number, typed_rows, rows_of_tables, stop_time_row};
 ghost use Rattle.feed_soundness.specs.AcceptedTables.{AreFormed, AreRelated};
+ghost use Rattle.feed_tables.specs.RowNumbers.{has_table};
 
 use crate::names::Names;
 use crate::rows::FileRow;
@@ -47,12 +48,14 @@ impl<'t, C: CallTable> Source<'t, C> {
 
     // The rows of a file, in order.
     fn rows_of<R: FileRow>(&self, file: FileName) -> Result<ItemList<R>, AllocError>
-        requires { file ≡ R.file }
+        requires file { file ≡ R.file }
+        requires kept { has_table file ≡ true }
         ensures { IfOk result (λ rows. rows ≡ typed_rows (table_in self.now file) (R.row_in self.now)) }
     {
+        let table = self.tables.get(file);
         let mut rows = ItemList::empty(self.alloc);
-        for row in 0..self.tables.rows(file) {
-            rows.push(R::of(self, row)?)?;
+        for row in 0..table.rows() {
+            rows.push(R::of(self, table, row)?)?;
         }
         Ok(rows)
     }

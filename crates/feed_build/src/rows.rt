@@ -17,7 +17,7 @@ use feed_rows::{
     TransferRuleRow, TripRow,
 };
 use feed_tables::CallTable;
-use feed_text::{is_filled, is_passed_over, nat_of, natural};
+use feed_text::{Table, is_filled, is_passed_over, nat_of, natural};
 use std::alloc::AllocError;
 use transit_base::{
     AreaId, DAY_SECONDS, Day, FrameId, LegGroupId, MediumId, Money, NetworkId, ProductId, RiderId,
@@ -67,12 +67,13 @@ pub trait FileRow: Drop {
     /// Whether it has a copy of a text.
     ghost copies: { Bool } = { false };
 
-    /// The row of a number.
+    /// The row of a number in the file's table.
     ///
     /// # Errors
     /// Want of memory, for a copy.
-    fn of<C: CallTable>(source: &Source<C>, row: u32) -> Result<Self, AllocError>
-        requires { row < row_count (table_in source.now file) }
+    fn of<C: CallTable>(source: &Source<C>, table: &Table, row: u32) -> Result<Self, AllocError>
+        requires table { table.now ≡ table_in source.now file }
+        requires within { row < row_count table.now }
         ensures row { IfOk result (λ made. made ≡ row_in source.now row) }
         ensures memory { OnErr result (copies ≡ true) };
 }
@@ -86,13 +87,12 @@ impl FileRow for StopRow {
     ghost copies = { true };
 
     #[tactic(auto, unfolding(feed_faults::specs::AcceptedFeed::stop_row, feed_faults::specs::AcceptedFeed::accepted_parent), using(feed_soundness::proofs::IdColumns::stop_id, crate::proofs::ValueLaws::values))]
-    fn of<C: CallTable>(source: &Source<C>, row: u32) -> Result<StopRow, AllocError> {
-        let stops = source.tables.get(FileName::Stops);
+    fn of<C: CallTable>(source: &Source<C>, table: &Table, row: u32) -> Result<Self, AllocError> {
         let &[_, kind, _] = source.tables.numbers::<3>(FileName::Stops, row);
         let kind = nat_of(kind) as u8;
-        let parent = stops.field(row, ColumnName::ParentStation);
+        let parent = table.field(row, ColumnName::ParentStation);
         Ok(StopRow {
-            id: Id::copy_of(source.alloc, stops.field(row, ColumnName::StopId))?,
+            id: Id::copy_of(source.alloc, table.field(row, ColumnName::StopId))?,
             kind,
             parent: if kind == PLATFORM && is_filled(parent) {
                 Some(StopId(source.number(IdColumn::Stop, parent)))
@@ -112,11 +112,10 @@ impl FileRow for RouteRow {
     ghost copies = { true };
 
     #[tactic(auto, unfolding(feed_faults::specs::AcceptedFeed::route_row), using(feed_soundness::proofs::IdColumns::route_id))]
-    fn of<C: CallTable>(source: &Source<C>, row: u32) -> Result<RouteRow, AllocError> {
-        let routes = source.tables.get(FileName::Routes);
+    fn of<C: CallTable>(source: &Source<C>, table: &Table, row: u32) -> Result<Self, AllocError> {
         let network = source.network_of_route(row);
         Ok(RouteRow {
-            id: Id::copy_of(source.alloc, routes.field(row, ColumnName::RouteId))?,
+            id: Id::copy_of(source.alloc, table.field(row, ColumnName::RouteId))?,
             network: filled(network, NetworkId(source.names.networks.number(network))),
         })
     }
@@ -131,12 +130,11 @@ impl FileRow for TripRow {
     ghost copies = { true };
 
     #[tactic(auto, unfolding(feed_faults::specs::AcceptedFeed::trip_row), using(feed_soundness::proofs::IdColumns::trip_id))]
-    fn of<C: CallTable>(source: &Source<C>, row: u32) -> Result<TripRow, AllocError> {
-        let trips = source.tables.get(FileName::Trips);
-        let service = trips.field(row, ColumnName::ServiceId);
+    fn of<C: CallTable>(source: &Source<C>, table: &Table, row: u32) -> Result<Self, AllocError> {
+        let service = table.field(row, ColumnName::ServiceId);
         Ok(TripRow {
-            id: Id::copy_of(source.alloc, trips.field(row, ColumnName::TripId))?,
-            route: RouteId(source.number(IdColumn::Route, trips.field(row, ColumnName::RouteId))),
+            id: Id::copy_of(source.alloc, table.field(row, ColumnName::TripId))?,
+            route: RouteId(source.number(IdColumn::Route, table.field(row, ColumnName::RouteId))),
             service: ServiceId(source.names.services.number(service)),
         })
     }
@@ -149,8 +147,7 @@ impl FileRow for ServiceRow {
     ghost row_in = { service_row };
 
     #[tactic(auto, unfolding(feed_faults::specs::AcceptedFeed::service_row, feed_faults::specs::FieldValues::int_or_zero, feed_faults::specs::FieldValues::day_or_zero))]
-    fn of<C: CallTable>(source: &Source<C>, row: u32) -> Result<ServiceRow, AllocError> {
-        let calendar = source.tables.get(FileName::Calendar);
+    fn of<C: CallTable>(source: &Source<C>, table: &Table, row: u32) -> Result<Self, AllocError> {
         let &[
             _,
             monday,
@@ -163,7 +160,7 @@ impl FileRow for ServiceRow {
             first,
             last,
         ] = source.tables.numbers::<10>(FileName::Calendar, row);
-        let service = calendar.field(row, ColumnName::ServiceId);
+        let service = table.field(row, ColumnName::ServiceId);
         Ok(ServiceRow {
             service: ServiceId(source.names.services.number(service)),
             days: [
@@ -188,10 +185,9 @@ impl FileRow for ExceptionRow {
     ghost row_in = { exception_row };
 
     #[tactic(auto, unfolding(feed_faults::specs::AcceptedFeed::exception_row, feed_faults::specs::FieldValues::int_or_zero, feed_faults::specs::FieldValues::day_or_zero))]
-    fn of<C: CallTable>(source: &Source<C>, row: u32) -> Result<ExceptionRow, AllocError> {
-        let dates = source.tables.get(FileName::CalendarDates);
+    fn of<C: CallTable>(source: &Source<C>, table: &Table, row: u32) -> Result<Self, AllocError> {
         let &[_, date, kind] = source.tables.numbers::<3>(FileName::CalendarDates, row);
-        let service = dates.field(row, ColumnName::ServiceId);
+        let service = table.field(row, ColumnName::ServiceId);
         Ok(ExceptionRow {
             service: ServiceId(source.names.services.number(service)),
             day: Day(date.unwrap_or(0)),
@@ -207,10 +203,9 @@ impl FileRow for FrequencyRow {
     ghost row_in = { frequency_row };
 
     #[tactic(auto, unfolding(feed_faults::specs::AcceptedFeed::frequency_row), using(crate::proofs::ValueLaws::values))]
-    fn of<C: CallTable>(source: &Source<C>, row: u32) -> Result<FrequencyRow, AllocError> {
-        let frequencies = source.tables.get(FileName::Frequencies);
+    fn of<C: CallTable>(source: &Source<C>, table: &Table, row: u32) -> Result<Self, AllocError> {
         let &[_, start, end, headway, _] = source.tables.numbers::<5>(FileName::Frequencies, row);
-        let trip = frequencies.field(row, ColumnName::TripId);
+        let trip = table.field(row, ColumnName::TripId);
         Ok(FrequencyRow {
             trip: TripId(source.number(IdColumn::Trip, trip)),
             start: natural(start).unwrap_or(0),
@@ -229,10 +224,9 @@ impl FileRow for AreaRow {
     ghost copies = { true };
 
     #[tactic(auto, unfolding(feed_faults::specs::AcceptedFeed::area_row), using(crate::proofs::IdLaws::area_ids))]
-    fn of<C: CallTable>(source: &Source<C>, row: u32) -> Result<AreaRow, AllocError> {
-        let areas = source.tables.get(FileName::Areas);
+    fn of<C: CallTable>(source: &Source<C>, table: &Table, row: u32) -> Result<Self, AllocError> {
         Ok(AreaRow {
-            id: Id::copy_of(source.alloc, areas.field(row, ColumnName::AreaId))?,
+            id: Id::copy_of(source.alloc, table.field(row, ColumnName::AreaId))?,
         })
     }
 }
@@ -244,11 +238,10 @@ impl FileRow for StopAreaRow {
     ghost row_in = { stop_area_row };
 
     #[tactic(auto, unfolding(feed_faults::specs::AcceptedFeed::stop_area_row))]
-    fn of<C: CallTable>(source: &Source<C>, row: u32) -> Result<StopAreaRow, AllocError> {
-        let members = source.tables.get(FileName::StopAreas);
+    fn of<C: CallTable>(source: &Source<C>, table: &Table, row: u32) -> Result<Self, AllocError> {
         Ok(StopAreaRow {
-            area: AreaId(source.number(IdColumn::Area, members.field(row, ColumnName::AreaId))),
-            stop: StopId(source.number(IdColumn::Stop, members.field(row, ColumnName::StopId))),
+            area: AreaId(source.number(IdColumn::Area, table.field(row, ColumnName::AreaId))),
+            stop: StopId(source.number(IdColumn::Stop, table.field(row, ColumnName::StopId))),
         })
     }
 }
@@ -260,11 +253,10 @@ impl FileRow for TimeframeRow {
     ghost row_in = { timeframe_row };
 
     #[tactic(auto, unfolding(feed_faults::specs::AcceptedFeed::timeframe_row), using(crate::proofs::ValueLaws::values))]
-    fn of<C: CallTable>(source: &Source<C>, row: u32) -> Result<TimeframeRow, AllocError> {
-        let frames = source.tables.get(FileName::Timeframes);
+    fn of<C: CallTable>(source: &Source<C>, table: &Table, row: u32) -> Result<Self, AllocError> {
         let &[_, start, end, _] = source.tables.numbers::<4>(FileName::Timeframes, row);
-        let group = frames.field(row, ColumnName::TimeframeGroupId);
-        let service = frames.field(row, ColumnName::ServiceId);
+        let group = table.field(row, ColumnName::TimeframeGroupId);
+        let service = table.field(row, ColumnName::ServiceId);
         Ok(TimeframeRow {
             frame: FrameId(source.names.frames.number(group)),
             start: natural(start).unwrap_or(0),
@@ -283,11 +275,10 @@ impl FileRow for RiderRow {
     ghost copies = { true };
 
     #[tactic(auto, unfolding(feed_faults::specs::AcceptedFeed::rider_row), using(crate::proofs::IdLaws::rider_ids, crate::proofs::ValueLaws::values))]
-    fn of<C: CallTable>(source: &Source<C>, row: u32) -> Result<RiderRow, AllocError> {
-        let riders = source.tables.get(FileName::RiderCategories);
+    fn of<C: CallTable>(source: &Source<C>, table: &Table, row: u32) -> Result<Self, AllocError> {
         let &[_, default] = source.tables.numbers::<2>(FileName::RiderCategories, row);
         Ok(RiderRow {
-            id: Id::copy_of(source.alloc, riders.field(row, ColumnName::RiderCategoryId))?,
+            id: Id::copy_of(source.alloc, table.field(row, ColumnName::RiderCategoryId))?,
             default: is_code(default, DEFAULT_CATEGORY),
         })
     }
@@ -302,10 +293,9 @@ impl FileRow for MediumRow {
     ghost copies = { true };
 
     #[tactic(auto, unfolding(feed_faults::specs::AcceptedFeed::medium_row), using(crate::proofs::IdLaws::medium_ids))]
-    fn of<C: CallTable>(source: &Source<C>, row: u32) -> Result<MediumRow, AllocError> {
-        let media = source.tables.get(FileName::FareMedia);
+    fn of<C: CallTable>(source: &Source<C>, table: &Table, row: u32) -> Result<Self, AllocError> {
         Ok(MediumRow {
-            id: Id::copy_of(source.alloc, media.field(row, ColumnName::FareMediaId))?,
+            id: Id::copy_of(source.alloc, table.field(row, ColumnName::FareMediaId))?,
         })
     }
 }
@@ -317,12 +307,11 @@ impl FileRow for ProductRow {
     ghost row_in = { product_row };
 
     #[tactic(auto, unfolding(feed_faults::specs::AcceptedFeed::product_row, feed_faults::specs::FieldValues::amount_or_zero))]
-    fn of<C: CallTable>(source: &Source<C>, row: u32) -> Result<ProductRow, AllocError> {
-        let products = source.tables.get(FileName::FareProducts);
+    fn of<C: CallTable>(source: &Source<C>, table: &Table, row: u32) -> Result<Self, AllocError> {
         let &[_, _, _, _, amount] = source.tables.numbers::<5>(FileName::FareProducts, row);
-        let product = products.field(row, ColumnName::FareProductId);
-        let rider = products.field(row, ColumnName::RiderCategoryId);
-        let medium = products.field(row, ColumnName::FareMediaId);
+        let product = table.field(row, ColumnName::FareProductId);
+        let rider = table.field(row, ColumnName::RiderCategoryId);
+        let medium = table.field(row, ColumnName::FareMediaId);
         Ok(ProductRow {
             product: ProductId(source.names.products.number(product)),
             rider: filled(
@@ -342,18 +331,17 @@ impl FileRow for LegRuleRow {
     ghost row_in = { leg_rule_row };
 
     #[tactic(auto, unfolding(feed_faults::specs::AcceptedFeed::leg_rule_row), using(crate::proofs::ValueLaws::values))]
-    fn of<C: CallTable>(source: &Source<C>, row: u32) -> Result<LegRuleRow, AllocError> {
-        let rules = source.tables.get(FileName::FareLegRules);
+    fn of<C: CallTable>(source: &Source<C>, table: &Table, row: u32) -> Result<Self, AllocError> {
         let &[_, _, _, _, _, _, _, priority] = source
             .tables
             .numbers::<8>(FileName::FareLegRules, row);
-        let group = rules.field(row, ColumnName::LegGroupId);
-        let network = rules.field(row, ColumnName::NetworkId);
-        let from_area = rules.field(row, ColumnName::FromAreaId);
-        let to_area = rules.field(row, ColumnName::ToAreaId);
-        let from_frame = rules.field(row, ColumnName::FromTimeframeGroupId);
-        let to_frame = rules.field(row, ColumnName::ToTimeframeGroupId);
-        let product = rules.field(row, ColumnName::FareProductId);
+        let group = table.field(row, ColumnName::LegGroupId);
+        let network = table.field(row, ColumnName::NetworkId);
+        let from_area = table.field(row, ColumnName::FromAreaId);
+        let to_area = table.field(row, ColumnName::ToAreaId);
+        let from_frame = table.field(row, ColumnName::FromTimeframeGroupId);
+        let to_frame = table.field(row, ColumnName::ToTimeframeGroupId);
+        let product = table.field(row, ColumnName::FareProductId);
         Ok(LegRuleRow {
             group: filled(group, LegGroupId(source.names.groups.number(group))),
             network: filled(network, NetworkId(source.names.networks.number(network))),
@@ -374,23 +362,22 @@ impl FileRow for TransferRuleRow {
     ghost row_in = { transfer_rule_row };
 
     #[tactic(auto, unfolding(feed_faults::specs::AcceptedFeed::transfer_rule_row, feed_faults::specs::AcceptedFeed::limit_of), using(crate::proofs::ValueLaws::values))]
-    fn of<C: CallTable>(source: &Source<C>, row: u32) -> Result<TransferRuleRow, AllocError> {
-        let rules = source.tables.get(FileName::FareTransferRules);
+    fn of<C: CallTable>(source: &Source<C>, table: &Table, row: u32) -> Result<Self, AllocError> {
         let &[_, _, count, seconds, limit_kind, kind, _] = source
             .tables
             .numbers::<7>(FileName::FareTransferRules, row);
-        let from = rules.field(row, ColumnName::FromLegGroupId);
-        let to = rules.field(row, ColumnName::ToLegGroupId);
+        let from = table.field(row, ColumnName::FromLegGroupId);
+        let to = table.field(row, ColumnName::ToLegGroupId);
         let limit = Limit {
             seconds: nat_of(seconds),
             kind: nat_of(limit_kind) as u8,
         };
-        let product = rules.field(row, ColumnName::FareProductId);
+        let product = table.field(row, ColumnName::FareProductId);
         Ok(TransferRuleRow {
             from: filled(from, LegGroupId(source.names.groups.number(from))),
             to: filled(to, LegGroupId(source.names.groups.number(to))),
             count: natural(count),
-            limit: filled(rules.field(row, ColumnName::DurationLimit), limit),
+            limit: filled(table.field(row, ColumnName::DurationLimit), limit),
             kind: nat_of(kind) as u8,
             product: filled(product, ProductId(source.names.products.number(product))),
         })

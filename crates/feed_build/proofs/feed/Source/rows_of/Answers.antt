@@ -17,5 +17,5 @@ loop-row-preserved g c =
 pub returns : goal.returns
 returns g c =
     let all : c.loop-row.row ≡ c.rows-row-end.result = omega arith in
-    let count : c.rows-row-end.result ≡ row_count (table_in c.args.self.now c.args.file) = rw c.self.view_is at c.rows-row-end.ensures.count in
+    let count : c.rows-row-end.result ≡ row_count (table_in c.args.self.now c.args.file) = rw (c.get-table.ensures, c.self.view_is) at c.rows-row-end.ensures.count in
     c.loop-row.invariant ∙ ap (λ n. list_below n (g.R.FileRow.row_in c.args.self.now)) (all ∙ count)
