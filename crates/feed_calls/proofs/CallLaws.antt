@@ -30,11 +30,9 @@ use Rattle.feed_calls.specs.CallRows.{call_fault, calls_fault, fields_behind}
 use Rattle.feed_text.specs.Reader.{StandsBehind, IsTableOf}
 use Rattle.feed_text.specs.declared.records.Records.{Records}
 use Rattle.feed_text.proofs.ReaderLaws.{text_begins}
-use Rattle.feed_calls.specs.CallRows.{AreCallsOf, IsFaultOf, IsCallError}
-use Rattle.feed_calls.specs.declared.calls.CallError.{CallError}
+use Rattle.feed_calls.specs.CallRows.{AreCallsOf, IsFaultOf}
 use Rattle.feed_calls.specs.declared.calls.StopTimes.{StopTimes}
-use Rattle.feed_calls.specs.declared.calls.CallError.TheVariants.{Fault, Record}
-use Rattle.feed_calls.specs.CallRows.{HasCalls, IsOwnFault}
+use Rattle.feed_calls.specs.CallRows.{HasCalls}
 use Rattle.feed_calls.specs.declared.calls.CallRows.{CallRows}
 
 no_id : is_id [] ≡ true → ⊥
@@ -202,16 +200,12 @@ module _ (ids : CallIds) (head : List (List ℕ)) (rs : List (List (List ℕ))) 
     calls_are = rows ∙ has.calls_are none ∙ sym (rows_of_table ids head rs) ∙ ap (read_calls ids) all.is_table;
   }
 
-  is_fault : (fault : FeedFault) → calls.fault ≡ Some fault → IsFaultOf start fault
+  pub is_fault : (fault : FeedFault) → calls.fault ≡ Some fault → IsFaultOf start fault
   is_fault fault is = record {
     text = all.text;
     is_of = all.is_of;
     is_first = rw (← all.is_table) (faults_of_table ids head rs few ∙ sym has.fault_is ∙ is);
   }
-
-  pub is_own_fault : (error : CallError) → IsOwnFault calls.fault error → IsCallError start error
-  is_own_fault (Fault fault) own = is_fault fault own
-  is_own_fault (Record why) own = absurd own
 
 pub is_missing : (start : Option (List ℕ)) → IsTableOf start [] → IsFaultOf start (file_fault file.StopTimes kind.MissingFile)
 is_missing start all = record { text = all.text; is_of = all.is_of; is_first = rw (← all.is_table) no_record }

@@ -54,8 +54,3 @@ pub record HasCalls (ids : CallIds) (head : List (List ℕ)) (rows : List (List 
   pub table_is : calls.table ≡ head ∷ rows
   pub fault_is : calls.fault ≡ option_or (header_fault file.StopTimes (head ∷ [])) (first_below (length rows) (λ k. call_fault head k (get_or rows k [])))
   pub calls_are : calls.fault ≡ None → calls.calls ≡ list_below (length rows) (λ k. read_call ids (fields_behind head (get_or rows k [])))
-
--- the error is this fault
-abbrev pub IsOwnFault : Option FeedFault → CallError → Type 0
-IsOwnFault own (Fault fault) = own ≡ Some fault
-IsOwnFault own (Record why) = ⊥

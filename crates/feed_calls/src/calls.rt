@@ -9,7 +9,7 @@ ghost use Rattle.feed_text.specs.Reader.{StandsBehind, last_record};
 ghost use Rattle.feed_text.specs.RowLimits.{row_limit};
 ghost use Rattle.feed_tables.specs.IdRows.{IsBegun};
 ghost use Rattle.feed_tables.specs.ReadCalls.{read_call};
-ghost use Rattle.feed_calls.specs.CallRows.{call_fault, fields_behind, AreCallsOf, IsCallError, HasCalls, IsOwnFault};
+ghost use Rattle.feed_calls.specs.CallRows.{call_fault, fields_behind, AreCallsOf, IsCallError, HasCalls};
 
 use feed_faults::{ColumnRule, Grammar, rule_of};
 use feed_files::{ColumnName, FaultKind, FeedFault, FileName};
@@ -66,6 +66,7 @@ impl From<AllocError> for CallError {
 }
 
 // The stop times that were read, up to the first fault.
+#[derive(Drop)]
 struct CallRows<'i, 't> {
     ids: &'i CallIds<'t>,
     header: Table,
@@ -75,20 +76,6 @@ struct CallRows<'i, 't> {
     table: SeenTable,
     // The first fault of the header and of the rows.
     fault: Option<FeedFault>,
-}
-
-// Written out, so that what lets go of the rows needn't look into them.
-impl<'i, 't> Drop for CallRows<'i, 't> {
-    fn drop(self) {
-        let CallRows {
-            ids: _,
-            header: _,
-            last_trip: _,
-            calls: _,
-            table: _,
-            fault: _,
-        } = self;
-    }
 }
 
 // Whether a stop of this `pickup_type` or `drop_off_type` lets riders board or alight.
@@ -210,25 +197,6 @@ impl<'i, 't> CallRows<'i, 't> {
         }
         Ok(())
     }
-
-    // The stop times, or the first fault.
-    fn end(self) -> Result<StopTimes, CallError>
-        ensures rows { IfOk result (λ calls. (self.entry.fault ≡ None) × (calls.calls ≡ self.entry.calls) × (calls.table ≡ self.entry.table)) }
-        ensures fault { IfErr result (IsOwnFault self.entry.fault) }
-    {
-        let CallRows {
-            ids: _,
-            header: _,
-            last_trip: _,
-            calls,
-            table,
-            fault,
-        } = self;
-        match fault {
-            Some(fault) => Err(CallError::Fault(fault)),
-            None => Ok(StopTimes { calls, table }),
-        }
-    }
 }
 
 /// The stop times that all records of a text tell, by the ids of trips and stops.
@@ -248,14 +216,19 @@ pub fn read_stop_times<R: Read>(
         return Err(CallError::Fault(file_fault(FileName::StopTimes, FaultKind::MissingFile)));
     }
     let mut calls = CallRows::behind(alloc, ids, records)?;
-    for row in 0..MOST_ROWS {
-        if !records.next()? {
-            return calls.end();
+    let mut row = 0;
+    while records.next()? {
+        if row == MOST_ROWS {
+            return Err(CallError::Fault(file_fault(FileName::StopTimes, FaultKind::TooManyRows)));
         }
         calls.take(row, records)?;
+        row += 1;
     }
-    if records.next()? {
-        return Err(CallError::Fault(file_fault(FileName::StopTimes, FaultKind::TooManyRows)));
+    match calls.fault {
+        Some(fault) => Err(CallError::Fault(fault)),
+        None => Ok(StopTimes {
+            calls: calls.calls,
+            table: calls.table,
+        }),
     }
-    calls.end()
 }
