@@ -1,5 +1,7 @@
 -- What is kept of the numbers of a table's rows.
-use Rattle.std.proofs.Common.{◌≡◌, ◌∙◌, sym, ap, ℕ, suc, ◌+◌, ◌-◌, refl, ◌<◌, ◌≤◌, List, [], ◌∷◌, ◌++◌, length, true, Option, Some, arith}
+use Rattle.std.proofs.Common.{◌≡◌, ◌∙◌, sym, ap, ℕ, suc, ◌+◌, ◌-◌, refl, ◌<◌, ◌≤◌, List, [], ◌∷◌, ◌++◌, length, true, Option, Some, arith, rules}
+use denote.Enum.Declared.{tag_of}
+use Rattle.feed_files.specs.contracts.names.FileName.{the_type}
 use Rattle.std.specs.Prelude.{slice_get, get_or, map, ℤ}
 use Rattle.std.proofs.lemmas.Option.{same_Some}
 use Rattle.std.proofs.lemmas.List.{get_or-map, get_or-append-add, length-map}
@@ -41,6 +43,10 @@ three_first first are = sym (length-map first (λ (r : TableOf). r.file)) ∙ ap
 pub kept_unless : (name : FileName) → (name ≡ file.StopTimes → ⊥) → has_table name ≡ true
 kept_unless file.StopTimes other = absurd (other refl)
 kept_unless name other = refl
+
+-- the number of a file is its place
+pub place_is : (name : FileName) → tag_of the_type name ≡ place name
+place_is name = search rules
 
 -- such a file stands before it or behind it
 pub stands_behind : (name : FileName) → has_table name ≡ true → 3 ≤ place name → 4 ≤ place name

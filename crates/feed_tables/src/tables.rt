@@ -1,6 +1,5 @@
 //! The tables of a feed's files, and values of their rows by which faults among files are found.
 ghost use Rattle.std.specs.Prelude.{◌≡◌, ◌<◌, ◌≤◌, true, length};
-ghost use Rattle.feed_files.specs.Names.{place};
 ghost use Rattle.feed_files.specs.declared.names.FileName.TheVariants as file;
 ghost use Rattle.feed_faults.specs.FeedTables.{table_in};
 ghost use Rattle.feed_faults.specs.FieldValues.{stop_kind, frame_start, frame_end};
@@ -54,13 +53,6 @@ impl<'t, C: CallTable> Model for Tables<'t, C> {
     ghost invariant = { λ t. AreKept t.first.now t.others.now C.table t.calls };
 }
 
-// The place of a file in the order of the files.
-fn place_of(file: FileName) -> usize
-    ensures { result ≡ place file }
-{
-    file as usize
-}
-
 impl<'t, C: CallTable> Tables<'t, C> {
     /// The tables of the files before stop_times.txt and behind it, and of so many stop times.
     pub fn of(first: &'t [ReadTable], others: &'t [ReadTable], calls: u32) -> Tables<'t, C>
@@ -81,7 +73,7 @@ impl<'t, C: CallTable> Tables<'t, C> {
         ensures file { result.now.file ≡ file }
         ensures table { result.now.table ≡ table_in self.now file }
     {
-        let place = place_of(file);
+        let place = file as usize;
         if place < 3 {
             &self.first[place]
         } else {
