@@ -2,9 +2,8 @@
 use Rattle.std.proofs.Common.{inl, inr, Bor, ◌≡◌, refl, sym, ◌∙◌, ap, ℕ, ◌<◌, ◌≤◌, ◌⊎◌, ⊎_elim, Bool, true, false, List, Option, Some, None, arith, nat_lt}
 use Rattle.std.specs.Prelude.{◌==◌, ◌&&◌, ◌||◌, not}
 use Rattle.std.specs.Cmp.{IsTotalOrder}
-use Rattle.std.specs.declared.cmp.Ordering.{Ordering}
 use Rattle.std.specs.declared.cmp.Ordering.TheVariants.{Less}
-use Rattle.std.specs.Ordering.{nat_cmp, ordering_then, eq_by_cmp, is_lt, is_eq}
+use Rattle.std.specs.Ordering.{eq_by_cmp, is_lt, is_eq}
 use Rattle.std.specs.BTreeSet.{BTreeSet, contains, IsKeyRangeOf}
 use Rattle.std.specs.Map.Iter.{TakesLast, deref}
 use Rattle.std.specs.Option.{MatchOption}
@@ -20,7 +19,6 @@ use Rattle.feed_faults.specs.Records.{FileTable, row_count, field}
 use Rattle.feed_faults.specs.FieldValues.{frame_start, frame_end}
 use Rattle.feed_faults.specs.RowKeys.{is_repeated}
 use Rattle.feed_faults.specs.FareRelations.{is_one_filled, do_frames_overlap, is_bad_frame}
-use Rattle.feed_faults.specs.AcceptedFeed.{row_number}
 use Rattle.feed_relations.specs.declared.frames.Frame.{Frame}
 use Rattle.feed_relations.proofs.KeyLaws.{own_same}
 use Rattle.feed_relations.specs.Frames.{AreSeen, frame_of, frame_order}

@@ -2,7 +2,6 @@
 ghost use Rattle.std.specs.Prelude.{◌≡◌, ◌≤◌, ◌<◌, ℕ, None, IfOk};
 ghost use Rattle.feed_files.specs.declared.names.FileName.TheVariants as file;
 ghost use Rattle.plain_laws.specs.Plain.{find_below};
-ghost use Rattle.feed_files.specs.declared.names.ColumnName.TheVariants as column;
 ghost use Rattle.feed_faults.specs.Records.{FileTable, row_count};
 ghost use Rattle.feed_faults.specs.FeedTables.{table_in};
 ghost use Rattle.feed_faults.specs.FareRelations.{do_frames_overlap, is_bad_frame};
@@ -13,9 +12,11 @@ use crate::judged::JudgedFeed;
 use crate::rows::is_one_filled;
 use feed_faults::IdColumn;
 use feed_files::{ColumnName, FileName};
-use feed_tables::{CallTable, IdIndex, frame_end, frame_start};
+use feed_tables::{CallTable, IdIndex};
+use feed_text::natural;
 use std::alloc::{AllocError, Global};
 use std::collections::BTreeSet;
+use transit_base::DAY_SECONDS;
 
 // A timeframe: the earliest rows of its group and of its service, and its seconds of the day.
 #[derive(Clone, Copy, PartialEq, Eq, PartialOrd, Ord)]
@@ -41,26 +42,27 @@ fn is_overlapping(seen: &BTreeSet<Frame>, frame: Frame) -> bool
     })
 }
 
-// The first row of timeframes.txt below one whose timeframe is bad, by the rows of the file by their services.
-fn first_bad_among<C: CallTable>(
+// The first row of timeframes.txt below one whose timeframe is bad.
+#[tactic(auto, using(feed_text::proofs::ValueLaws::times))]
+pub fn first_bad_frame<C: CallTable>(
     alloc: Global,
     feed: &JudgedFeed<C>,
-    services: &IdIndex,
     below: u32,
 ) -> Result<Option<u32>, AllocError>
-    requires below { below ≤ row_count (table_in feed.now file.Timeframes) }
-    requires services { services.now ≡ record { table = table_in feed.now file.Timeframes; name = column.ServiceId } }
+    requires { below ≤ row_count (table_in feed.now file.Timeframes) }
     ensures { IfOk result (λ found. found ≡ find_below below (is_bad_frame (table_in feed.now file.Timeframes))) }
 {
     let table = feed.table(FileName::Timeframes);
     let groups = feed.index(IdColumn::TimeframeGroup);
+    let services = IdIndex::of(alloc, table, ColumnName::ServiceId)?;
     let mut seen = BTreeSet::new(alloc);
     for row in 0..below {
+        let &[_, start, end, _] = feed.tables().numbers::<4>(FileName::Timeframes, row);
         let frame = Frame {
             group: groups.number(table.field(row, ColumnName::TimeframeGroupId)),
             service: services.number(table.field(row, ColumnName::ServiceId)),
-            start: frame_start(feed.tables(), row),
-            end: frame_end(feed.tables(), row),
+            start: natural(start).unwrap_or(0),
+            end: natural(end).unwrap_or(DAY_SECONDS),
         };
         let is_half = is_one_filled(
             table.field(row, ColumnName::StartTime),
@@ -73,21 +75,4 @@ fn first_bad_among<C: CallTable>(
         seen.insert(frame)?;
     }
     Ok(None)
-}
-
-// The first row of timeframes.txt below one whose timeframe is bad.
-pub fn first_bad_frame<C: CallTable>(
-    alloc: Global,
-    feed: &JudgedFeed<C>,
-    below: u32,
-) -> Result<Option<u32>, AllocError>
-    requires { below ≤ row_count (table_in feed.now file.Timeframes) }
-    ensures { IfOk result (λ found. found ≡ find_below below (is_bad_frame (table_in feed.now file.Timeframes))) }
-{
-    let services = IdIndex::of(
-        alloc,
-        feed.table(FileName::Timeframes),
-        ColumnName::ServiceId,
-    )?;
-    first_bad_among(alloc, feed, &services, below)
 }

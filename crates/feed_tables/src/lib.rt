@@ -15,4 +15,4 @@ pub use ids::{CallIds, Ids};
 pub use index::{IdIndex, IdStart};
 pub use reading::{MOST_ROWS, read_tables};
 pub use rows::ReadTable;
-pub use tables::{CallTable, Tables, frame_end, frame_start, stop_kind};
+pub use tables::{CallTable, Tables, stop_kind};

@@ -2,7 +2,7 @@
 ghost use Rattle.std.specs.Prelude.{◌≡◌, ◌<◌, ◌≤◌, true, length};
 ghost use Rattle.feed_files.specs.declared.names.FileName.TheVariants as file;
 ghost use Rattle.feed_faults.specs.FeedTables.{table_in};
-ghost use Rattle.feed_faults.specs.FieldValues.{stop_kind, frame_start, frame_end};
+ghost use Rattle.feed_faults.specs.FieldValues.{stop_kind};
 ghost use Rattle.feed_faults.specs.FormFaults.{judged_columns};
 ghost use Rattle.feed_faults.specs.Records.{field, row_count};
 ghost use Rattle.feed_text.specs.FieldNumbers.{numbers_of};
@@ -12,9 +12,8 @@ ghost use Rattle.feed_tables.specs.RowNumbers.{has_table};
 
 use crate::rows::ReadTable;
 use feed_files::FileName;
-use feed_text::{Table, nat_of, natural};
+use feed_text::{Table, nat_of};
 use std::marker::{Brand, Model, PhantomData};
-use transit_base::DAY_SECONDS;
 
 /// The table of stop_times.txt, of which only rows are kept. Contracts alone know it: a call of a function over a
 /// `CallTable` passes [`Brand`], and its proof picks the table.
@@ -124,24 +123,4 @@ pub fn stop_kind<C: CallTable>(tables: &Tables<C>, row: u32) -> u32
 {
     let &[_, kind, _] = tables.numbers::<3>(FileName::Stops, row);
     nat_of(kind)
-}
-
-/// The first second of a timeframe, where an empty one is that of the day.
-#[tactic(auto, using(feed_text::proofs::ValueLaws::times))]
-pub fn frame_start<C: CallTable>(tables: &Tables<C>, row: u32) -> u32
-    requires { row < row_count (table_in tables.now file.Timeframes) }
-    ensures { result ≡ frame_start (table_in tables.now file.Timeframes) row }
-{
-    let &[_, start, _, _] = tables.numbers::<4>(FileName::Timeframes, row);
-    natural(start).unwrap_or(0)
-}
-
-/// The second before which a timeframe ends, where an empty one is the end of the day.
-#[tactic(auto, using(feed_text::proofs::ValueLaws::times))]
-pub fn frame_end<C: CallTable>(tables: &Tables<C>, row: u32) -> u32
-    requires { row < row_count (table_in tables.now file.Timeframes) }
-    ensures { result ≡ frame_end (table_in tables.now file.Timeframes) row }
-{
-    let &[_, _, end, _] = tables.numbers::<4>(FileName::Timeframes, row);
-    natural(end).unwrap_or(DAY_SECONDS)
 }

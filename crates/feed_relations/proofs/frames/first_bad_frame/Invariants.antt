@@ -4,7 +4,7 @@ use Rattle.plain_laws.specs.Plain.{find_below}
 use Rattle.feed_faults.specs.FeedTables.{table_in}
 use Rattle.feed_faults.specs.FareRelations.{is_bad_frame}
 use Rattle.feed_relations.specs.Frames.{AreSeen, frame_of, frame_order}
-use Rattle.feed_relations.proofs.frames.first_bad_among.Given as goal
+use Rattle.feed_relations.proofs.frames.first_bad_frame.Given as goal
 
 abbrev pub invariant-loop-row : goal.invariant-loop-row
 invariant-loop-row g l = (find_below l.row (is_bad_frame (table_in l.feed file.Timeframes)) ≡ None) × AreSeen frame_order (frame_of (table_in l.feed file.Timeframes)) l.seen l.row
