@@ -64,7 +64,7 @@ pub fn fault_of_calls<C: CallTable>(feed: &JudgedFeed<C>) -> Option<FeedFault>
     let Some(checks) = rule_of(FileName::StopTimes).checks.as_array() else {
         unreachable!();
     };
-    for row in 0..feed.rows(FileName::StopTimes) {
+    for row in 0..feed.tables().rows(FileName::StopTimes) {
         if let Some(rule) = failing_check(feed, checks, row) {
             return Some(field_fault(FileName::StopTimes, row, rule.column, rule.kind));
         }

@@ -52,7 +52,7 @@ pub fn first_bad_frame<C: CallTable>(
     requires { below ≤ row_count (table_in feed.now file.Timeframes) }
     ensures { IfOk result (λ found. found ≡ find_below below (is_bad_frame (table_in feed.now file.Timeframes))) }
 {
-    let table = feed.table(FileName::Timeframes);
+    let table = feed.tables().get(FileName::Timeframes);
     let groups = feed.index(IdColumn::TimeframeGroup);
     let services = IdIndex::of(alloc, table, ColumnName::ServiceId)?;
     let mut seen = BTreeSet::new(alloc);

@@ -1,32 +1,28 @@
 //! What the rows of a feed are judged by.
-ghost use Rattle.std.specs.Prelude.{◌≡◌, ◌<◌, ◌≤◌, true, is_none, map, IfOk};
-ghost use Rattle.feed_rows.specs.Codes.{platform_type};
+ghost use Rattle.std.specs.Prelude.{◌≡◌, ◌<◌, is_none, map, IfOk};
 ghost use Rattle.feed_files.specs.declared.names.FileName.TheVariants as file;
 ghost use Rattle.feed_files.specs.declared.names.ColumnName.TheVariants as column;
 ghost use Rattle.feed_faults.specs.Records.{row_count, field};
 ghost use Rattle.feed_faults.specs.RowChecks.{is_unknown_in};
-ghost use Rattle.feed_faults.specs.RowKeys.{is_unknown};
 ghost use Rattle.feed_faults.specs.declared.checks.IdColumn.TheVariants.{Trip, Stop};
 ghost use Rattle.feed_faults.specs.FeedTables.{table_in};
 ghost use Rattle.feed_faults.specs.StopTimeRelations.{stop_times_of, is_at_platform};
 ghost use Rattle.feed_tables.specs.ReadCalls.{read_calls};
-ghost use Rattle.feed_text.specs.RowLimits.{row_limit};
 ghost use Rattle.feed_tables.specs.IdColumns.{indexed, call_ids};
-ghost use Rattle.feed_tables.specs.RowNumbers.{has_table};
-ghost use Rattle.stop_order.specs.Numbered.{no_faults, faults_at};
-ghost use Rattle.feed_relations.specs.JudgedBy.{AreCallsNamed, AreJudged, IsOrderJudged, IsTripKnown, are_platforms, call_at, time_of_call};
+ghost use Rattle.stop_order.specs.Numbered.{faults_at};
+ghost use Rattle.feed_relations.specs.JudgedBy.{AreCallsNamed, AreJudged, IsOrderJudged, IsTripKnown, call_at, time_of_call};
 
 use feed_faults::IdColumn;
 use feed_files::FileName;
 use feed_rows::PLATFORM;
 use feed_tables::{CallTable, IdIndex, Ids, ReadCall, ReadCalls, Tables, stop_kind};
-use feed_text::Table;
 use std::alloc::{AllocError, Global};
 use std::marker::Model;
 use stop_order::{OrderFaults, StopTimes, TripTime, order_faults};
 
 /// What the rows of a feed are judged by: its tables, their rows by ids, the stop times as they were read, which stops are platforms, and
 /// what is wrong with each stop time in its trip. Contracts see it as the tables.
+#[derive(Drop)]
 pub struct JudgedFeed<'t, C: CallTable> {
     tables: &'t Tables<'t, C>,
     ids: &'t Ids<'t, C>,
@@ -44,19 +40,6 @@ impl<'t, C: CallTable> Model for JudgedFeed<'t, C> {
     ghost view = { λ f. f.tables.now };
 
     ghost invariant = { λ f. AreJudged f.tables.now f.ids.now f.calls.now f.platforms.items f.order.items };
-}
-
-// Written out, so that what lets go of it needn't look into it.
-impl<'t, C: CallTable> Drop for JudgedFeed<'t, C> {
-    fn drop(self) {
-        let JudgedFeed {
-            tables: _,
-            ids: _,
-            calls: _,
-            platforms: _,
-            order: _,
-        } = self;
-    }
 }
 
 // Stop times as they were read, for what is asked of their order.
@@ -136,34 +119,11 @@ impl<'t, C: CallTable> JudgedFeed<'t, C> {
         self.tables
     }
 
-    /// The table of a file.
-    pub fn table(&self, file: FileName) -> &'t Table
-        requires { has_table file ≡ true }
-        ensures { result.now ≡ table_in self.now file }
-    {
-        self.tables.get(file)
-    }
-
-    /// How many rows a file has.
-    pub fn rows(&self, file: FileName) -> u32
-        ensures count { result ≡ row_count (table_in self.now file) }
-        ensures few { result ≤ row_limit }
-    {
-        self.tables.rows(file)
-    }
-
     /// The rows by the ids of a column.
     pub fn index(&self, column: IdColumn) -> &IdIndex<'t>
         ensures { result.now ≡ indexed self.now column }
     {
         self.ids.get(column)
-    }
-
-    /// Whether an id is filled and no row has it in a column.
-    pub fn is_unknown(&self, column: IdColumn, id: &[u8]) -> bool
-        ensures { result ≡ is_unknown (indexed self.now column).table (indexed self.now column).name id.now }
-    {
-        self.index(column).is_unknown(id)
     }
 
     /// What was read of a row of `stop_times.txt`.

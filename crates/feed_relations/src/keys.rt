@@ -25,7 +25,7 @@ fn row_key<C: CallTable>(feed: &JudgedFeed<C>, file: FileName, row: u32) -> RowK
     requires within { row < row_count (table_in feed.now file) }
     ensures { result ≡ row_key feed.now file row }
 {
-    let table = feed.table(file);
+    let table = feed.tables().get(file);
     let number = |ids: IdColumn, name: ColumnName|
         requires { row < row_count table.now }
     { feed.index(ids).number(table.field(row, name)) };

@@ -10,7 +10,7 @@ ghost use Rattle.feed_faults.specs.FirstFault.{relation_fault, first_relation_fa
 ghost use Rattle.feed_tables.specs.IdColumns.{call_ids};
 ghost use Rattle.feed_tables.specs.ReadCalls.{read_calls};
 ghost use Rattle.feed_tables.specs.RowNumbers.{has_table};
-ghost use Rattle.feed_relations.specs.FittingChecks.{Fits, IsByRow};
+ghost use Rattle.feed_relations.specs.FittingChecks.{Fits};
 ghost use Rattle.feed_relations.specs.JudgedBy.{AreCallsNamed};
 ghost use Rattle.feed_relations.specs.RowKeys.{IsKeyKnown};
 
@@ -56,7 +56,7 @@ fn fault_of_table<C: CallTable>(
     requires { has_table file ≡ true }
     ensures { IfOk result (λ fault. fault ≡ first_below (row_count (table_in feed.now file)) (relation_fault_of_row feed.now file)) }
 {
-    let mut below = feed.rows(file);
+    let mut below = feed.tables().rows(file);
     let mut fault = None;
     for (i, rule) in rule_of(file).checks.iter().enumerate() {
         if let Some(row) = first_failing(alloc, feed, file, *rule, below)? {
@@ -69,11 +69,11 @@ fn fault_of_table<C: CallTable>(
 
 // Whether a file has a row beside a route with a network of its own.
 #[tactic(auto, unfolding(feed_faults::specs::NetworkRelations::are_networks_forbidden))]
-fn are_networks_forbidden<C: CallTable>(feed: &JudgedFeed<C>, file: FileName) -> bool
-    ensures { result ≡ are_networks_forbidden feed.now file }
+fn are_networks_forbidden<C: CallTable>(tables: &Tables<C>, file: FileName) -> bool
+    ensures { result ≡ are_networks_forbidden tables.now file }
 {
-    let routes = feed.table(FileName::Routes);
-    feed.rows(file) > 0
+    let routes = tables.get(FileName::Routes);
+    tables.rows(file) > 0
         && (0..routes.rows()).any(|row| is_filled(routes.field(row, ColumnName::NetworkId)))
 }
 
@@ -87,7 +87,7 @@ fn relation_fault<C: CallTable>(
     ensures { IfOk result (λ fault. fault ≡ relation_fault feed.now file) }
 {
     let is_of_networks = file == FileName::Networks || file == FileName::RouteNetworks;
-    if is_of_networks && are_networks_forbidden(feed, file) {
+    if is_of_networks && are_networks_forbidden(feed.tables(), file) {
         return Ok(Some(file_fault(file, FaultKind::ForbiddenTogether)));
     }
     if file == FileName::StopTimes {
@@ -97,8 +97,7 @@ fn relation_fault<C: CallTable>(
 }
 
 /// The first fault of the files among each other, in the order of the files and of their rows, by what was read of the stop
-/// times. None exactly where they have
-/// none.
+/// times. None exactly where they have none.
 ///
 /// # Errors
 /// Want of memory.

@@ -41,7 +41,7 @@ fn is_at_station<C: CallTable>(feed: &JudgedFeed<C>, row: u32) -> bool
     requires { row < row_count (table_in feed.now file.Stops) }
     ensures { result ≡ is_at_station (table_in feed.now file.Stops) row }
 {
-    let stops = feed.table(FileName::Stops);
+    let stops = feed.tables().get(FileName::Stops);
     match feed
         .index(IdColumn::Stop)
         .row_of(stops.field(row, ColumnName::ParentStation))
@@ -63,13 +63,11 @@ fn is_parent_bad<C: CallTable>(feed: &JudgedFeed<C>, row: u32) -> bool
 
 // Whether the last day of a row lies before its first.
 #[tactic(auto, unfolding(feed_faults::specs::ServiceRelations::are_dates_reversed, feed_faults::specs::FieldValues::day_or_zero))]
-fn are_dates_reversed<C: CallTable>(feed: &JudgedFeed<C>, row: u32) -> bool
-    requires { row < row_count (table_in feed.now file.Calendar) }
-    ensures { result ≡ are_dates_reversed (table_in feed.now file.Calendar) row }
+fn are_dates_reversed<C: CallTable>(tables: &Tables<C>, row: u32) -> bool
+    requires { row < row_count (table_in tables.now file.Calendar) }
+    ensures { result ≡ are_dates_reversed (table_in tables.now file.Calendar) row }
 {
-    let &[_, _, _, _, _, _, _, _, first, last] = feed
-        .tables()
-        .numbers::<10>(FileName::Calendar, row);
+    let &[_, _, _, _, _, _, _, _, first, last] = tables.numbers::<10>(FileName::Calendar, row);
     last.unwrap_or(0) < first.unwrap_or(0)
 }
 
@@ -128,21 +126,21 @@ pub fn row_fails<C: CallTable>(
     requires by_row { IsByRow rule.check }
     ensures { result ≡ fails feed.now file rule row }
 {
-    let table = feed.table(file);
+    let table = feed.tables().get(file);
     let told = table.field(row, rule.column);
     match rule.check {
         RowCheck::NewId(ids) => feed.index(ids).is_doubled(row),
-        RowCheck::Known(ids) => is_judged(file, table, row) && feed.is_unknown(ids, told),
+        RowCheck::Known(ids) => is_judged(file, table, row) && feed.index(ids).is_unknown(told),
         RowCheck::KnownInOne(ids, others) => {
             is_judged(file, table, row)
-                && feed.is_unknown(ids, told)
-                && feed.is_unknown(others, told)
+                && feed.index(ids).is_unknown(told)
+                && feed.index(others).is_unknown(told)
         }
         RowCheck::KnownParent => {
-            has_parent(feed.tables(), row) && feed.is_unknown(IdColumn::Stop, told)
+            has_parent(feed.tables(), row) && feed.index(IdColumn::Stop).is_unknown(told)
         }
         RowCheck::GoodParent => is_parent_bad(feed, row),
-        RowCheck::OrderedDays => are_dates_reversed(feed, row),
+        RowCheck::OrderedDays => are_dates_reversed(feed.tables(), row),
         RowCheck::OneCurrency => is_currency_mixed(table, row),
         RowCheck::GoodCount => is_count_misplaced(table, row),
         RowCheck::WholeLimit => is_limit_half(table, row),

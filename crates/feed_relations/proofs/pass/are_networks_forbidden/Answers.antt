@@ -15,11 +15,11 @@ use Rattle.feed_relations.proofs.pass.are_networks_forbidden.Goals as goal
 pub returns-then-rows-gt0 : goal.returns-then-rows-gt0
 unfolding are_networks_forbidden has_own_networks
 returns-then-rows-gt0 g c =
-    let routes = table_in c.args.feed.now file.Routes in
+    let routes = table_in c.args.tables.now file.Routes in
     let test = λ (row : ℕ). is_filled (field routes row NetworkId) in
     let n = c.rows-then-rows-gt0.result in
     let rows : n ≡ row_count routes = search rules in
-    let filled : nat_lt 0 (row_count (table_in c.args.feed.now c.args.file)) ≡ true = grind (arith, nat_tests, c.if-rows-gt0.true, c.rows.ensures.count) in
+    let filled : nat_lt 0 (row_count (table_in c.args.tables.now c.args.file)) ≡ true = grind (arith, nat_tests, c.if-rows-gt0.true, c.rows.ensures.count) in
     let found : c.any.result ≡ list_any test (range_with_len 0 n) =
     any_from_yields_List test _ _ _ c.any.ensures.ran (YieldsList-from_range 0 n n refl (omega arith)) (λ x b q k. search (rules, tests)) in
     rw filled (found ∙ any_of_range test n ∙ ap (λ k. any_below k test) rows)

@@ -1,8 +1,8 @@
-use Rattle.std.proofs.Common.{◌≡◌, ◌∙◌, sym, subst, arith, ◌<◌, ℕ, List, length}
+use Rattle.std.proofs.Common.{◌≡◌, ◌∙◌, sym, ap, subst, arith, ◌<◌, ℕ, List, length}
 use Rattle.plain_laws.proofs.Laws.{find_below_tells}
 use Rattle.feed_faults.specs.declared.checks.RowRule.{RowRule}
 use Rattle.feed_faults.specs.Records.{row_count}
-use Rattle.feed_faults.specs.FeedTables.{table_in}
+use Rattle.feed_faults.specs.FeedTables.{FeedTables, table_in}
 use Rattle.feed_faults.specs.FileColumns.{checks_of}
 use Rattle.feed_faults.specs.RowChecks.{fault_of_check, relation_fault_of_row}
 use Rattle.feed_relations.proofs.FittingLaws.{fits, knows, check_passed, check_failed}
@@ -22,7 +22,7 @@ pub field_fault-requires : goal.field_fault-requires
 field_fault-requires g c =
     let first = find_below_tells _ c.loop-i.below c.in-Some.row (sym c.in_ok-row.ensures ∙ c.in-Some.is) in
     let less = first.within in
-    let rows : c.rows-below.result ≡ row_count (table_in c.args.feed.now c.args.file) = c.rows-below.ensures.count in
+    let rows : c.rows-below.result ≡ row_count (table_in c.args.feed.now c.args.file) = c.rows-below.ensures.count ∙ ap (λ (t : FeedTables). row_count (table_in t c.args.file)) c.tables.ensures in
     let few = c.rows-below.ensures.few in
     let le = c.loop-i.invariant.within in
     omega arith
