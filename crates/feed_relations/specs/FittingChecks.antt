@@ -3,7 +3,7 @@ use Rattle.std.specs.Prelude.{◌≡◌}
 use Rattle.feed_files.specs.declared.names.FileName.{FileName}
 use Rattle.feed_files.specs.declared.names.FileName.TheVariants as file
 use Rattle.feed_faults.specs.declared.checks.RowCheck.{RowCheck}
-use Rattle.feed_faults.specs.declared.checks.RowCheck.TheVariants.{NewId, NewKey, KnownParent, GoodParent, AtPlatform, TimedEnds, RisingTimes, OrderedDays, GoodTimeframe}
+use Rattle.feed_faults.specs.declared.checks.RowCheck.TheVariants.{NewId, KnownParent, GoodParent, AtPlatform, TimedEnds, RisingTimes, OrderedDays, GoodTimeframe}
 use Rattle.feed_faults.specs.RowChecks.{id_place}
 
 -- a check fits its file: what is checked of stop times alone fits none that is kept as a table
@@ -17,8 +17,3 @@ Fits name RisingTimes = ⊥
 Fits name OrderedDays = name ≡ file.Calendar
 Fits name GoodTimeframe = name ≡ file.Timeframes
 Fits name check = Unit {0}
-
--- a check is judged row by row
-pub record IsByRow (check : RowCheck) : Type 0 where
-  pub no_frame : check ≡ GoodTimeframe → ⊥
-  pub no_key : check ≡ NewKey → ⊥

@@ -3,12 +3,11 @@ ghost use Rattle.std.specs.Prelude.{◌≡◌, ◌<◌, ◌&&◌, true, not};
 ghost use Rattle.feed_files.specs.declared.names.FileName.TheVariants as file;
 ghost use Rattle.feed_faults.specs.Records.{row_count};
 ghost use Rattle.feed_faults.specs.FeedTables.{table_in};
-ghost use Rattle.feed_faults.specs.StopRelations.{has_parent, is_at_station, is_parent_good};
-ghost use Rattle.feed_faults.specs.ServiceRelations.{are_dates_reversed};
-ghost use Rattle.feed_faults.specs.FareRelations.{is_one_filled, is_currency_mixed, is_count_misplaced, is_limit_half};
+ghost use Rattle.feed_faults.specs.StopRelations.{has_parent, is_parent_good};
+ghost use Rattle.feed_faults.specs.FareRelations.{is_one_filled, is_count_misplaced};
 ghost use Rattle.feed_faults.specs.RowChecks.{is_judged, fails};
 ghost use Rattle.feed_tables.specs.RowNumbers.{has_table};
-ghost use Rattle.feed_relations.specs.FittingChecks.{Fits, IsByRow};
+ghost use Rattle.feed_relations.specs.FittingChecks.{Fits};
 
 use crate::judged::JudgedFeed;
 use feed_faults::{IdColumn, RowCheck, RowRule};
@@ -35,49 +34,26 @@ fn has_parent<C: CallTable>(tables: &Tables<C>, row: u32) -> bool
     stop_kind(tables, row) < 2 && is_filled(stops.field(row, ColumnName::ParentStation))
 }
 
-// Whether the parent of a row is a station.
-#[tactic(auto, unfolding(feed_faults::specs::StopRelations::is_at_station))]
-fn is_at_station<C: CallTable>(feed: &JudgedFeed<C>, row: u32) -> bool
-    requires { row < row_count (table_in feed.now file.Stops) }
-    ensures { result ≡ is_at_station (table_in feed.now file.Stops) row }
-{
-    let stops = feed.tables().get(FileName::Stops);
-    match feed
-        .index(IdColumn::Stop)
-        .row_of(stops.field(row, ColumnName::ParentStation))
-    {
-        Some(parent) => stop_kind(feed.tables(), parent) == u32::from(STATION),
-        None => false,
-    }
-}
-
 // Whether a parent is named that isn't good: only a platform has a parent, which is a station.
+#[tactic(auto, unfolding(feed_faults::specs::StopRelations::is_at_station))]
 fn is_parent_bad<C: CallTable>(feed: &JudgedFeed<C>, row: u32) -> bool
     requires { row < row_count (table_in feed.now file.Stops) }
     ensures { result ≡ (has_parent (table_in feed.now file.Stops) row && not (is_parent_good (table_in feed.now file.Stops) row)) }
 {
     let tables = feed.tables();
-    has_parent(tables, row)
-        && !(stop_kind(tables, row) == u32::from(PLATFORM) && is_at_station(feed, row))
-}
-
-// Whether the last day of a row lies before its first.
-#[tactic(auto, unfolding(feed_faults::specs::ServiceRelations::are_dates_reversed, feed_faults::specs::FieldValues::day_or_zero))]
-fn are_dates_reversed<C: CallTable>(tables: &Tables<C>, row: u32) -> bool
-    requires { row < row_count (table_in tables.now file.Calendar) }
-    ensures { result ≡ are_dates_reversed (table_in tables.now file.Calendar) row }
-{
-    let &[_, _, _, _, _, _, _, _, first, last] = tables.numbers::<10>(FileName::Calendar, row);
-    last.unwrap_or(0) < first.unwrap_or(0)
-}
-
-// Whether the currency differs from that of the first row.
-#[tactic(auto, unfolding(feed_faults::specs::FareRelations::is_currency_mixed))]
-fn is_currency_mixed(products: &Table, row: u32) -> bool
-    requires { row < row_count products.now }
-    ensures { result ≡ is_currency_mixed products.now row }
-{
-    products.field(0, ColumnName::Currency) != products.field(row, ColumnName::Currency)
+    if !has_parent(tables, row) {
+        return false;
+    }
+    if stop_kind(tables, row) != u32::from(PLATFORM) {
+        return true;
+    }
+    let parent = tables
+        .get(FileName::Stops)
+        .field(row, ColumnName::ParentStation);
+    match feed.index(IdColumn::Stop).row_of(parent) {
+        Some(parent) => stop_kind(tables, parent) != u32::from(STATION),
+        None => true,
+    }
 }
 
 // Whether a count stands where the groups forbid it, or is lacking where they require it.
@@ -88,10 +64,8 @@ fn is_count_misplaced(rules: &Table, row: u32) -> bool
 {
     let from = rules.field(row, ColumnName::FromLegGroupId);
     let to = rules.field(row, ColumnName::ToLegGroupId);
-    if !is_filled(from) && !is_filled(to) {
-        return false;
-    }
-    is_filled(rules.field(row, ColumnName::TransferCount)) != (from == to)
+    (is_filled(from) || is_filled(to))
+        && is_filled(rules.field(row, ColumnName::TransferCount)) != (from == to)
 }
 
 // Whether one of two fields is filled without the other.
@@ -101,19 +75,8 @@ pub fn is_one_filled(a: &[u8], b: &[u8]) -> bool
     is_filled(a) != is_filled(b)
 }
 
-// Whether a limit stands without its type, or a type without a limit.
-#[tactic(auto, unfolding(feed_faults::specs::FareRelations::is_limit_half))]
-fn is_limit_half(rules: &Table, row: u32) -> bool
-    requires { row < row_count rules.now }
-    ensures { result ≡ is_limit_half rules.now row }
-{
-    is_one_filled(
-        rules.field(row, ColumnName::DurationLimit),
-        rules.field(row, ColumnName::DurationLimitType),
-    )
-}
-
 // Whether a check of a row fails, where it is judged row by row.
+#[tactic(auto, unfolding(feed_faults::specs::ServiceRelations::are_dates_reversed, feed_faults::specs::FieldValues::day_or_zero, feed_faults::specs::FareRelations::is_currency_mixed, feed_faults::specs::FareRelations::is_limit_half))]
 pub fn row_fails<C: CallTable>(
     feed: &JudgedFeed<C>,
     file: FileName,
@@ -123,7 +86,7 @@ pub fn row_fails<C: CallTable>(
     requires within { row < row_count (table_in feed.now file) }
     requires kept { has_table file ≡ true }
     requires fits { Fits file rule.check }
-    requires by_row { IsByRow rule.check }
+    requires by_row { (rule.check ≡ RowCheck.NewKey → ⊥) × (rule.check ≡ RowCheck.GoodTimeframe → ⊥) }
     ensures { result ≡ fails feed.now file rule row }
 {
     let table = feed.tables().get(file);
@@ -140,14 +103,17 @@ pub fn row_fails<C: CallTable>(
             has_parent(feed.tables(), row) && feed.index(IdColumn::Stop).is_unknown(told)
         }
         RowCheck::GoodParent => is_parent_bad(feed, row),
-        RowCheck::OrderedDays => are_dates_reversed(feed.tables(), row),
-        RowCheck::OneCurrency => is_currency_mixed(table, row),
+        RowCheck::OrderedDays => {
+            let &[_, _, _, _, _, _, _, _, first, last] = feed.tables().numbers::<10>(file, row);
+            last.unwrap_or(0) < first.unwrap_or(0)
+        }
+        RowCheck::OneCurrency => table.field(0, ColumnName::Currency)
+            != table.field(row, ColumnName::Currency),
         RowCheck::GoodCount => is_count_misplaced(table, row),
-        RowCheck::WholeLimit => is_limit_half(table, row),
-        RowCheck::NewKey
-        | RowCheck::GoodTimeframe
-        | RowCheck::AtPlatform
-        | RowCheck::TimedEnds
-        | RowCheck::RisingTimes => unreachable!(),
+        RowCheck::WholeLimit => is_one_filled(
+            table.field(row, ColumnName::DurationLimit),
+            table.field(row, ColumnName::DurationLimitType),
+        ),
+        _ => unreachable!(),
     }
 }
