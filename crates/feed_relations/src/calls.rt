@@ -14,7 +14,7 @@ use feed_files::{FeedFault, FileName};
 use feed_tables::CallTable;
 use feed_text::field_fault;
 
-// The first check of a row of stop_times.txt that fails: its place in its trip is looked at only where the trip is there.
+// The first check of a row of stop_times.txt that fails: those of its place in its trip come behind that the trip is there.
 #[tactic(auto, unfolding(feed_faults::specs::RowChecks::relation_fault_of_row, stop_order::specs::Numbered::faults_at))]
 fn failing_check<C: CallTable>(
     feed: &JudgedFeed<C>,
@@ -34,26 +34,22 @@ fn failing_check<C: CallTable>(
         rising_times,
     ] = checks;
     let call = feed.call(row);
-    if call.trip.is_none() {
-        return Some(trip_known);
-    }
-    if call.stop.is_none() {
-        return Some(stop_known);
-    }
-    if !feed.is_at_platform(row) {
-        return Some(at_platform);
-    }
     let order = feed.order(row);
-    if order.is_repeated {
-        return Some(new_key);
+    if call.trip.is_none() {
+        Some(trip_known)
+    } else if call.stop.is_none() {
+        Some(stop_known)
+    } else if !feed.is_at_platform(row) {
+        Some(at_platform)
+    } else if order.is_repeated {
+        Some(new_key)
+    } else if order.is_end_time_missing {
+        Some(timed_ends)
+    } else if order.do_times_decrease {
+        Some(rising_times)
+    } else {
+        None
     }
-    if order.is_end_time_missing {
-        return Some(timed_ends);
-    }
-    if order.do_times_decrease {
-        return Some(rising_times);
-    }
-    None
 }
 
 // The first fault of the rows of stop_times.txt.

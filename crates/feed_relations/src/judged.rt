@@ -151,11 +151,10 @@ impl<'t, C: CallTable> JudgedFeed<'t, C> {
         }
     }
 
-    /// What is wrong with a row of `stop_times.txt` among those of its trip, which is there.
+    /// What is wrong with a row of `stop_times.txt` among those of its trip, where that is there.
     pub fn order(&self, row: u32) -> OrderFaults
-        requires within { row < row_count (table_in self.now file.StopTimes) }
-        requires known { IsTripKnown self.now row }
-        ensures { result ≡ faults_at (stop_times_of (table_in self.now file.StopTimes)) row }
+        requires { row < row_count (table_in self.now file.StopTimes) }
+        ensures { IsTripKnown self.now row → result ≡ faults_at (stop_times_of (table_in self.now file.StopTimes)) row }
     {
         self.order.get(row as usize).copied().unwrap_or_default()
     }
