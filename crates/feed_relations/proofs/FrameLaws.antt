@@ -2,8 +2,9 @@
 use Rattle.std.proofs.Common.{inl, inr, Bor, ◌≡◌, refl, sym, ◌∙◌, ap, ℕ, ◌<◌, ◌≤◌, ◌⊎◌, ⊎_elim, Bool, true, false, List, Option, Some, None, arith, nat_lt}
 use Rattle.std.specs.Prelude.{◌==◌, ◌&&◌, ◌||◌, not}
 use Rattle.std.specs.Cmp.{IsTotalOrder}
+use Rattle.std.specs.declared.cmp.Ordering.{Ordering}
 use Rattle.std.specs.declared.cmp.Ordering.TheVariants.{Less}
-use Rattle.std.specs.Ordering.{eq_by_cmp, is_lt, is_eq}
+use Rattle.std.specs.Ordering.{nat_cmp, ordering_then, eq_by_cmp, is_lt, is_eq}
 use Rattle.std.specs.BTreeSet.{BTreeSet, contains, IsKeyRangeOf}
 use Rattle.std.specs.Map.Iter.{TakesLast, deref}
 use Rattle.std.specs.Option.{MatchOption}
@@ -21,7 +22,13 @@ use Rattle.feed_faults.specs.RowKeys.{is_repeated}
 use Rattle.feed_faults.specs.FareRelations.{is_one_filled, do_frames_overlap, is_bad_frame}
 use Rattle.feed_relations.specs.declared.frames.Frame.{Frame}
 use Rattle.feed_relations.proofs.KeyLaws.{own_same}
-use Rattle.feed_relations.specs.Frames.{AreSeen, frame_of, frame_order}
+use Rattle.feed_relations.specs.Frames.{AreSeen, frame_of}
+
+-- by group, service, start and end
+abbrev pub frame_order : Frame → Frame → Ordering
+frame_order a b =
+    ordering_then (nat_cmp a.group b.group)
+    (ordering_then (nat_cmp a.service b.service) (ordering_then (nat_cmp a.start b.start) (nat_cmp a.end b.end)))
 
 pub frame_total : IsTotalOrder frame_order
 frame_total =

@@ -2,6 +2,7 @@
 use Rattle.std.proofs.Common.{◌≡◌, refl, sym, ◌∙◌, ap, ℕ, ◌<◌, ◌≤◌, Bool, true, false, List, [], ◌∷◌, arith}
 use Rattle.std.specs.Prelude.{◌==◌, ◌&&◌, bytes_eq, pos, Option, Some, None}
 use Rattle.std.specs.Cmp.{IsTotalOrder}
+use Rattle.std.specs.declared.cmp.Ordering.{Ordering}
 use Rattle.std.specs.Ordering.{nat_cmp, int_cmp, int_eq, ordering_then, eq_by_cmp}
 use Rattle.std.proofs.lemmas.Cmp.{then_total, on_total, nat_cmp_total, int_cmp_total}
 use Rattle.std.proofs.lemmas.Bool.{eqb-true, eq-eqb}
@@ -11,20 +12,19 @@ use Rattle.feed_files.specs.declared.names.FileName.{FileName}
 use Rattle.feed_files.specs.declared.names.FileName.TheVariants as file
 use Rattle.feed_files.specs.declared.names.ColumnName.{ColumnName}
 use Rattle.feed_files.specs.declared.names.ColumnName.TheVariants.{TripId, ServiceId, Date, FareProductId, RiderCategoryId, FareMediaId}
-use Rattle.plain_laws.specs.Plain.{find_below}
-use Rattle.plain_laws.proofs.Laws.{find_below_some, find_below-same, same_test, int_eq-int_same, any_below-same, then_equal, number_equal}
-use Rattle.feed_faults.specs.declared.checks.RowCheck.TheVariants.{NewKey}
+use Rattle.plain_laws.specs.Plain.{any_below}
+use Rattle.plain_laws.proofs.Laws.{find_below_some, same_test, int_eq-int_same, any_below-same, then_equal, number_equal}
 use Rattle.feed_faults.specs.Records.{FileTable, row_count, field, is_filled}
 use Rattle.feed_faults.specs.FeedTables.{FeedTables, table_in}
 use Rattle.feed_faults.specs.FieldValues.{day_or_zero}
-use Rattle.feed_faults.specs.RowKeys.{row_of, is_unknown, same_field}
-use Rattle.feed_faults.specs.RowChecks.{same_key, check_fails}
+use Rattle.feed_faults.specs.RowKeys.{row_of, is_unknown, is_repeated, same_field}
+use Rattle.feed_faults.specs.RowChecks.{same_key}
 use Rattle.feed_faults.specs.ServiceRelations.{same_exception, same_start}
 use Rattle.feed_faults.specs.FareRelations.{same_product}
 use Rattle.feed_faults.specs.AcceptedFeed.{row_number}
 use Rattle.feed_tables.specs.RowNumbers.{has_table}
 use Rattle.feed_relations.specs.declared.keys.RowKey.{RowKey}
-use Rattle.feed_relations.specs.RowKeys.{key, row_key, key_order, is_key_repeated, IsKeyKnown}
+use Rattle.feed_relations.specs.RowKeys.{key, row_key, IsKeyKnown}
 use Rattle.feed_relations.proofs.TripNumberLaws.{row_tells}
 
 -- an empty text is the only one that isn't filled
@@ -74,6 +74,10 @@ own_known table name row lt =
 -- rows have one number in their own column exactly where they have one field
 pub own_same : (table : FileTable) (name : ColumnName) (a b : ℕ) → a < row_count table → b < row_count table → (row_number table name (field table a name) == row_number table name (field table b name)) ≡ same_field table name a b
 own_same table name a b la lb = number_same table name (field table a name) (field table b name) (own_known table name a la) (own_known table name b lb)
+
+-- by each number in turn
+abbrev pub key_order : RowKey → RowKey → Ordering
+key_order a b = ordering_then (nat_cmp a.0 b.0) (ordering_then (int_cmp a.1 b.1) (nat_cmp a.2 b.2))
 
 key_parts : (a b : RowKey) → eq_by_cmp key_order a b ≡ ((a.0 == b.0) && (int_eq a.1 b.1 && (a.2 == b.2)))
 key_parts a b =
@@ -135,10 +139,8 @@ module _ (t : FeedTables) where
   keys_tell file.StopTimes kept = absurd (cc)
   keys_tell name kept = λ a b lt within ka kb. differ a b lt
 
-  -- the first row whose key of numbers is repeated is the first whose key is
-  pub repeated_by_numbers : (name : FileName) (column : ColumnName) (below : ℕ) → has_table name ≡ true → below ≤ row_count (table_in t name) → ((row : ℕ) → row < below → IsKeyKnown t name row) → find_below below (is_key_repeated t name) ≡ find_below below (λ row. check_fails t name column row NewKey)
-  unfolding is_key_repeated
-  repeated_by_numbers name column below kept le known =
-      find_below-same (is_key_repeated t name) (λ row. check_fails t name column row NewKey) below (λ row lt.
+  -- a row's key of numbers is repeated where its key is
+  pub repeated_by_numbers : (name : FileName) (row below : ℕ) → has_table name ≡ true → below ≤ row_count (table_in t name) → ((row : ℕ) → row < below → IsKeyKnown t name row) → row < below → any_below row (λ r. eq_by_cmp key_order (row_key t name row) (row_key t name r)) ≡ is_repeated (same_key name (table_in t name)) row
+  repeated_by_numbers name row below kept le known lt =
       any_below-same (λ r. eq_by_cmp key_order (row_key t name row) (row_key t name r)) (same_key name (table_in t name) row) row (λ r small.
-      keys_tell name kept r row small (omega arith) (known r (omega arith)) (known row lt)))
+      keys_tell name kept r row small (omega arith) (known r (omega arith)) (known row lt))

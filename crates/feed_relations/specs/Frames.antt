@@ -1,7 +1,7 @@
--- Timeframes in their order, and sets that are filled row by row.
+-- Timeframes, and sets that are filled row by row.
 use Rattle.std.specs.Prelude.{◌≡◌, ℕ}
 use Rattle.std.specs.BTreeSet.{BTreeSet, contains}
-use Rattle.std.specs.Ordering.{nat_cmp, ordering_then, eq_by_cmp}
+use Rattle.std.specs.Ordering.{eq_by_cmp}
 use Rattle.std.specs.declared.cmp.Ordering.{Ordering}
 use Rattle.feed_files.specs.declared.names.ColumnName.TheVariants.{ServiceId, TimeframeGroupId}
 use Rattle.plain_laws.specs.Plain.{any_below}
@@ -19,12 +19,6 @@ frame_of table row =
       start = frame_start table row;
       end = frame_end table row;
     }
-
--- by group, service, start and end
-abbrev pub frame_order : Frame → Frame → Ordering
-frame_order a b =
-    ordering_then (nat_cmp a.group b.group)
-    (ordering_then (nat_cmp a.service b.service) (ordering_then (nat_cmp a.start b.start) (nat_cmp a.end b.end)))
 
 -- the set has the items of the rows before this one, and nothing else
 abbrev pub AreSeen : {K : Type 0} → (K → K → Ordering) → (ℕ → K) → BTreeSet K → ℕ → Type 0

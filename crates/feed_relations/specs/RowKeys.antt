@@ -1,13 +1,10 @@
 -- Keys of several columns as numbers: two rows have one key of numbers exactly where they have one key.
-use Rattle.std.specs.Prelude.{◌≡◌, ℕ, ℤ, Bool, false, pos}
-use Rattle.std.specs.declared.cmp.Ordering.{Ordering}
-use Rattle.std.specs.Ordering.{nat_cmp, int_cmp, ordering_then, eq_by_cmp}
+use Rattle.std.specs.Prelude.{◌≡◌, ℕ, ℤ, false, pos}
 use Rattle.transit_base.specs.Limits.{most_time}
 use Rattle.feed_files.specs.declared.names.FileName.{FileName}
 use Rattle.feed_files.specs.declared.names.FileName.TheVariants as file
 use Rattle.feed_files.specs.declared.names.ColumnName.{ColumnName}
 use Rattle.feed_files.specs.declared.names.ColumnName.TheVariants.{TripId, ServiceId, Date, StartTime, RiderCategoryId, FareMediaId, FareProductId}
-use Rattle.plain_laws.specs.Plain.{any_below}
 use Rattle.feed_faults.specs.declared.checks.IdColumn.TheVariants.{Trip, RiderCategory, FareMedia}
 use Rattle.feed_faults.specs.Records.{field}
 use Rattle.feed_faults.specs.FeedTables.{FeedTables, table_in}
@@ -36,14 +33,6 @@ row_key t file.FareProducts row =
     (pos (number_named t file.RiderCategories file.FareProducts RiderCategoryId row))
     (number_named t file.FareMedia file.FareProducts FareMediaId row)
 row_key t name row = key row (pos 0) 0
-
--- by each number in turn
-abbrev pub key_order : RowKey → RowKey → Ordering
-key_order a b = ordering_then (nat_cmp a.0 b.0) (ordering_then (int_cmp a.1 b.1) (nat_cmp a.2 b.2))
-
--- an earlier row has the key of numbers of this one
-unfoldable pub is_key_repeated : FeedTables → FileName → ℕ → Bool
-is_key_repeated t name row = any_below row (λ r. eq_by_cmp key_order (row_key t name row) (row_key t name r))
 
 -- what a row's key names in other files is there
 abbrev pub IsKeyKnown : FeedTables → FileName → ℕ → Type 0

@@ -6,7 +6,7 @@ ghost use Rattle.feed_faults.specs.Records.{FileTable, row_count};
 ghost use Rattle.feed_faults.specs.FeedTables.{table_in};
 ghost use Rattle.feed_faults.specs.FareRelations.{do_frames_overlap, is_bad_frame};
 ghost use Rattle.feed_faults.specs.RowKeys.{is_repeated};
-ghost use Rattle.feed_relations.specs.Frames.{AreSeen, frame_of, frame_order};
+ghost use Rattle.feed_relations.specs.Frames.{AreSeen, frame_of};
 
 use crate::judged::JudgedFeed;
 use crate::rows::is_one_filled;
@@ -30,7 +30,7 @@ pub struct Frame {
 // Whether a row's timeframe overlaps one of an earlier row, of which those that were seen don't overlap. Some of them overlaps it
 // exactly where the last one does that begins before it ends.
 fn is_overlapping(seen: &BTreeSet<Frame>, frame: Frame) -> bool
-    ensures { (table : FileTable) (row : ℕ) → row < row_count table → find_below row (is_bad_frame table) ≡ None → AreSeen frame_order (frame_of table) seen.now row → frame ≡ frame_of table row → result ≡ is_repeated (do_frames_overlap table) row }
+    ensures { (table : FileTable) (row : ℕ) → row < row_count table → find_below row (is_bad_frame table) ≡ None → AreSeen ⟦<Frame as Ord>⟧.cmp (frame_of table) seen.now row → frame ≡ frame_of table row → result ≡ is_repeated (do_frames_overlap table) row }
 {
     let end = Frame {
         start: frame.end,

@@ -1,10 +1,12 @@
 //! Keys of several columns.
-ghost use Rattle.std.specs.Prelude.{◌≡◌, ◌<◌, ◌≤◌, true, IfOk};
+ghost use Rattle.std.specs.Prelude.{◌≡◌, ◌<◌, ◌≤◌, ℕ, true, IfOk};
 ghost use Rattle.plain_laws.specs.Plain.{find_below};
 ghost use Rattle.feed_faults.specs.Records.{row_count};
 ghost use Rattle.feed_faults.specs.FeedTables.{table_in};
+ghost use Rattle.feed_faults.specs.RowKeys.{is_repeated};
+ghost use Rattle.feed_faults.specs.RowChecks.{same_key};
 ghost use Rattle.feed_tables.specs.RowNumbers.{has_table};
-ghost use Rattle.feed_relations.specs.RowKeys.{row_key, is_key_repeated};
+ghost use Rattle.feed_relations.specs.RowKeys.{row_key, IsKeyKnown};
 
 use crate::judged::JudgedFeed;
 use feed_faults::IdColumn;
@@ -60,7 +62,8 @@ pub fn first_repeated<C: CallTable>(
 ) -> Result<Option<u32>, AllocError>
     requires kept { has_table file ≡ true }
     requires within { below ≤ row_count (table_in feed.now file) }
-    ensures { IfOk result (λ found. found ≡ find_below below (is_key_repeated feed.now file)) }
+    requires known { (row : ℕ) → row < below → IsKeyKnown feed.now file row }
+    ensures { IfOk result (λ found. found ≡ find_below below (is_repeated (same_key file (table_in feed.now file)))) }
 {
     let mut seen = BTreeSet::new(alloc);
     for row in 0..below {

@@ -11,8 +11,8 @@ use Rattle.feed_faults.specs.FieldValues.{frame_start, frame_end}
 use Rattle.feed_faults.specs.FareRelations.{is_one_filled, is_bad_frame}
 use Rattle.feed_text.proofs.ValueLaws.{times}
 use Rattle.feed_relations.specs.declared.frames.Frame.{Frame}
-use Rattle.feed_relations.specs.Frames.{frame_of, frame_order}
-use Rattle.feed_relations.proofs.FrameLaws.{frame_total, by_ways}
+use Rattle.feed_relations.specs.Frames.{frame_of}
+use Rattle.feed_relations.proofs.FrameLaws.{frame_order, frame_total, by_ways}
 use Rattle.feed_relations.proofs.SeenLaws.{seen_more}
 use Rattle.feed_relations.proofs.frames.first_bad_frame.Goals as goal
 

@@ -3,7 +3,8 @@ use Rattle.feed_files.specs.declared.names.FileName.TheVariants as file
 use Rattle.plain_laws.specs.Plain.{find_below}
 use Rattle.feed_faults.specs.FeedTables.{table_in}
 use Rattle.feed_faults.specs.FareRelations.{is_bad_frame}
-use Rattle.feed_relations.specs.Frames.{AreSeen, frame_of, frame_order}
+use Rattle.feed_relations.specs.Frames.{AreSeen, frame_of}
+use Rattle.feed_relations.proofs.FrameLaws.{frame_order}
 use Rattle.feed_relations.proofs.frames.first_bad_frame.Given as goal
 
 abbrev pub invariant-loop-row : goal.invariant-loop-row
