@@ -33,7 +33,7 @@ pub enum Wanted {
 pub struct Case {
     pub words: WordList,
     pub files: FeedFiles,
-    /// The calls that fail in turn, each in a run of its own; none where all go well, in one run.
+    /// The calls that fail in turn, each in a run of its own.
     pub failing_calls: Vec<FailingCall>,
     pub status: u8,
     pub wanted: Wanted,
@@ -134,10 +134,10 @@ fn lines_of(alloc: Global, text: &str) -> Result<WordList, AllocError> {
     Ok(words)
 }
 
-// The calls that fail, one a line; none without a text.
+// The calls that fail, one a line; without a text all go well, in one run.
 fn failing_calls_of(alloc: Global, text: Option<&[u8]>) -> Result<Vec<FailingCall>> {
     let Some(text) = text else {
-        return Ok(Vec::new(alloc));
+        return Ok(vec![in alloc; FailingCall::Never; 1]?);
     };
     let calls = calls_in(alloc, str_of(text)?)?;
     if calls.is_empty() {

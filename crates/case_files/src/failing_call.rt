@@ -2,11 +2,12 @@
 
 use anyhow::{Result, bail};
 use folder_io::Cut;
-use std::fmt;
 
 /// A call that fails, by its number among its like, counted from 1.
 #[derive(Clone, Copy)]
 pub enum FailingCall {
+    /// All go well.
+    Never,
     Open(u32),
     Read(u32),
     /// A write, of whose piece so many bytes are kept.
@@ -38,14 +39,4 @@ impl FailingCall {
 // The number behind the word, where the line is that.
 fn number_after(word: &str, line: &str) -> Option<u32> {
     line.strip_prefix(word)?.parse::<u32>().ok()
-}
-
-impl fmt::Display for FailingCall {
-    fn fmt<W: fmt::Write>(&self, f: &mut fmt::Formatter<W>) -> fmt::Result {
-        match *self {
-            FailingCall::Open(call) => write!(f, "open {call}"),
-            FailingCall::Read(call) => write!(f, "read {call}"),
-            FailingCall::Write(Cut { call, kept }) => write!(f, "write {call} {kept}"),
-        }
-    }
 }

@@ -6,7 +6,6 @@ use crate::feed_texts::FeedFiles;
 use anyhow::{Context, Result, bail};
 use std::alloc::Global;
 use std::fs;
-use std::rt::Files;
 
 /// A folder with the folders `cases` and `feeds`, whose files are `NAME.txtar`.
 #[derive(Drop)]
@@ -23,23 +22,28 @@ impl Library {
     ///
     /// # Errors
     /// Want of memory, a folder that can't be read, or a file in it that is no case.
-    pub fn case_names<R: Files + AllocGlobal + Clone + Drop>(&self, rt: &R) -> Result<Vec<String>> {
-        let folder = self.folder.as_str();
-        let folder = format!(in rt.alloc(); "{folder}/cases")?;
+    pub fn case_names(&self, rt: &HostRuntime) -> Result<Vec<String>> {
         let mut names = Vec::new(rt.alloc());
-        for entry in fs::read_dir(rt, folder.as_str()).context("reading the folder of the cases")? {
-            let entry = entry?;
-            names.push(case_name(rt.alloc(), entry.file_name())?)?;
-        }
+        self.add_case_names(rt, &mut names)?;
         names.sort()?;
         Ok(names)
+    }
+
+    // Appends the names of all cases.
+    fn add_case_names(&self, rt: &HostRuntime, names: &mut Vec<String>) -> Result<()> {
+        let folder = self.folder.as_str();
+        let folder = format!(in rt.alloc(); "{folder}/cases")?;
+        for entry in fs::read_dir(rt, folder.as_str()).context("reading the folder of the cases")? {
+            names.push(case_name(rt.alloc(), entry?.file_name())?)?;
+        }
+        Ok(())
     }
 
     /// The case of that name.
     ///
     /// # Errors
     /// Want of memory, or a file that can't be read or is no case.
-    pub fn case<R: Files + AllocGlobal>(&self, rt: &R, name: &str) -> Result<Case> {
+    pub fn case(&self, rt: &HostRuntime, name: &str) -> Result<Case> {
         let archive = self.archive(rt, "cases", name)?;
         let mut files = FeedFiles::empty(rt.alloc());
         if let Some(name) = Case::feed_name(&archive)? {
@@ -50,7 +54,7 @@ impl Library {
     }
 
     // The sections of the file of that name in that folder.
-    fn archive<R: Files + AllocGlobal>(&self, rt: &R, folder: &str, name: &str) -> Result<Archive> {
+    fn archive(&self, rt: &HostRuntime, folder: &str, name: &str) -> Result<Archive> {
         let library = self.folder.as_str();
         let path = format!(in rt.alloc(); "{library}/{folder}/{name}.txtar")?;
         archive_at(rt, path.as_str())
@@ -58,7 +62,7 @@ impl Library {
 }
 
 // The sections of the file at that path.
-fn archive_at<R: Files + AllocGlobal>(rt: &R, path: &str) -> Result<Archive> {
+fn archive_at(rt: &HostRuntime, path: &str) -> Result<Archive> {
     let text = fs::read(rt, path).context(format_args!("reading {path}"))?;
     if !text.ends_with(b"\n") {
         bail!("{path} does not end with a line feed");

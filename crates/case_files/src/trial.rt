@@ -8,7 +8,6 @@ use bstr::ByteSlice;
 use folder_io::{Cut, Files, MemFolder, MemSink};
 use plan_arguments::WordList;
 use std::alloc::{AllocError, Global};
-use std::fmt;
 
 /// The program that is tried.
 pub trait Program {
@@ -19,35 +18,19 @@ pub trait Program {
 // More bytes than any case writes.
 const ROOM: u32 = 1_048_576;
 
-// What a run came to.
+/// What a run came to.
 #[derive(Drop)]
-struct Outcome {
-    status: u8,
-    text: Vec<u8>,
+pub struct Outcome {
+    pub status: u8,
+    pub text: Vec<u8>,
 }
 
 /// A run that came to something else than its case says.
+#[derive(Drop)]
 pub struct Difference {
-    call: Option<FailingCall>,
-    came: Outcome,
-}
-
-// Written out, so that what holds one needn't look into it to let go of it.
-impl Drop for Difference {
-    fn drop(self) {
-        let Difference { call: _, came: _ } = self;
-    }
-}
-
-impl fmt::Display for Difference {
-    fn fmt<W: fmt::Write>(&self, f: &mut fmt::Formatter<W>) -> fmt::Result {
-        if let Some(call) = self.call {
-            write!(f, "where {call} fails ")?;
-        }
-        let status = self.came.status;
-        let text = self.came.text.as_slice().as_bstr();
-        write!(f, "status {status} came, with {text:?}")
-    }
+    /// How many calls that fail the case names before the one of this run.
+    pub earlier: usize,
+    pub came: Outcome,
 }
 
 /// The first run of the case that came to something else than it says, if there is one.
@@ -58,27 +41,13 @@ pub fn first_difference<P: Program>(
     alloc: Global,
     case: &Case,
 ) -> Result<Option<Difference>, AllocError> {
-    if case.failing_calls.is_empty() {
-        return difference_in::<P>(alloc, case, None);
-    }
-    for call in case.failing_calls.iter() {
-        let found = difference_in::<P>(alloc, case, Some(*call))?;
-        if found.is_some() {
-            return Ok(found);
+    for (earlier, call) in case.failing_calls.iter().enumerate() {
+        let came = outcome_of::<P>(alloc, &case.words, case.files.files(alloc)?, *call)?;
+        if came.status != case.status || !is_text(alloc, &came.text, &case.wanted)? {
+            return Ok(Some(Difference { earlier, came }));
         }
     }
     Ok(None)
-}
-
-// What the run where that call fails came to, if it is something else than the case says.
-fn difference_in<P: Program>(
-    alloc: Global,
-    case: &Case,
-    call: Option<FailingCall>,
-) -> Result<Option<Difference>, AllocError> {
-    let came = outcome_of::<P>(alloc, &case.words, case.files.files(alloc)?, call)?;
-    let is_wanted = came.status == case.status && is_text(alloc, &came.text, &case.wanted)?;
-    Ok((!is_wanted).then_some(Difference { call, came }))
 }
 
 // What the words come to over these files, where these calls fail.
@@ -104,15 +73,15 @@ fn outcome_of<P: Program>(
     alloc: Global,
     words: &WordList,
     files: Files,
-    call: Option<FailingCall>,
+    call: FailingCall,
 ) -> Result<Outcome, AllocError>
     requires { IsTrue (are_whole files) }
 {
     match call {
-        None => outcome_with::<P>(alloc, words, files, &[], &[], &[]),
-        Some(FailingCall::Open(call)) => outcome_with::<P>(alloc, words, files, &[call], &[], &[]),
-        Some(FailingCall::Read(call)) => outcome_with::<P>(alloc, words, files, &[], &[call], &[]),
-        Some(FailingCall::Write(cut)) => outcome_with::<P>(alloc, words, files, &[], &[], &[cut]),
+        FailingCall::Never => outcome_with::<P>(alloc, words, files, &[], &[], &[]),
+        FailingCall::Open(call) => outcome_with::<P>(alloc, words, files, &[call], &[], &[]),
+        FailingCall::Read(call) => outcome_with::<P>(alloc, words, files, &[], &[call], &[]),
+        FailingCall::Write(cut) => outcome_with::<P>(alloc, words, files, &[], &[], &[cut]),
     }
 }
 

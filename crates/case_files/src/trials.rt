@@ -1,45 +1,38 @@
 //! Trying a program on the cases that its arguments name.
 
 use crate::library::Library;
-use crate::trial::{Program, first_difference};
+use crate::trial::{Difference, Outcome, Program, first_difference};
 use anyhow::{Result, bail};
-use std::env;
-use std::rt::Runtime;
+use bstr::ByteSlice;
+use plan_arguments::{Command, command_of, read_arguments};
 
-/// Tries the program on cases: the first argument is the folder of the library, and those behind it are the names of the cases,
-/// all where there are none. A line is printed of each case that differs, and one behind them. Answers whether none differs.
+/// Tries the program on cases: the first argument is the folder of the library, `.` where there is none, and those behind it are
+/// the names of the cases, all where there are none. A line is printed of each case that differs, and one behind them. Answers
+/// whether none differs.
 ///
 /// # Errors
-/// Want of memory, no folder, or one that can't be read, or text that can't be printed. A case that can't be read differs.
-pub fn try_named<P: Program, R: Runtime + AllocGlobal>(rt: &R) -> Result<bool> {
-    let words = env::args(rt)?.skip(1).collect::<Vec<String>>(rt.alloc())?;
-    let [folder, names @ ..] = words.as_slice() else {
-        bail!("the folder of the cases is missing");
+/// Want of memory, arguments or a folder that can't be read, or text that can't be printed. A case that can't be read differs.
+pub fn try_named<P: Program>(rt: &HostRuntime) -> Result<bool> {
+    let Ok(arguments) = read_arguments(rt) else {
+        bail!("the arguments can't be read");
     };
-    try_in::<P, R>(rt, &Library::new(folder.clone()?), names)
+    let Command { path, words } = command_of(rt.alloc(), &arguments)?;
+    try_in::<P>(rt, &Library::new(path), words.as_slice())
 }
 
 // Tries the program on the cases of these names, all where there are none. Answers whether none differs.
-fn try_in<P: Program, R: Runtime + AllocGlobal>(
-    rt: &R,
-    library: &Library,
-    names: &[String],
-) -> Result<bool> {
+fn try_in<P: Program>(rt: &HostRuntime, library: &Library, names: &[String]) -> Result<bool> {
     if names.is_empty() {
-        return try_all::<P, R>(rt, library, &library.case_names(rt)?);
+        return try_all::<P>(rt, library, &library.case_names(rt)?);
     }
-    try_all::<P, R>(rt, library, names)
+    try_all::<P>(rt, library, names)
 }
 
 // Tries the program on the cases of these names. Answers whether none differs.
-fn try_all<P: Program, R: Runtime + AllocGlobal>(
-    rt: &R,
-    library: &Library,
-    names: &[String],
-) -> Result<bool> {
+fn try_all<P: Program>(rt: &HostRuntime, library: &Library, names: &[String]) -> Result<bool> {
     let mut differing = 0usize;
     for name in names {
-        if differs::<P, R>(rt, library, name.as_str())? {
+        if differs::<P>(rt, library, name.as_str())? {
             differing = differing.saturating_add(1);
         }
     }
@@ -49,11 +42,7 @@ fn try_all<P: Program, R: Runtime + AllocGlobal>(
 }
 
 // Whether the case differs from what it says, which is then printed. One that can't be read differs.
-fn differs<P: Program, R: Runtime + AllocGlobal>(
-    rt: &R,
-    library: &Library,
-    name: &str,
-) -> Result<bool> {
+fn differs<P: Program>(rt: &HostRuntime, library: &Library, name: &str) -> Result<bool> {
     let case = match library.case(rt, name) {
         Ok(case) => case,
         Err(error) => {
@@ -61,9 +50,12 @@ fn differs<P: Program, R: Runtime + AllocGlobal>(
             return Ok(true);
         }
     };
-    let Some(difference) = first_difference::<P>(rt.alloc(), &case)? else {
+    let Some(Difference { earlier, came }) = first_difference::<P>(rt.alloc(), &case)? else {
         return Ok(false);
     };
-    println!(rt; "{name}: {difference}")?;
+    let Outcome { status, text } = came;
+    let text = text.as_slice().as_bstr();
+    let run = earlier.saturating_add(1);
+    println!(rt; "{name}: in run {run} status {status} came, with {text:?}")?;
     Ok(true)
 }

@@ -21,7 +21,7 @@ impl Program for Farewise {
 }
 
 fn main(rt: HostRuntime) -> Result<ExitCode> {
-    Ok(if try_named::<Farewise, HostRuntime>(&rt)? {
+    Ok(if try_named::<Farewise>(&rt)? {
         ExitCode::SUCCESS
     } else {
         ExitCode::FAILURE
