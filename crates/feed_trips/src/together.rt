@@ -141,6 +141,36 @@ impl Together {
         lay_piece(&mut self.times, rows, from, to)?;
         Ok(true)
     }
+
+    // Puts the rows in pieces, each as the stretch of its trip, of which none has one yet. False where some row doesn't follow
+    // those of its trip before it.
+    fn put_all(&mut self, rows: &[StopTimeRow], trips: usize) -> Result<bool, AllocError>
+        requires within { All (λ (r : StopTimeRow). r.trip.0 < trips) rows.now }
+        requires few { length rows.now < 2 ^ 32 }
+        requires before { AreStretches rows.now 0 trips self.old.stretches.items }
+        requires laid { AreLaid rows.now 0 self.old.stretches.items self.old.times.items }
+        requires first { IsStretchBefore rows.now 0 self.old.stretches.items (record { from = 0; to = 0 }) }
+        ensures put { IfOk result (λ is_put. OnTrue is_put (AreStretches rows.now (length rows.now) trips self.new.stretches.items)) }
+        ensures beside { IfOk result (λ is_put. OnTrue is_put (AreLaid rows.now (length rows.now) self.new.stretches.items self.new.times.items)) }
+        ensures scattered { IfOk result (λ is_put. OnFalse is_put (IsScattered rows.now trips)) }
+    {
+        let mut from = 0;
+        // What is asked of a piece as it ends is read as it begins, so that no memory is waited for.
+        let mut stretch = Stretch { from: 0, to: 0 };
+        for place in 0..rows.len() {
+            if !goes_on(rows, place) {
+                if !self.put(rows, from, place, trips, stretch)? {
+                    return Ok(false);
+                }
+                from = place;
+                stretch = stretch_of(&self.stretches, rows, from, trips);
+            }
+        }
+        if from == rows.len() {
+            return Ok(true);
+        }
+        self.put(rows, from, rows.len(), trips, stretch)
+    }
 }
 
 // Fills the times up, so that there is one beside each row, where there are any.
@@ -171,24 +201,11 @@ pub fn together_of(
     ensures none { IfOk result (λ found. IfSome found (λ found. list_all is_row_timed rows.now ≡ true → found.times.items ≡ [])) }
     ensures scattered { IfOk result (λ found. IfNone found (IsScattered rows.now trips)) }
 {
-    let stretches = vec![in alloc; Stretch { from: 0, to: 0 }; trips]?;
     let mut found = Together {
-        stretches,
+        stretches: vec![in alloc; Stretch { from: 0, to: 0 }; trips]?,
         times: Vec::new(alloc),
     };
-    let mut from = 0;
-    // What is asked of a piece as it ends is read as it begins, so that no memory is waited for.
-    let mut stretch = Stretch { from: 0, to: 0 };
-    for place in 0..rows.len() {
-        if !goes_on(rows, place) {
-            if !found.put(rows, from, place, trips, stretch)? {
-                return Ok(None);
-            }
-            from = place;
-            stretch = stretch_of(&found.stretches, rows, from, trips);
-        }
-    }
-    if from < rows.len() && !found.put(rows, from, rows.len(), trips, stretch)? {
+    if !found.put_all(rows, trips)? {
         return Ok(None);
     }
     fill_up(&mut found.times, rows.len())?;
