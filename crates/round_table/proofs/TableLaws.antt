@@ -1,5 +1,5 @@
 -- The bags of a table have the numbers of exactly their labels.
-use Rattle.std.proofs.Common.{◌≡◌, refl, sym, ◌∙◌, ap, subst, ℕ, ◌+◌, ◌*◌, ◌<◌, ◌≤◌, ◌⊎◌, inl, inr, List, [], ◌∷◌, length, get_or, arith, All, pos}
+use Rattle.std.proofs.Common.{◌≡◌, refl, sym, ◌∙◌, ap, subst, ℕ, ◌+◌, ◌*◌, ◌<◌, ◌≤◌, ◌⊎◌, inl, inr, List, [], ◌∷◌, ◌++◌, length, get_or, arith, All, pos}
 use Rattle.std.specs.Prelude.{◌≢◌, AllPairs, Contains, Option, Some, None, map, filter, option_map, slice_get, ◌==◌}
 use Rattle.std.specs.Option.{option_map_or}
 use Rattle.std.proofs.lemmas.Bool.{cases_lt, cases_order, lt-ltb, le-ltb}
@@ -13,10 +13,12 @@ use Rattle.feed_rows.specs.SoundTable.{IsLabel, IsBag, AreBags}
 use Rattle.item_groups.specs.declared.groups.Grouped.{Grouped}
 use Rattle.plain_laws.specs.Plain.{list_below}
 use Rattle.item_groups.specs.Groups.{group_of, groups_below}
-use Rattle.plain_laws.proofs.Laws.{Contains-list_below, list_below_tells, AllPairs-list_below, All-slice_get}
+use Rattle.plain_laws.proofs.Laws.{Contains-list_below, list_below_tells, AllPairs-list_below, All-slice_get, list_below_more}
 use Rattle.item_groups.proofs.GroupLaws.{Contains-group_of, group_of-tells, groups_below-at, groups_below-past}
 use Rattle.round_table.specs.declared.finals.Final.{Final}
 use Rattle.round_labels.specs.declared.label.Label.{Label}
+use Rattle.round_labels.specs.declared.kept_label.KeptLabel.{KeptLabel}
+use Rattle.round_labels.specs.Kept.{IsKeptAt}
 use Rattle.round_labels.specs.Labels.{label_of}
 use Rattle.round_table.specs.Tables.{group_at, group_of_label, numbered, bag_in, table_in}
 
@@ -55,6 +57,17 @@ group_inside stops rides limit stop inside few = by (mul-le (rides + 1) stops (l
 
     by : ((rides + 1) * stops ≤ (limit + 1) * stops) → ((rides + 1) * stops ≡ rides * stops + stops) → group_at stops rides stop < (limit + 1) * stops
     by le is = omega (arith, le, is, inside)
+
+-- the number of one label more in its group
+pub member_more : (stops n : ℕ) (labels : List Label) (kept : KeptLabel) (group : ℕ) (old new : List (Grouped ℕ)) →
+    IsKeptAt labels n kept →
+    group ≡ group_at stops kept.rides kept.stop.0 →
+    old ≡ list_below n (numbered stops labels) →
+    new ≡ old ++ record { group = group; item = n } ∷ [] →
+    new ≡ list_below (n + 1) (numbered stops labels)
+member_more stops n labels kept group old new is at before push =
+    list_below_more n (numbered stops labels) old new _ before push
+    (ap (λ (g : ℕ). record { group = g; item = n }) (at ∙ sym (ap (λ o. option_map_or (group_of_label stops) o 0) is.is)))
 
 -- what holds between the items of members holds between these
 pairs_of_items : (ms : List (Grouped ℕ)) → AllPairs (λ (a b : Grouped ℕ). a.item ≢ b.item) ms → AllPairs (λ m n. m ≢ n) (map (λ (m : Grouped ℕ). m.item) ms)
