@@ -94,6 +94,29 @@ fn places_of(
         .collect(alloc)
 }
 
+// The table of a text's records, of which none was read yet, where they are at most so many data rows.
+fn table_of(
+    alloc: Global,
+    records: &mut Records<&[u8]>,
+    max_rows: u32,
+) -> Result<Option<Table>, AllocError>
+    requires { max_rows ≤ row_limit }
+    ensures { IfOk result (λ table. (text : List ℕ) → StandsBehind (λ s. Some s.now) (Some text) [] records.old → table ≡ when (nat_le (row_count (table_of_bytes text)) max_rows) (table_of_bytes text)) }
+{
+    let mut fields = Groups::empty(alloc);
+    let mut ends = Vec::new(alloc);
+    // The header, the rows, and one record more, which is one too many.
+    for _ in 0..u64::from(max_rows) + 2 {
+        match records.next() {
+            Ok(true) => push_record(&mut fields, &mut ends, records)?,
+            Ok(false) => return Ok(Some(Table::of(alloc, fields, ends)?)),
+            // A read over bytes in memory fails for want of memory alone.
+            Err(_) => return Err(AllocError),
+        }
+    }
+    Ok(None)
+}
+
 // The table of a file's bytes, where it has at most so many data rows.
 pub(crate) fn table_within(
     alloc: Global,
@@ -104,18 +127,7 @@ pub(crate) fn table_within(
     ensures { IfOk result (λ table. table ≡ when (nat_le (row_count (table_of_bytes text.now)) max_rows) (table_of_bytes text.now)) }
 {
     let mut records = Records::of(alloc, text);
-    let mut fields = Groups::empty(alloc);
-    let mut ends = Vec::new(alloc);
-    // The header, the rows, and one record more, which is one too many.
-    for _ in 0..u64::from(max_rows) + 2 {
-        match records.next() {
-            Ok(true) => push_record(&mut fields, &mut ends, &records)?,
-            Ok(false) => return Ok(Some(Table::of(alloc, fields, ends)?)),
-            // A read over bytes in memory fails for want of memory alone.
-            Err(_) => return Err(AllocError),
-        }
-    }
-    Ok(None)
+    table_of(alloc, &mut records, max_rows)
 }
 
 /// Whether a file's bytes have a record. No more than two are read.
