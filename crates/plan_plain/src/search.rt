@@ -10,7 +10,7 @@ ghost use Rattle.feed_rows.specs.Legs.{leg_facts, legs_of};
 ghost use Rattle.fare_price.specs.Prices.{terms};
 ghost use Rattle.feed_timetable.specs.Standings.{stand_of};
 ghost use Rattle.plan_plain.specs.Paths.{no_ride, with_ride};
-ghost use Rattle.plan_plain.specs.Searches.{AddsEnd, IsBest, IsCheapest, IsEarliestEnd, HasRides, GoesOn, Gains, StartsAt, IsSearched};
+ghost use Rattle.plan_plain.specs.Searches.{AddsEnd, IsCheapest, IsEarliestEnd, HasRides, GoesOn, Gains, StartsAt, IsSearched};
 ghost use Rattle.plan_rides.specs.Asked.{asked};
 ghost use Rattle.plan_rides.specs.InTime.{HasCaught, IsRight, IsUsualQuery, IsWithinWindow};
 ghost use Rattle.transit_base.specs.declared.moments.Moment.{Moment};
@@ -25,7 +25,7 @@ use pareto_front::Front;
 use plan_rides::{CaughtRide, Rides};
 use std::alloc::{AllocError, Global};
 use std::marker::Model;
-use transit_base::{Moment, StopId};
+use transit_base::{Moment, Secs, StopId};
 
 /// Where and when a journey ends.
 #[derive(Clone, Copy)]
@@ -35,64 +35,24 @@ struct End {
 }
 
 /// A query over a timetable, with what is computed once for it. Contracts see it as the feed and the query.
+#[derive(Drop)]
 struct Search<'s, 'f> {
-    rides: Rides<'s, 'f>,
-    timeframes: Timeframes,
-    /// The fares for the query's rider.
-    fares: RiderFares<'s, 'f>,
-}
-
-// Written out, so that what holds one needn't look into it to let go of it.
-impl<'s, 'f> Drop for Search<'s, 'f> {
-    fn drop(self) {
-        let Search {
-            rides: _,
-            timeframes: _,
-            fares: _,
-        } = self;
-    }
+    rides: &'s Rides<'s, 'f>,
+    timeframes: &'s Timeframes,
 }
 
 impl<'s, 'f> Model for Search<'s, 'f> {
-    ghost use Rattle.std.specs.Prelude.{◌≡◌};
-    ghost use Rattle.fare_price.specs.Prices.{terms};
     ghost use Rattle.fare_timeframes.specs.BuiltTimeframes.{AreTimeframesOf};
     ghost use Rattle.plan_rides.specs.Asked.{Asked};
 
     ghost Value = { Asked };
 
-    ghost view = { λ s. s.rides };
+    ghost view = { λ s. s.rides.now };
 
-    ghost invariant = { λ s. AreTimeframesOf s.rides.feed s.timeframes × (s.fares ≡ terms s.rides.feed s.rides.query.rider) };
+    ghost invariant = { λ s. AreTimeframesOf s.rides.now.feed s.timeframes.now };
 }
 
 impl<'s, 'f> Search<'s, 'f> {
-    // The search for the query over the timetable, with the fares of its feed.
-    fn new(
-        alloc: Global,
-        timetable: &'s Timetable<'f>,
-        fares: &'s Fares<'f>,
-        query: &'s Query,
-    ) -> Result<Search<'s, 'f>, AllocError>
-        requires usual { IsUsualQuery query.now }
-        requires same { fares.now ≡ timetable.now }
-        ensures { IfOk result (λ search. search ≡ asked timetable.now query.now) }
-    {
-        let rides = Rides::of(alloc, timetable, query)?;
-        let timeframes = Timeframes::between(
-            alloc,
-            timetable.feed(),
-            query.departure,
-            rides.deadline(),
-        )?;
-        let fares = RiderFares::of(alloc, fares, query.rider)?;
-        Ok(Search {
-            rides,
-            timeframes,
-            fares,
-        })
-    }
-
     // The greatest number of rides.
     fn limit(&self) -> u8
         ensures is { result ≡ self.now.query.rides }
@@ -135,13 +95,6 @@ impl<'s, 'f> Search<'s, 'f> {
         self.rides.next(alloc, standing)
     }
 
-    // No ride is taken yet.
-    fn no_path<'p>(&'p self, alloc: Global) -> Path<'p, 's, 'f>
-        ensures { result ≡ no_ride (terms self.now.feed self.now.query.rider) }
-    {
-        Path::empty(alloc, &self.fares)
-    }
-
     // A choice of least price for the rides of the path; none where no choice pays them.
     fn price_of(&self, alloc: Global, path: &Path) -> Result<Option<Priced>, AllocError>
         requires legs { legs_of self.now.feed path.now.rides ≡ Some path.now.legs }
@@ -181,44 +134,7 @@ impl<'s, 'f> Search<'s, 'f> {
         earliest
     }
 
-    // The best entry with the rides of the path; none where there is none.
-    fn best(
-        &self,
-        alloc: Global,
-        first: StopId,
-        standing: Standing,
-        path: &Path,
-    ) -> Result<Option<Entry>, AllocError>
-        requires searched { IsSearched self.now.feed self.now.query first (stand_of standing) path.now }
-        requires few { length path.now.rides ≤ self.now.query.rides }
-        ensures { IfOk result (IsBest self.now.feed self.now.query first path.now.rides) }
-    {
-        let _limit = self.limit();
-        let Some(end) = self.earliest_end(standing) else {
-            return Ok(None);
-        };
-        let Some(priced) = self.price_of(alloc, path)? else {
-            return Ok(None);
-        };
-        let rides = path.rides(alloc)?;
-        let triple = Triple {
-            arrival: end.arrival,
-            rides: path.len() as u8,
-            price: priced.sum,
-        };
-        let journey = Journey {
-            first,
-            last: end.last,
-            rides,
-        };
-        Ok(Some(Entry {
-            triple,
-            journey,
-            choice: priced.choice,
-        }))
-    }
-
-    // Offers the best entry with the rides of the path.
+    // Offers the best entry with the rides of the path, where there is one.
     fn offer(
         &self,
         alloc: Global,
@@ -231,13 +147,30 @@ impl<'s, 'f> Search<'s, 'f> {
         requires few { length path.now.rides ≤ self.now.query.rides }
         ensures { OnOk result (Gains self.now.feed self.now.query (HasRides self.now.feed self.now.query first path.now.rides) front.old front.new) }
     {
-        match self.best(alloc, first, standing, path)? {
-            Some(entry) => {
-                front.offer(entry)?;
-                Ok(())
-            }
-            None => Ok(()),
-        }
+        let _limit = self.limit();
+        let Some(end) = self.earliest_end(standing) else {
+            return Ok(());
+        };
+        let Some(priced) = self.price_of(alloc, path)? else {
+            return Ok(());
+        };
+        let rides = path.rides(alloc)?;
+        let triple = Triple {
+            arrival: end.arrival,
+            rides: path.len() as u8,
+            price: priced.sum,
+        };
+        let journey = Journey {
+            first,
+            last: end.last,
+            rides,
+        };
+        front.offer(Entry {
+            triple,
+            journey,
+            choice: priced.choice,
+        })?;
+        Ok(())
     }
 
     // Whether entries may go on from here with at most so many rides more.
@@ -330,12 +263,13 @@ impl<'s, 'f> Search<'s, 'f> {
         Ok(())
     }
 
-    // The exact answer to the query.
-    fn entries(&self, alloc: Global) -> Result<Vec<Entry>, AllocError>
+    // The exact answer to the query, by the fares for its rider.
+    fn entries(&self, alloc: Global, fares: &RiderFares) -> Result<Vec<Entry>, AllocError>
+        requires { fares.now ≡ terms self.now.feed self.now.query.rider }
         ensures exact { IfOk result (λ entries. IsExactAnswer self.now.feed self.now.query entries.items) }
         ensures covers { IfOk result (λ entries. CoversOffers self.now.feed self.now.query entries.items) }
     {
-        let mut path = self.no_path(alloc);
+        let mut path = Path::empty(alloc, fares);
         let mut front = Front::empty(alloc);
         match self.offer_all(alloc, &mut path, &mut front) {
             Ok(()) => Ok(front.into_items()),
@@ -358,25 +292,51 @@ pub fn plain_entries(
     ensures covers { IfOk result (λ entries. CoversOffers timetable.now query.now entries.items) }
 {
     match Fares::build(alloc, timetable.feed()) {
-        Ok(fares) => entries_by_fares(alloc, timetable, &fares, query),
+        Ok(fares) => entries_by_fares(alloc, &fares, timetable, query),
         Err(AllocError) => Err(AllocError),
     }
 }
 
 // The exact answer to a query, by the fares of its feed.
-fn entries_by_fares<'s, 'f>(
+fn entries_by_fares(
     alloc: Global,
-    timetable: &'s Timetable<'f>,
-    fares: &'s Fares<'f>,
-    query: &'s Query,
+    fares: &Fares,
+    timetable: &Timetable,
+    query: &Query,
 ) -> Result<Vec<Entry>, AllocError>
     requires usual { IsUsualQuery query.now }
     requires same { fares.now ≡ timetable.now }
     ensures exact { IfOk result (λ entries. IsExactAnswer timetable.now query.now entries.items) }
     ensures covers { IfOk result (λ entries. CoversOffers timetable.now query.now entries.items) }
 {
-    match Search::new(alloc, timetable, fares, query) {
-        Ok(search) => search.entries(alloc),
+    match RiderFares::of(alloc, fares, query.rider) {
+        Ok(fares) => entries_for_rider(alloc, &fares, timetable, query),
+        Err(AllocError) => Err(AllocError),
+    }
+}
+
+// The exact answer to a query, by the fares for its rider.
+fn entries_for_rider(
+    alloc: Global,
+    fares: &RiderFares,
+    timetable: &Timetable,
+    query: &Query,
+) -> Result<Vec<Entry>, AllocError>
+    requires usual { IsUsualQuery query.now }
+    requires same { fares.now ≡ terms timetable.now query.now.rider }
+    ensures exact { IfOk result (λ entries. IsExactAnswer timetable.now query.now entries.items) }
+    ensures covers { IfOk result (λ entries. CoversOffers timetable.now query.now entries.items) }
+{
+    let deadline = query.departure.plus(Secs(query.window));
+    let timeframes = Timeframes::between(alloc, timetable.feed(), query.departure, deadline)?;
+    match Rides::of(alloc, timetable, query) {
+        Ok(rides) => {
+            let search = Search {
+                rides: &rides,
+                timeframes: &timeframes,
+            };
+            search.entries(alloc, fares)
+        }
         Err(AllocError) => Err(AllocError),
     }
 }
