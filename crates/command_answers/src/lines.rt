@@ -1,5 +1,5 @@
 //! The lines that are written.
-ghost use Rattle.std.specs.Prelude.{◌≡◌, IfOk, string_bytes};
+ghost use Rattle.std.specs.Prelude.{◌≡◌, IfOk, OnOk, string_bytes};
 ghost use Rattle.feed_rows.specs.CommandTexts.{usage_line, refused_line, place_text, check_text, stats_line};
 ghost use Rattle.feed_rows.specs.UsageFaults.{usage_argument, stop_word_text};
 ghost use Rattle.command_answers.specs.Written.{WritesLines};
@@ -74,11 +74,10 @@ pub fn refused_line_of(alloc: Global, fault: FeedFault) -> Result<String, AllocE
     format!(in alloc; "refused\t{number}\t{name}\t{file}\t{row}\t{column}\n")
 }
 
-/// The line of `check` for an accepted feed: how many rows its main files have.
-pub fn check_line_of(alloc: Global, feed: &Feed) -> Result<Line, AllocError>
-    ensures { IfOk result (λ line. line ≡ check_text feed.now) }
+// Makes the line tell how many rows the main files of an accepted feed have.
+fn write_counts(line: &mut Line, feed: &Feed) -> Result<(), AllocError>
+    ensures { OnOk result (line.new ≡ check_text feed.now) }
 {
-    let mut line = Line::empty(alloc);
     line.start(b"accepted")?;
     line.number(feed.stops.items().len() as u64)?;
     line.number(feed.routes.items().len() as u64)?;
@@ -87,6 +86,15 @@ pub fn check_line_of(alloc: Global, feed: &Feed) -> Result<Line, AllocError>
     line.number(feed.leg_rules.items().len() as u64)?;
     line.number(feed.transfer_rules.items().len() as u64)?;
     line.end()?;
+    Ok(())
+}
+
+/// The line of `check` for an accepted feed: how many rows its main files have.
+pub fn check_line_of(alloc: Global, feed: &Feed) -> Result<Line, AllocError>
+    ensures { IfOk result (λ line. line ≡ check_text feed.now) }
+{
+    let mut line = Line::empty(alloc);
+    write_counts(&mut line, feed)?;
     Ok(line)
 }
 

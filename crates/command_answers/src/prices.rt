@@ -28,6 +28,25 @@ fn price_text(alloc: Global, feed: &Feed, query: &PriceQuery) -> Result<Text, Al
     price_lines_of(alloc, feed, query.rides.len(), &priced.choice, priced.sum)
 }
 
+// What the price of rides answers, over the timetable of the feed.
+fn outcome_over(
+    alloc: Global,
+    timetable: &Timetable,
+    words: &PriceWords,
+) -> Result<Outcome, AllocError>
+    requires usual { AreUsualRides words.now.rides }
+    ensures { IfOk result (IsOutcome (task_by (Task.Prices timetable.now) (price_query_of timetable.now (price_request words.now)))) }
+{
+    match price_query_of(alloc, timetable, words) {
+        Ok(query) => {
+            let text = price_text(alloc, timetable.feed(), &query)?;
+            Ok(answered(text))
+        }
+        Err(PriceQueryError::Usage(fault)) => refused(alloc, Refusal::Usage(fault)),
+        Err(PriceQueryError::NoMemory) => Err(AllocError),
+    }
+}
+
 /// What the price of rides answers.
 ///
 /// # Errors
@@ -36,12 +55,8 @@ pub fn price_outcome(alloc: Global, feed: &Feed, words: &PriceWords) -> Result<O
     requires usual { AreUsualRides words.now.rides }
     ensures { IfOk result (IsOutcome (task_by (Task.Prices feed.now) (price_query_of feed.now (price_request words.now)))) }
 {
-    let timetable = Timetable::build(alloc, feed)?;
-    let query = match price_query_of(alloc, &timetable, words) {
-        Ok(query) => query,
-        Err(PriceQueryError::Usage(fault)) => return refused(alloc, Refusal::Usage(fault)),
-        Err(PriceQueryError::NoMemory) => return Err(AllocError),
-    };
-    let text = price_text(alloc, feed, &query)?;
-    Ok(answered(text))
+    match Timetable::build(alloc, feed) {
+        Ok(timetable) => outcome_over(alloc, &timetable, words),
+        Err(AllocError) => Err(AllocError),
+    }
 }

@@ -39,6 +39,8 @@ pub fn price_of(
     ensures { IfOk result (IsLeastOfRides feed.now (rides_of query.now.rides.items) query.now.rider) }
 {
     let legs = legs_of(alloc, feed, query.rides.as_slice())?;
-    let fares = Fares::build(alloc, feed)?;
-    price(alloc, &fares, legs.as_slice(), query.rider)
+    match Fares::build(alloc, feed) {
+        Ok(fares) => price(alloc, &fares, legs.as_slice(), query.rider),
+        Err(AllocError) => Err(AllocError),
+    }
 }

@@ -13,20 +13,20 @@ pub price-requires : goal.price-requires
 price-requires c =
     let many = legs_many c.args.feed.now c.as_slice.result.now c.in_ok-legs.legs.items c.in_ok-legs.ensures in
     let rides = ap length c.as_slice.ensures.value in
-    let legs = ap length c.as_slice-2.ensures.value in
+    let legs = ap length c.as_slice-in-Ok.ensures.value in
     let few = c.requires.few in
     record { few = omega (arith, many, rides, legs, few) }
 
-pub returns : goal.returns
-returns c =
+pub returns-in-Ok : goal.returns-in-Ok
+returns-in-Ok c =
     let feed = c.args.feed.now in
     let rider = c.args.query.now.rider in
     let named = c.as_slice.result.now in
     let legs = c.in_ok-legs.legs.items in
     IfOk-weaker c.price.result _ _
     (λ priced least.
-    let of_feed = subst (λ (f : FeedRows). IsLeastOrNone f c.as_slice-2.result.now rider priced) c.in_ok-fares.ensures least in
-    let of_legs = subst (λ (ls : List LegFacts). IsLeastOrNone feed ls rider priced) c.as_slice-2.ensures.value of_feed in
+    let of_feed = subst (λ (f : FeedRows). IsLeastOrNone f c.as_slice-in-Ok.result.now rider priced) c.in-Ok.ensures least in
+    let of_legs = subst (λ (ls : List LegFacts). IsLeastOrNone feed ls rider priced) c.as_slice-in-Ok.ensures.value of_feed in
     subst (λ (ns : List NamedRide). IsLeastOfRides feed (rides_of ns) rider priced) c.as_slice.ensures.value
     (least_of_legs feed (rides_of named) legs rider priced c.in_ok-legs.ensures of_legs))
     c.price.ensures
