@@ -2,7 +2,7 @@
 use Rattle.std.proofs.Common.{◌≡◌, ◌∙◌, ap, arith, ℕ, Bool, true, false, List, [], ◌∷◌, ◌++◌, length, map, Option, refl, sym, subst}
 use Rattle.std.proofs.lemmas.Option.{same_Some}
 use Rattle.std.proofs.lemmas.List.{get_or-map, length-map}
-use Rattle.std.specs.Prelude.{Any, IsTrue, Some, None, Ok, IfSome}
+use Rattle.std.specs.Prelude.{Any, IsTrue, Some, None, Ok, Err, IfSome}
 use Rattle.feed_rows.specs.FeedRows.{FeedRows}
 use Rattle.feed_files.specs.HeldFiles.{HeldFile, held}
 use Rattle.feed_rows.specs.GeneratedFeed.{generated_plan}
@@ -17,14 +17,18 @@ use Rattle.feed_rows.specs.Queries.{query_of}
 use Rattle.feed_rows.specs.Requests.{PlanRequest, Request}
 use Rattle.feed_rows.specs.declared.fares.Entry.{Entry}
 use Rattle.feed_rows.specs.declared.journeys.Query.{Query}
+use Rattle.feed_files.specs.declared.faults.FeedFault.{FeedFault}
 use Rattle.feed_files.specs.declared.names.FileName.{FileName}
+use Rattle.plan_words.specs.Words.{asked_of}
 use Rattle.feed_laws.proofs.GeneratedLaws.{exact_triples}
 use Rattle.folder_io.specs.FolderCalls.{Contents, FolderState}
 use Rattle.folder_io.proofs.LogLaws.{makes_none}
 use Rattle.feed_check.specs.LoadErrors.{StopsReading}
 use Rattle.ticket_explain.specs.CommandLines.{gen_lines}
 use Rattle.round_table.specs.Tables.{CoversAllOffers}
-use Rattle.command_answers.specs.Due.{Task, task_by, task_of, AreTableLines, DoTask, IsDue}
+use Rattle.command_answers.specs.Due.{Task, task_by, task_of, AreTableLines, DoTask, IsDue, IsDueOver}
+use Rattle.command_answers.specs.declared.refusal.Refusal.TheVariants as refusal
+use Rattle.plan_app.specs.Made.{IsFeedFor, IsFaultFor}
 use Rattle.plan_app.specs.Run.{ReadsIf}
 use Rattle.command_answers.specs.declared.status.Status.{Status}
 use Rattle.command_answers.specs.declared.status.Status.TheVariants as status
@@ -40,6 +44,24 @@ pub read_stops : (asks : Bool) (folder later : FolderState) → ReadsIf asks fol
 read_stops true folder later all = record { counts = all.counts; opens = (18, all.opens) }
 read_stops false folder later same =
     subst (StopsReading folder) (sym same) (record { counts = refl; opens = (0, makes_none folder.opens) })
+
+-- ---- what is due over a folder, for words that ask for a request
+
+pub due_over : (folder : FolderState) (words : List (List ℕ)) (request : Request) (feed : FeedRows) (told : Status) (text : List (List ℕ))
+    → IsFeedFor folder request feed → Ok request ≡ asked_of words → IsDue (task_of feed request) told text → IsDueOver folder words told text
+due_over folder words request feed told text of asked is = record {
+  files = of.files;
+  gives = of.gives;
+  is_due = rw (← asked, of.accepted, ← of.is_feed) is;
+}
+
+pub refused_over : (folder : FolderState) (words : List (List ℕ)) (request : Request) (fault : FeedFault) (told : Status) (text : List (List ℕ))
+    → IsFaultFor folder request fault → Ok request ≡ asked_of words → IsDue (Err (refusal.Feed fault)) told text → IsDueOver folder words told text
+refused_over folder words request fault told text of asked is = record {
+  files = of.files;
+  gives = of.gives;
+  is_due = rw (← asked, of.is_first) is;
+}
 
 -- ---- what is due for a task
 

@@ -1,11 +1,11 @@
 -- What comes of a command before anything is written.
-use Rattle.std.specs.Prelude.{◌≡◌, ℕ, List, None, Some, Ok, IsTrue}
+use Rattle.std.specs.Prelude.{◌≡◌, ℕ, List, None, Some, Result, Ok, IsTrue}
 use Rattle.folder_io.specs.FolderCalls.{FolderState}
 use Rattle.feed_check.specs.LoadErrors.{FailsReading, StopsReading}
-use Rattle.plan_words.specs.Words.{asked_of}
 use Rattle.feed_rows.specs.FeedRows.{FeedRows}
 use Rattle.feed_files.specs.HeldFiles.{HeldFile}
 use Rattle.feed_rows.specs.Requests.{Request}
+use Rattle.feed_rows.specs.declared.usage.UsageFault.{UsageFault}
 use Rattle.feed_files.specs.declared.faults.FeedFault.{FeedFault}
 use Rattle.feed_files.specs.declared.names.FileName.{FileName}
 use Rattle.feed_faults.specs.AcceptedFeed.{feed_of}
@@ -24,9 +24,9 @@ abbrev pub IsMade : FolderState → List (List ℕ) → Outcome → Type 0
 IsMade folder words out = IsDueOver folder words out.told out.text
 
 -- why nothing was made
-abbrev pub Stops : Stop → List (List ℕ) → FolderState → FolderState → Type 0
-Stops stop.ReadFault words folder later = IsTrue (asks_folder (asked_of words)) × FailsReading folder later
-Stops stop.NoMemory words folder later = StopsReading folder later
+abbrev pub Stops : Stop → Result Request UsageFault → FolderState → FolderState → Type 0
+Stops stop.ReadFault asked folder later = IsTrue (asks_folder asked) × FailsReading folder later
+Stops stop.NoMemory asked folder later = StopsReading folder later
 
 -- the feed is that of the files that a request asks about, which have no fault; the folder's are among them as it gave them
 pub record IsFeedFor (folder : FolderState) (request : Request) (feed : FeedRows) : Type 0 where

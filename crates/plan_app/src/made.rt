@@ -1,5 +1,5 @@
 //! What a command answers over a folder.
-ghost use Rattle.std.specs.Prelude.{◌≡◌, false, None, IfOk, IfErr, OnOk, Ok};
+ghost use Rattle.std.specs.Prelude.{◌≡◌, ℕ, List, false, None, IfOk, IfErr, OnOk, Ok};
 ghost use Rattle.feed_faults.specs.AcceptedFeed.{feed_of};
 ghost use Rattle.feed_faults.specs.FirstFault.{first_fault};
 ghost use Rattle.feed_rows.specs.GeneratedFeed.{generated};
@@ -48,6 +48,22 @@ fn feed_for<F: Folder>(alloc: Global, asked: &Asked, folder: &mut F) -> Result<F
     }
 }
 
+// What a request answers over a folder, whichever words ask for it.
+fn made_for<F: Folder>(alloc: Global, asked: &Asked, folder: &mut F) -> Result<Outcome, Stop>
+    requires { IsUsualRequest asked.now }
+    ensures made { IfOk result (λ outcome. (words : List (List ℕ)) → Ok (asked_request asked.now) ≡ asked_of words → IsMade (F.state folder.old) words outcome) }
+    ensures ok { OnOk result (Reads (Ok (asked_request asked.now)) (F.state folder.old) (F.state folder.new)) }
+    ensures err { IfErr result (λ stop. Stops stop (Ok (asked_request asked.now)) (F.state folder.old) (F.state folder.new)) }
+    ensures untouched { asks_folder (Ok (asked_request asked.now)) ≡ false → folder.new ≡ folder.old }
+{
+    match feed_for(alloc, asked, folder) {
+        Ok(feed) => Ok(outcome_of(alloc, &feed, asked)?),
+        Err(LoadError::ReadFault) => Err(Stop::ReadFault),
+        Err(LoadError::Fault(fault)) => Ok(refused(alloc, Refusal::Feed(fault))?),
+        Err(LoadError::NoMemory) => Err(Stop::NoMemory),
+    }
+}
+
 /// What the words answer over a folder: they are judged first, then the files are read, each once and in order, then they
 /// are judged, and then the journeys are planned.
 ///
@@ -60,19 +76,12 @@ pub(crate) fn made<F: Folder>(
 ) -> Result<Outcome, Stop>
     ensures made { IfOk result (IsMade (F.state folder.old) words.now) }
     ensures ok { OnOk result (Reads (asked_of words.now) (F.state folder.old) (F.state folder.new)) }
-    ensures err { IfErr result (λ stop. Stops stop words.now (F.state folder.old) (F.state folder.new)) }
+    ensures err { IfErr result (λ stop. Stops stop (asked_of words.now) (F.state folder.old) (F.state folder.new)) }
     ensures untouched { asks_folder (asked_of words.now) ≡ false → folder.new ≡ folder.old }
 {
-    let asked = match asked_of(words) {
-        Ok(asked) => asked,
-        Err(WordsError::Usage(fault)) => return Ok(refused(alloc, Refusal::Usage(fault))?),
-        Err(WordsError::NoMemory) => return Err(Stop::NoMemory),
-    };
-    let feed = match feed_for(alloc, &asked, folder) {
-        Ok(feed) => feed,
-        Err(LoadError::ReadFault) => return Err(Stop::ReadFault),
-        Err(LoadError::Fault(fault)) => return Ok(refused(alloc, Refusal::Feed(fault))?),
-        Err(LoadError::NoMemory) => return Err(Stop::NoMemory),
-    };
-    Ok(outcome_of(alloc, &feed, &asked)?)
+    match asked_of(words) {
+        Ok(asked) => made_for(alloc, &asked, folder),
+        Err(WordsError::Usage(fault)) => Ok(refused(alloc, Refusal::Usage(fault))?),
+        Err(WordsError::NoMemory) => Err(Stop::NoMemory),
+    }
 }
