@@ -67,9 +67,15 @@ impl BuildHasher for NameHash {
 }
 
 /// Names in the order of their first appearance, which is their numbers. Contracts see it as the list of names.
-#[derive(Drop)]
 pub struct Numbering<'t> {
     names: IndexSet<&'t [u8], NameHash>,
+}
+
+// Written out, so that what holds one needn't look into it to let go of it.
+impl<'t> Drop for Numbering<'t> {
+    fn drop(self) {
+        let Numbering { names: _ } = self;
+    }
 }
 
 impl<'t> Model for Numbering<'t> {
