@@ -60,37 +60,82 @@ impl<'t, C: CallTable> Source<'t, C> {
         Ok(rows)
     }
 
-    // The feed, with these rows of stop_times.txt.
+    // The rows of three files.
+    fn rows_of_three<First: FileRow, Second: FileRow, Third: FileRow>(
+        &self,
+        first: FileName,
+        second: FileName,
+        third: FileName,
+    ) -> Result<(ItemList<First>, ItemList<Second>, ItemList<Third>), AllocError>
+        requires files { (first ≡ First.file) × (second ≡ Second.file) × (third ≡ Third.file) }
+        requires kept { (has_table first ≡ true) × (has_table second ≡ true) × (has_table third ≡ true) }
+        ensures first { IfOk result (λ rows. rows.0 ≡ typed_rows (table_in self.now first) (First.row_in self.now)) }
+        ensures second { IfOk result (λ rows. rows.1 ≡ typed_rows (table_in self.now second) (Second.row_in self.now)) }
+        ensures third { IfOk result (λ rows. rows.2 ≡ typed_rows (table_in self.now third) (Third.row_in self.now)) }
+    {
+        Ok((
+            self.rows_of(first)?,
+            self.rows_of(second)?,
+            self.rows_of(third)?,
+        ))
+    }
+
+    // The feed, with these rows of stop_times.txt. Files are read in threes, since each way out lets go of what was read before.
     fn feed(&self, stop_times: StopTimeRows) -> Result<Feed, AllocError>
         requires related { AreRelated self.now }
         requires stop_times { stop_times ≡ typed_rows (table_in self.now file.StopTimes) (stop_time_row self.now) }
         ensures { IfOk result (λ feed. feed ≡ rows_of_tables self.now) }
     {
-        let fare_leg_rules = self.tables.get(FileName::FareLegRules);
+        let links = self.link_rows()?;
+        let leg_rules = self.rows_of(FileName::FareLegRules)?;
+        let transfer_rules = self.rows_of(FileName::FareTransferRules)?;
+        let trip_files = self.rows_of_three(FileName::Stops, FileName::Routes, FileName::Trips)?;
+        let day_files = self.rows_of_three(
+            FileName::Calendar,
+            FileName::CalendarDates,
+            FileName::Frequencies,
+        )?;
+        let area_files = self.rows_of_three(
+            FileName::Areas,
+            FileName::StopAreas,
+            FileName::Timeframes,
+        )?;
+        let product_files = self.rows_of_three(
+            FileName::RiderCategories,
+            FileName::FareMedia,
+            FileName::FareProducts,
+        )?;
+        let names = self.names.ids(self.alloc)?;
+        let (stops, routes, trips) = trip_files;
+        let (services, exceptions, frequencies) = day_files;
+        let (areas, stop_areas, timeframes) = area_files;
+        let (riders, media, products) = product_files;
+        let (service_names, network_names, frame_names, product_names, group_names) = names;
+        let leg_rule_table = self.tables.get(FileName::FareLegRules);
         let (currency, decimals) = self.currency();
         Ok(Feed {
-            stops: self.rows_of(FileName::Stops)?,
-            routes: self.rows_of(FileName::Routes)?,
-            trips: self.rows_of(FileName::Trips)?,
+            stops,
+            routes,
+            trips,
             stop_times,
-            services: self.rows_of(FileName::Calendar)?,
-            exceptions: self.rows_of(FileName::CalendarDates)?,
-            frequencies: self.rows_of(FileName::Frequencies)?,
-            links: self.link_rows()?,
-            areas: self.rows_of(FileName::Areas)?,
-            stop_areas: self.rows_of(FileName::StopAreas)?,
-            timeframes: self.rows_of(FileName::Timeframes)?,
-            riders: self.rows_of(FileName::RiderCategories)?,
-            media: self.rows_of(FileName::FareMedia)?,
-            products: self.rows_of(FileName::FareProducts)?,
-            leg_rules: self.rows_of(FileName::FareLegRules)?,
-            transfer_rules: self.rows_of(FileName::FareTransferRules)?,
-            service_names: self.names.services.ids(self.alloc)?,
-            network_names: self.names.networks.ids(self.alloc)?,
-            frame_names: self.names.frames.ids(self.alloc)?,
-            product_names: self.names.products.ids(self.alloc)?,
-            group_names: self.names.groups.ids(self.alloc)?,
-            has_priority: fare_leg_rules.has(ColumnName::RulePriority),
+            services,
+            exceptions,
+            frequencies,
+            links,
+            areas,
+            stop_areas,
+            timeframes,
+            riders,
+            media,
+            products,
+            leg_rules,
+            transfer_rules,
+            service_names,
+            network_names,
+            frame_names,
+            product_names,
+            group_names,
+            has_priority: leg_rule_table.has(ColumnName::RulePriority),
             currency,
             decimals,
         })

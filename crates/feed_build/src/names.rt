@@ -213,4 +213,23 @@ impl<'t> Names<'t> {
         self.products.add(tables, ColumnName::FareProductId)?;
         self.groups.add(tables, ColumnName::LegGroupId)
     }
+
+    /// The names of services, networks, timeframe groups, products and leg groups, as ids.
+    ///
+    /// # Errors
+    /// Want of memory.
+    pub fn ids(
+        &self,
+        alloc: Global,
+    ) -> Result<(NameList, NameList, NameList, NameList, NameList), AllocError>
+        ensures { IfOk result (λ ids. ids ≡ (self.now.services, self.now.networks, self.now.frames, self.now.products, self.now.groups)) }
+    {
+        Ok((
+            self.services.ids(alloc)?,
+            self.networks.ids(alloc)?,
+            self.frames.ids(alloc)?,
+            self.products.ids(alloc)?,
+            self.groups.ids(alloc)?,
+        ))
+    }
 }
