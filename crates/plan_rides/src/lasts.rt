@@ -1,9 +1,9 @@
 //! When the last rides depart from stops that get somewhere early enough: run by run, from the last call of each.
-ghost use Rattle.std.specs.Prelude.{◌≡◌, ◌<◌, ◌≤◌, ◌||◌, ◌&&◌, length, All, Contains, IfOk, true};
+ghost use Rattle.std.specs.Prelude.{◌≡◌, ◌<◌, ◌≤◌, ◌||◌, ◌&&◌, length, All, Contains, true};
 ghost use Rattle.plan_patterns.specs.Runs.{IsNear, moment_of};
 ghost use Rattle.plan_rides.specs.Departures.{HoldsRuns, IsRunOf};
 ghost use Rattle.plan_rides.specs.InTime.{IsUsualQuery};
-ghost use Rattle.plan_rides.specs.Lasts.{AddsLasts, AreAllLast, IsOfPatterns, IsOfRun, IsOfRuns, PutsLast, alights_early, boards_since};
+ghost use Rattle.plan_rides.specs.Lasts.{AddsLasts, IsOfPatterns, IsOfRun, IsOfRuns, PutsLast, alights_early, boards_since};
 ghost use Rattle.transit_base.specs.Limits.{most_time};
 
 use crate::departures::deadline;
@@ -12,7 +12,6 @@ use crate::sought::Sought;
 use feed_rows::{Call, Query};
 use feed_timetable::Timetable;
 use plan_patterns::{Patterns, Run};
-use std::alloc::{AllocError, Global};
 use transit_base::{Moment, StopId};
 
 // Whether riders may board the run at the call, no earlier than the query departs.
@@ -120,8 +119,8 @@ fn add_runs(
     }
 }
 
-// The same of the runs of all patterns.
-fn add_patterns(
+/// The same of the runs of all patterns.
+pub fn add_patterns(
     patterns: &Patterns,
     timetable: &Timetable,
     sought: &Sought,
@@ -137,26 +136,4 @@ fn add_patterns(
     for pattern in 0..patterns.count() {
         add_runs(timetable, query, latest, patterns.runs(pattern), lasts);
     }
-}
-
-/// When the last ride departs from each stop that gets somewhere early enough; none where none does. Each call of a run
-/// is looked at once.
-///
-/// # Errors
-/// Want of memory.
-pub fn last_departures(
-    alloc: Global,
-    patterns: &Patterns,
-    timetable: &Timetable,
-    sought: &Sought,
-    latest: &[Option<Moment>],
-) -> Result<Vec<Option<Moment>>, AllocError>
-    requires usual { IsUsualQuery sought.now.query }
-    requires held { HoldsRuns timetable.now sought.now patterns.now }
-    ensures { IfOk result (λ lasts. AreAllLast timetable.now sought.now latest.now lasts.items) }
-{
-    let stops = timetable.feed().stops.items().len();
-    let mut lasts = vec![in alloc; None; stops]?;
-    add_patterns(patterns, timetable, sought, latest, &mut lasts);
-    Ok(lasts)
 }

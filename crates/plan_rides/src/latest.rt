@@ -1,11 +1,10 @@
 //! How late one may be at each stop, so that one still gets on early enough.
-ghost use Rattle.std.specs.Prelude.{◌≡◌, ◌⊎◌, ℤ, ◌≤ℤ◌, ◌+ℤ◌, pos, true, length, IfOk};
+ghost use Rattle.std.specs.Prelude.{◌≡◌, ◌⊎◌, ℤ, ◌≤ℤ◌, ◌+ℤ◌, pos, true, length};
 ghost use Rattle.plan_rides.specs.InTime.{IsUsualQuery, is_by, is_early};
-ghost use Rattle.plan_rides.specs.Latest.{AreAllBefore, IsLatestBefore, latest_at};
+ghost use Rattle.plan_rides.specs.Latest.{IsLatestBefore, latest_at};
 
 use feed_rows::Query;
 use feed_timetable::Timetable;
-use std::alloc::{AllocError, Global};
 use transit_base::{Moment, Secs, StopId};
 
 /// Whether the moment is no later than this one; none is where there is none.
@@ -66,7 +65,7 @@ fn latest_at(latest: &[Option<Moment>], stop: StopId) -> Option<Moment>
 }
 
 /// How late one may stand at the stop, where one may be as late as this or walk to where one may be so late.
-fn latest_from(
+pub fn latest_from(
     timetable: &Timetable,
     query: &Query,
     stop: StopId,
@@ -86,28 +85,4 @@ fn latest_from(
         );
     }
     latest
-}
-
-/// How late one may stand at each stop, where one may be as late as this or walk to where one may be so late.
-///
-/// # Errors
-/// Want of memory.
-pub fn latest_before(
-    alloc: Global,
-    timetable: &Timetable,
-    query: &Query,
-    latest: &[Option<Moment>],
-    lasts: &[Option<Moment>],
-) -> Result<Vec<Option<Moment>>, AllocError>
-    requires usual { IsUsualQuery query.now }
-    requires many { length latest.now ≡ length timetable.now.stops }
-    ensures { IfOk result (λ new. AreAllBefore timetable.now query.now latest.now lasts.now new.items) }
-{
-    let stops = timetable.feed().stops.items().len();
-    let mut new = Vec::with_capacity(alloc, stops)?;
-    for stop in 0..stops {
-        let moment = latest_from(timetable, query, StopId(stop as u32), latest[stop], lasts);
-        new.push(moment)?;
-    }
-    Ok(new)
 }

@@ -91,52 +91,44 @@ fn add_departure(
 }
 
 /// Where riders may board the runs of a query's patterns. Contracts see the feed, the query and the patterns.
-#[derive(Drop)]
 pub struct Positions<'s, 'f> {
-    timetable: &'s Timetable<'f>,
-    sought: &'s Sought<'s>,
-    query: &'s Query,
-    patterns: &'s Patterns<'s, 'f>,
+    pub(crate) timetable: &'s Timetable<'f>,
+    pub(crate) query: &'s Query,
+    pub(crate) sought: Sought,
+    pub(crate) patterns: Patterns<'s, 'f>,
     /// Where and when the patterns serve each stop.
-    served: &'s Groups<TimedServing>,
+    pub(crate) served: Groups<TimedServing>,
+}
+
+// Written out, so that what holds one needn't look into it to let go of it.
+impl<'s, 'f> Drop for Positions<'s, 'f> {
+    fn drop(self) {
+        let Positions {
+            timetable: _,
+            query: _,
+            sought: _,
+            patterns: _,
+            served: _,
+        } = self;
+    }
 }
 
 impl<'s, 'f> Model for Positions<'s, 'f> {
     ghost use Rattle.std.specs.Prelude.{◌≡◌};
     ghost use Rattle.plan_rides.specs.Boarding.{AreMarks};
+    ghost use Rattle.plan_rides.specs.Departures.{HoldsRuns};
     ghost use Rattle.plan_rides.specs.InTime.{IsUsualQuery};
     ghost use Rattle.plan_rides.specs.Reached.{Positioned, positioned};
     ghost use Rattle.plan_rides.specs.Served.{AreTimedStops};
 
     ghost Value = { Positioned };
 
-    ghost view = { λ s. positioned s.timetable.now s.query.now s.patterns.now.patterns };
+    ghost view = { λ s. positioned s.timetable.now s.query.now s.patterns.patterns };
 
-    ghost invariant = { λ s. IsUsualQuery s.query.now × AreTimedStops s.timetable.now s.sought.now s.patterns.now s.served.now × (s.sought.now.query ≡ s.query.now) × AreMarks s.timetable.now s.sought.now };
+    ghost invariant = { λ s. IsUsualQuery s.query.now × AreTimedStops s.timetable.now s.sought s.patterns s.served × (s.sought.query ≡ s.query.now) × AreMarks s.timetable.now s.sought × HoldsRuns s.timetable.now s.sought s.patterns };
 }
 
 impl<'s, 'f> Positions<'s, 'f> {
-    /// The positions of the patterns that are sought for the query, which serve the stops so.
-    pub(crate) fn new(
-        timetable: &'s Timetable<'f>,
-        sought: &'s Sought<'s>,
-        patterns: &'s Patterns<'s, 'f>,
-        served: &'s Groups<TimedServing>,
-    ) -> Positions<'s, 'f>
-        requires usual { IsUsualQuery sought.now.query }
-        requires served { AreTimedStops timetable.now sought.now patterns.now served.now }
-        requires marks { AreMarks timetable.now sought.now }
-        ensures { result ≡ positioned timetable.now sought.now.query patterns.now.patterns }
-    {
-        Positions {
-            timetable,
-            sought,
-            query: sought.query(),
-            patterns,
-            served,
-        }
-    }
-
     // Appends the positions at a stop that the traveller gets to. One from which the last run has left by then, or the first
     // departs too late, is passed over.
     fn reach_stop(
@@ -231,7 +223,7 @@ impl<'s, 'f> Positions<'s, 'f> {
         let timetable = self.timetable;
         let query = self.query;
         let departures = Departures::since(
-            self.patterns,
+            &self.patterns,
             timetable,
             reached.stop,
             &reached.serving,

@@ -10,15 +10,13 @@ ghost use Rattle.plan_rides.specs.Latest.{AreLasts, IsOneMore};
 
 use crate::caught::CaughtRide;
 use crate::departures::{deadline, patterns_of};
-use crate::lasts::last_departures;
-use crate::latest::latest_before;
+use crate::lasts::add_patterns;
+use crate::latest::latest_from;
 use crate::positions::Positions;
-use crate::servings::{TimedServing, served_stops};
+use crate::servings::served_stops;
 use crate::sought::Sought;
 use feed_rows::Query;
 use feed_timetable::{Standing, Timetable};
-use item_groups::Groups;
-use plan_patterns::Patterns;
 use std::alloc::{AllocError, Global};
 use std::marker::Model;
 use transit_base::{Moment, StopId};
@@ -26,12 +24,7 @@ use transit_base::{Moment, StopId};
 /// The rides of a query over a timetable, by where they can be caught: by the patterns of its runs.
 /// Contracts see it as the feed and the query.
 pub struct Rides<'s, 'f> {
-    timetable: &'s Timetable<'f>,
-    query: &'s Query,
-    sought: Sought<'s>,
-    patterns: Patterns<'s, 'f>,
-    /// Where and when the patterns serve each stop.
-    served: Groups<TimedServing>,
+    positions: Positions<'s, 'f>,
     deadline: Moment,
 }
 
@@ -39,29 +32,21 @@ pub struct Rides<'s, 'f> {
 impl<'s, 'f> Drop for Rides<'s, 'f> {
     fn drop(self) {
         let Rides {
-            timetable: _,
-            query: _,
-            sought: _,
-            patterns: _,
-            served: _,
+            positions: _,
             deadline: _,
         } = self;
     }
 }
 
 impl<'s, 'f> Model for Rides<'s, 'f> {
-    ghost use Rattle.std.specs.Prelude.{◌≡◌};
     ghost use Rattle.plan_rides.specs.Asked.{Asked, asked};
-    ghost use Rattle.plan_rides.specs.Boarding.{AreMarks};
-    ghost use Rattle.plan_rides.specs.Departures.{HoldsRuns};
     ghost use Rattle.plan_rides.specs.InTime.{IsUsualQuery, IsDeadline};
-    ghost use Rattle.plan_rides.specs.Served.{AreTimedStops};
 
     ghost Value = { Asked };
 
-    ghost view = { λ s. asked s.timetable.now s.query.now };
+    ghost view = { λ s. asked s.positions.feed s.positions.query };
 
-    ghost invariant = { λ s. IsUsualQuery s.query.now × IsDeadline s.query.now s.deadline.0 × AreTimedStops s.timetable.now s.sought s.patterns s.served × (s.sought.query ≡ s.query.now) × AreMarks s.timetable.now s.sought × HoldsRuns s.timetable.now s.sought s.patterns };
+    ghost invariant = { λ s. IsUsualQuery s.positions.query × IsDeadline s.positions.query s.deadline.0 };
 }
 
 impl<'s, 'f> Rides<'s, 'f> {
@@ -82,11 +67,13 @@ impl<'s, 'f> Rides<'s, 'f> {
             Ok(patterns) => {
                 let served = served_stops(alloc, &patterns, timetable, &sought)?;
                 Ok(Rides {
-                    timetable,
-                    query,
-                    sought,
-                    patterns,
-                    served,
+                    positions: Positions {
+                        timetable,
+                        query,
+                        sought,
+                        patterns,
+                        served,
+                    },
                     deadline: deadline(query),
                 })
             }
@@ -98,7 +85,7 @@ impl<'s, 'f> Rides<'s, 'f> {
     pub fn timetable(&self) -> &'s Timetable<'f>
         ensures { result.now ≡ self.now.feed }
     {
-        self.timetable
+        self.positions.timetable
     }
 
     /// The query.
@@ -106,7 +93,7 @@ impl<'s, 'f> Rides<'s, 'f> {
         ensures is { result.now ≡ self.now.query }
         ensures usual { IsUsualQuery self.now.query }
     {
-        self.query
+        self.positions.query
     }
 
     /// The latest moment at which a journey may end.
@@ -122,10 +109,10 @@ impl<'s, 'f> Rides<'s, 'f> {
         ensures within { IsWithinWindow self.now.query result.at.0 }
         ensures sound { IsSoundFeed self.now.feed }
     {
-        let _feed = self.timetable.feed();
+        let _feed = self.positions.timetable.feed();
         Standing {
             stop: first,
-            at: self.query.departure,
+            at: self.positions.query.departure,
             fresh: true,
         }
     }
@@ -136,7 +123,10 @@ impl<'s, 'f> Rides<'s, 'f> {
         requires { IsWithinWindow self.now.query standing.at.0 }
         ensures { option_map (λ (moment : Moment). moment.0) result ≡ arrival_in_time self.now.feed self.now.query (stand_of standing) last }
     {
-        let arrival = self.timetable.end_arrival(self.query, standing, last)?;
+        let arrival = self
+            .positions
+            .timetable
+            .end_arrival(self.positions.query, standing, last)?;
         if arrival.0 > self.deadline.0 {
             return None;
         }
@@ -144,13 +134,13 @@ impl<'s, 'f> Rides<'s, 'f> {
     }
 
     /// Where riders may board.
-    pub fn positions<'r>(&'r self) -> Positions<'r, 'f>
-        ensures feed { result.feed ≡ self.now.feed }
-        ensures query { result.query ≡ self.now.query }
+    pub fn positions(&self) -> &Positions<'s, 'f>
+        ensures feed { result.now.feed ≡ self.now.feed }
+        ensures query { result.now.query ≡ self.now.query }
         ensures sound { IsSoundFeed self.now.feed }
     {
-        let _feed = self.timetable.feed();
-        Positions::new(self.timetable, &self.sought, &self.patterns, &self.served)
+        let _feed = self.positions.timetable.feed();
+        &self.positions
     }
 
     /// When the last ride departs from each stop that gets somewhere no later than the latest moment there; none exactly
@@ -166,7 +156,17 @@ impl<'s, 'f> Rides<'s, 'f> {
         requires { 1 < self.now.query.rides }
         ensures { IfOk result (λ lasts. AreLasts self.now.feed self.now.query latest.now lasts.items) }
     {
-        last_departures(alloc, &self.patterns, self.timetable, &self.sought, latest)
+        let positions = &self.positions;
+        let stops = positions.timetable.feed().stops.items().len();
+        let mut lasts = vec![in alloc; None; stops]?;
+        add_patterns(
+            &positions.patterns,
+            positions.timetable,
+            &positions.sought,
+            latest,
+            &mut lasts,
+        );
+        Ok(lasts)
     }
 
     /// How late one may stand at each stop, where one may be as late as this, or take one more ride first: by these last
@@ -184,8 +184,16 @@ impl<'s, 'f> Rides<'s, 'f> {
         requires lasts { AreLasts self.now.feed self.now.query latest.now lasts.now }
         ensures { IfOk result (λ new. IsOneMore self.now.feed self.now.query latest.now new.items) }
     {
-        let _feed = self.timetable.feed();
-        latest_before(alloc, self.timetable, self.query, latest, lasts)
+        let positions = &self.positions;
+        let timetable = positions.timetable;
+        let query = positions.query;
+        let stops = timetable.feed().stops.items().len();
+        let mut new = Vec::with_capacity(alloc, stops)?;
+        for stop in 0..stops {
+            let moment = latest_from(timetable, query, StopId(stop as u32), latest[stop], lasts);
+            new.push(moment)?;
+        }
+        Ok(new)
     }
 
     /// The rides that are caught from where one stands and end within the window.

@@ -14,49 +14,48 @@ use transit_base::StopId;
 
 /// A query, with marks of the stops at which its rides may board, so that no departures are listed from others.
 /// Contracts see it as these two.
-pub struct Sought<'q> {
-    query: &'q Query,
+pub struct Sought {
+    query: Query,
     /// By stop. A stop past their end counts as marked.
     marks: Vec<bool>,
 }
 
 // Written out, so that what holds one needn't look into it to let go of it.
-impl<'q> Drop for Sought<'q> {
+impl Drop for Sought {
     fn drop(self) {
         let Sought { query: _, marks: _ } = self;
     }
 }
 
-impl<'q> Model for Sought<'q> {
+impl Model for Sought {
     ghost use Rattle.plan_rides.specs.Boarding.{Seeking, seeking};
 
     ghost Value = { Seeking };
 
-    ghost view = { λ s. seeking s.query.now s.marks.items };
+    ghost view = { λ s. seeking s.query s.marks.items };
 }
 
-impl<'q> Sought<'q> {
+impl Sought {
     /// The query over the timetable. Where it has one ride alone, the stops are marked at which that may board.
     ///
     /// # Errors
     /// Want of memory.
-    pub fn new(
-        alloc: Global,
-        timetable: &Timetable,
-        query: &'q Query,
-    ) -> Result<Sought<'q>, AllocError>
+    pub fn new(alloc: Global, timetable: &Timetable, query: &Query) -> Result<Sought, AllocError>
         ensures query { IfOk result (λ sought. sought.query ≡ query.now) }
         ensures marks { IfOk result (λ sought. AreMarks timetable.now sought) }
     {
         let marks = marks_of(alloc, timetable, query)?;
-        Ok(Sought { query, marks })
+        Ok(Sought {
+            query: *query,
+            marks,
+        })
     }
 
     /// The query.
-    pub fn query(&self) -> &'q Query
+    pub fn query(&self) -> &Query
         ensures { result.now ≡ self.now.query }
     {
-        self.query
+        &self.query
     }
 
     /// Whether the stop is marked.

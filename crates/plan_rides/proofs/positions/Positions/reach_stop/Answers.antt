@@ -26,7 +26,7 @@ loop-k-preserved c =
     let stand = stand_of c.args.who.now.standing in
     let stop = c.args.stop in
     let seconds = c.in-Some.seconds in
-    let sought = c.self.inside.sought.now in
+    let sought = c.self.inside.sought in
     let served = c.get-served.result.now in
     let k = c.loop-k.k in
     let x : TimedServing =
@@ -37,7 +37,7 @@ loop-k-preserved c =
     let way = subst (λ (m : Positioned). way_to m.feed m.query stand stop ≡ Some seconds) c.self.view_is (sym c.in-Some.ensures) in
     let at = c.plus-earliest.ensures in
     let all = subst (λ (m : Positioned). AreTimed m.feed sought m.patterns stop.0 served) c.self.view_is
-    (subst (AreTimed c.self.inside.timetable.now sought c.self.inside.patterns.now.patterns stop.0) (sym c.get-served.ensures)
+    (subst (AreTimed c.self.inside.timetable.now sought c.self.inside.patterns.patterns stop.0) (sym c.get-served.ensures)
     (c.self.invariant.1.each stop.0)) in
     let timed = subst (λ q. IsTimed me.feed q me.patterns stop.0 (get_or served k x)) query (all.right k x c.loop-k-test.true) in
     elim c.if-is_open.branch [
@@ -56,11 +56,11 @@ returns c =
     let me = c.args.self.now in
     let stand = stand_of c.args.who.now.standing in
     let stop = c.args.stop in
-    let sought = c.self.inside.sought.now in
+    let sought = c.self.inside.sought in
     let served = c.get-served.result.now in
     let query = c.self.invariant.2 ∙ ap (λ (m : Positioned). m.query) c.self.view_is in
     let timed = subst (λ (m : Positioned). AreTimed m.feed sought m.patterns stop.0 served) c.self.view_is
-    (subst (AreTimed c.self.inside.timetable.now sought c.self.inside.patterns.now.patterns stop.0) (sym c.get-served.ensures)
+    (subst (AreTimed c.self.inside.timetable.now sought c.self.inside.patterns.patterns stop.0) (sym c.get-served.ensures)
     (c.self.invariant.1.each stop.0)) in
     let marks = subst (λ (m : Positioned). AreMarks m.feed sought) c.self.view_is c.self.invariant.3 in
     let may = subst (λ q. MayRide me.feed q stand) (sym query) c.requires.may in

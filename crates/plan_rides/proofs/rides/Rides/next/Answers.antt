@@ -12,14 +12,14 @@ next-requires-clause-within c =
 pub next-requires-clause-may : goal.next-requires-clause-may
 next-requires-clause-may c =
     let stand = stand_of c.args.standing in
-    subst (λ f. MayRide f c.positions.result.query stand) (sym c.positions.ensures.feed)
+    subst (λ f. MayRide f c.positions.result.now.query stand) (sym c.positions.ensures.feed)
     (subst (λ q. MayRide c.args.self.now.feed q stand) (sym c.positions.ensures.query) c.requires.may)
 
 pub returns-clause-all : goal.returns-clause-all
 returns-clause-all c =
     let stand = stand_of c.args.standing in
     subst (λ q. IfOk c.next.result (λ rides. HasCaught c.args.self.now.feed q stand rides.items)) c.positions.ensures.query
-    (subst (λ f. IfOk c.next.result (λ rides. HasCaught f c.positions.result.query stand rides.items))
+    (subst (λ f. IfOk c.next.result (λ rides. HasCaught f c.positions.result.now.query stand rides.items))
     c.positions.ensures.feed c.next.ensures.all)
 
 pub returns-clause-right : goal.returns-clause-right
@@ -27,5 +27,5 @@ returns-clause-right c =
     let stand = stand_of c.args.standing in
     subst (λ q. IfOk c.next.result (λ rides. All (IsRight c.args.self.now.feed q stand) rides.items))
     c.positions.ensures.query
-    (subst (λ f. IfOk c.next.result (λ rides. All (IsRight f c.positions.result.query stand) rides.items))
+    (subst (λ f. IfOk c.next.result (λ rides. All (IsRight f c.positions.result.now.query stand) rides.items))
     c.positions.ensures.feed c.next.ensures.right)

@@ -1,6 +1,6 @@
 use Rattle.std.proofs.Common.{◌≡◌, length}
 use Rattle.plan_rides.specs.Latest.{AreLatestBefore}
-use Rattle.plan_rides.proofs.latest.latest_before.Given as goal
+use Rattle.plan_rides.proofs.rides.Rides.latest_before.Given as goal
 
 abbrev pub invariant-loop-stop : goal.invariant-loop-stop
 invariant-loop-stop l = record {
