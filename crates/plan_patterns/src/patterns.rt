@@ -13,7 +13,7 @@ use crate::held::held_runs;
 use crate::pattern::{Boarding, Pattern, since};
 use crate::runs::Run;
 use crate::serving::{Serving, servings_of};
-use feed_rows::Query;
+use feed_rows::{Feed, Query};
 use feed_timetable::Timetable;
 use item_groups::Groups;
 use std::alloc::{AllocError, Global};
@@ -23,25 +23,25 @@ use transit_base::{Moment, StopId, TripId};
 /// The runs that a query can catch, by patterns: two trips are of one pattern exactly where they call at the same stops,
 /// in the same order, and let riders do the same there. Patterns are numbered from 0, and so are the positions and the
 /// runs of each. Contracts see it as the feed with the patterns.
-pub struct Patterns<'t, 'f> {
-    timetable: &'t Timetable<'f>,
+pub struct Patterns<'f> {
+    feed: &'f Feed,
     patterns: Vec<Pattern>,
     /// Where riders may board, by stop.
     servings: Groups<Serving>,
 }
 
 // Written out, so that what holds one needn't look into it to let go of it.
-impl<'t, 'f> Drop for Patterns<'t, 'f> {
+impl<'f> Drop for Patterns<'f> {
     fn drop(self) {
         let Patterns {
-            timetable: _,
+            feed: _,
             patterns: _,
             servings: _,
         } = self;
     }
 }
 
-impl<'t, 'f> Model for Patterns<'t, 'f> {
+impl<'f> Model for Patterns<'f> {
     ghost use Rattle.std.specs.Prelude.{◌<◌, ◌^◌, length, map, All};
     ghost use Rattle.plan_patterns.specs.Columns.{IsPattern};
     ghost use Rattle.plan_patterns.specs.Grouping.{PatternsOf, pattern_of};
@@ -49,9 +49,9 @@ impl<'t, 'f> Model for Patterns<'t, 'f> {
 
     ghost Value = { PatternsOf };
 
-    ghost view = { λ s. record { feed = s.timetable.now; patterns = map pattern_of s.patterns.items } };
+    ghost view = { λ s. record { feed = s.feed.now; patterns = map pattern_of s.patterns.items } };
 
-    ghost invariant = { λ s. All (IsPattern s.timetable.now) s.patterns.items × (length s.patterns.items < 2 ^ 32) × AreServings (halts_in s.patterns.items) (length s.timetable.now.stops) s.servings };
+    ghost invariant = { λ s. All (IsPattern s.feed.now) s.patterns.items × (length s.patterns.items < 2 ^ 32) × AreServings (halts_in s.patterns.items) (length s.feed.now.stops) s.servings };
 }
 
 // The patterns of the runs of these trips that have a ride within the query's window.
@@ -70,17 +70,17 @@ fn held_patterns(
     patterns_of(alloc, timetable, &held)
 }
 
-impl<'t, 'f> Patterns<'t, 'f> {
+impl<'f> Patterns<'f> {
     /// The runs of these trips that have a ride within the query's window, by patterns. No other trip is looked at.
     ///
     /// # Errors
     /// Want of memory; so counts that there would be 2^32 patterns, or runs of one, or more.
     pub fn build(
         alloc: Global,
-        timetable: &'t Timetable<'f>,
+        timetable: &Timetable<'f>,
         query: &Query,
         trips: &[TripId],
-    ) -> Result<Patterns<'t, 'f>, AllocError>
+    ) -> Result<Patterns<'f>, AllocError>
         requires usual { IsUsualSpan query.now }
         requires trips { AreTripsOf timetable.now trips.now }
         ensures feed { IfOk result (λ built. built.feed ≡ timetable.now) }
@@ -89,7 +89,7 @@ impl<'t, 'f> Patterns<'t, 'f> {
         let patterns = held_patterns(alloc, timetable, query, trips)?;
         let servings = servings_of(alloc, timetable, &patterns)?;
         Ok(Patterns {
-            timetable,
+            feed: timetable.feed(),
             patterns,
             servings,
         })

@@ -31,14 +31,14 @@ use Rattle.plan_patterns.specs.declared.halts.Halt.{Halt}
 use Rattle.plan_patterns.specs.declared.pattern.Boarding.{Boarding}
 use Rattle.plan_patterns.specs.declared.runs.Run.{Run}
 use Rattle.plan_patterns.specs.declared.serving.Serving.{Serving}
-use Rattle.plan_patterns.specs.Columns.{AreBoardable, AreInOrder, IsBoarding}
+use Rattle.plan_patterns.specs.Columns.{AreBoardable, IsBoarding}
 use Rattle.plan_patterns.specs.Grouping.{ArePatterns, PatternOf, PatternsOf, all_runs, halts_at, halts_by_pattern, runs_at}
 use Rattle.plan_patterns.specs.Halts.{halt_of, halts_of}
 use Rattle.plan_patterns.specs.Runs.{IsHeld, IsHeldOf, IsKnown, moment_of}
 use Rattle.plan_patterns.specs.Servings.{boards_at, list_at, serving_of, servings_at}
 use Rattle.plan_rides.specs.declared.departures.Departure.{Departure}
 use Rattle.plan_rides.specs.Boarding.{Seeking, is_boarding, is_marked}
-use Rattle.plan_rides.specs.Departures.{IsSpanned, AddsTrip, AreBoarded, AreListed, departure_with, IsDeparture, IsFromStop, DoRise, AreDepartures, AreSince, HoldsRuns, IsRunOf, Serves, StopsAt, TakesOneOf, TakesServing, run_by, no_run, departure_by, departure_at}
+use Rattle.plan_rides.specs.Departures.{IsSpanned, AddsTrip, AreBoarded, AreListed, departure_with, IsDeparture, IsFromStop, AreDepartures, AreSince, HoldsRuns, IsRunOf, Serves, StopsAt, TakesOneOf, TakesServing, run_by, no_run, departure_by, departure_at}
 use Rattle.plan_rides.specs.Runs.{run_of, IsRun}
 
 -- the trip of a number
@@ -552,11 +552,6 @@ are_since feed patterns stop serving from listed serves are = record {
   right = λ k d lt. subst (IsFromStop feed stop.0) (sym (here k d lt))
       (from_stop feed patterns stop serving (get_or listed k no_boarding) serves (are.right k no_boarding (below k lt)));
   since = λ k d lt. subst (λ (x : Departure). from ≤ℤ x.at.0) (sym (here k d lt)) (are.since k no_boarding (below k lt));
-  rises = λ i j d lt within.
-      let after = below j within in
-      subst (λ (x : Departure). x.at.0 ≤ℤ (get_or (map make listed) j d).at.0) (sym (here i d (omega (arith, lt, within))))
-      (subst (λ (x : Departure). (get_or listed i no_boarding).at.0 ≤ℤ x.at.0) (sym (here j d within))
-      (are.rises i j no_boarding lt after));
 }
   where
     make : Boarding → Departure
@@ -568,15 +563,17 @@ are_since feed patterns stop serving from listed serves are = record {
     here : (k : ℕ) (d : Departure) → k < length (map make listed) → get_or (map make listed) k d ≡ make (get_or listed k no_boarding)
     here k d lt = get_or-map make listed k no_boarding d (below k lt)
 
--- boardings stand in order where the departures by them do
-pub in_order : (feed : FeedRows) (stop : StopId) (position : ℕ) (runs : List Run) (listed : List Boarding) →
-    DoRise (map (departure_at feed stop position runs) listed) → AreInOrder listed
-in_order feed stop position runs listed rises i j b lt within =
-    let make = departure_at feed stop position runs in
-    let long = length-map listed make in
-    subst (λ (x : Departure). x.at.0 ≤ℤ (get_or listed j b).at.0) (get_or-map make listed i b (make b) (omega (arith, lt, within)))
-    (subst (λ (x : Departure). (get_or (map make listed) i (make b)).at.0 ≤ℤ x.at.0) (get_or-map make listed j b (make b) within)
-    (rises i j (make b) lt (subst (λ n. j < n) (sym long) within)))
+-- the same of patterns of the feed, whose runs these are
+pub since_of : (feed : FeedRows) (patterns : PatternsOf) (stop : StopId) (serving : Serving) (from : ℤ) (runs : List Run)
+    (listed : List Boarding) → Serves feed patterns.patterns stop.0 serving → patterns.feed ≡ feed →
+    runs ≡ runs_at patterns.patterns serving.pattern →
+    AreBoardable patterns.feed (runs_at patterns.patterns serving.pattern) serving.position from listed →
+    AreSince feed patterns.patterns serving stop.0 from (map (departure_at feed stop serving.position runs) listed)
+since_of feed patterns stop serving from runs listed serves of are boardable =
+    subst (λ (rs : List Run). AreSince feed patterns.patterns serving stop.0 from (map (departure_at feed stop serving.position rs) listed))
+    (sym are)
+    (are_since feed patterns.patterns stop serving from listed serves
+    (subst (λ f. AreBoardable f (runs_at patterns.patterns serving.pattern) serving.position from listed) of boardable))
 
 -- a trip that is marked is listed already
 pub trip_there : (marks : List Bool) (trips : List TripId) (trip : TripId) → AreListed marks trips → slice_index_or marks trip.0 false ≡ true → AddsTrip trip trips trips

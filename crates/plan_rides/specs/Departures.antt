@@ -72,10 +72,6 @@ pub record IsDeparture (feed : FeedRows) (d : Departure) : Type 0 where
 abbrev pub IsSince : Query → Departure → Type 0
 IsSince query d = query.departure.0 ≤ℤ d.at.0
 
--- none departs before one that stands earlier
-abbrev pub DoRise : List Departure → Type 0
-DoRise departures = AllPairs (λ (a : Departure) (b : Departure). a.at.0 ≤ℤ b.at.0) departures
-
 -- the departure is one of the feed, from this stop
 abbrev pub IsFromStop : FeedRows → ℕ → Departure → Type 0
 IsFromStop feed stop d = IsDeparture feed d × (d.stop.0 ≡ stop)
@@ -136,14 +132,13 @@ pub record AreDepartures (feed : FeedRows) (sought : Seeking) (patterns : Patter
   pub each : (stop : ℕ) → stop < length feed.stops →
       AreServed feed sought patterns.patterns stop (servings_at (halts_by_pattern patterns.patterns) stop)
 
--- the departures from the stop at such a position, at the moment or later, in the order of their moments
+-- the departures from the stop at such a position, at the moment or later
 pub record AreSince (feed : FeedRows) (patterns : List PatternOf) (serving : Serving) (stop : ℕ) (from : ℤ)
     (departures : List Departure) : Type 0 where
   pub all : (ride : Ride) (facts : RideFacts) → ride_facts feed ride ≡ Some facts → TakesServing patterns serving ride →
       from ≤ℤ facts.departure.0 → Contains departures (departure_with ride facts)
   pub right : All (IsFromStop feed stop) departures
   pub since : All (λ (d : Departure). from ≤ℤ d.at.0) departures
-  pub rises : DoRise departures
 
 -- a run for where there is none
 abbrev pub no_run : Run
@@ -199,6 +194,11 @@ pub record BoardsAt (feed : FeedRows) (stop : ℕ) (ride : Ride) : Type 0 where
   pub facts : RideFacts
   pub is : ride_facts feed ride ≡ Some facts
   pub at : facts.from.0 ≡ stop
+
+-- the boardings from the n-th on are later than the last moment at the stop
+pub record AreLateFrom (boardings : List Boarding) (lasts : List (Option Moment)) (stop n : ℕ) : Type 0 where
+  pub within : n ≤ length boardings
+  pub late : AllWithin (λ (b : Boarding). is_early lasts stop b.at.0 ≡ false) boardings n (length boardings)
 
 -- the departures from the n-th on are later than the last moment at the stop
 pub record IsFirstLate (departures : List Departure) (lasts : List (Option Moment)) (stop n : ℕ) : Type 0 where

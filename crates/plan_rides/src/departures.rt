@@ -1,20 +1,20 @@
 //! The departures of a query's window, and the patterns whose runs they are of.
-ghost use Rattle.std.specs.Prelude.{◌≡◌, ◌<◌, ◌≤◌, length, IfOk, OnOk, slice_index_or};
+ghost use Rattle.std.specs.Prelude.{◌≡◌, ◌<◌, ◌≤◌, length, All, IfOk, OnOk};
+ghost use Rattle.plan_patterns.specs.declared.runs.Run.{Run};
+ghost use Rattle.plan_patterns.specs.Columns.{AreInOrder};
 ghost use Rattle.plan_patterns.specs.Runs.{IsNear};
 ghost use Rattle.plan_rides.specs.Boarding.{is_boarding};
-ghost use Rattle.plan_rides.specs.Departures.{AddsTrip, AreBoarded, AreDepartures, AreListed, AreSince, DoRise, HoldsRuns};
-ghost use Rattle.plan_rides.specs.Departures.{IsFirstLate, Serves, departure_by, facts_in_time, ride_to, run_with};
+ghost use Rattle.plan_rides.specs.Departures.{AddsTrip, AreBoarded, AreDepartures, AreLateFrom, AreListed, HoldsRuns, departure_at};
+ghost use Rattle.plan_rides.specs.Departures.{facts_in_time, ride_to, run_with};
 ghost use Rattle.plan_rides.specs.InTime.{deadline, IsUsualQuery};
-ghost use Rattle.plan_rides.specs.declared.departures.Departure.{Departure};
 ghost use Rattle.transit_base.specs.Limits.{most_time};
 
 use crate::latest::is_early;
 use crate::sought::Sought;
 use feed_rows::{Call, Query, Ride, RideFacts, StopTimeRow};
 use feed_timetable::Timetable;
-use plan_patterns::{Boarding, Patterns, Run, Serving};
+use plan_patterns::{Boarding, Patterns, Run};
 use std::alloc::{AllocError, Global};
-use std::marker::Model;
 use transit_base::{Day, Moment, NetworkId, Secs, StopId, TripId};
 
 /// A run's departure from one of its calls, where riders may board.
@@ -137,11 +137,11 @@ pub fn boarded_trips(
 ///
 /// # Errors
 /// Want of memory.
-pub fn patterns_of<'t, 'f>(
+pub fn patterns_of<'f>(
     alloc: Global,
-    timetable: &'t Timetable<'f>,
+    timetable: &Timetable<'f>,
     sought: &Sought,
-) -> Result<Patterns<'t, 'f>, AllocError>
+) -> Result<Patterns<'f>, AllocError>
     requires usual { IsUsualQuery sought.now.query }
     ensures held { IfOk result (λ patterns. HoldsRuns timetable.now sought.now patterns) }
     ensures served { IfOk result (λ patterns. AreDepartures timetable.now sought.now patterns) }
@@ -150,17 +150,19 @@ pub fn patterns_of<'t, 'f>(
     Patterns::build(alloc, timetable, sought.query(), &trips)
 }
 
-// Where a run departs from the stop, which is at this position, at the moment.
-fn departure_by(
+/// Where one of these runs departs that is boarded so, from the stop, which is at this position.
+pub fn departure_at(
     timetable: &Timetable,
     stop: StopId,
     position: u32,
-    run: &Run,
-    at: Moment,
+    runs: &[Run],
+    boarding: &Boarding,
 ) -> Departure
-    requires { run.now.trip.0 < length timetable.now.trips }
-    ensures { result ≡ departure_by timetable.now stop position run.now at }
+    requires inside { boarding.now.run < length runs.now }
+    requires trips { All (λ (r : Run). r.trip.0 < length timetable.now.trips) runs.now }
+    ensures { result ≡ departure_at timetable.now stop position runs.now boarding.now }
 {
+    let run = &runs[boarding.run as usize];
     Departure {
         trip: run.trip,
         day: run.day,
@@ -168,74 +170,14 @@ fn departure_by(
         network: timetable.network(run.trip),
         from: position,
         stop,
-        at,
+        at: boarding.at,
     }
 }
 
-/// Departures from a stop, all at one position of a pattern, in the order of their moments. Contracts see them as the
-/// list of these.
-#[derive(Drop)]
-pub struct Departures<'t, 'f> {
-    timetable: &'t Timetable<'f>,
-    stop: StopId,
-    position: u32,
-    runs: &'t [Run],
-    boardings: &'t [Boarding],
-}
-
-impl<'t, 'f> Model for Departures<'t, 'f> {
-    ghost use Rattle.std.specs.Prelude.{◌<◌, List, length, map, All};
-    ghost use Rattle.plan_patterns.specs.declared.pattern.Boarding.{Boarding};
-    ghost use Rattle.plan_patterns.specs.declared.runs.Run.{Run};
-    ghost use Rattle.plan_rides.specs.Departures.{departure_at};
-    ghost use Rattle.plan_rides.specs.declared.departures.Departure.{Departure};
-
-    ghost Value = { List Departure };
-
-    ghost view = { λ s. map (departure_at s.timetable.now s.stop s.position s.runs.now) s.boardings.now };
-
-    ghost invariant = { λ s. All (λ (b : Boarding). b.run < length s.runs.now) s.boardings.now × All (λ (r : Run). r.trip.0 < length s.timetable.now.trips) s.runs.now };
-}
-
-impl<'t, 'f> Departures<'t, 'f> {
-    /// The departures from the stop at the position at which a pattern serves it, at the moment or later.
-    pub fn since<'p>(
-        patterns: &'t Patterns<'p, 'f>,
-        timetable: &'t Timetable<'f>,
-        stop: StopId,
-        serving: &Serving,
-        from: Moment,
-    ) -> Departures<'t, 'f>
-        requires feed { patterns.now.feed ≡ timetable.now }
-        requires serves { Serves timetable.now patterns.now.patterns stop.0 serving.now }
-        ensures { AreSince timetable.now patterns.now.patterns serving.now stop.0 from.0 result }
-    {
-        Departures {
-            timetable,
-            stop,
-            position: serving.position,
-            runs: patterns.runs(serving.pattern),
-            boardings: patterns.boardable(serving.pattern, serving.position, from),
-        }
-    }
-
-    /// The one at a place.
-    pub fn at(&self, place: usize) -> Departure
-        requires { place < length self.now }
-        ensures { (d : Departure) → result ≡ slice_index_or self.now place d }
-    {
-        let boardings = self.boardings;
-        let boarding = boardings[place];
-        let run = &self.runs[boarding.run as usize];
-        departure_by(self.timetable, self.stop, self.position, run, boarding.at)
-    }
-
-    /// How many of them are no later than the last moment at the stop.
-    pub fn first_late(&self, lasts: &[Option<Moment>], stop: StopId) -> usize
-        requires { DoRise self.now }
-        ensures { IsFirstLate self.now lasts.now stop.0 result }
-    {
-        self.boardings
-            .partition_point(|boarding| is_early(lasts, stop, boarding.at))
-    }
+/// How many of the boardings are no later than the last moment at the stop.
+pub fn first_late(boardings: &[Boarding], lasts: &[Option<Moment>], stop: StopId) -> usize
+    requires { AreInOrder boardings.now }
+    ensures { AreLateFrom boardings.now lasts.now stop.0 result }
+{
+    boardings.partition_point(|boarding| is_early(lasts, stop, boarding.at))
 }

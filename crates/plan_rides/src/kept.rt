@@ -6,7 +6,7 @@ ghost use Rattle.plan_rides.specs.Reached.{AreKept, HoldsFrom, IsNoLater, Positi
 ghost use Rattle.transit_base.specs.declared.moments.Moment.{Moment};
 
 use crate::caught::CaughtRide;
-use crate::positions::{Positions, Reached};
+use crate::positions::{Positions, Reached, add_rides};
 use std::alloc::{AllocError, Global};
 use std::marker::Model;
 use transit_base::Moment;
@@ -97,7 +97,7 @@ impl KeptRides {
             return Ok(());
         }
         self.clear();
-        positions.add_rides(latest, lasts, reached, &mut self.rides)?;
+        add_rides(&mut self.rides, positions, latest, lasts, reached)?;
         self.of = Some(*reached);
         Ok(())
     }

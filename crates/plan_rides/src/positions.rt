@@ -13,7 +13,7 @@ ghost use Rattle.plan_rides.specs.Travelling.{IsBarred};
 ghost use Rattle.transit_base.specs.Limits.{most_time};
 
 use crate::caught::CaughtRide;
-use crate::departures::{Departure, Departures};
+use crate::departures::{Departure, departure_at, first_late};
 use crate::latest::is_early;
 use crate::servings::TimedServing;
 use crate::sought::Sought;
@@ -95,7 +95,7 @@ pub struct Positions<'s, 'f> {
     pub(crate) timetable: &'s Timetable<'f>,
     pub(crate) query: &'s Query,
     pub(crate) sought: Sought,
-    pub(crate) patterns: Patterns<'s, 'f>,
+    pub(crate) patterns: Patterns<'f>,
     /// Where and when the patterns serve each stop.
     pub(crate) served: Groups<TimedServing>,
 }
@@ -203,38 +203,6 @@ impl<'s, 'f> Positions<'s, 'f> {
         Ok(())
     }
 
-    /// Appends the rides from the position that depart no earlier than one is there, end within the window and arrive at a stop
-    /// no later than the latest moment there: at none where that is none, and at any at a stop past their end. `lasts` says when
-    /// the last of them departs from each stop, so that no later ones are looked at.
-    ///
-    /// # Errors
-    /// Want of memory.
-    pub fn add_rides(
-        &self,
-        latest: &[Option<Moment>],
-        lasts: &[Option<Moment>],
-        reached: &Reached,
-        rides: &mut Vec<CaughtRide>,
-    ) -> Result<(), AllocError>
-        requires serves { Serves self.now.feed self.now.patterns reached.now.stop.0 reached.now.serving }
-        requires lasts { AreLastDepartures self.now.feed self.now.query latest.now lasts.now }
-        ensures { OnOk result (AddsFound self.now.feed self.now.query latest.now reached.now.stop.0 reached.now.earliest.0 (IsFromReached self.now reached.now) rides.old.items rides.new.items) }
-    {
-        let timetable = self.timetable;
-        let query = self.query;
-        let departures = Departures::since(
-            &self.patterns,
-            timetable,
-            reached.stop,
-            &reached.serving,
-            reached.earliest,
-        );
-        for k in 0..departures.first_late(lasts, reached.stop) {
-            add_departure(timetable, query, latest, &departures.at(k), rides)?;
-        }
-        Ok(())
-    }
-
     /// The rides that are caught from where one stands and end within the window.
     ///
     /// # Errors
@@ -257,8 +225,45 @@ impl<'s, 'f> Positions<'s, 'f> {
         self.reach(&[], &who, &mut reached)?;
         let mut rides = Vec::new(alloc);
         for k in 0..reached.len() {
-            self.add_rides(&[], &[], &reached[k], &mut rides)?;
+            add_rides(&mut rides, self, &[], &[], &reached[k])?;
         }
         Ok(rides)
     }
+}
+
+/// Appends the rides from the position that depart no earlier than one is there, end within the window and arrive at a stop no
+/// later than the latest moment there: at none where that is none, and at any at a stop past their end. `lasts` says when the
+/// last of them departs from each stop, so that no later ones are looked at.
+///
+/// # Errors
+/// Want of memory.
+pub fn add_rides(
+    rides: &mut Vec<CaughtRide>,
+    positions: &Positions,
+    latest: &[Option<Moment>],
+    lasts: &[Option<Moment>],
+    reached: &Reached,
+) -> Result<(), AllocError>
+    requires serves { Serves positions.now.feed positions.now.patterns reached.now.stop.0 reached.now.serving }
+    requires lasts { AreLastDepartures positions.now.feed positions.now.query latest.now lasts.now }
+    ensures { OnOk result (AddsFound positions.now.feed positions.now.query latest.now reached.now.stop.0 reached.now.earliest.0 (IsFromReached positions.now reached.now) rides.old.items rides.new.items) }
+{
+    let timetable = positions.timetable;
+    let query = positions.query;
+    let serving = &reached.serving;
+    let runs = positions.patterns.runs(serving.pattern);
+    let boardings = positions
+        .patterns
+        .boardable(serving.pattern, serving.position, reached.earliest);
+    for k in 0..first_late(boardings, lasts, reached.stop) {
+        let departure = departure_at(
+            timetable,
+            reached.stop,
+            serving.position,
+            runs,
+            &boardings[k],
+        );
+        add_departure(timetable, query, latest, &departure, rides)?;
+    }
+    Ok(())
 }

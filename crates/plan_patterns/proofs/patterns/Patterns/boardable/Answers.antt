@@ -15,8 +15,8 @@ returns c =
     let within = subst (λ (v : PatternsOf). k < length v.patterns) (sym c.self.view_is) c.requires.pattern in
     let long = length-map items pattern_of in
     let lt : k < length items = omega arith in
-    let is : IsPattern c.self.inside.timetable.now c.index.result.now = subst (IsPattern c.self.inside.timetable.now) (sym c.index.ensures) (c.self.invariant.0 k c.index.result.now lt) in
+    let is : IsPattern c.self.inside.feed.now c.index.result.now = subst (IsPattern c.self.inside.feed.now) (sym c.index.ensures) (c.self.invariant.0 k c.index.result.now lt) in
     let runs = ap (λ o. option_map_or (λ (p : PatternOf). p.runs) o []) (pattern_at items k c.index.result.now lt) ∙ ap (λ (p : Pattern). p.runs.items) (sym c.index.ensures) in
     subst (λ (v : PatternsOf). AreBoardable v.feed (runs_at v.patterns k) c.args.position c.args.from.0 c.since.result.now) c.self.view_is
-    (subst (λ rs. AreBoardable c.self.inside.timetable.now rs c.args.position c.args.from.0 c.since.result.now) (sym runs)
+    (subst (λ rs. AreBoardable c.self.inside.feed.now rs c.args.position c.args.from.0 c.since.result.now) (sym runs)
     (boardable_since _ _ _ _ _ _ (is.departures.each c.args.position c.group.result.now c.group.ensures) c.since.ensures))
