@@ -117,14 +117,14 @@ pub fn boarded_trips(
 ) -> Result<Vec<TripId>, AllocError>
     ensures { IfOk result (λ trips. AreBoarded timetable.now sought.now trips.items) }
 {
-    let feed = timetable.feed();
-    let _rows = &feed.trips;
-    let rows = feed.stop_times.items();
-    let mut marks = vec![in alloc; false; feed.trips.items().len()]?;
     let mut trips = Vec::new(alloc);
     if sought.query().rides == 0 {
         return Ok(trips);
     }
+    let feed = timetable.feed();
+    let _rows = &feed.trips;
+    let rows = feed.stop_times.items();
+    let mut marks = vec![in alloc; false; feed.trips.items().len()]?;
     for row in rows {
         if is_boarding(sought, row) {
             list_once(&mut marks, &mut trips, row.trip)?;
@@ -137,9 +137,9 @@ pub fn boarded_trips(
 ///
 /// # Errors
 /// Want of memory.
-pub fn patterns_of<'f>(
+pub fn patterns_of<'t, 'f>(
     alloc: Global,
-    timetable: &Timetable<'f>,
+    timetable: &'t Timetable<'f>,
     sought: &Sought,
 ) -> Result<Patterns<'f>, AllocError>
     requires usual { IsUsualQuery sought.now.query }

@@ -121,8 +121,8 @@ fn add_runs(
 
 /// The same of the runs of all patterns.
 pub fn add_patterns(
-    patterns: &Patterns,
     timetable: &Timetable,
+    patterns: &Patterns,
     sought: &Sought,
     latest: &[Option<Moment>],
     lasts: &mut [Option<Moment>],

@@ -115,6 +115,7 @@ impl<'s, 'f> Drop for Positions<'s, 'f> {
 
 impl<'s, 'f> Model for Positions<'s, 'f> {
     ghost use Rattle.std.specs.Prelude.{◌≡◌};
+    ghost use Rattle.feed_rows.specs.SoundFeed.{IsSoundFeed};
     ghost use Rattle.plan_rides.specs.Boarding.{AreMarks};
     ghost use Rattle.plan_rides.specs.Departures.{HoldsRuns};
     ghost use Rattle.plan_rides.specs.InTime.{IsUsualQuery};
@@ -125,7 +126,7 @@ impl<'s, 'f> Model for Positions<'s, 'f> {
 
     ghost view = { λ s. positioned s.timetable.now s.query.now s.patterns.patterns };
 
-    ghost invariant = { λ s. IsUsualQuery s.query.now × AreTimedStops s.timetable.now s.sought s.patterns s.served × (s.sought.query ≡ s.query.now) × AreMarks s.timetable.now s.sought × HoldsRuns s.timetable.now s.sought s.patterns };
+    ghost invariant = { λ s. IsSoundFeed s.timetable.now × IsUsualQuery s.query.now × AreTimedStops s.timetable.now s.sought s.patterns s.served × (s.sought.query ≡ s.query.now) × AreMarks s.timetable.now s.sought × HoldsRuns s.timetable.now s.sought s.patterns };
 }
 
 impl<'s, 'f> Positions<'s, 'f> {
@@ -194,7 +195,6 @@ impl<'s, 'f> Positions<'s, 'f> {
         requires may { MayRide self.now.feed self.now.query (stand_of who.now.standing) }
         ensures { OnOk result (AddsReached self.now lasts.now (stand_of who.now.standing) who.now.number IsAny reached.old.items reached.new.items) }
     {
-        let _feed = self.timetable.feed();
         self.reach_barred(lasts, who, reached)?;
         let walks = self.timetable.walks_from(who.standing.stop);
         for k in 0..walks.len() {

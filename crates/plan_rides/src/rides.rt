@@ -39,6 +39,7 @@ impl<'s, 'f> Drop for Rides<'s, 'f> {
 }
 
 impl<'s, 'f> Model for Rides<'s, 'f> {
+    ghost use Rattle.feed_rows.specs.SoundFeed.{IsSoundFeed};
     ghost use Rattle.plan_rides.specs.Asked.{Asked, asked};
     ghost use Rattle.plan_rides.specs.InTime.{IsUsualQuery, IsDeadline};
 
@@ -46,7 +47,7 @@ impl<'s, 'f> Model for Rides<'s, 'f> {
 
     ghost view = { λ s. asked s.positions.feed s.positions.query };
 
-    ghost invariant = { λ s. IsUsualQuery s.positions.query × IsDeadline s.positions.query s.deadline.0 };
+    ghost invariant = { λ s. IsSoundFeed s.positions.feed × IsUsualQuery s.positions.query × IsDeadline s.positions.query s.deadline.0 };
 }
 
 impl<'s, 'f> Rides<'s, 'f> {
@@ -65,7 +66,7 @@ impl<'s, 'f> Rides<'s, 'f> {
         let sought = Sought::new(alloc, timetable, query)?;
         match patterns_of(alloc, timetable, &sought) {
             Ok(patterns) => {
-                let served = served_stops(alloc, &patterns, timetable, &sought)?;
+                let served = served_stops(alloc, timetable, &patterns, &sought)?;
                 Ok(Rides {
                     positions: Positions {
                         timetable,
@@ -109,7 +110,6 @@ impl<'s, 'f> Rides<'s, 'f> {
         ensures within { IsWithinWindow self.now.query result.at.0 }
         ensures sound { IsSoundFeed self.now.feed }
     {
-        let _feed = self.positions.timetable.feed();
         Standing {
             stop: first,
             at: self.positions.query.departure,
@@ -139,7 +139,6 @@ impl<'s, 'f> Rides<'s, 'f> {
         ensures query { result.now.query ≡ self.now.query }
         ensures sound { IsSoundFeed self.now.feed }
     {
-        let _feed = self.positions.timetable.feed();
         &self.positions
     }
 
@@ -160,8 +159,8 @@ impl<'s, 'f> Rides<'s, 'f> {
         let stops = positions.timetable.feed().stops.items().len();
         let mut lasts = vec![in alloc; None; stops]?;
         add_patterns(
-            &positions.patterns,
             positions.timetable,
+            &positions.patterns,
             &positions.sought,
             latest,
             &mut lasts,
@@ -187,9 +186,8 @@ impl<'s, 'f> Rides<'s, 'f> {
         let positions = &self.positions;
         let timetable = positions.timetable;
         let query = positions.query;
-        let stops = timetable.feed().stops.items().len();
-        let mut new = Vec::with_capacity(alloc, stops)?;
-        for stop in 0..stops {
+        let mut new = Vec::with_capacity(alloc, latest.len())?;
+        for stop in 0..latest.len() {
             let moment = latest_from(timetable, query, StopId(stop as u32), latest[stop], lasts);
             new.push(moment)?;
         }

@@ -1,6 +1,7 @@
 //! Where and when patterns serve stops: the moments of the first and of the last departure from each position since the
 //! query departs, which tell without a look into the pattern whether one can be caught there.
 ghost use Rattle.std.specs.Prelude.{◌≡◌, ◌<◌, IfOk, OnOk, length};
+ghost use Rattle.feed_rows.specs.SoundFeed.{IsSoundFeed};
 ghost use Rattle.plan_rides.specs.Departures.{AreDepartures, Serves};
 ghost use Rattle.plan_rides.specs.Served.{AddsTimed, AreTimed, AreTimedStops, is_open};
 
@@ -80,16 +81,18 @@ fn serve_stop(
 /// Want of memory; so counts that there would be 2^32 of them or more.
 pub fn served_stops(
     alloc: Global,
-    patterns: &Patterns,
     timetable: &Timetable,
+    patterns: &Patterns,
     sought: &Sought,
 ) -> Result<Groups<TimedServing>, AllocError>
     requires { AreDepartures timetable.now sought.now patterns.now }
-    ensures { IfOk result (λ by_stop. AreTimedStops timetable.now sought.now patterns.now by_stop) }
+    ensures sound { IsSoundFeed timetable.now }
+    ensures served { IfOk result (λ by_stop. AreTimedStops timetable.now sought.now patterns.now by_stop) }
 {
+    let stops = timetable.feed().stops.items().len();
     let mut by_stop = Groups::empty(alloc);
     let mut served = Vec::new(alloc);
-    for stop in 0..timetable.feed().stops.items().len() {
+    for stop in 0..stops {
         serve_stop(patterns, sought, StopId(stop as u32), &mut served)?;
         by_stop.push(&served)?;
     }

@@ -52,7 +52,7 @@ add_departure-requires-clause-right c =
     let lt : k < length boardings = omega (arith, c.loop-k-test.true, c.first_late-k-end.ensures.within) in
     let since = (since_of feed c.positions.inside.patterns reached.stop reached.serving reached.earliest.0 c.runs-runs.result.now boardings
     (subst (λ (m : Positioned). Serves m.feed m.patterns reached.stop.0 reached.serving) (sym c.positions.view_is) c.requires.serves)
-    c.positions.invariant.1.of c.runs-runs.ensures c.boardable-boardings.ensures) in
+    c.positions.invariant.2.of c.runs-runs.ensures c.boardable-boardings.ensures) in
     subst (IsDeparture feed) (get_or-map make boardings k no_boarding x lt ∙ sym c.departure_at-departure.ensures)
     (since.right k x (subst (λ n. k < n) (sym (length-map boardings make)) lt)).0
 
@@ -73,7 +73,7 @@ loop-k-preserved c =
     let since = subst (λ (m : Positioned). AreSince m.feed m.patterns reached.serving reached.stop.0 reached.earliest.0 departures) c.positions.view_is
     (since_of feed c.positions.inside.patterns reached.stop reached.serving reached.earliest.0 c.runs-runs.result.now boardings
     (subst (λ (m : Positioned). Serves m.feed m.patterns reached.stop.0 reached.serving) (sym c.positions.view_is) c.requires.serves)
-    c.positions.invariant.1.of c.runs-runs.ensures c.boardable-boardings.ensures) in
+    c.positions.invariant.2.of c.runs-runs.ensures c.boardable-boardings.ensures) in
     let adds = subst (λ (m : Positioned). AddsFound m.feed m.query latest x.stop.0 x.at.0 (IsBy m.feed x) c.loop-k.rides.items c.add_departure.new.rides.items)
     c.positions.view_is c.in_ok-add_departure.ensures in
     found_among me.feed me.query latest reached.stop.0 reached.earliest.0 departures k x _ _ _ within
@@ -94,7 +94,7 @@ returns c =
     let since = subst (λ (m : Positioned). AreSince m.feed m.patterns reached.serving reached.stop.0 reached.earliest.0 departures) c.positions.view_is
     (since_of feed c.positions.inside.patterns reached.stop reached.serving reached.earliest.0 c.runs-runs.result.now boardings
     (subst (λ (m : Positioned). Serves m.feed m.patterns reached.stop.0 reached.serving) (sym c.positions.view_is) c.requires.serves)
-    c.positions.invariant.1.of c.runs-runs.ensures c.boardable-boardings.ensures) in
+    c.positions.invariant.2.of c.runs-runs.ensures c.boardable-boardings.ensures) in
     found_since me latest reached departures _ _ since
     (found_until me.feed me.query latest reached.stop.0 reached.earliest.0 c.args.lasts.now departures c.first_late-k-end.result c.loop-k.k _ _
     c.requires.lasts since.right

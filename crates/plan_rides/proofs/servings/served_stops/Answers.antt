@@ -13,10 +13,11 @@ serve_stop-requires-clause-departures c =
 pub serve_stop-requires-clause-inside : goal.serve_stop-requires-clause-inside
 serve_stop-requires-clause-inside c =
     let below = c.loop-stop-test.true in
-    let stops = ap length c.items-stop-end.ensures.value in
+    let end = c.loop-stop.auto.stop-end in
+    let stops = ap length c.items-stops.ensures.value in
     let feed = ap (λ (f : FeedRows). length f.stops) c.feed.ensures.value in
     let view = ap (λ (f : FeedRows). length f.stops) c.behind-timetable.view_is in
-    let lt : c.loop-stop.stop < length c.args.timetable.now.stops = omega (arith, below, stops, feed, view) in
+    let lt : c.loop-stop.stop < length c.args.timetable.now.stops = omega (arith, below, end, stops, feed, view) in
     subst (λ (f : FeedRows). c.loop-stop.stop < length f.stops) (sym c.requires.of) lt
 
 pub loop-stop-preserved : goal.loop-stop-preserved
@@ -35,12 +36,13 @@ loop-stop-preserved c =
           c.in_ok-serve_stop.ensures) was.each);
     }
 
-pub returns : goal.returns
-returns c =
+pub returns-clause-served : goal.returns-clause-served
+returns-clause-served c =
     let past = c.loop-stop-test.false in
-    let stops = ap length c.items-stop-end.ensures.value in
+    let end = c.loop-stop.auto.stop-end in
+    let stops = ap length c.items-stops.ensures.value in
     let feed = ap (λ (f : FeedRows). length f.stops) c.feed.ensures.value in
     let view = ap (λ (f : FeedRows). length f.stops) c.behind-timetable.view_is in
     stops_all c.args.timetable.now c.args.sought.now c.args.patterns.now c.loop-stop.stop c.loop-stop.by_stop
-    c.feed.ensures.sound c.requires.of (omega (arith, past, stops, feed, view)) c.loop-stop.invariant.many
+    c.feed.ensures.sound c.requires.of (omega (arith, past, end, stops, feed, view)) c.loop-stop.invariant.many
     c.loop-stop.invariant.each

@@ -13,6 +13,6 @@ pub returns : goal.returns
 returns c =
     let me = c.args.self.now in
     let stand = stand_of c.args.who.now.standing in
-    let sound = subst IsSoundFeed (ap (λ (m : Positioned). m.feed) c.self.view_is) c.feed-feed.ensures.sound in
+    let sound = subst IsSoundFeed (ap (λ (m : Positioned). m.feed) c.self.view_is) c.self.invariant.0 in
     reach_all me c.args.lasts.now stand c.args.who.now.number _ c.loop-k.k _ _ sound
     (c.walks_from-walks.ensures ∙ ap (λ (m : Positioned). out_of m.feed stand.stop) c.self.view_is) c.loop-k-test.false c.loop-k.invariant

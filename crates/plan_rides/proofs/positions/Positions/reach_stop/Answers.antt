@@ -33,12 +33,12 @@ loop-k-preserved c =
     record { serving = record { pattern = 0; position = 0 }; first = record { 0 = pos 0 }; last = record { 0 = pos 0 } }
     in
     let earliest = c.plus-earliest.result.0 in
-    let query = c.self.invariant.2 ∙ ap (λ (m : Positioned). m.query) c.self.view_is in
+    let query = c.self.invariant.3 ∙ ap (λ (m : Positioned). m.query) c.self.view_is in
     let way = subst (λ (m : Positioned). way_to m.feed m.query stand stop ≡ Some seconds) c.self.view_is (sym c.in-Some.ensures) in
     let at = c.plus-earliest.ensures in
     let all = subst (λ (m : Positioned). AreTimed m.feed sought m.patterns stop.0 served) c.self.view_is
     (subst (AreTimed c.self.inside.timetable.now sought c.self.inside.patterns.patterns stop.0) (sym c.get-served.ensures)
-    (c.self.invariant.1.each stop.0)) in
+    (c.self.invariant.2.each stop.0)) in
     let timed = subst (λ q. IsTimed me.feed q me.patterns stop.0 (get_or served k x)) query (all.right k x c.loop-k-test.true) in
     elim c.if-is_open.branch [
       | then-is_open+in_ok-push w ↦
@@ -58,11 +58,11 @@ returns c =
     let stop = c.args.stop in
     let sought = c.self.inside.sought in
     let served = c.get-served.result.now in
-    let query = c.self.invariant.2 ∙ ap (λ (m : Positioned). m.query) c.self.view_is in
+    let query = c.self.invariant.3 ∙ ap (λ (m : Positioned). m.query) c.self.view_is in
     let timed = subst (λ (m : Positioned). AreTimed m.feed sought m.patterns stop.0 served) c.self.view_is
     (subst (AreTimed c.self.inside.timetable.now sought c.self.inside.patterns.patterns stop.0) (sym c.get-served.ensures)
-    (c.self.invariant.1.each stop.0)) in
-    let marks = subst (λ (m : Positioned). AreMarks m.feed sought) c.self.view_is c.self.invariant.3 in
+    (c.self.invariant.2.each stop.0)) in
+    let marks = subst (λ (m : Positioned). AreMarks m.feed sought) c.self.view_is c.self.invariant.4 in
     let may = subst (λ q. MayRide me.feed q stand) (sym query) c.requires.may in
     reach_stop me c.args.lasts.now stand c.args.who.now.number sought stop.0 c.loop-k.k served _ _ query c.requires.within
     (may_board me.feed sought stand marks may) timed c.loop-k-test.false c.loop-k.invariant

@@ -27,15 +27,15 @@ returns c =
     let adds = c.add_patterns.ensures in
     let back = marks_back items new c.in_ok-lasts.lasts.len (omega (arith, ok)) (adds.many ∙ ap length
     c.deref_mut.ensures.value) in
-    let more = subst (λ (q : Query). 1 < q.rides) (sym c.positions.invariant.2)
+    let more = subst (λ (q : Query). 1 < q.rides) (sym c.positions.invariant.3)
     (subst (λ (m : Positioned). 1 < m.query.rides) (sym c.positions.view_is)
     (subst (λ (a : Asked). 1 < a.query.rides) (sym c.self.view_is) c.requires)) in
-    let last = all_last feed inside.sought latest new inside.patterns c.positions.invariant.4
+    let last = all_last feed inside.sought latest new inside.patterns c.positions.invariant.5
     (subst (λ old. AddsLasts feed inside.sought.query latest (IsOfPatterns inside.patterns.patterns (length inside.patterns.patterns)) old
     new)
     (c.deref_mut.ensures.value ∙ none) adds) in
     subst (AreLasts me.feed me.query latest) (sym back)
     (subst (λ (a : Asked). AreLasts a.feed a.query latest new) c.self.view_is
     (subst (λ (m : Positioned). AreLasts m.feed m.query latest new) c.positions.view_is
-    (subst (λ q. AreLasts feed q latest new) c.positions.invariant.2
-    (last_departures feed inside.sought latest new c.positions.invariant.3 more last))))
+    (subst (λ q. AreLasts feed q latest new) c.positions.invariant.3
+    (last_departures feed inside.sought latest new c.positions.invariant.4 more last))))

@@ -2,7 +2,6 @@ use Rattle.std.proofs.Common.{◌≡◌, ◌+◌, ◌<◌, sym, ◌∙◌, ap, s
 use Rattle.std.proofs.lemmas.List.{length_push}
 use Rattle.std.specs.Prelude.{None}
 use Rattle.std.proofs.lemmas.Option.{unwrap_or-slice_get}
-use Rattle.feed_rows.specs.FeedRows.{FeedRows}
 use Rattle.plan_rides.specs.Asked.{Asked}
 use Rattle.plan_rides.specs.Latest.{AreLasts, AreLatestBefore, IsLatestBefore, IsOneMore, latest_at}
 use Rattle.plan_rides.specs.Reached.{Positioned}
@@ -35,17 +34,12 @@ returns c =
     let latest = c.args.latest.now in
     let new = c.loop-stop.new.items in
     let query = c.positions.inside.query.now in
-    let stops = ap length c.items-stops.ensures.value in
-    let feed = ap (λ (f : FeedRows). length f.stops) c.feed.ensures.value in
-    let view = ap (λ (f : FeedRows). length f.stops) c.behind-timetable.view_is in
-    let many = c.requires.stops ∙ ap (λ (a : Asked). length a.feed.stops) (sym c.self.view_is)
-    ∙ ap (λ (m : Positioned). length m.feed.stops) (sym c.positions.view_is) in
-    let same : c.loop-stop.stop ≡ length latest = omega (arith, past, end, stops, feed, view, many) in
+    let same : c.loop-stop.stop ≡ length latest = omega (arith, past, end) in
     let last = subst (λ (m : Positioned). AreLasts m.feed m.query latest c.args.lasts.now) (sym c.positions.view_is)
     (subst (λ (a : Asked). AreLasts a.feed a.query latest c.args.lasts.now) (sym c.self.view_is) c.requires.lasts) in
     subst (λ (a : Asked). IsOneMore a.feed a.query latest new) c.self.view_is
     (subst (λ (m : Positioned). IsOneMore m.feed m.query latest new) c.positions.view_is
-    (one_more c.positions.inside.timetable.now query latest c.args.lasts.now new c.feed.ensures.sound last
+    (one_more c.positions.inside.timetable.now query latest c.args.lasts.now new c.positions.invariant.0 last
     (record {
       many = c.loop-stop.invariant.many ∙ same;
       all = λ stop lt. c.loop-stop.invariant.are stop (subst (λ n. stop < n) (sym same) lt);
