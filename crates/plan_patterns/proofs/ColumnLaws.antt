@@ -7,7 +7,7 @@ use Rattle.std.specs.Ordering.{int_cmp, is_lt}
 use Rattle.std.proofs.lemmas.Bool.{cases_lt}
 use Rattle.std.proofs.lemmas.Bool.Decides.{nat_tests}
 use Rattle.std.proofs.lemmas.Int.{ints}
-use Rattle.std.proofs.lemmas.List.{get_or-drop, get_or_append_left, get_or_push, length-drop, length-map, length_push, map_more}
+use Rattle.std.proofs.lemmas.List.{get_or-drop, get_or_append_left, get_or_push, length-drop, length-map, length_push, map_more, take_all}
 use Rattle.std.proofs.lemmas.List.Elements.{All-drop, All-push, All-weaker}
 use Rattle.std.proofs.lemmas.List.Sorted.{All-permutation, Contains-permutation, ranks_by, sorted_far}
 use Rattle.std.proofs.lemmas.Map.Keys.{IsDistinct-IsPermutation, apart_from_distinct, IsDistinct-from_apart}
@@ -176,6 +176,11 @@ pub made_more : {X : Type 0} {Y : Type 0} (f : X → Y) (xs : List X) (n : ℕ) 
 made_more f xs n x made more got before grown =
     made_next f xs n x made more (slice_get_within xs n x got) before
     (grown ∙ ap (λ y. made ++ f y ∷ []) (sym (get_or_from_slice_get xs n x x got)))
+
+-- what is made of the first items of a list that has no more
+pub made_all : {X : Type 0} {Y : Type 0} (f : X → Y) (xs : List X) (n : ℕ) (made : List Y) → length xs ≤ n →
+    made ≡ map f (take n xs) → made ≡ map f xs
+made_all f xs n made whole are = are ∙ ap (map f) (take_all n xs whole)
 
 -- the times of a call by its place
 pub timed_at : (calls : List Call) (k : ℕ) (call : Call) → AreTimed calls → slice_get calls k ≡ Some call → (call.arrival ≤ most_time) × (call.departure ≤ most_time)

@@ -15,3 +15,12 @@ pub returns-clause-built : goal.returns-clause-built
 returns-clause-built c =
     pattern_is c.args.timetable.now c.args.halts.now c.args.runs.now _ c.in_ok-from_slice.ensures.items c.in_ok-from_slice-2.ensures.items
     (omega (arith, c.if-halts.false)) c.requires.runs c.in_ok-stops_of.ensures c.in_ok-all_departures.ensures c.in_ok-all_arrivals.ensures
+
+pub all_departures-requires-clause-few : goal.all_departures-requires-clause-few
+all_departures-requires-clause-few c = omega (arith, c.if-halts.false)
+
+pub returns-clause-halts : goal.returns-clause-halts
+returns-clause-halts c = c.in_ok-from_slice.ensures.items
+
+pub returns-clause-runs : goal.returns-clause-runs
+returns-clause-runs c = c.in_ok-from_slice-2.ensures.items
