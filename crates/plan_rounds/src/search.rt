@@ -288,7 +288,7 @@ impl<'s, 'f> Search<'s, 'f> {
         let horizon = self.horizon(finals)?;
         let positions = self.rides.positions();
         let round = Round {
-            positions: &positions,
+            positions,
             labels,
             count,
             finals,
