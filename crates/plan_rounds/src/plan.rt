@@ -8,6 +8,7 @@ ghost use Rattle.feed_rows.specs.ClosedTable.{IsClosedTable};
 ghost use Rattle.feed_rows.specs.SoundTable.{IsSoundTable};
 ghost use Rattle.plan_rides.specs.Asked.{asked};
 ghost use Rattle.plan_rounds.specs.Prospects.{AreProspects, no_prospects};
+ghost use Rattle.round_laws.specs.Futility.{some_takes_back};
 ghost use Rattle.plan_rounds.specs.Searched.{IsTableOf, searched};
 ghost use Rattle.round_table.specs.Tables.{CoversAllOffers, table_by};
 
@@ -58,15 +59,16 @@ fn table_with(
     timeframes: &Timeframes,
     automaton: &Automaton,
     prospects: &Prospects,
+    takes_back: bool,
     whole: bool,
 ) -> Result<RoundTable, AllocError>
     requires timeframes { AreTimeframesOf rides.now.feed timeframes.now }
     requires automaton { automaton.now ≡ terms rides.now.feed rides.now.query.rider }
     requires prospects { AreProspects rides.now.feed rides.now.query (deadline rides.now.query) prospects.now }
+    requires takes { takes_back ≡ some_takes_back rides.now.feed }
     requires none { whole ≡ true → prospects.now ≡ no_prospects }
     ensures { IfOk result (λ table. IsTableOf (searched rides.now whole) (table_by table)) }
 {
-    let takes_back = takes_back(rides.timetable().feed());
     let search = Search {
         alloc,
         rides,
@@ -96,7 +98,15 @@ fn table_at(
     let departure = rides.query().departure;
     let timeframes = Timeframes::between(alloc, feed, departure, rides.deadline())?;
     let prospects = first_prospects(alloc, rides, whole)?;
-    table_with(alloc, rides, &timeframes, automaton, &prospects, whole)
+    table_with(
+        alloc,
+        rides,
+        &timeframes,
+        automaton,
+        &prospects,
+        takes_back(feed),
+        whole,
+    )
 }
 
 /// The table of the rounds over these rides.
