@@ -156,7 +156,7 @@ impl<'s, 'f> Search<'s, 'f> {
     }
 
     /// Replaces what `marks` holds by the positions that the labels of the last round reach.
-    fn mark(&self, round: &Round<'_, 'f>, marks: &mut Marks) -> Result<(), AllocError>
+    pub(crate) fn mark(&self, round: &Round<'_, 'f>, marks: &mut Marks) -> Result<(), AllocError>
         requires { IsRound self.now round.now }
         ensures { OnOk result (AreMarks self.now round.now marks.new) }
     {
@@ -242,7 +242,7 @@ impl<'s, 'f> Search<'s, 'f> {
 
     /// Offers what one more ride leads to from the labels that reach these positions, position by position. What `kept` holds is
     /// lost.
-    fn offer_marked(
+    pub(crate) fn offer_marked(
         &self,
         found: &mut Found<'_, 'f>,
         bags: &mut StopBags,
@@ -269,24 +269,5 @@ impl<'s, 'f> Search<'s, 'f> {
             }
         }
         Ok(())
-    }
-
-    /// Offers what one more ride leads to from the labels of the last round, position by position. What `marks` and `kept` hold is
-    /// lost.
-    pub(crate) fn scan(
-        &self,
-        found: &mut Found<'_, 'f>,
-        bags: &mut StopBags,
-        round: &Round<'_, 'f>,
-        marks: &mut Marks,
-        kept: &mut Kept,
-    ) -> Result<(), AllocError>
-        requires round { IsRound self.now round.now }
-        requires fares { HasFares self.now found.old }
-        ensures fares { HasFares self.now found.new }
-        ensures spreads { OnOk result (SpreadsIn self.now round.now (StepsFrom self.now.feed self.now.query round.now.labels.now round.now.count) bags.old bags.new) }
-    {
-        self.mark(round, marks)?;
-        self.offer_marked(found, bags, round, marks, kept)
     }
 }

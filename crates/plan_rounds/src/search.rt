@@ -294,7 +294,8 @@ impl<'s, 'f> Search<'s, 'f> {
             finals,
             horizon: &horizon,
         };
-        self.scan(found, bags, &round, marks, kept)
+        self.mark(&round, marks)?;
+        self.offer_marked(found, bags, &round, marks, kept)
     }
 
     /// Adds the labels that have so many rides, and what they end in.
