@@ -1,5 +1,6 @@
 //! How late rides may arrive at stops, for a journey to end by a few more.
 ghost use Rattle.std.specs.Prelude.{◌≡◌, [], false, length, slice_get, unwrap_or, IfOk, OnOk};
+ghost use Rattle.feed_rows.specs.SoundFeed.{IsSoundFeed};
 ghost use Rattle.plan_rides.specs.InTime.{IsUsualQuery};
 ghost use Rattle.plan_rounds.specs.Prospects.{AreEnds, AreProspects, IsEndBy, IsEndless, IsNoEnd, no_prospects, with_one_more};
 
@@ -55,7 +56,6 @@ impl Prospects {
         ensures { IfOk result (AreProspects rides.now.feed rides.now.query deadline.0) }
     {
         let timetable = rides.timetable();
-        let _feed = timetable.feed();
         let query = rides.query();
         let limit = query.rides;
         let mut prospects = Prospects::none(alloc);
@@ -107,6 +107,7 @@ fn ends_of(
     deadline: Moment,
 ) -> Result<Vec<Option<Moment>>, AllocError>
     requires usual { IsUsualQuery query.now }
+    ensures sound { IsSoundFeed timetable.now }
     ensures stops { IfOk result (λ ends. length ends.items ≡ length timetable.now.stops) }
     ensures ends { IfOk result (λ ends. AreEnds timetable.now query.now deadline.0 ends.items) }
 {
