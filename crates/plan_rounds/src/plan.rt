@@ -8,7 +8,6 @@ ghost use Rattle.feed_rows.specs.ClosedTable.{IsClosedTable};
 ghost use Rattle.feed_rows.specs.SoundTable.{IsSoundTable};
 ghost use Rattle.plan_rides.specs.Asked.{asked};
 ghost use Rattle.plan_rounds.specs.Prospects.{AreProspects, no_prospects};
-ghost use Rattle.round_laws.specs.Futility.{some_takes_back};
 ghost use Rattle.plan_rounds.specs.Searched.{IsTableOf, searched};
 ghost use Rattle.round_table.specs.Tables.{CoversAllOffers, table_by};
 
@@ -17,7 +16,7 @@ use crate::prospects::Prospects;
 use crate::search::Search;
 use fare_automaton::Automaton;
 use fare_timeframes::Timeframes;
-use feed_rows::{Entry, Query};
+use feed_rows::{Entry, Feed, Query};
 use feed_timetable::Timetable;
 use plan_rides::Rides;
 use round_table::RoundTable;
@@ -56,26 +55,27 @@ fn first_prospects(alloc: Global, rides: &Rides, whole: bool) -> Result<Prospect
 fn table_with(
     alloc: Global,
     rides: &Rides,
-    timeframes: &Timeframes,
     automaton: &Automaton,
+    feed: &Feed,
+    timeframes: &Timeframes,
     prospects: &Prospects,
-    takes_back: bool,
     whole: bool,
 ) -> Result<RoundTable, AllocError>
+    requires feed { feed.now ≡ rides.now.feed }
     requires timeframes { AreTimeframesOf rides.now.feed timeframes.now }
     requires automaton { automaton.now ≡ terms rides.now.feed rides.now.query.rider }
     requires prospects { AreProspects rides.now.feed rides.now.query (deadline rides.now.query) prospects.now }
-    requires takes { takes_back ≡ some_takes_back rides.now.feed }
     requires none { whole ≡ true → prospects.now ≡ no_prospects }
     ensures { IfOk result (λ table. IsTableOf (searched rides.now whole) (table_by table)) }
 {
     let search = Search {
         alloc,
         rides,
+        feed,
         timeframes,
         automaton,
         prospects,
-        takes_back,
+        takes_back: takes_back(feed),
         whole,
     };
     search.table(alloc)
@@ -89,32 +89,39 @@ fn table_at(
     alloc: Global,
     rides: &Rides,
     automaton: &Automaton,
+    feed: &Feed,
     whole: bool,
 ) -> Result<RoundTable, AllocError>
-    requires { automaton.now ≡ terms rides.now.feed rides.now.query.rider }
+    requires feed { feed.now ≡ rides.now.feed }
+    requires automaton { automaton.now ≡ terms rides.now.feed rides.now.query.rider }
     ensures { IfOk result (λ table. IsTableOf (searched rides.now whole) (table_by table)) }
 {
-    let feed = rides.timetable().feed();
     let departure = rides.query().departure;
     let timeframes = Timeframes::between(alloc, feed, departure, rides.deadline())?;
     let prospects = first_prospects(alloc, rides, whole)?;
     table_with(
         alloc,
         rides,
-        &timeframes,
         automaton,
+        feed,
+        &timeframes,
         &prospects,
-        takes_back(feed),
         whole,
     )
 }
 
 /// The table of the rounds over these rides.
-fn table_over(alloc: Global, rides: &Rides, whole: bool) -> Result<RoundTable, AllocError>
+fn table_over(
+    alloc: Global,
+    rides: &Rides,
+    feed: &Feed,
+    whole: bool,
+) -> Result<RoundTable, AllocError>
+    requires { feed.now ≡ rides.now.feed }
     ensures { IfOk result (λ table. IsTableOf (searched rides.now whole) (table_by table)) }
 {
-    match Automaton::compile(alloc, rides.timetable().feed(), rides.query().rider) {
-        Ok(automaton) => table_at(alloc, rides, &automaton, whole),
+    match Automaton::compile(alloc, feed, rides.query().rider) {
+        Ok(automaton) => table_at(alloc, rides, &automaton, feed, whole),
         Err(AllocError) => Err(AllocError),
     }
 }
@@ -129,8 +136,9 @@ fn table_of(
     requires { IsUsualQuery query.now }
     ensures { IfOk result (λ table. IsTableOf (searched (asked timetable.now query.now) whole) (table_by table)) }
 {
+    let feed = timetable.feed();
     match Rides::of(alloc, timetable, query) {
-        Ok(rides) => table_over(alloc, &rides, whole),
+        Ok(rides) => table_over(alloc, &rides, feed, whole),
         Err(AllocError) => Err(AllocError),
     }
 }

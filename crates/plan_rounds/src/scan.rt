@@ -185,7 +185,7 @@ impl<'s, 'f> Search<'s, 'f> {
     /// Offers what the rides lead to from the label that depart no earlier than it gets to the position.
     fn offer_rides(
         &self,
-        found: &mut Found<'_, 'f>,
+        found: &mut Found,
         bags: &mut StopBags,
         round: &Round<'_, 'f>,
         source: &Source,
@@ -213,7 +213,7 @@ impl<'s, 'f> Search<'s, 'f> {
     /// Offers what one more ride from the position leads to, from the label that reaches it. `kept` then has the rides from there.
     fn offer_from(
         &self,
-        found: &mut Found<'_, 'f>,
+        found: &mut Found,
         bags: &mut StopBags,
         round: &Round<'_, 'f>,
         reached: &Reached,
@@ -244,7 +244,7 @@ impl<'s, 'f> Search<'s, 'f> {
     /// lost.
     pub(crate) fn offer_marked(
         &self,
-        found: &mut Found<'_, 'f>,
+        found: &mut Found,
         bags: &mut StopBags,
         round: &Round<'_, 'f>,
         marks: &Marks,

@@ -43,9 +43,10 @@ use transit_base::{Moment, StopId};
 pub struct Search<'s, 'f> {
     pub(crate) alloc: Global,
     pub(crate) rides: &'s Rides<'s, 'f>,
+    pub(crate) feed: &'s Feed,
     pub(crate) timeframes: &'s Timeframes,
     /// The fares for the query's rider.
-    pub(crate) automaton: &'s Automaton<'f>,
+    pub(crate) automaton: &'s Automaton<'s>,
     /// Those of journeys that end in time; none where the search is to be whole.
     pub(crate) prospects: &'s Prospects,
     /// Whether some change takes back what a leg before it cost.
@@ -66,7 +67,7 @@ impl<'s, 'f> Model for Search<'s, 'f> {
 
     ghost view = { λ s. searched s.rides.now s.whole };
 
-    ghost invariant = { λ s. AreTimeframesOf s.rides.now.feed s.timeframes.now × (s.automaton.now ≡ terms s.rides.now.feed s.rides.now.query.rider) × (s.takes_back ≡ some_takes_back s.rides.now.feed) × AreProspects s.rides.now.feed s.rides.now.query (deadline s.rides.now.query) s.prospects.now × (s.whole ≡ true → s.prospects.now ≡ no_prospects) };
+    ghost invariant = { λ s. AreTimeframesOf s.rides.now.feed s.timeframes.now × (s.automaton.now ≡ terms s.rides.now.feed s.rides.now.query.rider) × (s.takes_back ≡ some_takes_back s.rides.now.feed) × AreProspects s.rides.now.feed s.rides.now.query (deadline s.rides.now.query) s.prospects.now × (s.whole ≡ true → s.prospects.now ≡ no_prospects) × (s.feed.now ≡ s.rides.now.feed) };
 }
 
 /// A label with its number among those so far, from which a round goes on.
@@ -78,8 +79,8 @@ pub struct Source<'l> {
 }
 
 /// What can be paid for legs, kept by their kinds, and what is found for one ride after another, kept for its memory.
-pub struct Found<'a, 'f> {
-    pub(crate) known: KnownOptions<'a, 'f>,
+pub struct Found<'a> {
+    pub(crate) known: KnownOptions<'a, 'a>,
     /// What fare rules look at in the leg that is the ride.
     pub(crate) leg: LegFacts,
     places: Vec<Option<ChangeChoice>>,
@@ -87,7 +88,7 @@ pub struct Found<'a, 'f> {
 }
 
 // Written out, so that what holds one needn't look into it to let go of it.
-impl<'a, 'f> Drop for Found<'a, 'f> {
+impl<'a> Drop for Found<'a> {
     fn drop(self) {
         let Found {
             known: _,
@@ -140,11 +141,13 @@ impl<'s, 'f> Search<'s, 'f> {
     }
 
     /// The feed.
-    pub(crate) fn feed(&self) -> &'f Feed
+    pub(crate) fn feed(&self) -> &'s Feed
         ensures value { result.now ≡ self.now.feed }
         ensures sound { IsSoundFeed self.now.feed }
     {
-        self.rides.timetable().feed()
+        let feed = self.feed;
+        let _rows = &feed.trips;
+        feed
     }
 
     /// Offers the label without rides at a first stop.
@@ -194,7 +197,7 @@ impl<'s, 'f> Search<'s, 'f> {
     /// Offers what the ride leads to from the label.
     pub(crate) fn offer_ride(
         &self,
-        found: &mut Found<'_, 'f>,
+        found: &mut Found,
         bags: &mut StopBags,
         source: &Source,
         finals: &[Final],
@@ -268,7 +271,7 @@ impl<'s, 'f> Search<'s, 'f> {
     /// Offers what one more ride leads to from the labels with so many rides. What `marks` and `kept` hold is lost.
     fn spread(
         &self,
-        found: &mut Found<'_, 'f>,
+        found: &mut Found,
         bags: &mut StopBags,
         labels: &LabelList,
         count: u8,
@@ -329,7 +332,7 @@ impl<'s, 'f> Search<'s, 'f> {
     /// is lost.
     fn spread_by(
         &self,
-        found: &mut Found<'_, 'f>,
+        found: &mut Found,
         marks: &mut Marks,
         kept: &mut Kept,
         bags: &mut StopBags,
