@@ -66,6 +66,10 @@ pub record IsRound (task : Searched) (round : Round) : Type 0 where
   pub ended : HasEnds task.feed task.query round.labels.now round.finals.now
   pub horizon : IfSome round.horizon.now (IsHorizon task round.finals.now)
 
+-- it has this horizon, and goes on from labels with so many rides
+abbrev pub IsRoundBy : Searched → Option HorizonParts → ℕ → Round → Type 0
+IsRoundBy task horizon count round = IsRound task round × (round.horizon.now ≡ horizon) × (round.count ≡ count)
+
 -- ---- positions that are reached
 
 -- the place of a position among all, by pattern

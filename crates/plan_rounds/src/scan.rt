@@ -1,11 +1,12 @@
 //! How a round goes on from its labels: pattern by pattern, and position by position.
-ghost use Rattle.std.specs.Prelude.{◌≡◌, true, false, Some, int_le, slice_get, OnOk};
+ghost use Rattle.std.specs.Prelude.{◌≡◌, ◌<◌, true, false, Some, int_le, slice_get, OnOk};
 ghost use Rattle.std.specs.List.Sorted.{IsNonDecreasingBy, IsPermutation};
 ghost use Rattle.plan_rides.specs.InTime.{AreLastDepartures};
 ghost use Rattle.plan_rides.specs.Reached.{AreKept, IsReachedFrom};
 ghost use Rattle.round_labels.specs.Labels.{stand_of_label};
 ghost use Rattle.plan_rounds.specs.Moves.{HasFares};
-ghost use Rattle.plan_rounds.specs.Scans.{AddsMarks, AreFairFor, AreFairIn, AreMarks, HasLasts, IsFairIn, IsMarked, IsNear, IsRound, ServeFor, SpreadsIn, StepsAt, StepsFromPosition, place_of};
+ghost use Rattle.plan_rounds.specs.declared.scan.Round.{Round};
+ghost use Rattle.plan_rounds.specs.Scans.{AddsMarks, AreFairFor, AreFairIn, AreMarks, HasLasts, IsFairIn, IsMarked, IsNear, IsRound, IsRoundBy, ServeFor, SpreadsIn, StepsAt, StepsFromPosition, place_of};
 ghost use Rattle.plan_rounds.specs.Sources.{IsSource, SpreadsFrom};
 ghost use Rattle.plan_rounds.specs.Stores.{StepsFrom};
 ghost use Rattle.round_labels.specs.declared.label.Label.{Label};
@@ -119,14 +120,14 @@ impl<'s, 'f> Search<'s, 'f> {
         }
     }
 
-    /// By what the rides of the round are tried from labels that are near, or from the others.
-    fn cutoffs_for<'p>(&'p self, round: &'p Round<'p, 'f>, near: bool) -> Cutoffs<'p>
-        requires { IsRound self.now round.now }
-        ensures lasts { AreLastDepartures round.now.positions.now.feed round.now.positions.now.query result.latest.now result.lasts.now }
-        ensures fair { AreFairIn self.now round.now near result.latest.now }
+    /// By what the rides of a round with this horizon are tried from labels that are near, or from the others.
+    fn cutoffs_for<'p>(&'p self, horizon: &'p Option<Horizon>, count: u8, near: bool) -> Cutoffs<'p>
+        requires { count < self.now.query.rides }
+        ensures lasts { (round : Round) → IsRoundBy self.now horizon.now count round → AreLastDepartures round.positions.now.feed round.positions.now.query result.latest.now result.lasts.now }
+        ensures fair { (round : Round) → IsRoundBy self.now horizon.now count round → AreFairIn self.now round near result.latest.now }
     {
-        let more = usize::from(self.limit() - round.count - 1);
-        let prospects = self.prospects_for(round.horizon, near);
+        let more = usize::from(self.limit() - count - 1);
+        let prospects = self.prospects_for(horizon, near);
         Cutoffs {
             latest: prospects.latest(more),
             lasts: prospects.lasts(more),
@@ -256,8 +257,8 @@ impl<'s, 'f> Search<'s, 'f> {
         ensures fares { HasFares self.now found.new }
         ensures spreads { OnOk result (SpreadsIn self.now round.now (StepsFrom self.now.feed self.now.query round.now.labels.now round.now.count) bags.old bags.new) }
     {
-        let soon = self.cutoffs_for(round, true);
-        let all = self.cutoffs_for(round, false);
+        let soon = self.cutoffs_for(round.horizon, round.count, true);
+        let all = self.cutoffs_for(round.horizon, round.count, false);
         kept.soon.clear();
         kept.all.clear();
         for k in 0..marks.reached.len() {

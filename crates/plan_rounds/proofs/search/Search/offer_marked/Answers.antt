@@ -1,4 +1,4 @@
-use Rattle.std.proofs.Common.{◌∙◌, ◌+◌, ◌<◌, ◌≤◌, ap, arith, length, refl, subst, sym, ⊎_elim, inl, inr}
+use Rattle.std.proofs.Common.{◌≡◌, ◌∙◌, ◌+◌, ◌<◌, ◌≤◌, true, false, ap, arith, length, refl, subst, sym, ⊎_elim, inl, inr}
 use Rattle.std.specs.Prelude.{Some}
 use Rattle.std.proofs.lemmas.List.Elements.{Contains-get_or}
 use Rattle.std.proofs.lemmas.Option.{slice_get_read, slice_get_within}
@@ -45,7 +45,18 @@ offer_from-requires-clause-fair c x at b to counts late =
     let many = c.requires.marks.many in
     let lt : number < length near.items = omega (arith, within, many) in
     let is = slice_get_read near.items (length near.items) number c.index.result.now refl lt c.index.ensures ∙ ap Some c.if-index.true in
-    c.cutoffs_for-soon.ensures.fair number x at counts (λ e. c.requires.marks.near number x at is) b to counts late
+    c.cutoffs_for-soon.ensures.fair round (c.requires.round, refl, refl) number x at counts (λ e. c.requires.marks.near number x at is) b to counts late
+
+pub offer_from-requires-clause-lasts : goal.offer_from-requires-clause-lasts
+offer_from-requires-clause-lasts c = c.cutoffs_for-soon.ensures.lasts c.args.round.now (c.requires.round, refl, refl)
+
+pub offer_from-requires-else-index-clause-lasts : goal.offer_from-requires-else-index-clause-lasts
+offer_from-requires-else-index-clause-lasts c = c.cutoffs_for-all.ensures.lasts c.args.round.now (c.requires.round, refl, refl)
+
+pub offer_from-requires-else-index-clause-fair : goal.offer_from-requires-else-index-clause-fair
+offer_from-requires-else-index-clause-fair c x at b to counts late =
+    c.cutoffs_for-all.ensures.fair c.args.round.now (c.requires.round, refl, refl) c.index-reached.result.now.number x at counts
+    (λ e. absurd (let no : false ≡ true = e in cc)) b to counts late
 
 pub loop-k-preserved : goal.loop-k-preserved
 loop-k-preserved c =
