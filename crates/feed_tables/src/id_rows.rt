@@ -15,7 +15,7 @@ fn byte_of(id: &[u8], place: usize) -> u8
 }
 
 /// An id's key: the number that its first seven bytes make, the first of them the least, and above these its length; past
-/// its end bytes count as 0. Where it has as many they are read by two loads, of which the second begins with the last byte
+/// its end bytes count as 0. Where it has as many they are read as two words, of which the second begins with the last byte
 /// of the first: a feed has more ids of stop times than of all else.
 #[inline(always)]
 pub fn key_of(id: &[u8]) -> u64
