@@ -1,10 +1,10 @@
 -- A file that is read piece by piece.
-use Rattle.std.proofs.Common.{◌≡◌, ℕ, zero, suc, ◌+◌, ◌-◌, ◌<◌, ◌≤◌, ◌⊎◌, inl, inr, List, [], ◌∷◌, ◌++◌, length, take, Option, Some, None, IfSome, refl, sym, ap, subst, ◌∙◌, arith, append_assoc, append-nil, length-append, length-take, take-append-drop}
+use Rattle.std.proofs.Common.{◌≡◌, ℕ, zero, suc, ◌+◌, ◌-◌, ◌<◌, ◌≤◌, ◌⊎◌, inl, inr, List, [], ◌∷◌, ◌++◌, length, take, Option, Some, None, IfSome, true, refl, sym, ap, subst, ◌∙◌, arith, append_assoc, append-nil, length-append, length-take, take-append-drop}
 use Rattle.std.specs.Prelude.{option_map}
 use Rattle.std.proofs.lemmas.Bool.Decides.{nat_tests}
 use Rattle.std.proofs.lemmas.List.{take-append-le}
 use Rattle.std.specs.Io.KnownBytes.{Consumes}
-use Rattle.feed_files.specs.FaultCounts.{Stayed}
+use Rattle.feed_files.specs.FaultCounts.{Rose, Stayed}
 use Rattle.folder_io.specs.declared.folder.Piece.TheVariants as piece
 use Rattle.folder_io.specs.declared.pieces.PiecesEnd.{PiecesEnd}
 use Rattle.folder_io.specs.declared.pieces.PiecesEnd.TheVariants.{Going, Ended, Failed, TooLarge}
@@ -53,6 +53,14 @@ goes_on room end going = by (some_or_none room)
     by : (room ≡ 0) ⊎ (0 < room) → end ≡ Going
     by (inl none) = let no : TooLarge ≡ Going = sym (end_none room end none) ∙ going in cc
     by (inr some) = sym (end_some room end some) ∙ going
+
+-- and takes bytes yet
+pub room_left : (room : ℕ) (end : PiecesEnd) → end_within room end ≡ Going → 0 < room
+room_left room end going = by (some_or_none room)
+  where
+    by : (room ≡ 0) ⊎ (0 < room) → 0 < room
+    by (inl none) = let no : TooLarge ≡ Going = sym (end_none room end none) ∙ going in absurd cc
+    by (inr some) = some
 
 -- what is to come behind a piece
 come_more : (room : ℕ) (left later : Option (List ℕ)) (bytes : List ℕ) → length bytes ≤ room → Consumes left later bytes
@@ -120,6 +128,58 @@ takes_behind before kept now text part rest count is going within fits asked tak
         end = rw (goes_on before.room kept (sym is ∙ going)) (ends_behind before now start limit taken (take count (part ++ rest)) count fits size has (asked.stayed ∙ stood.0));
         text = reads ∙ ap (λ text. utf8_after text (take count (part ++ rest))) has.text ∙ sym (utf8_after-append Whole taken (take count (part ++ rest)));
       };
+}
+
+-- what was left where the folder has no more, and what was left where it failed
+last_consumes : (start left later : Option (List ℕ)) (taken part : List ℕ) → Consumes start left taken → IfSome left (λ bytes. Takes bytes later part piece.End)
+    → Consumes start later taken × IfSome start (λ bytes. taken ≡ bytes)
+last_consumes None left later taken part first then = (tt, tt)
+last_consumes (Some all) None later taken part first then = absurd first
+last_consumes (Some all) (Some rest) later taken part first then =
+    (rw then.1 first, sym (first ∙ ap (λ bytes. taken ++ bytes) then.0 ∙ append-nil taken))
+
+failed_consumes : (start left later : Option (List ℕ)) (taken part : List ℕ) → Consumes start left taken → IfSome left (λ bytes. Takes bytes later part piece.Failed)
+    → Consumes start later taken
+failed_consumes None left later taken part first then = tt
+failed_consumes (Some all) None later taken part first then = absurd first
+failed_consumes (Some all) (Some rest) later taken part first then = rw then first
+
+-- nothing is taken where the folder has no more
+pub takes_last : (before : PiecesState) (now : FolderState) (part : List ℕ) → before.end ≡ Going → 0 < before.room → IsAsked before.folder now
+    → IfSome before.folder.left (λ bytes. Takes bytes now.left part piece.End)
+    → TakesOn before [] (record { folder = now; room = before.room; end = end_within before.room Ended; text = before.text })
+takes_last before now part going some asked takes = record {
+  behind = λ start limit taken has.
+      let stood : EndsAs start limit taken before.folder Going = subst (EndsAs start limit taken before.folder) going has.end in
+      let last = last_consumes start.left before.folder.left now.left taken part has.bytes takes in
+      rw append-nil (record {
+        holds = asked.holds ∙ has.holds;
+        opens = asked.opens ∙ has.opens;
+        present = asked.present ∙ has.present;
+        bytes = last.0;
+        room = has.room;
+        end = rw (end_some before.room Ended some) (asked.stayed ∙ stood.0, stood.1, last.1);
+        text = has.text;
+      });
+}
+
+-- nor where it failed
+pub takes_failed : (before : PiecesState) (now : FolderState) (part : List ℕ) → before.end ≡ Going → 0 < before.room → now.holds ≡ before.folder.holds
+    → now.opens ≡ before.folder.opens → now.present ≡ before.folder.present → Rose before.folder.faults now.faults → now.failed ≡ true
+    → IfSome before.folder.left (λ bytes. Takes bytes now.left part piece.Failed)
+    → TakesOn before [] (record { folder = now; room = before.room; end = end_within before.room Failed; text = before.text })
+takes_failed before now part going some holds opens present rose failed takes = record {
+  behind = λ start limit taken has.
+      let stood : EndsAs start limit taken before.folder Going = subst (EndsAs start limit taken before.folder) going has.end in
+      rw append-nil (record {
+        holds = holds ∙ has.holds;
+        opens = opens ∙ has.opens;
+        present = present ∙ has.present;
+        bytes = failed_consumes start.left before.folder.left now.left taken part has.bytes takes;
+        room = has.room;
+        end = rw (end_some before.room Failed some) (subst (λ n. Rose n now.faults) stood.0 rose, stood.1, failed);
+        text = has.text;
+      });
 }
 
 -- no bytes, and some bytes behind others
