@@ -1,18 +1,19 @@
 -- Headers, and the columns that are found in them.
 use Rattle.std.proofs.Common.{◌≡◌, ℕ, zero, suc, ◌<◌, ◌≤◌, Bool, true, false, [], ◌∷◌, length, refl, sym, ap, ap₂, ◌∙◌, arith, None, Some, nat_lt}
-use Rattle.std.specs.Prelude.{nat_le, ◌&&◌, List, Option, option_map, option_and_then, is_none, slice_get, if◌then◌else◌}
+use Rattle.std.specs.Prelude.{nat_le, not, ◌&&◌, List, Option, option_map, option_and_then, is_none, slice_get, if◌then◌else◌}
 use Rattle.std.specs.List.{find}
 use Rattle.std.specs.Option.{option_or}
+use Rattle.std.specs.Str.{is_utf8}
 use Rattle.std.proofs.lemmas.Bool.Decides.{nat_tests}
 use Rattle.feed_files.specs.declared.names.FileName.{FileName}
 use Rattle.feed_files.specs.declared.faults.FaultKind.TheVariants as kind
 use Rattle.plain_laws.specs.Plain.{when, any_below, first_below, first_in}
 use Rattle.plain_laws.proofs.Laws.{option_or-assoc}
-use Rattle.feed_faults.specs.Records.{FileTable, row_count, column_of}
+use Rattle.feed_faults.specs.Records.{FileTable, row_count, column_of, table_of_bytes}
 use Rattle.feed_faults.specs.FaultPlaces.{file_fault, column_fault}
 use Rattle.feed_faults.specs.FileColumns.{columns_of}
 use Rattle.feed_faults.specs.declared.columns.ColumnRule.{ColumnRule}
-use Rattle.feed_faults.specs.FormFaults.{form_fault_of_table, header_fault, doubled_column, missing_column, is_needed_column, is_twice}
+use Rattle.feed_faults.specs.FormFaults.{form_fault_of_bytes, form_fault_of_table, header_fault, doubled_column, missing_column, is_needed_column, is_twice}
 
 -- no number below the first that may pass does
 pub none_before : (past : ℕ) (test : ℕ → Bool) (n : ℕ) → n ≤ past → any_below n (λ c. nat_le past c && test c) ≡ false
@@ -43,6 +44,41 @@ few_enough most kept table e = fitting (nat_le (row_count table) most) refl e
     fitting : (b : Bool) → nat_le (row_count table) most ≡ b → Some kept ≡ when b table → (kept ≡ table) × (nat_lt most (row_count table) ≡ false)
     fitting true fits e = (cc, grind (arith, nat_tests, fits))
     fitting false fits e = absurd (cc)
+
+-- bytes that aren't UTF-8
+pub not_text : (needed : Bool) (most : ℕ) (file : FileName) (bytes : List ℕ) → is_utf8 bytes ≡ false
+    → form_fault_of_bytes needed most file bytes ≡ Some (file_fault file kind.NotUtf8)
+unfolding form_fault_of_bytes
+not_text needed most file bytes other = rw other refl
+
+-- those that are and make too long a table
+pub too_long_text : (needed : Bool) (most : ℕ) (file : FileName) (bytes : List ℕ) → is_utf8 bytes ≡ true
+    → None ≡ when (nat_le (row_count (table_of_bytes bytes)) most) (table_of_bytes bytes)
+    → form_fault_of_bytes needed most file bytes ≡ Some (file_fault file kind.TooManyRows)
+unfolding form_fault_of_bytes
+too_long_text needed most file bytes is long = rw (is, too_many needed most file (table_of_bytes bytes) long) refl
+
+-- and those that make one that is kept: without a record it may be needed, and with one its header has the first fault
+module _ (needed : Bool) (most : ℕ) (file : FileName) (bytes : List ℕ) (kept : FileTable) (is : is_utf8 bytes ≡ true)
+    (fits : Some kept ≡ when (nat_le (row_count (table_of_bytes bytes)) most) (table_of_bytes bytes)) where
+  kept_text : (some : Bool) → nat_lt 0 (length kept) ≡ some
+      → form_fault_of_bytes needed most file bytes ≡ (if some then header_fault file kept else when needed (file_fault file kind.MissingFile))
+  unfolding form_fault_of_bytes form_fault_of_table
+  kept_text some e = let few = few_enough most kept (table_of_bytes bytes) fits in rw (is, few.1, ← few.0, e) refl
+
+  pub empty_text : not (nat_lt 0 (length kept)) ≡ true → form_fault_of_bytes needed most file bytes ≡ when needed (file_fault file kind.MissingFile)
+  empty_text none = kept_text false (flipped (nat_lt 0 (length kept)) none)
+    where
+      flipped : (b : Bool) → not b ≡ true → b ≡ false
+      flipped true e = absurd (cc)
+      flipped false e = refl
+
+  pub filled_text : not (nat_lt 0 (length kept)) ≡ false → form_fault_of_bytes needed most file bytes ≡ header_fault file kept
+  filled_text some = kept_text true (flipped (nat_lt 0 (length kept)) some)
+    where
+      flipped : (b : Bool) → not b ≡ false → b ≡ true
+      flipped true e = refl
+      flipped false e = absurd (cc)
 
 -- what stands at the first number, or the first behind it
 first_head : {X : Type 0} (g : ℕ → Option X) (n : ℕ) → first_below (suc n) g ≡ option_or (g 0) (first_below n (λ i. g (suc i)))
