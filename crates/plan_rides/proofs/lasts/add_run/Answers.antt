@@ -1,7 +1,10 @@
-use Rattle.std.proofs.Common.{◌≡◌, ◌+◌, ◌-◌, ◌<◌, ◌∙◌, ap, length, subst, sym, arith}
+use Rattle.std.proofs.Common.{◌≡◌, ◌+◌, ◌-◌, ◌<◌, ◌≤◌, ◌∙◌, ap, length, subst, sym, arith}
 use Rattle.std.proofs.lemmas.Option.{slice_get_within}
 use Rattle.std.specs.Prelude.{slice_get}
 use mathlib.Core.Bool.{true≢false}
+use Rattle.transit_base.specs.Limits.{most_time}
+use Rattle.feed_rows.specs.declared.journeys.Call.{Call}
+use Rattle.plain_laws.proofs.Laws.{All-slice_get}
 use Rattle.plan_rides.proofs.DepartureLaws.{call_stop}
 use Rattle.plan_rides.proofs.LastLaws.{call_step, leads_more, leads_only, run_all, run_near, run_none}
 use Rattle.plan_rides.proofs.lasts.add_run.Goals as goal
@@ -30,6 +33,16 @@ put_departure-requires-clause-stop c =
     let stop = call_stop c.args.timetable.now c.args.run.now.trip (c.loop-k.k - 1) c.at-call.result
     c.feed-feed.ensures.sound (ap (λ cs. slice_get cs (c.loop-k.k - 1)) (sym are) ∙ c.at-call.ensures) in
     subst (λ n. c.at-call.result.stop.0 < n) (sym many) stop
+
+pub put_departure-requires-clause-time : goal.put_departure-requires-clause-time
+put_departure-requires-clause-time c =
+    (All-slice_get (λ (call : Call). (call.arrival ≤ most_time) × (call.departure ≤ most_time)) c.calls_of-calls.result
+    (c.loop-k.k - 1) c.at-call.result c.at-call.ensures c.calls_of-calls.ensures.times).1
+
+pub leads_from-leads-requires-clause-time : goal.leads_from-leads-requires-clause-time
+leads_from-leads-requires-clause-time c =
+    (All-slice_get (λ (call : Call). (call.arrival ≤ most_time) × (call.departure ≤ most_time)) c.calls_of-calls.result
+    (c.loop-k.k - 1) c.at-call.result c.at-call.ensures c.calls_of-calls.ensures.times).0
 
 pub leads_from-leads-requires-clause-near : goal.leads_from-leads-requires-clause-near
 leads_from-leads-requires-clause-near c = run_near c.args.timetable.now c.args.run.now c.requires.run
