@@ -119,7 +119,7 @@ fn add_runs(
     }
 }
 
-/// The same of the runs of all patterns.
+/// The same of the runs of all patterns. Each call of a run is looked at once.
 pub fn add_patterns(
     timetable: &Timetable,
     patterns: &Patterns,
