@@ -1,6 +1,8 @@
 -- The moves that an automaton finds for a label.
-use Rattle.std.proofs.Common.{◌≡◌, sym, subst, List, pos}
-use Rattle.std.specs.Prelude.{Some, None, Result, Ok, Err, OnOk}
+use Rattle.std.proofs.Common.{◌≡◌, ◌∙◌, ℕ, ◌+◌, ◌<◌, sym, subst, ap, ⊎_elim, arith, false, List, pos}
+use Rattle.std.specs.Prelude.{slice_get, Some, None, Result, Ok, Err, OnOk}
+use Rattle.std.proofs.lemmas.Bool.{cases_lt}
+use Rattle.std.proofs.lemmas.Option.{same_Some}
 use Rattle.feed_rows.specs.declared.journeys.LegFacts.{LegFacts}
 use Rattle.feed_rows.specs.declared.journeys.Query.{Query}
 use Rattle.feed_rows.specs.declared.states.FareState.{FareState}
@@ -12,7 +14,7 @@ use Rattle.fare_automaton.specs.Terms.{FareTerms, terms}
 use Rattle.fare_automaton.specs.Steps.{AreStarts, AreSteps}
 use Rattle.round_labels.specs.declared.label.Label.{Label}
 use Rattle.round_labels.specs.Labels.{IsBounded}
-use Rattle.plan_rounds.specs.Moves.{AreMovesOf}
+use Rattle.plan_rounds.specs.Moves.{AreMovesOf, betters}
 use Rattle.plan_rounds.proofs.MoveBounds.{move_small}
 
 -- all moves after a label
@@ -44,3 +46,16 @@ moves_of_steps (Ok u) own feed query label state leg moves same sound bounded so
     moves_of feed query label leg moves sound bounded
     (subst (λ s. AreMovesAfter feed query.rider s label.held.0 leg moves) (sym some)
     (subst (λ (t : FareTerms). AreSteps t.feed t.rider state label.held.0 leg moves) same are).exact)
+
+-- where the move at k isn't as good as the other, nor is one before it, none before the next is
+pub none_better : (moves : List Move) (number k : ℕ) (a b : Move) → slice_get moves k ≡ Some a → slice_get moves number ≡ Some b →
+    betters a b ≡ false →
+    ((earlier : ℕ) (better other : Move) → earlier < k → slice_get moves earlier ≡ Some better → slice_get moves number ≡ Some other →
+    betters better other ≡ false) →
+    (earlier : ℕ) (better other : Move) → earlier < k + 1 → slice_get moves earlier ≡ Some better → slice_get moves number ≡ Some other →
+    betters better other ≡ false
+none_better moves number k a b here there not before earlier better other below is at =
+    ⊎_elim (λ lower. before earlier better other lower is at)
+    (λ upper. let same : earlier ≡ k = omega (arith, below, upper) in
+    subst (λ m. betters better m ≡ false) (same_Some b other (sym there ∙ at))
+    (subst (λ m. betters m b ≡ false) (same_Some a better (sym here ∙ sym (ap (slice_get moves) same) ∙ is)) not)) (cases_lt earlier k)
