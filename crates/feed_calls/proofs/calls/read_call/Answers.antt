@@ -1,9 +1,28 @@
-use Rattle.std.proofs.Common.{rules, refl, sym, ap, ◌∙◌, ◌==◌, not}
+use Rattle.std.proofs.Common.{rules, refl, sym, ap, ◌∙◌, ◌==◌, not, arith}
 use Rattle.feed_faults.specs.AcceptedFeed.{finite_count}
 use Rattle.feed_faults.specs.FieldValues.{nat_of, int_or_zero}
-use Rattle.feed_text.proofs.ValueLaws.{natural_is}
+use Rattle.feed_text.proofs.ValueLaws.{natural_is, int_is_short, time_fits, time_is_few}
 use Rattle.feed_calls.proofs.CallLaws.{made_call}
 use Rattle.feed_calls.proofs.calls.read_call.Goals as goal
+
+pub nat_of-requires : goal.nat_of-requires
+nat_of-requires g c = rw (rw c.rule_of.ensures.columns at c.in_ok-sequence.ensures.number) (int_is_short _ _ _ (omega arith))
+
+pub natural-requires : goal.natural-requires
+natural-requires g c = rw (rw c.rule_of.ensures.columns at c.in_ok-arrival.ensures.number) (time_fits _ _ (omega arith))
+
+pub natural-requires-2 : goal.natural-requires-2
+natural-requires-2 g c = rw (rw c.rule_of.ensures.columns at c.in_ok-departure.ensures.number) (time_fits _ _ (omega arith))
+
+pub of-requires : goal.of-requires
+of-requires g c = record {
+  few = rw (c.natural.ensures, rw c.rule_of.ensures.columns at c.in_ok-arrival.ensures.number) (time_is_few _);
+}
+
+pub of-requires-2 : goal.of-requires-2
+of-requires-2 g c = record {
+  few = rw (c.natural-2.ensures, rw c.rule_of.ensures.columns at c.in_ok-departure.ensures.number) (time_is_few _);
+}
 
 pub returns-clause-sound : goal.returns-clause-sound
 returns-clause-sound g c =
