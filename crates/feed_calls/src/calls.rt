@@ -115,7 +115,6 @@ fn read_id<F: Fields>(
 
 // The stop time that a record makes, judged as it is read, or its fault. Column by column and not in a loop, so that each is
 // judged by its own rule alone: a feed has more fields of stop times than of all else.
-#[tactic(auto, using(feed_text::proofs::ValueLaws::int_is_short, feed_text::proofs::ValueLaws::times))]
 fn read_call<R: Read>(
     ids: &CallIds,
     last_trip: &mut usize,
