@@ -1,9 +1,10 @@
 //! What a command's words ask for.
-ghost use Rattle.std.specs.Prelude.{◌≡◌, true, Ok, IfOk, IfErr, option_map};
+ghost use Rattle.std.specs.Prelude.{◌≡◌, true, List, ℕ, Ok, IfOk, IfErr, option_map};
 ghost use Rattle.feed_rows.specs.CommandWords.{positional_words, fits_form};
 ghost use Rattle.feed_rows.specs.Commands.{read_plan, read_price, read_gen};
 ghost use Rattle.feed_rows.specs.Requests.{Request};
 ghost use Rattle.plan_words.specs.Errors.{IsErrorOf};
+ghost use Rattle.plan_words.specs.Found.{IsFound};
 ghost use Rattle.plan_words.specs.Words.{asked_of, behind, form_of, command_of, command_named};
 ghost use Rattle.plan_words.specs.Request.{request_of, price_request, gen_request, asked_request, IsUsualPlan, IsUsualGen, IsUsualRequest};
 ghost use Rattle.plan_words.specs.Rides.{AreUsualRides};
@@ -13,6 +14,7 @@ use crate::found::{all_named, found_in, is_set, named, value_of};
 use crate::grammar::Form;
 use crate::rides::{RideWords, rides_in};
 use crate::values::{date_in, number_in, option_number};
+use clap::ArgMatches;
 use feed_rows::{USUAL_WINDOW, UsageFault};
 use feed_text::time_of;
 use plan_arguments::WordList;
@@ -70,6 +72,36 @@ pub struct GenWords {
     pub lines: u32,
 }
 
+// The plan that `clap` found the fields of, or its first fault.
+fn plan_in<'a>(found: &ArgMatches<'a>) -> Result<PlanWords<'a>, WordsError>
+    ensures value { (words : List (List ℕ)) → IsFound (form_of Form.Plan) words found.now → IfOk result (λ plan. Ok (Request.Plan (request_of plan)) ≡ read_plan (positional_words (form_of Form.Plan) words) words) }
+    ensures usual { IfOk result IsUsualPlan }
+    ensures err { (words : List (List ℕ)) → IsFound (form_of Form.Plan) words found.now → IfErr result (IsErrorOf (read_plan (positional_words (form_of Form.Plan) words) words)) }
+{
+    let Some(day) = date_in(named(found, 2).as_bytes()) else {
+        return Err(WordsError::Usage(UsageFault::BadDate));
+    };
+    let Some(seconds) = time_of(named(found, 3).as_bytes(), 86_399) else {
+        return Err(WordsError::Usage(UsageFault::BadTime));
+    };
+    let Some(rides) = option_number(value_of(found, "--rides"), 4, 0, 8) else {
+        return Err(WordsError::Usage(UsageFault::BadRides));
+    };
+    let within = value_of(found, "--within");
+    let Some(window) = option_number(within, USUAL_WINDOW, 1, MOST_WINDOW) else {
+        return Err(WordsError::Usage(UsageFault::BadWindow));
+    };
+    Ok(PlanWords {
+        from: named(found, 0),
+        to: named(found, 1),
+        departure: Moment::at(day, i64::from(seconds)),
+        rides: rides as u8,
+        rider: value_of(found, "--rider"),
+        window,
+        stats: is_set(found, "--stats"),
+    })
+}
+
 // The plan that the words ask for, or their first fault.
 fn plan_of(words: &WordList) -> Result<PlanWords<'_>, WordsError>
     requires { fits_form (form_of Form.Plan) (behind words.now) ≡ true }
@@ -78,28 +110,7 @@ fn plan_of(words: &WordList) -> Result<PlanWords<'_>, WordsError>
     ensures err { IfErr result (IsErrorOf (read_plan (positional_words (form_of Form.Plan) (behind words.now)) (behind words.now))) }
 {
     let found = found_in(Form::Plan, words)?;
-    let Some(day) = date_in(named(&found, 2).as_bytes()) else {
-        return Err(WordsError::Usage(UsageFault::BadDate));
-    };
-    let Some(seconds) = time_of(named(&found, 3).as_bytes(), 86_399) else {
-        return Err(WordsError::Usage(UsageFault::BadTime));
-    };
-    let Some(rides) = option_number(value_of(&found, "--rides"), 4, 0, 8) else {
-        return Err(WordsError::Usage(UsageFault::BadRides));
-    };
-    let within = value_of(&found, "--within");
-    let Some(window) = option_number(within, USUAL_WINDOW, 1, MOST_WINDOW) else {
-        return Err(WordsError::Usage(UsageFault::BadWindow));
-    };
-    Ok(PlanWords {
-        from: named(&found, 0),
-        to: named(&found, 1),
-        departure: Moment::at(day, i64::from(seconds)),
-        rides: rides as u8,
-        rider: value_of(&found, "--rider"),
-        window,
-        stats: is_set(&found, "--stats"),
-    })
+    plan_in(&found)
 }
 
 // The rides whose price the words ask for, or their first fault.
