@@ -1,5 +1,6 @@
 //! What a command answers over a feed.
-ghost use Rattle.std.specs.Prelude.{◌≡◌, ℕ, ◌-◌, IfOk};
+ghost use Rattle.std.specs.Prelude.{◌≡◌, ℕ, ◌-◌, ◌++◌, ◌∷◌, [], IfOk, OnOk};
+ghost use Rattle.feed_rows.specs.CommandTexts.{stats_line};
 ghost use Rattle.feed_rows.specs.GeneratedFeed.{generated_plan, stop_name};
 ghost use Rattle.feed_rows.specs.Queries.{query_of};
 ghost use Rattle.feed_rows.specs.Requests.{Request};
@@ -29,6 +30,14 @@ fn entries_text(alloc: Global, timetable: &Timetable, query: &Query) -> Result<T
     text_of(alloc, timetable, &entries)
 }
 
+// Puts the size of a table behind a text.
+fn push_stats(alloc: Global, text: &mut Text, labels: usize) -> Result<(), AllocError>
+    ensures { OnOk result (text.new ≡ text.old ++ stats_line labels ∷ []) }
+{
+    let line = stats_line_of(alloc, labels)?;
+    text.push(line.bytes())
+}
+
 // The text of the exact entries of a query, and behind it the size of the table from which they come.
 fn table_text(alloc: Global, timetable: &Timetable, query: &Query) -> Result<Text, AllocError>
     requires usual { IsUsualQuery query.now }
@@ -37,8 +46,7 @@ fn table_text(alloc: Global, timetable: &Timetable, query: &Query) -> Result<Tex
     let table = rounds(alloc, timetable, query)?;
     let entries = table.entries(alloc)?;
     let mut text = text_of(alloc, timetable, &entries)?;
-    let line = stats_line_of(alloc, table.size())?;
-    text.push(line.bytes())?;
+    push_stats(alloc, &mut text, table.size())?;
     Ok(text)
 }
 
