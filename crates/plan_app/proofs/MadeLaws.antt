@@ -2,10 +2,9 @@
 use Rattle.std.proofs.Common.{◌≡◌, ◌∙◌, ap, arith, ℕ, Bool, true, false, List, [], ◌∷◌, ◌++◌, length, map, Option, refl, sym, subst}
 use Rattle.std.proofs.lemmas.Option.{same_Some}
 use Rattle.std.proofs.lemmas.List.{get_or-map, length-map}
-use Rattle.std.specs.Prelude.{Any, IsTrue, Some, None, Ok, Err, IfSome}
+use Rattle.std.specs.Prelude.{Any, IsTrue, Some, None, Result, Ok, Err, IfOk, IfSome}
 use Rattle.feed_rows.specs.FeedRows.{FeedRows}
 use Rattle.feed_files.specs.HeldFiles.{HeldFile, held}
-use Rattle.feed_rows.specs.GeneratedFeed.{generated_plan}
 use Rattle.feed_rows.specs.JourneyEntries.{IsExactAnswer, CoversOffers}
 use Rattle.feed_rows.specs.ParetoTriples.{at_most}
 use Rattle.feed_rows.specs.ClosedTable.{IsClosedTable}
@@ -26,9 +25,9 @@ use Rattle.folder_io.proofs.LogLaws.{makes_none}
 use Rattle.feed_check.specs.LoadErrors.{StopsReading}
 use Rattle.ticket_explain.specs.CommandLines.{gen_lines}
 use Rattle.round_table.specs.Tables.{CoversAllOffers}
-use Rattle.command_answers.specs.Due.{Task, task_by, task_of, AreTableLines, DoTask, IsDue, IsDueOver}
+use Rattle.command_answers.specs.Due.{task_by, task_of, AreGenLines, AreTableLines, DoTask, IsDue, IsDueOver}
 use Rattle.command_answers.specs.declared.refusal.Refusal.TheVariants as refusal
-use Rattle.plan_app.specs.Made.{IsFeedFor, IsFaultFor}
+use Rattle.plan_app.specs.Made.{IsFeedFor, IsFaultFor, plan_task, planned}
 use Rattle.plan_app.specs.Run.{ReadsIf}
 use Rattle.command_answers.specs.declared.status.Status.{Status}
 use Rattle.command_answers.specs.declared.status.Status.TheVariants as status
@@ -83,12 +82,12 @@ table_lines feed query table entries size lines sound closed offers come counted
 }
 
 -- such lines are due for the plan
-pub plan_due : (feed : FeedRows) (request : PlanRequest) (query : Query) (told : Status) (text lines : List (List ℕ))
+pub plan_due : (triples : Bool) (feed : FeedRows) (request : PlanRequest) (query : Query) (told : Status) (text lines : List (List ℕ))
     → Ok query ≡ query_of feed request → told ≡ status.Answered → text ≡ lines
-    → DoTask (Task.Plans feed query request.stats) lines → IsDue (task_of feed (Request.Plan request)) told text
-plan_due feed request query told text lines named answered whole done =
-    subst (λ q. IsDue (task_by (λ query. Task.Plans feed query request.stats) q) told text) named
-    (answered, subst (DoTask (Task.Plans feed query request.stats)) (sym whole) done)
+    → DoTask (plan_task triples feed request.stats query) lines → IsDue (planned triples feed request) told text
+plan_due triples feed request query told text lines named answered whole done =
+    subst (λ q. IsDue (task_by (λ query. plan_task triples feed request.stats query) q) told text) named
+    (answered, subst (DoTask (plan_task triples feed request.stats query)) (sym whole) done)
 
 -- some item of a list of values is such where the value of some item is
 any_map : {X Y : Type 0} (such : Y → Type 0) (value : X → Y) (items : List X) → Any (λ item. such (value item)) items
@@ -101,21 +100,16 @@ any_map such value items some = (
   some.4,
 )
 
--- the triples of an exact answer to that plan are due
-pub gen_due : (feed : FeedRows) (lines : ℕ) (plan : PlanRequest) (query : Query) (entries : List Entry) (told : Status)
-    (text : List (List ℕ)) → plan ≡ generated_plan lines
-    → Ok query ≡ query_of feed plan → IsExactAnswer feed query entries → CoversOffers feed query entries
-    → told ≡ status.Answered → text ≡ gen_lines feed (map (λ entry. entry.triple) entries)
-    → IsDue (task_by (Task.Generates feed) (query_of feed (generated_plan lines))) told text
-gen_due feed lines plan query entries told text is named exact covers answered are =
-    subst (λ q. IsDue (task_by (Task.Generates feed) q) told text) (named ∙ ap (query_of feed) is) (
-      answered,
-      record {
-        triples = map (λ entry. entry.triple) entries;
-        are_minimal = exact_triples feed query entries exact;
-        covers = λ offered is_offered.
-            any_map (λ triple. IsTrue (at_most triple offered)) (λ (entry : Entry). entry.triple) entries
-            (covers offered is_offered);
-        are_lines = are;
-      },
-    )
+-- the triples of an exact answer make the lines for a generated feed, where memory isn't wanting
+pub gen_are : {E : Type 0} (feed : FeedRows) (query : Query) (entries : List Entry) (made : Result (List (List ℕ)) E)
+    → IsExactAnswer feed query entries → CoversOffers feed query entries
+    → IfOk made (λ lines. lines ≡ gen_lines feed (map (λ entry. entry.triple) entries)) → IfOk made (AreGenLines feed query)
+gen_are feed query entries (Ok lines) exact covers are = record {
+  triples = map (λ entry. entry.triple) entries;
+  are_minimal = exact_triples feed query entries exact;
+  covers = λ offered is_offered.
+      any_map (λ triple. IsTrue (at_most triple offered)) (λ (entry : Entry). entry.triple) entries
+      (covers offered is_offered);
+  are_lines = are;
+}
+gen_are feed query entries (Err error) exact covers are = tt

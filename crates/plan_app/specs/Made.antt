@@ -1,10 +1,12 @@
 -- What comes of a command before anything is written.
-use Rattle.std.specs.Prelude.{◌≡◌, ℕ, List, None, Some, Result, Ok, IsTrue}
+use Rattle.std.specs.Prelude.{◌≡◌, ℕ, Bool, true, false, List, None, Some, Result, Ok, IsTrue}
 use Rattle.folder_io.specs.FolderCalls.{FolderState}
 use Rattle.feed_check.specs.LoadErrors.{FailsReading, StopsReading}
 use Rattle.feed_rows.specs.FeedRows.{FeedRows}
 use Rattle.feed_files.specs.HeldFiles.{HeldFile}
-use Rattle.feed_rows.specs.Requests.{Request}
+use Rattle.feed_rows.specs.Queries.{query_of}
+use Rattle.feed_rows.specs.Requests.{PlanRequest, Request}
+use Rattle.feed_rows.specs.declared.journeys.Query.{Query}
 use Rattle.feed_rows.specs.declared.usage.UsageFault.{UsageFault}
 use Rattle.feed_files.specs.declared.faults.FeedFault.{FeedFault}
 use Rattle.feed_files.specs.declared.names.FileName.{FileName}
@@ -13,10 +15,11 @@ use Rattle.feed_faults.specs.FirstFault.{first_fault}
 use Rattle.feed_check.specs.declared.folder.LoadError.{LoadError}
 use Rattle.feed_check.specs.declared.folder.LoadError.TheVariants as error
 use Rattle.folder_io.specs.FileReading.{Gives}
-use Rattle.command_answers.specs.Due.{IsDueOver, files_for}
+use Rattle.command_answers.specs.Due.{Task, task_by, IsDueOver, files_for}
 use Rattle.plan_app.specs.Run.{asks_folder, Reads}
 use Rattle.command_answers.specs.declared.outcome.Outcome.{Outcome}
 use Rattle.command_answers.specs.declared.outcome.Stop.{Stop}
+use Rattle.command_answers.specs.declared.refusal.Refusal.{Refusal}
 use Rattle.command_answers.specs.declared.outcome.Stop.TheVariants as stop
 
 -- the answer and the lines are due for these words over files that the folder holds
@@ -46,3 +49,11 @@ abbrev pub GivesNone : LoadError → Request → FolderState → FolderState →
 GivesNone error.ReadFault request folder later = IsTrue (asks_folder (Ok request)) × FailsReading folder later
 GivesNone (error.Fault fault) request folder later = Reads (Ok request) folder later × IsFaultFor folder request fault
 GivesNone error.NoMemory request folder later = StopsReading folder later
+
+-- a plan whose lines are the triples of its answer, as for a generated feed, or else its entries
+abbrev pub plan_task : Bool → FeedRows → Bool → Query → Task
+plan_task true feed stats query = Task.Generates feed query
+plan_task false feed stats query = Task.Plans feed query stats
+
+abbrev pub planned : Bool → FeedRows → PlanRequest → Result Task Refusal
+planned triples feed request = task_by (λ query. plan_task triples feed request.stats query) (query_of feed request)

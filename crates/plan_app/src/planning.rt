@@ -3,10 +3,10 @@ ghost use Rattle.std.specs.Prelude.{◌≡◌, ℕ, ◌-◌, ◌++◌, ◌∷◌
 ghost use Rattle.feed_rows.specs.CommandTexts.{stats_line};
 ghost use Rattle.feed_rows.specs.GeneratedFeed.{generated_plan, stop_name};
 ghost use Rattle.feed_rows.specs.Queries.{query_of};
-ghost use Rattle.feed_rows.specs.Requests.{Request};
-ghost use Rattle.command_answers.specs.Due.{Task, task_by, task_of, ArePlanLines, AreTableLines, DoTask};
+ghost use Rattle.command_answers.specs.Due.{Task, task_by, task_of, AreGenLines, ArePlanLines, AreTableLines, DoTask};
 ghost use Rattle.plan_rides.specs.InTime.{IsUsualQuery};
 ghost use Rattle.command_answers.specs.Outcomes.{IsOutcome};
+ghost use Rattle.plan_app.specs.Made.{plan_task, planned};
 ghost use Rattle.plan_words.specs.Request.{request_of, asked_request, IsUsualPlan, IsUsualGen, IsUsualRequest};
 
 use command_answers::{
@@ -50,17 +50,29 @@ fn table_text(alloc: Global, timetable: &Timetable, query: &Query) -> Result<Tex
     Ok(text)
 }
 
-// The text of a plan, with the size of its table where that is asked for.
+// The text of the triples of the exact entries of a query.
+fn gen_text(alloc: Global, timetable: &Timetable, query: &Query) -> Result<Text, AllocError>
+    requires usual { IsUsualQuery query.now }
+    ensures { IfOk result (AreGenLines timetable.now query.now) }
+{
+    let found = round_entries(alloc, timetable, query)?;
+    gen_lines_of(alloc, timetable.feed(), &found)
+}
+
+// The text of a plan: its triples alone, or its entries, with the size of their table where that is asked for.
 fn plan_text(
     alloc: Global,
     timetable: &Timetable,
     query: &Query,
     stats: bool,
+    triples: bool,
 ) -> Result<Text, AllocError>
     requires usual { IsUsualQuery query.now }
-    ensures { IfOk result (DoTask (Task.Plans timetable.now query.now stats)) }
+    ensures { IfOk result (DoTask (plan_task triples timetable.now stats query.now)) }
 {
-    if stats {
+    if triples {
+        gen_text(alloc, timetable, query)
+    } else if stats {
         table_text(alloc, timetable, query)
     } else {
         entries_text(alloc, timetable, query)
@@ -68,25 +80,35 @@ fn plan_text(
 }
 
 // What a plan answers over a timetable.
-fn plan_over(alloc: Global, timetable: &Timetable, plan: &PlanWords) -> Result<Outcome, AllocError>
+fn plan_over(
+    alloc: Global,
+    timetable: &Timetable,
+    plan: &PlanWords,
+    triples: bool,
+) -> Result<Outcome, AllocError>
     requires usual { IsUsualPlan plan.now }
-    ensures { IfOk result (IsOutcome (task_of timetable.now (Request.Plan (request_of plan.now)))) }
+    ensures { IfOk result (IsOutcome (planned triples timetable.now (request_of plan.now))) }
 {
     let query = match query_of(timetable, plan) {
         Ok(query) => query,
         Err(fault) => return refused(alloc, Refusal::Usage(fault)),
     };
-    let text = plan_text(alloc, timetable, &query, plan.stats)?;
+    let text = plan_text(alloc, timetable, &query, plan.stats, triples)?;
     Ok(answered(text))
 }
 
 // What a plan answers.
-fn plan_outcome(alloc: Global, feed: &Feed, plan: &PlanWords) -> Result<Outcome, AllocError>
+fn plan_outcome(
+    alloc: Global,
+    feed: &Feed,
+    plan: &PlanWords,
+    triples: bool,
+) -> Result<Outcome, AllocError>
     requires usual { IsUsualPlan plan.now }
-    ensures { IfOk result (IsOutcome (task_of feed.now (Request.Plan (request_of plan.now)))) }
+    ensures { IfOk result (IsOutcome (planned triples feed.now (request_of plan.now))) }
 {
     match Timetable::build(alloc, feed) {
-        Ok(timetable) => plan_over(alloc, &timetable, plan),
+        Ok(timetable) => plan_over(alloc, &timetable, plan, triples),
         Err(AllocError) => Err(AllocError),
     }
 }
@@ -107,30 +129,13 @@ fn generated_plan(last: &str) -> PlanWords<'_>
     }
 }
 
-// What a generated feed answers over its timetable: the plan from its first stop to its last.
-fn gen_over(alloc: Global, timetable: &Timetable, words: &GenWords) -> Result<Outcome, AllocError>
-    requires usual { IsUsualGen words.now }
-    ensures { IfOk result (IsOutcome (task_by (Task.Generates timetable.now) (query_of timetable.now (generated_plan words.now.lines)))) }
-{
-    let last = stop_id(alloc, words.lines - 1, words.lines - 1)?;
-    let query = match query_of(timetable, &generated_plan(last.as_str())) {
-        Ok(query) => query,
-        Err(fault) => return refused(alloc, Refusal::Usage(fault)),
-    };
-    let found = round_entries(alloc, timetable, &query)?;
-    let text = gen_lines_of(alloc, timetable.feed(), &found)?;
-    Ok(answered(text))
-}
-
-// What a generated feed answers.
+// What a generated feed answers: the triples of the plan from its first stop to its last.
 fn gen_outcome(alloc: Global, feed: &Feed, words: &GenWords) -> Result<Outcome, AllocError>
     requires usual { IsUsualGen words.now }
     ensures { IfOk result (IsOutcome (task_by (Task.Generates feed.now) (query_of feed.now (generated_plan words.now.lines)))) }
 {
-    match Timetable::build(alloc, feed) {
-        Ok(timetable) => gen_over(alloc, &timetable, words),
-        Err(AllocError) => Err(AllocError),
-    }
+    let last = stop_id(alloc, words.lines - 1, words.lines - 1)?;
+    plan_outcome(alloc, feed, &generated_plan(last.as_str()), true)
 }
 
 /// What a command answers over a feed.
@@ -143,7 +148,7 @@ pub(crate) fn outcome_of(alloc: Global, feed: &Feed, asked: &Asked) -> Result<Ou
 {
     match asked {
         Asked::Check => check_outcome(alloc, feed),
-        Asked::Plan(plan) => plan_outcome(alloc, feed, plan),
+        Asked::Plan(plan) => plan_outcome(alloc, feed, plan, false),
         Asked::Price(words) => price_outcome(alloc, feed, words),
         Asked::Gen(words) => gen_outcome(alloc, feed, words),
     }
