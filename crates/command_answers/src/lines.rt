@@ -24,22 +24,21 @@ fn stop_word(word: StopWord) -> &'static str
 fn argument_of(alloc: Global, fault: UsageFault) -> Result<String, AllocError>
     ensures { IfOk result (λ text. string_bytes text ≡ usage_argument fault) }
 {
-    match fault {
-        UsageFault::WrongWords => String::from_str(alloc, "-"),
-        UsageFault::BadDate => String::from_str(alloc, "DATE"),
-        UsageFault::BadTime => String::from_str(alloc, "TIME"),
-        UsageFault::BadRides => String::from_str(alloc, "--rides"),
-        UsageFault::BadWindow => String::from_str(alloc, "--within"),
-        UsageFault::BadRide(k) => format!(in alloc; "{k}"),
-        UsageFault::BadSeed => String::from_str(alloc, "SEED"),
-        UsageFault::BadLines => String::from_str(alloc, "LINES"),
-        UsageFault::UnknownStop(word) => String::from_str(alloc, stop_word(word)),
-        UsageFault::WrongStopKind(word) => String::from_str(alloc, stop_word(word)),
-        UsageFault::NoSuchRide(k) => format!(in alloc; "{k}"),
-        UsageFault::NoChange(k) => format!(in alloc; "{k}"),
-        UsageFault::UnknownRider => String::from_str(alloc, "--rider"),
-        UsageFault::RiderNeeded => String::from_str(alloc, "--rider"),
-    }
+    let word = match fault {
+        UsageFault::WrongWords => "-",
+        UsageFault::BadDate => "DATE",
+        UsageFault::BadTime => "TIME",
+        UsageFault::BadRides => "--rides",
+        UsageFault::BadWindow => "--within",
+        UsageFault::BadSeed => "SEED",
+        UsageFault::BadLines => "LINES",
+        UsageFault::UnknownStop(word) | UsageFault::WrongStopKind(word) => stop_word(word),
+        UsageFault::UnknownRider | UsageFault::RiderNeeded => "--rider",
+        UsageFault::BadRide(k) | UsageFault::NoSuchRide(k) | UsageFault::NoChange(k) => {
+            return format!(in alloc; "{k}");
+        }
+    };
+    String::from_str(alloc, word)
 }
 
 /// The line of a usage fault.
