@@ -140,12 +140,21 @@ impl<T: Copy + Drop> Groups<T> {
 const NONE: u32 = u32::MAX;
 
 /// Members, each linked to the next of its group: no sort is needed to take them group by group.
-#[derive(Drop)]
 pub struct Chains {
     /// By group: the place of its first member.
     pub firsts: Vec<u32>,
     /// By place: that of the next member of the same group.
     pub nexts: Vec<u32>,
+}
+
+// Written out, so that what holds one needn't look into it to let go of it.
+impl Drop for Chains {
+    fn drop(self) {
+        let Chains {
+            firsts: _,
+            nexts: _,
+        } = self;
+    }
 }
 
 impl Chains {
