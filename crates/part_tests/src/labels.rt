@@ -1,13 +1,18 @@
 // How labels of one part and of two compare, and where steps lead from them.
 use label_order::{Both, Continues, Flat, LabelOrder, Least, Stair};
 
+// Whether labels of one part and of two compare as they should.
+fn are_ordered() -> bool {
+    let (one, two) = (Least(1), Least(2));
+    let (early, cheap) = (Both(one, two), Both(two, one));
+    let parts = one.leq(&two) && two.leq(&two) && !two.leq(&one);
+    let flat = Flat('b').leq(&Flat('b')) && !Flat('a').leq(&Flat('b'));
+    parts && flat && early.leq(&Both(two, two)) && !early.leq(&cheap) && !cheap.leq(&early)
+}
+
 #[test]
 fn orders(rt: HostRuntime) {
-    let (one, two) = (Least(1), Least(2));
-    assert!(rt; one.leq(&two) && two.leq(&two) && !two.leq(&one));
-    assert!(rt; Flat('b').leq(&Flat('b')) && !Flat('a').leq(&Flat('b')));
-    let (early, cheap) = (Both(one, two), Both(two, one));
-    assert!(rt; early.leq(&Both(two, two)) && !early.leq(&cheap) && !cheap.leq(&early));
+    assert!(rt; are_ordered());
 }
 
 #[test]
@@ -64,20 +69,39 @@ impl Continues<Ride> for Least<u32> {
     ghost follows = { λ a b r n near goes. record { reached = Prim.grind (arith, nat_tests); below = Prim.grind (arith, nat_tests) } };
 }
 
-#[test]
-fn follows_in_both_parts(rt: HostRuntime) {
+type Label = Both<Flat<u8>, Least<u32>>;
+
+// Whether the ride leads those of its network on who are there by its departure, and nobody else.
+fn leads_on(ride: &Ride, early: &Label, late: &Label, there: &Label) -> bool {
+    let elsewhere = Both(Flat(2), Least(30));
+    early.reaches(ride, there)
+        && late.reaches(ride, there)
+        && !late.reaches(ride, late)
+        && !there.reaches(ride, there)
+        && !late.reaches(ride, &elsewhere)
+}
+
+// Whether the earlier label is as good as the later one, which the ride leads on, and so is what the ride makes of it.
+fn stays_ahead(ride: &Ride, early: &Label, late: &Label, there: &Label) -> bool {
+    early.leq(late) && late.reaches(ride, there) && early.follow(late, ride, there).leq(there)
+}
+
+// Whether all that holds of a ride from 20 to 30.
+fn is_followed() -> bool {
     let ride = Ride {
         network: 1,
         departure: 20,
         arrival: 30,
     };
     let (early, late, there) = (
-        Both(Flat(1_u8), Least(10)),
+        Both(Flat(1), Least(10)),
         Both(Flat(1), Least(20)),
         Both(Flat(1), Least(30)),
     );
-    assert!(rt; early.reaches(&ride, &there) && late.reaches(&ride, &there));
-    assert!(rt; !late.reaches(&ride, &late) && !there.reaches(&ride, &there));
-    assert!(rt; !late.reaches(&ride, &Both(Flat(2), Least(30))));
-    assert!(rt; early.leq(&late) && early.follow(&late, &ride, &there).leq(&there));
+    leads_on(&ride, &early, &late, &there) && stays_ahead(&ride, &early, &late, &there)
+}
+
+#[test]
+fn follows_in_both_parts(rt: HostRuntime) {
+    assert!(rt; is_followed());
 }

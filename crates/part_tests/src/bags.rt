@@ -1,7 +1,7 @@
 // What bags keep of what they are offered.
 use label_bag::{Bag, ListBag, NoRoom, Offered, StairBag, offer_all};
 use label_order::{Both, LabelOrder, Least, Stair};
-use std::alloc::AllocError;
+use std::alloc::{AllocError, Global};
 use transit_base::{Moment, Money};
 
 type Pair = Both<Least<i64>, Least<i64>>;
@@ -45,52 +45,59 @@ fn has_two<B: Bag<Pair>>(bag: &B) -> bool {
     bag.len() == 2 && has(bag, &pair(1, 3)) && has(bag, &pair(2, 1))
 }
 
-// Whether the offers are answered as they should, one by one, and two members are left.
-fn keeps_two<B: Bag<Pair> + Drop>(mut bag: B) -> Result<bool, AllocError> {
-    for (arrival, price, kept, members) in OFFERS {
-        let answer = cover(bag.offer(pair(arrival, price)))?;
-        if answer.is_none() != kept || bag.len() != members {
-            return Ok(false);
+// Whether the offers are answered as they should, one by one.
+fn are_answered<B: Bag<Pair>>(bag: &mut B) -> bool {
+    for (arrival, price, kept, members) in &OFFERS {
+        match cover(bag.offer(pair(*arrival, *price))) {
+            Ok(answer) if answer.is_none() == *kept && bag.len() == *members => {}
+            Ok(_) | Err(AllocError) => return false,
         }
     }
-    Ok(has_two(&bag))
+    true
+}
+
+// Whether two members are left of the offers one by one.
+fn keeps_two<B: Bag<Pair> + Drop>(mut bag: B) -> bool {
+    are_answered(&mut bag) && has_two(&bag)
 }
 
 // Whether two members are left of the offers at once.
-fn keeps_two_at_once<B: Bag<Pair> + Drop>(mut bag: B) -> Result<bool, AllocError> {
+fn keeps_two_at_once<B: Bag<Pair> + Drop>(mut bag: B) -> bool {
     let labels = OFFERS.map(|(arrival, price, _, _)| pair(arrival, price));
-    offer_all(&mut bag, &labels)?;
-    Ok(has_two(&bag))
+    offer_all(&mut bag, &labels).is_ok() && has_two(&bag)
+}
+
+// The same of both bags.
+fn keep_two(alloc: Global) -> bool {
+    keeps_two(ListBag::new(alloc))
+        && keeps_two(StairBag::new(alloc))
+        && keeps_two_at_once(ListBag::new(alloc))
+        && keeps_two_at_once(StairBag::new(alloc))
 }
 
 #[test]
-fn six_offers(rt: HostRuntime) -> Result<(), AllocError> {
-    assert!(rt; keeps_two(ListBag::new(rt.alloc()))?);
-    assert!(rt; keeps_two(StairBag::new(rt.alloc()))?);
-    assert!(rt; keeps_two_at_once(ListBag::new(rt.alloc()))?);
-    assert!(rt; keeps_two_at_once(StairBag::new(rt.alloc()))?);
-    Ok(())
+fn six_offers(rt: HostRuntime) {
+    assert!(rt; keep_two(rt.alloc()));
 }
 
 // Whether the first of two equal labels is kept, and covers the second.
-fn covers_itself<L: LabelOrder + Copy, B: Bag<L> + Drop>(
-    mut bag: B,
-    label: L,
-) -> Result<bool, AllocError> {
-    bag.reserve(2)?;
-    let first = cover(bag.offer(label))?;
-    let second = cover(bag.offer(label))?;
-    Ok(first == None && second == Some(0) && bag.len() == 1)
+fn covers_itself<L: LabelOrder + Copy, B: Bag<L> + Drop>(mut bag: B, label: L) -> bool {
+    bag.reserve(2).is_ok()
+        && cover(bag.offer(label)) == Ok(None)
+        && cover(bag.offer(label)) == Ok(Some(0))
+        && bag.len() == 1
+}
+
+// The same of a label of three parts in both bags.
+fn cover_themselves(alloc: Global) -> bool {
+    let rest = Both(Least(2_u8), Least(Money(300)));
+    covers_itself(ListBag::new(alloc), Both(Least(Moment(30_600)), rest))
+        && covers_itself(StairBag::new(alloc), Both(Least(30_600), rest))
 }
 
 #[test]
-fn twice_the_same(rt: HostRuntime) -> Result<(), AllocError> {
-    let rest = Both(Least(2_u8), Least(Money(300)));
-    let label = Both(Least(Moment(30_600)), rest);
-    assert!(rt; covers_itself(ListBag::new(rt.alloc()), label)?);
-    let label = Both(Least(30_600), rest);
-    assert!(rt; covers_itself(StairBag::new(rt.alloc()), label)?);
-    Ok(())
+fn twice_the_same(rt: HostRuntime) {
+    assert!(rt; cover_themselves(rt.alloc()));
 }
 
 // An arrival and a price in a network: those of two networks aren't compared.
@@ -169,19 +176,19 @@ const MEMBERS: [InNetwork; 3] = [
     },
 ];
 
-// Whether the offers are covered as they should, and these members are left, in order.
-fn keeps_stairs(mut bag: StairBag<InNetwork>) -> Result<bool, AllocError> {
-    for (network, arrival, price, covered_by) in NETWORKS {
+// Whether the offers are covered as they should.
+fn are_covered(bag: &mut StairBag<InNetwork>) -> bool {
+    for (network, arrival, price, covered_by) in &NETWORKS {
         let label = InNetwork {
-            network,
-            arrival,
-            price,
+            network: *network,
+            arrival: *arrival,
+            price: *price,
         };
-        if cover(bag.offer(label))? != covered_by {
-            return Ok(false);
+        if cover(bag.offer(label)) != Ok(*covered_by) {
+            return false;
         }
     }
-    Ok(has_stairs(&bag))
+    true
 }
 
 // Whether the members are as good as these, in order.
@@ -194,8 +201,12 @@ fn has_stairs(bag: &StairBag<InNetwork>) -> bool {
     bag.len() == MEMBERS.len()
 }
 
+// Whether these members are left of the offers to two networks.
+fn keeps_stairs(mut bag: StairBag<InNetwork>) -> bool {
+    are_covered(&mut bag) && has_stairs(&bag)
+}
+
 #[test]
-fn stairs_of_two_networks(rt: HostRuntime) -> Result<(), AllocError> {
-    assert!(rt; keeps_stairs(StairBag::new(rt.alloc()))?);
-    Ok(())
+fn stairs_of_two_networks(rt: HostRuntime) {
+    assert!(rt; keeps_stairs(StairBag::new(rt.alloc())));
 }

@@ -1,6 +1,6 @@
 use Rattle.std.proofs.Common.{◌≡◌, true}
 use Rattle.folder_io.specs.KeptFiles.{are_whole}
-use Rattle.reading_tests.proofs.loads.files_with.Given as goal
+use Rattle.part_tests.proofs.loads.files_with.Given as goal
 
 abbrev pub invariant-loop-name : goal.invariant-loop-name
 invariant-loop-name l = are_whole l.files ≡ true
