@@ -36,12 +36,12 @@ struct End {
 
 /// A query over a timetable, with what is computed once for it. Contracts see it as the feed and the query.
 #[derive(Drop)]
-struct Search<'s, 'f> {
-    rides: &'s Rides<'s, 'f>,
+struct Search<'s> {
+    rides: &'s Rides<'s>,
     timeframes: &'s Timeframes,
 }
 
-impl<'s, 'f> Model for Search<'s, 'f> {
+impl<'s> Model for Search<'s> {
     ghost use Rattle.fare_timeframes.specs.BuiltTimeframes.{AreTimeframesOf};
     ghost use Rattle.plan_rides.specs.Asked.{Asked};
 
@@ -52,7 +52,7 @@ impl<'s, 'f> Model for Search<'s, 'f> {
     ghost invariant = { λ s. AreTimeframesOf s.rides.now.feed s.timeframes.now };
 }
 
-impl<'s, 'f> Search<'s, 'f> {
+impl<'s> Search<'s> {
     // The greatest number of rides.
     fn limit(&self) -> u8
         ensures is { result ≡ self.now.query.rides }

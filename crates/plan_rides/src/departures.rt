@@ -137,9 +137,9 @@ pub fn boarded_trips(
 ///
 /// # Errors
 /// Want of memory.
-pub fn patterns_of<'t, 'f>(
+pub fn patterns_of<'f>(
     alloc: Global,
-    timetable: &'t Timetable<'f>,
+    timetable: &Timetable<'f>,
     sought: &Sought,
 ) -> Result<Patterns<'f>, AllocError>
     requires usual { IsUsualQuery sought.now.query }

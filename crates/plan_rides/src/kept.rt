@@ -6,7 +6,7 @@ ghost use Rattle.plan_rides.specs.Reached.{AreKept, HoldsFrom, IsNoLater, Positi
 ghost use Rattle.transit_base.specs.declared.moments.Moment.{Moment};
 
 use crate::caught::CaughtRide;
-use crate::positions::{Positions, Reached, add_rides};
+use crate::positions::{Positions, Reached};
 use std::alloc::{AllocError, Global};
 use std::marker::Model;
 use transit_base::Moment;
@@ -74,38 +74,40 @@ impl KeptRides {
         }
     }
 
-    /// Keeps those from the position for whoever gets there: that arrive at a stop no later than the latest moment there, at none
+    /// The rides.
+    pub fn rides(&self) -> &[CaughtRide]
+        ensures { result.now ≡ self.now.rides }
+    {
+        &self.rides
+    }
+}
+
+impl<'s> Positions<'s> {
+    /// Keeps the rides from the position for whoever gets there: that arrive at a stop no later than the latest moment there, at none
     /// where that is none, and at any at a stop past their end. `lasts` says when the last departure from each stop gets
     /// somewhere early enough. What is kept was so by the same moments.
     ///
     /// # Errors
     /// Want of memory.
     pub fn keep(
-        &mut self,
-        positions: &Positions,
+        &self,
+        kept: &mut KeptRides,
         latest: &[Option<Moment>],
         lasts: &[Option<Moment>],
         reached: &Reached,
     ) -> Result<(), AllocError>
-        requires serves { Serves positions.now.feed positions.now.patterns reached.now.stop.0 reached.now.serving }
-        requires lasts { AreLastDepartures positions.now.feed positions.now.query latest.now lasts.now }
-        requires kept { AreKept positions.now latest.now self.old }
-        ensures kept { OnOk result (AreKept positions.now latest.now self.new) }
-        ensures holds { OnOk result (HoldsFrom positions.now latest.now reached.now self.new.rides) }
+        requires serves { Serves self.now.feed self.now.patterns reached.now.stop.0 reached.now.serving }
+        requires lasts { AreLastDepartures self.now.feed self.now.query latest.now lasts.now }
+        requires kept { AreKept self.now latest.now kept.old }
+        ensures kept { OnOk result (AreKept self.now latest.now kept.new) }
+        ensures holds { OnOk result (HoldsFrom self.now latest.now reached.now kept.new.rides) }
     {
-        if self.serve(reached) {
+        if kept.serve(reached) {
             return Ok(());
         }
-        self.clear();
-        add_rides(&mut self.rides, positions, latest, lasts, reached)?;
-        self.of = Some(*reached);
+        kept.clear();
+        self.add_rides(&mut kept.rides, latest, lasts, reached)?;
+        kept.of = Some(*reached);
         Ok(())
-    }
-
-    /// The rides.
-    pub fn rides(&self) -> &[CaughtRide]
-        ensures { result.now ≡ self.now.rides }
-    {
-        &self.rides
     }
 }

@@ -120,9 +120,9 @@ fn add_runs(
 }
 
 /// The same of the runs of all patterns. Each call of a run is looked at once.
-pub fn add_patterns(
-    timetable: &Timetable,
-    patterns: &Patterns,
+pub fn add_patterns<'f>(
+    timetable: &Timetable<'f>,
+    patterns: &Patterns<'f>,
     sought: &Sought,
     latest: &[Option<Moment>],
     lasts: &mut [Option<Moment>],

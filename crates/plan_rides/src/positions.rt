@@ -91,17 +91,17 @@ fn add_departure(
 }
 
 /// Where riders may board the runs of a query's patterns. Contracts see the feed, the query and the patterns.
-pub struct Positions<'s, 'f> {
-    pub(crate) timetable: &'s Timetable<'f>,
+pub struct Positions<'s> {
+    pub(crate) timetable: &'s Timetable<'s>,
     pub(crate) query: &'s Query,
     pub(crate) sought: Sought,
-    pub(crate) patterns: Patterns<'f>,
+    pub(crate) patterns: Patterns<'s>,
     /// Where and when the patterns serve each stop.
     pub(crate) served: Groups<TimedServing>,
 }
 
 // Written out, so that what holds one needn't look into it to let go of it.
-impl<'s, 'f> Drop for Positions<'s, 'f> {
+impl<'s> Drop for Positions<'s> {
     fn drop(self) {
         let Positions {
             timetable: _,
@@ -113,7 +113,7 @@ impl<'s, 'f> Drop for Positions<'s, 'f> {
     }
 }
 
-impl<'s, 'f> Model for Positions<'s, 'f> {
+impl<'s> Model for Positions<'s> {
     ghost use Rattle.std.specs.Prelude.{◌≡◌};
     ghost use Rattle.feed_rows.specs.SoundFeed.{IsSoundFeed};
     ghost use Rattle.plan_rides.specs.Boarding.{AreMarks};
@@ -129,7 +129,7 @@ impl<'s, 'f> Model for Positions<'s, 'f> {
     ghost invariant = { λ s. IsSoundFeed s.timetable.now × IsUsualQuery s.query.now × AreTimedStops s.timetable.now s.sought s.patterns s.served × (s.sought.query ≡ s.query.now) × AreMarks s.timetable.now s.sought × HoldsRuns s.timetable.now s.sought s.patterns };
 }
 
-impl<'s, 'f> Positions<'s, 'f> {
+impl<'s> Positions<'s> {
     // Appends the positions at a stop that the traveller gets to. One from which the last run has left by then, or the first
     // departs too late, is passed over.
     fn reach_stop(
@@ -225,45 +225,45 @@ impl<'s, 'f> Positions<'s, 'f> {
         self.reach(&[], &who, &mut reached)?;
         let mut rides = Vec::new(alloc);
         for k in 0..reached.len() {
-            add_rides(&mut rides, self, &[], &[], &reached[k])?;
+            self.add_rides(&mut rides, &[], &[], &reached[k])?;
         }
         Ok(rides)
     }
-}
 
-/// Appends the rides from the position that depart no earlier than one is there, end within the window and arrive at a stop no
-/// later than the latest moment there: at none where that is none, and at any at a stop past their end. `lasts` says when the
-/// last of them departs from each stop, so that no later ones are looked at.
-///
-/// # Errors
-/// Want of memory.
-pub fn add_rides(
-    rides: &mut Vec<CaughtRide>,
-    positions: &Positions,
-    latest: &[Option<Moment>],
-    lasts: &[Option<Moment>],
-    reached: &Reached,
-) -> Result<(), AllocError>
-    requires serves { Serves positions.now.feed positions.now.patterns reached.now.stop.0 reached.now.serving }
-    requires lasts { AreLastDepartures positions.now.feed positions.now.query latest.now lasts.now }
-    ensures { OnOk result (AddsFound positions.now.feed positions.now.query latest.now reached.now.stop.0 reached.now.earliest.0 (IsFromReached positions.now reached.now) rides.old.items rides.new.items) }
-{
-    let timetable = positions.timetable;
-    let query = positions.query;
-    let serving = &reached.serving;
-    let runs = positions.patterns.runs(serving.pattern);
-    let boardings = positions
-        .patterns
-        .boardable(serving.pattern, serving.position, reached.earliest);
-    for k in 0..first_late(boardings, lasts, reached.stop) {
-        let departure = departure_at(
-            timetable,
-            reached.stop,
-            serving.position,
-            runs,
-            &boardings[k],
-        );
-        add_departure(timetable, query, latest, &departure, rides)?;
+    /// Appends the rides from the position that depart no earlier than one is there, end within the window and arrive at a stop no
+    /// later than the latest moment there: at none where that is none, and at any at a stop past their end. `lasts` says when the
+    /// last of them departs from each stop, so that no later ones are looked at.
+    ///
+    /// # Errors
+    /// Want of memory.
+    pub(crate) fn add_rides(
+        &self,
+        rides: &mut Vec<CaughtRide>,
+        latest: &[Option<Moment>],
+        lasts: &[Option<Moment>],
+        reached: &Reached,
+    ) -> Result<(), AllocError>
+        requires serves { Serves self.now.feed self.now.patterns reached.now.stop.0 reached.now.serving }
+        requires lasts { AreLastDepartures self.now.feed self.now.query latest.now lasts.now }
+        ensures { OnOk result (AddsFound self.now.feed self.now.query latest.now reached.now.stop.0 reached.now.earliest.0 (IsFromReached self.now reached.now) rides.old.items rides.new.items) }
+    {
+        let timetable = self.timetable;
+        let query = self.query;
+        let serving = &reached.serving;
+        let runs = self.patterns.runs(serving.pattern);
+        let boardings = self
+            .patterns
+            .boardable(serving.pattern, serving.position, reached.earliest);
+        for k in 0..first_late(boardings, lasts, reached.stop) {
+            let departure = departure_at(
+                timetable,
+                reached.stop,
+                serving.position,
+                runs,
+                &boardings[k],
+            );
+            add_departure(timetable, query, latest, &departure, rides)?;
+        }
+        Ok(())
     }
-    Ok(())
 }

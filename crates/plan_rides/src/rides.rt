@@ -23,13 +23,13 @@ use transit_base::{Moment, StopId};
 
 /// The rides of a query over a timetable, by where they can be caught: by the patterns of its runs.
 /// Contracts see it as the feed and the query.
-pub struct Rides<'s, 'f> {
-    positions: Positions<'s, 'f>,
+pub struct Rides<'s> {
+    positions: Positions<'s>,
     deadline: Moment,
 }
 
 // Written out, so that what holds one needn't look into it to let go of it.
-impl<'s, 'f> Drop for Rides<'s, 'f> {
+impl<'s> Drop for Rides<'s> {
     fn drop(self) {
         let Rides {
             positions: _,
@@ -38,7 +38,7 @@ impl<'s, 'f> Drop for Rides<'s, 'f> {
     }
 }
 
-impl<'s, 'f> Model for Rides<'s, 'f> {
+impl<'s> Model for Rides<'s> {
     ghost use Rattle.feed_rows.specs.SoundFeed.{IsSoundFeed};
     ghost use Rattle.plan_rides.specs.Asked.{Asked, asked};
     ghost use Rattle.plan_rides.specs.InTime.{IsUsualQuery, IsDeadline};
@@ -50,16 +50,16 @@ impl<'s, 'f> Model for Rides<'s, 'f> {
     ghost invariant = { λ s. IsSoundFeed s.positions.feed × IsUsualQuery s.positions.query × IsDeadline s.positions.query s.deadline.0 };
 }
 
-impl<'s, 'f> Rides<'s, 'f> {
+impl<'s> Rides<'s> {
     /// The rides of the query over the timetable.
     ///
     /// # Errors
     /// Want of memory.
     pub fn of(
         alloc: Global,
-        timetable: &'s Timetable<'f>,
+        timetable: &'s Timetable<'s>,
         query: &'s Query,
-    ) -> Result<Rides<'s, 'f>, AllocError>
+    ) -> Result<Rides<'s>, AllocError>
         requires usual { IsUsualQuery query.now }
         ensures { IfOk result (λ rides. rides ≡ asked timetable.now query.now) }
     {
@@ -83,7 +83,7 @@ impl<'s, 'f> Rides<'s, 'f> {
     }
 
     /// The timetable.
-    pub fn timetable(&self) -> &'s Timetable<'f>
+    pub fn timetable(&self) -> &'s Timetable<'s>
         ensures { result.now ≡ self.now.feed }
     {
         self.positions.timetable
@@ -134,7 +134,7 @@ impl<'s, 'f> Rides<'s, 'f> {
     }
 
     /// Where riders may board.
-    pub fn positions(&self) -> &Positions<'s, 'f>
+    pub fn positions(&self) -> &Positions<'s>
         ensures feed { result.now.feed ≡ self.now.feed }
         ensures query { result.now.query ≡ self.now.query }
         ensures sound { IsSoundFeed self.now.feed }

@@ -79,10 +79,10 @@ fn serve_stop(
 ///
 /// # Errors
 /// Want of memory; so counts that there would be 2^32 of them or more.
-pub fn served_stops(
+pub fn served_stops<'f>(
     alloc: Global,
-    timetable: &Timetable,
-    patterns: &Patterns,
+    timetable: &Timetable<'f>,
+    patterns: &Patterns<'f>,
     sought: &Sought,
 ) -> Result<Groups<TimedServing>, AllocError>
     requires { AreDepartures timetable.now sought.now patterns.now }

@@ -50,7 +50,7 @@ fn has_ahead(finals: &[Final], at: Moment, rides: u8, price: i128) -> bool
     finals.iter().any(|end| end.is_ahead(at, rides, price))
 }
 
-impl<'s, 'f> Search<'s, 'f> {
+impl<'s, 'l> Search<'s, 'l> {
     /// How little a leg with the change to it can cost.
     fn floor(&self) -> Money
         ensures { result.0 ≡ fare_floor self.now.feed self.now.query.rider }

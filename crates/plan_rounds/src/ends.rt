@@ -15,7 +15,7 @@ use round_table::Final;
 use std::alloc::AllocError;
 use transit_base::StopId;
 
-impl<'s, 'f> Search<'s, 'f> {
+impl<'s, 'l> Search<'s, 'l> {
     /// Adds what the labels from this number on end in, where what those before it end in is there.
     ///
     /// # Errors

@@ -54,7 +54,7 @@ fn cheapest(finals: &[Final]) -> Option<Final>
     Some(cheapest)
 }
 
-impl<'s, 'f> Search<'s, 'f> {
+impl<'s, 'l> Search<'s, 'l> {
     /// The horizon by these finals: none where nothing is found, or for a search that is to be whole.
     ///
     /// # Errors

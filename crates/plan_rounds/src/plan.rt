@@ -22,7 +22,7 @@ use plan_rides::Rides;
 use round_table::RoundTable;
 use std::alloc::{AllocError, Global};
 
-impl<'s, 'f> Search<'s, 'f> {
+impl<'s, 'l> Search<'s, 'l> {
     /// The table of all rounds.
     fn table(&self, alloc: Global) -> Result<RoundTable, AllocError>
         ensures { IfOk result (λ table. IsTableOf self.now (table_by table)) }
@@ -52,13 +52,13 @@ fn first_prospects(alloc: Global, rides: &Rides, whole: bool) -> Result<Prospect
 ///
 /// # Errors
 /// Want of memory; so counts that there would be 2^32 labels or more.
-fn table_with(
+fn table_with<'s, 'l>(
     alloc: Global,
-    rides: &Rides,
-    automaton: &Automaton,
-    feed: &Feed,
-    timeframes: &Timeframes,
-    prospects: &Prospects,
+    rides: &'l Rides<'s>,
+    automaton: &'l Automaton<'s>,
+    feed: &'l Feed,
+    timeframes: &'l Timeframes,
+    prospects: &'l Prospects,
     whole: bool,
 ) -> Result<RoundTable, AllocError>
     requires feed { feed.now ≡ rides.now.feed }
@@ -85,10 +85,10 @@ fn table_with(
 ///
 /// # Errors
 /// Want of memory; so counts that there would be 2^32 labels or more.
-fn table_at(
+fn table_at<'s>(
     alloc: Global,
-    rides: &Rides,
-    automaton: &Automaton,
+    rides: &Rides<'s>,
+    automaton: &Automaton<'s>,
     feed: &Feed,
     whole: bool,
 ) -> Result<RoundTable, AllocError>
@@ -111,10 +111,10 @@ fn table_at(
 }
 
 /// The table of the rounds over these rides.
-fn table_over(
+fn table_over<'s>(
     alloc: Global,
-    rides: &Rides,
-    feed: &Feed,
+    rides: &Rides<'s>,
+    feed: &'s Feed,
     whole: bool,
 ) -> Result<RoundTable, AllocError>
     requires { feed.now ≡ rides.now.feed }

@@ -22,8 +22,8 @@ use transit_base::Moment;
 
 /// What a round goes on from: the labels, how many rides those of the last round have, where riders may board, and what is found.
 #[derive(Clone, Copy)]
-pub struct Round<'r, 'f> {
-    pub(crate) positions: &'r Positions<'r, 'f>,
+pub struct Round<'s, 'r> {
+    pub(crate) positions: &'r Positions<'s>,
     pub(crate) labels: &'r LabelList,
     pub(crate) count: u8,
     pub(crate) finals: &'r [Final],
@@ -89,7 +89,7 @@ fn departs_since(caught: &CaughtRide, reached: &Reached) -> bool
     reached.earliest.0 <= caught.facts.departure.0
 }
 
-impl<'s, 'f> Search<'s, 'f> {
+impl<'s, 'l> Search<'s, 'l> {
     /// Whether rides from the label are tried by the prospects of the horizon.
     fn is_near(&self, source: &Source, horizon: &Option<Horizon>) -> bool
         requires { IsSource self.now.feed self.now.query source.now }
@@ -137,7 +137,7 @@ impl<'s, 'f> Search<'s, 'f> {
     /// Appends the positions that the label reaches.
     fn reach(
         &self,
-        round: &Round<'_, 'f>,
+        round: &Round<'s, '_>,
         source: &Source,
         near: bool,
         reached: &mut Vec<Reached>,
@@ -157,7 +157,7 @@ impl<'s, 'f> Search<'s, 'f> {
     }
 
     /// Replaces what `marks` holds by the positions that the labels of the last round reach.
-    pub(crate) fn mark(&self, round: &Round<'_, 'f>, marks: &mut Marks) -> Result<(), AllocError>
+    pub(crate) fn mark(&self, round: &Round<'s, '_>, marks: &mut Marks) -> Result<(), AllocError>
         requires { IsRound self.now round.now }
         ensures { OnOk result (AreMarks self.now round.now marks.new) }
     {
@@ -186,9 +186,9 @@ impl<'s, 'f> Search<'s, 'f> {
     /// Offers what the rides lead to from the label that depart no earlier than it gets to the position.
     fn offer_rides(
         &self,
-        found: &mut Found,
+        found: &mut Found<'s, 'l>,
         bags: &mut StopBags,
-        round: &Round<'_, 'f>,
+        round: &Round<'s, '_>,
         source: &Source,
         reached: &Reached,
         rides: &[CaughtRide],
@@ -214,24 +214,26 @@ impl<'s, 'f> Search<'s, 'f> {
     /// Offers what one more ride from the position leads to, from the label that reaches it. `kept` then has the rides from there.
     fn offer_from(
         &self,
-        found: &mut Found,
+        found: &mut Found<'s, 'l>,
         bags: &mut StopBags,
-        round: &Round<'_, 'f>,
+        round: &Round<'s, '_>,
         reached: &Reached,
-        cutoffs: &Cutoffs,
+        cutoffs: Cutoffs,
         kept: &mut KeptRides,
     ) -> Result<(), AllocError>
         requires round { IsRound self.now round.now }
         requires marked { IsMarked round.now reached.now }
-        requires lasts { AreLastDepartures round.now.positions.now.feed round.now.positions.now.query cutoffs.now.latest.now cutoffs.now.lasts.now }
-        requires kept { AreKept round.now.positions.now cutoffs.now.latest.now kept.old }
-        requires fair { (x : Label) → slice_get round.now.labels.now reached.now.number ≡ Some x → IsFairIn self.now round.now x cutoffs.now.latest.now }
+        requires lasts { AreLastDepartures round.now.positions.now.feed round.now.positions.now.query cutoffs.latest.now cutoffs.lasts.now }
+        requires kept { AreKept round.now.positions.now cutoffs.latest.now kept.old }
+        requires fair { (x : Label) → slice_get round.now.labels.now reached.now.number ≡ Some x → IsFairIn self.now round.now x cutoffs.latest.now }
         requires fares { HasFares self.now found.old }
-        ensures kept { OnOk result (AreKept round.now.positions.now cutoffs.now.latest.now kept.new) }
+        ensures kept { OnOk result (AreKept round.now.positions.now cutoffs.entry.latest.now kept.new) }
         ensures fares { HasFares self.now found.new }
         ensures spreads { OnOk result (SpreadsIn self.now round.now (StepsFromPosition self.now round.now reached.now) bags.old bags.new) }
     {
-        kept.keep(round.positions, cutoffs.latest, cutoffs.lasts, reached)?;
+        round
+            .positions
+            .keep(kept, cutoffs.latest, cutoffs.lasts, reached)?;
         let label = round.labels.get(reached.number as usize);
         let source = Source {
             labels: round.labels,
@@ -245,9 +247,9 @@ impl<'s, 'f> Search<'s, 'f> {
     /// lost.
     pub(crate) fn offer_marked(
         &self,
-        found: &mut Found,
+        found: &mut Found<'s, 'l>,
         bags: &mut StopBags,
-        round: &Round<'_, 'f>,
+        round: &Round<'s, '_>,
         marks: &Marks,
         kept: &mut Kept,
     ) -> Result<(), AllocError>
@@ -264,9 +266,9 @@ impl<'s, 'f> Search<'s, 'f> {
         for k in 0..marks.reached.len() {
             let reached = &marks.reached[k];
             if marks.near[reached.number as usize] {
-                self.offer_from(found, bags, round, reached, &soon, &mut kept.soon)?;
+                self.offer_from(found, bags, round, reached, soon, &mut kept.soon)?;
             } else {
-                self.offer_from(found, bags, round, reached, &all, &mut kept.all)?;
+                self.offer_from(found, bags, round, reached, all, &mut kept.all)?;
             }
         }
         Ok(())

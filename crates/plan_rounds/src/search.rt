@@ -1,5 +1,5 @@
 //! The search: each round goes on by one more ride from the labels of the round before.
-ghost use Rattle.std.specs.Prelude.{◌≡◌, ◌+◌, ◌<◌, ◌≤◌, ◌^◌, ◌++◌, [], true, length, IfOk, IsTrue, OnOk, Some};
+ghost use Rattle.std.specs.Prelude.{◌≡◌, ◌+◌, ◌<◌, ◌≤◌, ◌^◌, ◌++◌, [], true, length, IfOk, IfSome, IsTrue, OnOk, Some};
 ghost use Rattle.feed_rows.specs.FareSteps.{move_after};
 ghost use Rattle.feed_rows.specs.Journeys.{stands_for};
 ghost use Rattle.feed_rows.specs.Legs.{leg_facts};
@@ -10,6 +10,7 @@ ghost use Rattle.plan_rides.specs.Asked.{asked};
 ghost use Rattle.plan_rides.specs.InTime.{IsRight, IsUsualQuery, deadline};
 ghost use Rattle.round_labels.specs.Labels.{IsBounded, IsSmall, facts_of, stand_of_label};
 ghost use Rattle.plan_rounds.specs.Gathered.{IsGathered};
+ghost use Rattle.plan_rounds.specs.Horizons.{IsHorizon};
 ghost use Rattle.plan_rounds.specs.Moves.{AreMovesOf, HasFares};
 ghost use Rattle.feed_rows.specs.declared.fares.Triple.{Triple};
 ghost use Rattle.round_table.specs.Finals.{AddsEnds, EndsBelow, HasEnds, is_bettered};
@@ -40,21 +41,21 @@ use transit_base::{Moment, StopId};
 /// A query over a timetable, with what is computed once for it. Contracts see the feed, the query, and whether the labels are to
 /// cover all partial journeys but those that a final outdoes, or those alone that matter for the answer.
 #[derive(Drop)]
-pub struct Search<'s, 'f> {
+pub struct Search<'s, 'l> {
     pub(crate) alloc: Global,
-    pub(crate) rides: &'s Rides<'s, 'f>,
-    pub(crate) feed: &'s Feed,
-    pub(crate) timeframes: &'s Timeframes,
+    pub(crate) rides: &'l Rides<'s>,
+    pub(crate) feed: &'l Feed,
+    pub(crate) timeframes: &'l Timeframes,
     /// The fares for the query's rider.
-    pub(crate) automaton: &'s Automaton<'s>,
+    pub(crate) automaton: &'l Automaton<'s>,
     /// Those of journeys that end in time; none where the search is to be whole.
-    pub(crate) prospects: &'s Prospects,
+    pub(crate) prospects: &'l Prospects,
     /// Whether some change takes back what a leg before it cost.
     pub(crate) takes_back: bool,
     pub(crate) whole: bool,
 }
 
-impl<'s, 'f> Model for Search<'s, 'f> {
+impl<'s, 'l> Model for Search<'s, 'l> {
     ghost use Rattle.std.specs.Prelude.{◌≡◌, true};
     ghost use Rattle.fare_automaton.specs.Terms.{terms};
     ghost use Rattle.fare_timeframes.specs.BuiltTimeframes.{AreTimeframesOf};
@@ -79,8 +80,8 @@ pub struct Source<'l> {
 }
 
 /// What can be paid for legs, kept by their kinds, and what is found for one ride after another, kept for its memory.
-pub struct Found<'a> {
-    pub(crate) known: KnownOptions<'a, 'a>,
+pub struct Found<'s, 'l> {
+    pub(crate) known: KnownOptions<'l, 's>,
     /// What fare rules look at in the leg that is the ride.
     pub(crate) leg: LegFacts,
     places: Vec<Option<ChangeChoice>>,
@@ -88,7 +89,7 @@ pub struct Found<'a> {
 }
 
 // Written out, so that what holds one needn't look into it to let go of it.
-impl<'a> Drop for Found<'a> {
+impl<'s, 'l> Drop for Found<'s, 'l> {
     fn drop(self) {
         let Found {
             known: _,
@@ -99,9 +100,9 @@ impl<'a> Drop for Found<'a> {
     }
 }
 
-impl<'s, 'f> Search<'s, 'f> {
+impl<'s, 'l> Search<'s, 'l> {
     /// The rides of the query.
-    pub(crate) fn rides(&self) -> &'s Rides<'s, 'f>
+    pub(crate) fn rides(&self) -> &'l Rides<'s>
         ensures { result.now ≡ asked self.now.feed self.now.query }
     {
         self.rides
@@ -116,7 +117,7 @@ impl<'s, 'f> Search<'s, 'f> {
     }
 
     /// The stops at which journeys begin.
-    fn firsts(&self) -> &'s [StopId]
+    fn firsts(&self) -> &'l [StopId]
         ensures value { result.now ≡ stop_set self.now.feed self.now.query.from }
         ensures sound { IsSoundFeed self.now.feed }
     {
@@ -125,7 +126,7 @@ impl<'s, 'f> Search<'s, 'f> {
     }
 
     /// The stops at which journeys end.
-    pub(crate) fn lasts(&self) -> &'s [StopId]
+    pub(crate) fn lasts(&self) -> &'l [StopId]
         ensures { result.now ≡ stop_set self.now.feed self.now.query.to }
     {
         self.rides.timetable().members(self.rides.query().to)
@@ -141,7 +142,7 @@ impl<'s, 'f> Search<'s, 'f> {
     }
 
     /// The feed.
-    pub(crate) fn feed(&self) -> &'s Feed
+    pub(crate) fn feed(&self) -> &'l Feed
         ensures value { result.now ≡ self.now.feed }
         ensures sound { IsSoundFeed self.now.feed }
     {
@@ -170,7 +171,7 @@ impl<'s, 'f> Search<'s, 'f> {
     }
 
     /// Replaces what is found of moves by those of the leg that is found, after the label: all that there are, each once.
-    fn find_moves(&self, found: &mut Found, label: &Label) -> Result<(), AllocError>
+    fn find_moves(&self, found: &mut Found<'s, 'l>, label: &Label) -> Result<(), AllocError>
         requires bounded { IsBounded label.now }
         requires fares { HasFares self.now found.old }
         ensures moves { OnOk result (AreMovesOf self.now.feed self.now.query label.now found.old.leg found.new.moves.items) }
@@ -197,7 +198,7 @@ impl<'s, 'f> Search<'s, 'f> {
     /// Offers what the ride leads to from the label.
     pub(crate) fn offer_ride(
         &self,
-        found: &mut Found,
+        found: &mut Found<'s, 'l>,
         bags: &mut StopBags,
         source: &Source,
         finals: &[Final],
@@ -261,21 +262,22 @@ impl<'s, 'f> Search<'s, 'f> {
     }
 
     /// The prospects of journeys that end in time; none where the search is to be whole.
-    pub(crate) fn prospects(&self) -> &'s Prospects
+    pub(crate) fn prospects(&self) -> &'l Prospects
         ensures are { AreProspects self.now.feed self.now.query (deadline self.now.query) result.now }
         ensures none { self.now.whole ≡ true → result.now ≡ no_prospects }
     {
         self.prospects
     }
 
-    /// Offers what one more ride leads to from the labels with so many rides. What `marks` and `kept` hold is lost.
-    fn spread(
+    /// Offers what one more ride leads to from the labels with so many rides, by this horizon. What `marks` and `kept` hold is lost.
+    fn spread<'r>(
         &self,
-        found: &mut Found,
+        found: &mut Found<'s, 'l>,
         bags: &mut StopBags,
-        labels: &LabelList,
+        labels: &'r LabelList,
         count: u8,
-        finals: &[Final],
+        finals: &'r [Final],
+        horizon: &'r Option<Horizon>,
         marks: &mut Marks,
         kept: &mut Kept,
     ) -> Result<(), AllocError>
@@ -283,19 +285,19 @@ impl<'s, 'f> Search<'s, 'f> {
         requires numbers { length labels.now < 2 ^ 32 }
         requires stored { AreStored self.now.feed self.now.query (count + 1) labels.now bags.old }
         requires ended { HasEnds self.now.feed self.now.query labels.now finals.now }
+        requires horizon { IfSome horizon.now (IsHorizon self.now finals.now) }
         requires fares { HasFares self.now found.old }
         ensures fares { HasFares self.now found.new }
         ensures spreads { OnOk result (Spreads self.now.feed self.now.query (Lacks self.now finals.now) labels.now (count + 1) (StepsFrom self.now.feed self.now.query labels.now count) bags.old bags.new) }
     {
         let _limit = self.limit();
-        let horizon = self.horizon(finals)?;
         let positions = self.rides.positions();
         let round = Round {
             positions,
             labels,
             count,
             finals,
-            horizon: &horizon,
+            horizon,
         };
         self.mark(&round, marks)?;
         self.offer_marked(found, bags, &round, marks, kept)
@@ -332,7 +334,7 @@ impl<'s, 'f> Search<'s, 'f> {
     /// is lost.
     fn spread_by(
         &self,
-        found: &mut Found,
+        found: &mut Found<'s, 'l>,
         marks: &mut Marks,
         kept: &mut Kept,
         bags: &mut StopBags,
@@ -344,7 +346,9 @@ impl<'s, 'f> Search<'s, 'f> {
         ensures { OnOk result (IsGathered self.now self.now.query.rides labels.new bags.new front.new) }
     {
         for count in 0..self.limit() {
-            self.spread(found, bags, labels, count, front.items(), marks, kept)?;
+            let finals = front.items();
+            let horizon = self.horizon(finals)?;
+            self.spread(found, bags, labels, count, finals, &horizon, marks, kept)?;
             self.gather(count + 1, bags, labels, front)?;
         }
         Ok(())

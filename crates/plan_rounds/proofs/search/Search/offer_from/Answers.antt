@@ -18,9 +18,9 @@ offer_rides-requires-clause-source c =
 
 pub offer_rides-requires-clause-serve : goal.offer_rides-requires-clause-serve
 offer_rides-requires-clause-serve c = record {
-  latest = c.args.cutoffs.now.latest.now;
+  latest = c.args.cutoffs.latest.now;
   fair = c.requires.fair c.get-label.result c.get-label.ensures;
-  holds = subst (HoldsFrom c.args.round.now.positions.now c.args.cutoffs.now.latest.now c.args.reached.now) (sym c.rides.ensures) c.in_ok-keep.ensures.holds;
+  holds = subst (HoldsFrom c.args.round.now.positions.now c.args.cutoffs.latest.now c.args.reached.now) (sym c.rides.ensures) c.in_ok-keep.ensures.holds;
 }
 
 pub returns-clause-spreads : goal.returns-clause-spreads

@@ -15,7 +15,7 @@ gather-requires-clause-ending c =
     let feed = c.args.self.now.feed in
     let query = c.args.self.now.query in
     let was = c.loop-count.invariant.are in
-    ending_more feed query (Lacks c.args.self.now c.items.result.now) (c.loop-count.count + 1) c.loop-count.labels _ c.loop-count.bags
+    ending_more feed query (Lacks c.args.self.now c.items-finals.result.now) (c.loop-count.count + 1) c.loop-count.labels _ c.loop-count.bags
     c.spread.new.bags was.stored
     c.in_ok-spread.ensures.spreads
     c.limit-count-end.ensures.usual (omega (arith, c.loop-count-test.true, c.limit-count-end.ensures.is))
@@ -27,7 +27,7 @@ pub spread-requires-clause-ended : goal.spread-requires-clause-ended
 spread-requires-clause-ended c =
     let feed = c.args.self.now.feed in
     let query = c.args.self.now.query in
-    subst (HasEnds feed query c.loop-count.labels) (sym c.items.ensures.value) c.loop-count.invariant.are.ended.all
+    subst (HasEnds feed query c.loop-count.labels) (sym c.items-finals.ensures.value) c.loop-count.invariant.are.ended.all
 
 pub loop-count-init : goal.loop-count-init
 loop-count-init c = record { are = c.requires.start; fares = c.requires.fares }
@@ -41,7 +41,7 @@ loop-count-preserved c =
     let labels = c.loop-count.labels in
     let spreads =
     subst (λ (fs : List Final). Spreads feed query (Lacks c.args.self.now fs) labels (c.loop-count.count + 1) (StepsFrom feed query labels c.loop-count.count) c.loop-count.bags c.spread.new.bags)
-    c.items.ensures.value
+    c.items-finals.ensures.value
     c.in_ok-spread.ensures.spreads in
     let all = c.in_ok-gather.ensures in
     let closed =
