@@ -31,7 +31,6 @@ use Rattle.feed_text.specs.Reader.{StandsBehind, IsTableOf}
 use Rattle.feed_text.specs.declared.records.Records.{Records}
 use Rattle.feed_text.proofs.ReaderLaws.{text_begins}
 use Rattle.feed_calls.specs.CallRows.{AreCallsOf, IsFaultOf}
-use Rattle.feed_calls.specs.declared.calls.StopTimes.{StopTimes}
 use Rattle.feed_calls.specs.CallRows.{HasCalls}
 use Rattle.feed_calls.specs.declared.calls.CallRows.{CallRows}
 
@@ -101,20 +100,16 @@ faults_more head rs r =
     ∙ sym (option_or-assoc (header_fault file.StopTimes (head ∷ [])) (first_below (length rs) (λ k. call_fault head k (get_or rs k []))) (call_fault head (length rs) r))
 
 module _ (ids : CallIds) (head : List (List ℕ)) (rs : List (List (List ℕ))) (r : List (List ℕ)) (before now : CallRows) (has : HasCalls ids head rs before)
-    (same_ids : now.ids ≡ before.ids) (same_header : now.header ≡ before.header) (seen : now.table ≡ before.table ++ r ∷ []) where
-  still_ids : now.ids.now ≡ ids
-  still_ids = rw same_ids has.ids_are
-
+    (same_header : now.header ≡ before.header) (seen : now.read.table ≡ before.read.table ++ r ∷ []) where
   still_header : header now.header ≡ head
   still_header = rw same_header has.header_is
 
-  more_seen : now.table ≡ head ∷ (rs ++ r ∷ [])
+  more_seen : now.read.table ≡ head ∷ (rs ++ r ∷ [])
   more_seen = rw (seen, has.table_is) refl
 
   -- where a fault was found before, it is the first
   pub keeps_fault : is_some before.fault ≡ true → now.fault ≡ before.fault → HasCalls ids head (rs ++ r ∷ []) now
   keeps_fault some same = record {
-    ids_are = still_ids;
     header_is = still_header;
     table_is = more_seen;
     fault_is = rw (same, faults_more head rs r, ← has.fault_is, or_some before.fault (call_fault head (length rs) r) some) refl;
@@ -124,7 +119,6 @@ module _ (ids : CallIds) (head : List (List ℕ)) (rs : List (List (List ℕ))) 
   -- else that of the record, if it has one
   pub finds_fault : (fault : FeedFault) → is_some before.fault ≡ false → call_fault head (length rs) r ≡ Some fault → now.fault ≡ Some fault → HasCalls ids head (rs ++ r ∷ []) now
   finds_fault fault none own is = record {
-    ids_are = still_ids;
     header_is = still_header;
     table_is = more_seen;
     fault_is = rw (is, faults_more head rs r, ← has.fault_is, or_none before.fault (call_fault head (length rs) r) (no_some before.fault none)) (sym own);
@@ -132,9 +126,8 @@ module _ (ids : CallIds) (head : List (List ℕ)) (rs : List (List (List ℕ))) 
   }
 
   -- and else its row is one more
-  pub adds_row : is_some before.fault ≡ false → call_fault head (length rs) r ≡ None → now.fault ≡ before.fault → now.calls ≡ before.calls ++ read_call ids (fields_behind head r) ∷ [] → HasCalls ids head (rs ++ r ∷ []) now
+  pub adds_row : is_some before.fault ≡ false → call_fault head (length rs) r ≡ None → now.fault ≡ before.fault → now.read.calls ≡ before.read.calls ++ read_call ids (fields_behind head r) ∷ [] → HasCalls ids head (rs ++ r ∷ []) now
   adds_row none own same rows = record {
-    ids_are = still_ids;
     header_is = still_header;
     table_is = more_seen;
     fault_is = rw (same, faults_more head rs r, ← has.fault_is, no_some before.fault none) (sym own);
@@ -191,13 +184,13 @@ no_record = refl
 -- what is answered at the end
 module _ (ids : CallIds) (head : List (List ℕ)) (rs : List (List (List ℕ))) (calls : CallRows) (has : HasCalls ids head rs calls) (few : length rs ≤ most_rows)
     (start : Option (List ℕ)) (all : IsTableOf start (head ∷ rs)) where
-  pub are_calls : (made : StopTimes) → calls.fault ≡ None → made.calls ≡ calls.calls → made.table ≡ calls.table → AreCallsOf start ids made
-  are_calls made none rows table = record {
+  pub are_calls : calls.fault ≡ None → AreCallsOf start ids calls.read
+  are_calls none = record {
     text = all.text;
     is_of = all.is_of;
     sound = rw (← all.is_table) (faults_of_table ids head rs few ∙ sym has.fault_is ∙ none);
-    table_is = table ∙ has.table_is ∙ all.is_table;
-    calls_are = rows ∙ has.calls_are none ∙ sym (rows_of_table ids head rs) ∙ ap (read_calls ids) all.is_table;
+    table_is = has.table_is ∙ all.is_table;
+    calls_are = has.calls_are none ∙ sym (rows_of_table ids head rs) ∙ ap (read_calls ids) all.is_table;
   }
 
   pub is_fault : (fault : FeedFault) → calls.fault ≡ Some fault → IsFaultOf start fault

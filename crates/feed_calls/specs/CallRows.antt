@@ -49,8 +49,7 @@ IsCallError start (Record why) = Explains start why
 
 -- these are the stop times of records behind a header, or their first fault
 pub record HasCalls (ids : CallIds) (head : List (List ℕ)) (rows : List (List (List ℕ))) (calls : CallRows) : Type 0 where
-  pub ids_are : calls.ids.now ≡ ids
   pub header_is : header calls.header ≡ head
-  pub table_is : calls.table ≡ head ∷ rows
+  pub table_is : calls.read.table ≡ head ∷ rows
   pub fault_is : calls.fault ≡ option_or (header_fault file.StopTimes (head ∷ [])) (first_below (length rows) (λ k. call_fault head k (get_or rows k [])))
-  pub calls_are : calls.fault ≡ None → calls.calls ≡ list_below (length rows) (λ k. read_call ids (fields_behind head (get_or rows k [])))
+  pub calls_are : calls.fault ≡ None → calls.read.calls ≡ list_below (length rows) (λ k. read_call ids (fields_behind head (get_or rows k [])))

@@ -27,10 +27,16 @@ use transit_base::{StopId, TripId};
 const NOT_AVAILABLE: i64 = 1;
 
 /// What was read of stop_times.txt, and its table, of which nothing is kept.
-#[derive(Drop)]
 pub struct StopTimes {
     pub calls: ReadCalls,
     pub table: SeenTable,
+}
+
+// Written out, so that what holds one needn't look into it to let go of it.
+impl Drop for StopTimes {
+    fn drop(self) {
+        let StopTimes { calls: _, table: _ } = self;
+    }
 }
 
 /// Why stop_times.txt gives no stop times.
@@ -67,13 +73,11 @@ impl From<AllocError> for CallError {
 
 // The stop times that were read, up to the first fault.
 #[derive(Drop)]
-struct CallRows<'i, 't> {
-    ids: &'i CallIds<'t>,
+struct CallRows {
     header: Table,
     // Where the trip of the row before was looked for.
     last_trip: usize,
-    calls: ReadCalls,
-    table: SeenTable,
+    read: StopTimes,
     // The first fault of the header and of the rows.
     fault: Option<FeedFault>,
 }
@@ -157,41 +161,43 @@ fn read_call<R: Read>(
     })
 }
 
-impl<'i, 't> CallRows<'i, 't> {
+impl CallRows {
     // None yet, behind the header that was read last.
-    fn behind<R: Read>(
-        alloc: Global,
-        ids: &'i CallIds<'t>,
-        records: &Records<R>,
-    ) -> Result<CallRows<'i, 't>, AllocError>
-        ensures { IfOk result (HasCalls ids.now (last_record records.now) []) }
+    fn behind<R: Read>(alloc: Global, records: &Records<R>) -> Result<CallRows, AllocError>
+        ensures { IfOk result (λ calls. (ids : CallIds) → HasCalls ids (last_record records.now) [] calls) }
     {
         let header = Table::of_record(alloc, records)?;
         let fault = header_fault(FileName::StopTimes, &header);
         let mut table = SeenTable::none(alloc);
         table.see(records)?;
         Ok(CallRows {
-            ids,
             header,
             last_trip: 0,
-            calls: ReadCalls::empty(alloc),
-            table,
+            read: StopTimes {
+                calls: ReadCalls::empty(alloc),
+                table,
+            },
             fault,
         })
     }
 
     // Takes the record that was read last as the next row; where a fault was found before, the row isn't looked at.
-    fn take<R: Read>(&mut self, row: u32, records: &Records<R>) -> Result<(), AllocError>
+    fn take<R: Read>(
+        &mut self,
+        ids: &CallIds,
+        row: u32,
+        records: &Records<R>,
+    ) -> Result<(), AllocError>
         requires { row < row_limit }
-        ensures { OnOk result ((ids : CallIds) (head : List (List ℕ)) (rows : List (List (List ℕ))) → row ≡ length rows → HasCalls ids head rows self.old → HasCalls ids head (rows ++ last_record records.now ∷ []) self.new) }
+        ensures { OnOk result ((head : List (List ℕ)) (rows : List (List (List ℕ))) → row ≡ length rows → HasCalls ids.now head rows self.old → HasCalls ids.now head (rows ++ last_record records.now ∷ []) self.new) }
     {
-        self.table.see(records)?;
+        self.read.table.see(records)?;
         if self.fault.is_some() {
             return Ok(());
         }
         let record = RecordRow::of(&self.header, records);
-        match read_call(self.ids, &mut self.last_trip, row, &record) {
-            Ok(call) => self.calls.push(call)?,
+        match read_call(ids, &mut self.last_trip, row, &record) {
+            Ok(call) => self.read.calls.push(call)?,
             Err(fault) => self.fault = Some(fault),
         }
         Ok(())
@@ -214,20 +220,17 @@ pub fn read_stop_times<R: Read>(
     if !records.next()? {
         return Err(CallError::Fault(file_fault(FileName::StopTimes, FaultKind::MissingFile)));
     }
-    let mut calls = CallRows::behind(alloc, ids, records)?;
+    let mut calls = CallRows::behind(alloc, records)?;
     let mut row = 0;
     while records.next()? {
         if row == MOST_ROWS {
             return Err(CallError::Fault(file_fault(FileName::StopTimes, FaultKind::TooManyRows)));
         }
-        calls.take(row, records)?;
+        calls.take(ids, row, records)?;
         row += 1;
     }
     match calls.fault {
         Some(fault) => Err(CallError::Fault(fault)),
-        None => Ok(StopTimes {
-            calls: calls.calls,
-            table: calls.table,
-        }),
+        None => Ok(calls.read),
     }
 }

@@ -38,7 +38,7 @@ loop-calls-preserved g c = record {
       let one_more = rw c.if-branch.true at (c.in_ok-next-2.ensures.goes_on start (so_far.0 ∷ so_far.1) so_far.2) in
       let last = last_record c.next-in-loop-calls.new.self in
       let count : c.loop-calls.row + 1 ≡ length (so_far.1 ++ last ∷ []) = ap (λ n. n + 1) so_far.3 ∙ sym (length-append so_far.1 (last ∷ [])) in
-      (so_far.0, so_far.1 ++ last ∷ [], one_more, count, c.in_ok-take.ensures c.args.ids.now so_far.0 so_far.1 so_far.3 so_far.4);
+      (so_far.0, so_far.1 ++ last ∷ [], one_more, count, c.in_ok-take.ensures so_far.0 so_far.1 so_far.3 so_far.4);
 }
 
 pub returns-in-Some-clause-why : goal.returns-in-Some-clause-why
@@ -51,4 +51,12 @@ pub returns-in-None-clause-rows : goal.returns-in-None-clause-rows
 returns-in-None-clause-rows g c = λ start stands.
     let so_far = c.loop-calls.invariant.read start stands in
     let all = rw c.if-branch.false at (c.in_ok-next-2.ensures.goes_on start (so_far.0 ∷ so_far.1) so_far.2) in
-    are_calls c.args.ids.now so_far.0 so_far.1 c.loop-calls.calls so_far.4 (omega (arith, so_far.3, c.loop-calls.invariant.few)) start all _ c.in-None.is refl refl
+    are_calls c.args.ids.now so_far.0 so_far.1 c.loop-calls.calls so_far.4 (omega (arith, so_far.3, c.loop-calls.invariant.few)) start all c.in-None.is
+
+pub loop-calls-init : goal.loop-calls-init
+loop-calls-init g c = record {
+  few = omega arith;
+  read = λ start stands.
+      let one = rw c.if-not-branch.false at (c.in_ok-next.ensures.goes_on start [] stands) in
+      (last_record c.next.new.self, [], one, refl, c.in_ok-calls.ensures c.args.ids.now);
+}
