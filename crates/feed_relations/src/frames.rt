@@ -1,5 +1,6 @@
 //! Timeframes.
 ghost use Rattle.std.specs.Prelude.{◌≡◌, ◌≤◌, ◌<◌, ℕ, None, IfOk};
+ghost use Rattle.feed_files.specs.declared.names.ColumnName.TheVariants.{ServiceId};
 ghost use Rattle.feed_files.specs.declared.names.FileName.TheVariants as file;
 ghost use Rattle.plain_laws.specs.Plain.{find_below};
 ghost use Rattle.feed_faults.specs.Records.{FileTable, row_count};
@@ -13,7 +14,7 @@ use crate::rows::is_one_filled;
 use feed_faults::IdColumn;
 use feed_files::{ColumnName, FileName};
 use feed_tables::{CallTable, IdIndex};
-use feed_text::natural;
+use feed_text::{Table, natural};
 use std::alloc::{AllocError, Global};
 use std::collections::BTreeSet;
 use transit_base::DAY_SECONDS;
@@ -42,8 +43,43 @@ fn is_overlapping(seen: &BTreeSet<Frame>, frame: Frame) -> bool
     })
 }
 
-// The first row of timeframes.txt below one whose timeframe is bad.
+// The timeframe of a row.
 #[tactic(auto, using(feed_text::proofs::ValueLaws::times))]
+fn frame_of<C: CallTable>(feed: &JudgedFeed<C>, services: &IdIndex, row: u32) -> Frame
+    requires within { row < row_count (table_in feed.now file.Timeframes) }
+    requires services { services.now ≡ record { table = table_in feed.now file.Timeframes; name = ServiceId } }
+    ensures { result ≡ frame_of (table_in feed.now file.Timeframes) row }
+{
+    let table = feed.tables().get(FileName::Timeframes);
+    let &[_, start, end, _] = feed.tables().numbers::<4>(FileName::Timeframes, row);
+    let groups = feed.index(IdColumn::TimeframeGroup);
+    Frame {
+        group: groups.number(table.field(row, ColumnName::TimeframeGroupId)),
+        service: services.number(table.field(row, ColumnName::ServiceId)),
+        start: natural(start).unwrap_or(0),
+        end: natural(end).unwrap_or(DAY_SECONDS),
+    }
+}
+
+// Whether the timeframe of a row is bad, where none of an earlier row is.
+fn is_bad(table: &Table, seen: &BTreeSet<Frame>, row: u32, frame: Frame) -> bool
+    requires within { row < row_count table.now }
+    requires frame { frame ≡ frame_of table.now row }
+    requires none { find_below row (is_bad_frame table.now) ≡ None }
+    requires seen { AreSeen ⟦<Frame as Ord>⟧.cmp (frame_of table.now) seen.now row }
+    ensures { result ≡ is_bad_frame table.now row }
+{
+    let is_half = is_one_filled(
+        table.field(row, ColumnName::StartTime),
+        table.field(row, ColumnName::EndTime),
+    );
+    if is_half || frame.start >= frame.end {
+        return true;
+    }
+    is_overlapping(seen, frame)
+}
+
+// The first row of timeframes.txt below one whose timeframe is bad.
 pub fn first_bad_frame<C: CallTable>(
     alloc: Global,
     feed: &JudgedFeed<C>,
@@ -53,23 +89,11 @@ pub fn first_bad_frame<C: CallTable>(
     ensures { IfOk result (λ found. found ≡ find_below below (is_bad_frame (table_in feed.now file.Timeframes))) }
 {
     let table = feed.tables().get(FileName::Timeframes);
-    let groups = feed.index(IdColumn::TimeframeGroup);
     let services = IdIndex::of(alloc, table, ColumnName::ServiceId)?;
     let mut seen = BTreeSet::new(alloc);
     for row in 0..below {
-        let &[_, start, end, _] = feed.tables().numbers::<4>(FileName::Timeframes, row);
-        let frame = Frame {
-            group: groups.number(table.field(row, ColumnName::TimeframeGroupId)),
-            service: services.number(table.field(row, ColumnName::ServiceId)),
-            start: natural(start).unwrap_or(0),
-            end: natural(end).unwrap_or(DAY_SECONDS),
-        };
-        let is_half = is_one_filled(
-            table.field(row, ColumnName::StartTime),
-            table.field(row, ColumnName::EndTime),
-        );
-        let overlaps = is_overlapping(&seen, frame);
-        if is_half || frame.start >= frame.end || overlaps {
+        let frame = frame_of(feed, &services, row);
+        if is_bad(table, &seen, row, frame) {
             return Ok(Some(row));
         }
         seen.insert(frame)?;
