@@ -64,11 +64,17 @@ impl ReadCall {
 
 /// The stop times of a file, in its order. Those before the first whose trip or stop isn't there are kept as rows, so that
 /// a feed without a fault has rows alone. Contracts see them as a list of what was read.
-#[derive(Drop)]
 pub struct ReadCalls {
     rows: StopTimeRows,
     // From the first on whose trip or stop isn't there.
     rest: Vec<ReadCall>,
+}
+
+// Written out, so that what holds one needn't look into it to let go of it.
+impl Drop for ReadCalls {
+    fn drop(self) {
+        let ReadCalls { rows: _, rest: _ } = self;
+    }
 }
 
 impl Model for ReadCalls {

@@ -30,10 +30,16 @@ const OTHERS: [IdColumn; 12] = [
 ];
 
 /// The rows of stops.txt and of trips.txt by the ids that stop times name.
-#[derive(Drop)]
 pub struct CallIds<'t> {
     pub stops: IdIndex<'t>,
     pub trips: IdIndex<'t>,
+}
+
+// Written out, so that what holds one needn't look into it to let go of it.
+impl<'t> Drop for CallIds<'t> {
+    fn drop(self) {
+        let CallIds { stops: _, trips: _ } = self;
+    }
 }
 
 impl<'t> CallIds<'t> {

@@ -13,7 +13,6 @@ use std::alloc::{AllocError, Global};
 use std::marker::Model;
 
 /// The rows of a table by their fields in one of its columns. Contracts see it as the table and the column.
-#[derive(Drop)]
 pub struct IdIndex<'t> {
     table: &'t Table,
     name: ColumnName,
@@ -21,6 +20,18 @@ pub struct IdIndex<'t> {
     rows: Vec<IdRow<'t>>,
     // Where an id is looked for before the rows are searched.
     slots: Slots,
+}
+
+// Written out, so that what holds one needn't look into it to let go of it.
+impl<'t> Drop for IdIndex<'t> {
+    fn drop(self) {
+        let IdIndex {
+            table: _,
+            name: _,
+            rows: _,
+            slots: _,
+        } = self;
+    }
 }
 
 impl<'t> Model for IdIndex<'t> {

@@ -13,11 +13,21 @@ use std::alloc::Global;
 use std::marker::Model;
 
 /// A file's table, and what its rows tell. Contracts see it as the file and the table.
-#[derive(Drop)]
 pub struct ReadTable {
     file: FileName,
     table: Table,
     numbers: Groups<Option<i64>>,
+}
+
+// Written out, so that what holds one needn't look into it to let go of it.
+impl Drop for ReadTable {
+    fn drop(self) {
+        let ReadTable {
+            file: _,
+            table: _,
+            numbers: _,
+        } = self;
+    }
 }
 
 impl Model for ReadTable {
@@ -33,7 +43,6 @@ impl Model for ReadTable {
 
 // What the rows of a table tell, row by row. `Fault` is their first fault. Of a row it is first that it is long, which is a
 // field past the header.
-#[tactic(auto, unfolding(feed_faults::specs::FormFaults::form_fault_of_rows, feed_faults::specs::FormFaults::form_fault_of_row))]
 fn read_rows(alloc: Global, file: FileName, table: &Table) -> Result<Groups<Option<i64>>, TextError>
     ensures fault { IfErr result (IsErrorOf (form_fault_of_rows file table.now)) }
     ensures sound { OnOk result (form_fault_of_rows file table.now ≡ None) }

@@ -160,6 +160,22 @@ impl Slots {
     }
 }
 
+// The ids by bucket, each by its place.
+fn members_of(alloc: Global, rows: &[IdRow], buckets: usize) -> Result<Groups<Member>, AllocError>
+    requires some { 1 ≤ buckets }
+    requires few { buckets < 2 ^ 32 }
+{
+    let mut members = Vec::with_capacity(alloc, rows.len())?;
+    for (place, entry) in rows.iter().enumerate() {
+        let hash = hash_of(entry.key, entry.id);
+        members.push(Grouped {
+            group: share_of(hash, buckets) as u32,
+            item: Member { place, hash },
+        })?;
+    }
+    Groups::of(alloc, members, buckets as u32)
+}
+
 // The greatest size of a bucket whose ids get slots. Hardly one is greater.
 const LARGEST: usize = 12;
 
@@ -174,19 +190,11 @@ pub fn slots_of(alloc: Global, rows: &[IdRow]) -> Result<Slots, AllocError>
 {
     let count = (rows.len() + rows.len() / 9 + 1).min(u32::MAX as usize);
     let buckets = rows.len() * 2 / 5 + 1;
+    let groups = members_of(alloc, rows, buckets)?;
     let mut slots = Slots {
         pilots: vec![in alloc; 0u8; buckets]?,
         entries: vec![in alloc; Slot::of(NO_KEY, FREE); count]?,
     };
-    let mut members = Vec::with_capacity(alloc, rows.len())?;
-    for (place, entry) in rows.iter().enumerate() {
-        let hash = hash_of(entry.key, entry.id);
-        members.push(Grouped {
-            group: share_of(hash, buckets) as u32,
-            item: Member { place, hash },
-        })?;
-    }
-    let groups = Groups::of(alloc, members, buckets as u32)?;
     for step in 0..LARGEST {
         for bucket in 0..buckets {
             let members = groups.get(bucket);

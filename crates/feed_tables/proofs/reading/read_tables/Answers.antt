@@ -1,11 +1,12 @@
-use Rattle.std.proofs.Common.{◌≡◌, ◌++◌, ◌∷◌, [], ◌∙◌, sym, subst, arith}
-use Rattle.std.proofs.lemmas.List.{map_more}
-use Rattle.plain_laws.proofs.Laws.{first_in_next}
+use Rattle.std.proofs.Common.{◌≡◌, ◌≤◌, ◌+◌, ◌++◌, ◌∷◌, [], ◌∙◌, ap, sym, subst, ℕ, None, length, map, arith}
+use Rattle.std.proofs.lemmas.List.{map_more, take_all}
+use Rattle.plain_laws.proofs.Laws.{at_item, first_in_next}
 use Rattle.std.proofs.lemmas.Grind.{common_steps}
-use Rattle.plain_laws.specs.Plain.{first_in}
+use Rattle.plain_laws.specs.Plain.{first_below, first_in}
 use Rattle.feed_text.specs.TextErrors.{IsErrorOf}
 use Rattle.feed_faults.specs.FormFaults.{form_fault}
 use Rattle.folder_io.specs.KeptFiles.{held_in}
+use Rattle.feed_tables.specs.LeftFiles.{AreLeft}
 use Rattle.feed_tables.specs.RowNumbers.{read_of}
 use Rattle.feed_tables.proofs.PassLaws.{error_at}
 use Rattle.feed_tables.proofs.TakenFiles.{next_fault, next_read, left_next}
@@ -36,3 +37,18 @@ returns-in_err-table-clause-fault c =
     error_at c.args.names.now (form_fault (held_in c.args.files.now)) c.loop-i.i _ c.in_err-table.field-0.0 c.loop-i-test.true before.none
     (subst (λ o. IsErrorOf o c.in_err-table.field-0.0) (next_fault c.args.files.now c.loop-i.files c.args.names.now order.0 c.loop-i.i _ order.1 c.loop-i-test.true left) c.in_err-table.ensures.fault) in
     grind (arith, common_steps, first)
+
+pub returns-clause-sound : goal.returns-clause-sound
+returns-clause-sound c =
+    let all : c.loop-i.i ≡ length c.args.names.now = omega (arith, c.loop-i-test.false, c.loop-i.auto.i-end) in
+    subst (λ (n : ℕ). first_below n (at_item c.args.names.now (form_fault (held_in c.args.files.now))) ≡ None) all c.loop-i.invariant.none
+
+pub returns-clause-tables : goal.returns-clause-tables
+returns-clause-tables c =
+    let all : length c.args.names.now ≤ c.loop-i.i = omega (arith, c.loop-i-test.false) in
+    c.loop-i.invariant.tables ∙ ap (map (read_of (held_in c.args.files.now))) (take_all _ _ all)
+
+pub returns-clause-left : goal.returns-clause-left
+returns-clause-left c =
+    let all : c.loop-i.i ≡ length c.args.names.now = omega (arith, c.loop-i-test.false, c.loop-i.auto.i-end) in
+    λ n stand. subst (λ (i : ℕ). AreLeft c.args.files.now c.loop-i.files (n + i)) all (c.loop-i.invariant.left n stand)
