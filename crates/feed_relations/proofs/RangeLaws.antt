@@ -1,11 +1,9 @@
--- What passes a test among the numbers below one, as `any` and `find` over a range tell it.
-use Rattle.std.proofs.Common.{◌≡◌, refl, sym, ◌∙◌, ℕ, zero, suc, ◌+◌, ◌≤◌, ◌<◌, [], ◌∷◌, ◌++◌, map, Bool, true, false, Option, Some, None, arith}
+-- What passes a test among the numbers below one, as `any` over a range tells it.
+use Rattle.std.proofs.Common.{◌≡◌, refl, sym, ◌∙◌, ℕ, zero, suc, ◌+◌, [], ◌∷◌, ◌++◌, map, Bool, true, false, arith}
 use Rattle.std.specs.Prelude.{◌||◌}
 use Rattle.std.specs.List.{list_any, range_with_len}
-use Rattle.std.specs.Option.{MatchOption}
 use Rattle.std.proofs.lemmas.List.{append-nil, append_assoc}
-use Rattle.plain_laws.specs.Plain.{any_below, find_below, list_below}
-use Rattle.plain_laws.proofs.Laws.{find_below_none, find_below_hit}
+use Rattle.plain_laws.specs.Plain.{any_below, list_below}
 
 grouped : (a b c : Bool) → ((a || b) || c) ≡ (a || (b || c))
 grouped true b c = refl
@@ -25,11 +23,6 @@ from_on test a (suc n) =
 -- some number of a range passes
 pub any_of_range : (test : ℕ → Bool) (n : ℕ) → list_any test (range_with_len 0 n) ≡ any_below n test
 any_of_range test n = let e : 0 + n ≡ n = omega arith in sym (rw e at (from_on test 0 n))
-
--- the first number of a range that passes
-pub find_of_range : (test : ℕ → Bool) (n : ℕ) (found : Option ℕ) → MatchOption found ((k : ℕ) → 0 ≤ k → k < n → test k ≡ false) (λ i. (0 ≤ i) × (i < n) × (test i ≡ true) × ((k : ℕ) → 0 ≤ k → k < i → test k ≡ false)) → found ≡ find_below n test
-find_of_range test n None none = sym (find_below_none test n (λ k lt. none k (omega arith) lt))
-find_of_range test n (Some i) is = sym (find_below_hit test n i (record { within = is.1; passes = is.2; earlier = λ k lt. is.3 k (omega arith) lt }))
 
 list_on : {X : Type 0} (f : ℕ → X) (a n : ℕ) → list_below (a + n) f ≡ list_below a f ++ map f (range_with_len a n)
 list_on f a zero = let e : a + 0 ≡ a = omega arith in rw e (sym (append-nil (list_below a f)))

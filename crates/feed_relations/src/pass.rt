@@ -40,9 +40,16 @@ fn first_failing<C: CallTable>(
     ensures { IfOk result (λ found. found ≡ find_below below (fails feed.now file rule)) }
 {
     match rule.check {
-        RowCheck::NewKey => Ok(first_repeated(alloc, feed, file, below)?),
+        RowCheck::NewKey => first_repeated(alloc, feed, file, below),
         RowCheck::GoodTimeframe => first_bad_frame(alloc, feed, below),
-        _ => Ok((0..below).find(|row| row_fails(feed, file, rule, *row))),
+        _ => {
+            for row in 0..below {
+                if row_fails(feed, file, rule, row) {
+                    return Ok(Some(row));
+                }
+            }
+            Ok(None)
+        }
     }
 }
 

@@ -1,24 +1,26 @@
-use Rattle.std.proofs.Common.{rules, tests, ◌≡◌, true, false, sym, ap, ◌∙◌}
-use Rattle.std.proofs.lemmas.Iterator.{first_from_Range}
-use Rattle.feed_relations.proofs.RangeLaws.{find_of_range}
-use Rattle.feed_faults.specs.declared.checks.RowCheck.{RowCheck}
-use Rattle.feed_faults.specs.RowChecks.{fails, check_fails}
-use Rattle.plain_laws.specs.Plain.{find_below}
+use Rattle.std.proofs.Common.{◌≡◌, sym, ◌∙◌, arith}
+use Rattle.plain_laws.proofs.Laws.{find_below_found, find_below_next}
+use Rattle.feed_faults.specs.RowChecks.{fails}
 use Rattle.feed_relations.proofs.pass.first_failing.Goals as goal
 
-pub returns-in_ok-first_repeated-in-NewKey : goal.returns-in_ok-first_repeated-in-NewKey
-returns-in_ok-first_repeated-in-NewKey g c =
-    let t = c.args.feed.now in
-    c.in_ok-first_repeated-in-NewKey.ensures
-    ∙ ap (λ (check : RowCheck). find_below c.args.below (λ row. check_fails t c.args.file c.args.rule.column row check)) (sym c.in-NewKey.is)
+pub returns-in-NewKey : goal.returns-in-NewKey
+returns-in-NewKey g c =
+    rw c.in-NewKey.is c.first_repeated.ensures
 
 pub returns-in-GoodTimeframe : goal.returns-in-GoodTimeframe
 returns-in-GoodTimeframe g c =
     let timeframes = rw c.in-GoodTimeframe.is at c.requires.fits in
     rw (c.in-GoodTimeframe.is, timeframes) c.first_bad_frame.ensures
 
-pub returns-in_default : goal.returns-in_default
-returns-in_default g c =
-    let test = fails c.args.feed.now c.args.file c.args.rule in
-    find_of_range test c.args.below c.find.result
-    (first_from_Range _ _ _ _ (λ row. test row ≡ true) (λ row. test row ≡ false) c.find.ensures.ran (λ x q k. search (rules, tests)) (λ x q k. search (rules, tests)))
+pub returns-then-row_fails : goal.returns-then-row_fails
+returns-then-row_fails g c =
+    sym (find_below_found (fails c.args.feed.now c.args.file c.args.rule) c.args.below c.loop-row.row c.loop-row-test.true c.loop-row.invariant (sym c.row_fails.ensures ∙ c.if-row_fails.true))
+
+pub loop-row-preserved : goal.loop-row-preserved
+loop-row-preserved g c =
+    find_below_next (fails c.args.feed.now c.args.file c.args.rule) c.loop-row.row c.loop-row.invariant (sym c.row_fails.ensures ∙ c.if-row_fails.false)
+
+pub returns-after-loop-row : goal.returns-after-loop-row
+returns-after-loop-row g c =
+    let all : c.loop-row.row ≡ c.args.below = omega (arith, c.loop-row-test.false, c.loop-row.auto.row-end) in
+    sym (rw all at c.loop-row.invariant)
