@@ -38,14 +38,14 @@ impl<'t, C: CallTable> Model for Source<'t, C> {
     ghost invariant = { λ s. IsSource s.tables.now s.ids.now s.names.now };
 }
 
-impl<'t, C: CallTable> Source<'t, C> {
-    /// The number of the earliest row that has the id in a column; that after the last row where no row has it.
-    pub fn number(&self, column: IdColumn, id: &[u8]) -> u32
-        ensures { result ≡ row_number (table_in self.now (id_place column).0) (id_place column).1 id.now }
-    {
-        self.ids.get(column).number(id)
-    }
+/// The number of the earliest row that has the id in a column; that after the last row where no row has it.
+pub fn row_number<C: CallTable>(source: &Source<C>, column: IdColumn, id: &[u8]) -> u32
+    ensures { result ≡ row_number (table_in source.now (id_place column).0) (id_place column).1 id.now }
+{
+    source.ids.get(column).number(id)
+}
 
+impl<'t, C: CallTable> Source<'t, C> {
     // The rows of a file, in order.
     fn rows_of<R: FileRow>(&self, file: FileName) -> Result<ItemList<R>, AllocError>
         requires file { file ≡ R.file }

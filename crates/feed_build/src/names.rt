@@ -134,16 +134,6 @@ impl<'t> Numbering<'t> {
         Ok(())
     }
 
-    /// The place of a name; the number of names where it isn't one of them.
-    pub fn number(&self, name: &[u8]) -> u32
-        ensures { result ≡ name_number self.now name.now }
-    {
-        match self.names.get_index_of(name) {
-            Some(place) => place as u32,
-            None => self.names.len() as u32,
-        }
-    }
-
     /// The names, as ids.
     ///
     /// # Errors
@@ -157,6 +147,16 @@ impl<'t> Numbering<'t> {
             ids.push(Id::copy_of(alloc, names[place])?)?;
         }
         Ok(ids)
+    }
+}
+
+/// The place of a name among others; their number where it isn't one of them.
+pub fn name_number(names: &Numbering, name: &[u8]) -> u32
+    ensures { result ≡ name_number names.now name.now }
+{
+    match names.names.get_index_of(name) {
+        Some(place) => place as u32,
+        None => names.names.len() as u32,
     }
 }
 

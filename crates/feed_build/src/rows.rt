@@ -8,7 +8,8 @@ ghost use Rattle.feed_faults.specs.FeedTables.{table_in};
 ghost use Rattle.feed_faults.specs.FieldValues.{nat_of};
 ghost use Rattle.feed_faults.specs.AcceptedFeed.{if_filled, stop_row, network_of_route, route_row, trip_row, service_row, exception_row, frequency_row, link_row, area_row, stop_area_row, timeframe_row, rider_row, medium_row, product_row, leg_rule_row, transfer_rule_row, feed_currency, feed_decimals};
 
-use crate::feed::Source;
+use crate::feed::{Source, row_number};
+use crate::names::name_number;
 use feed_faults::IdColumn;
 use feed_files::{ColumnName, FileName};
 use feed_rows::{
@@ -95,7 +96,7 @@ impl FileRow for StopRow {
             id: Id::copy_of(source.alloc, table.field(row, ColumnName::StopId))?,
             kind,
             parent: if kind == PLATFORM && is_filled(parent) {
-                Some(StopId(source.number(IdColumn::Stop, parent)))
+                Some(StopId(row_number(source, IdColumn::Stop, parent)))
             } else {
                 None
             },
@@ -113,10 +114,11 @@ impl FileRow for RouteRow {
 
     #[tactic(auto, unfolding(feed_faults::specs::AcceptedFeed::route_row), using(feed_soundness::proofs::IdColumns::route_id))]
     fn of<C: CallTable>(source: &Source<C>, table: &Table, row: u32) -> Result<Self, AllocError> {
+        let names = source.names;
         let network = source.network_of_route(row);
         Ok(RouteRow {
             id: Id::copy_of(source.alloc, table.field(row, ColumnName::RouteId))?,
-            network: filled(network, NetworkId(source.names.networks.number(network))),
+            network: filled(network, NetworkId(name_number(&names.networks, network))),
         })
     }
 }
@@ -131,11 +133,12 @@ impl FileRow for TripRow {
 
     #[tactic(auto, unfolding(feed_faults::specs::AcceptedFeed::trip_row), using(feed_soundness::proofs::IdColumns::trip_id))]
     fn of<C: CallTable>(source: &Source<C>, table: &Table, row: u32) -> Result<Self, AllocError> {
+        let route = table.field(row, ColumnName::RouteId);
         let service = table.field(row, ColumnName::ServiceId);
         Ok(TripRow {
             id: Id::copy_of(source.alloc, table.field(row, ColumnName::TripId))?,
-            route: RouteId(source.number(IdColumn::Route, table.field(row, ColumnName::RouteId))),
-            service: ServiceId(source.names.services.number(service)),
+            route: RouteId(row_number(source, IdColumn::Route, route)),
+            service: ServiceId(name_number(&source.names.services, service)),
         })
     }
 }
@@ -162,7 +165,7 @@ impl FileRow for ServiceRow {
         ] = source.tables.numbers::<10>(FileName::Calendar, row);
         let service = table.field(row, ColumnName::ServiceId);
         Ok(ServiceRow {
-            service: ServiceId(source.names.services.number(service)),
+            service: ServiceId(name_number(&source.names.services, service)),
             days: [
                 is_code(monday, SERVICE_AVAILABLE),
                 is_code(tuesday, SERVICE_AVAILABLE),
@@ -189,7 +192,7 @@ impl FileRow for ExceptionRow {
         let &[_, date, kind] = source.tables.numbers::<3>(FileName::CalendarDates, row);
         let service = table.field(row, ColumnName::ServiceId);
         Ok(ExceptionRow {
-            service: ServiceId(source.names.services.number(service)),
+            service: ServiceId(name_number(&source.names.services, service)),
             day: Day(date.unwrap_or(0)),
             added: is_code(kind, SERVICE_ADDED),
         })
@@ -207,7 +210,7 @@ impl FileRow for FrequencyRow {
         let &[_, start, end, headway, _] = source.tables.numbers::<5>(FileName::Frequencies, row);
         let trip = table.field(row, ColumnName::TripId);
         Ok(FrequencyRow {
-            trip: TripId(source.number(IdColumn::Trip, trip)),
+            trip: TripId(row_number(source, IdColumn::Trip, trip)),
             start: natural(start).unwrap_or(0),
             end: natural(end).unwrap_or(0),
             headway: nat_of(headway),
@@ -240,8 +243,8 @@ impl FileRow for StopAreaRow {
     #[tactic(auto, unfolding(feed_faults::specs::AcceptedFeed::stop_area_row))]
     fn of<C: CallTable>(source: &Source<C>, table: &Table, row: u32) -> Result<Self, AllocError> {
         Ok(StopAreaRow {
-            area: AreaId(source.number(IdColumn::Area, table.field(row, ColumnName::AreaId))),
-            stop: StopId(source.number(IdColumn::Stop, table.field(row, ColumnName::StopId))),
+            area: AreaId(row_number(source, IdColumn::Area, table.field(row, ColumnName::AreaId))),
+            stop: StopId(row_number(source, IdColumn::Stop, table.field(row, ColumnName::StopId))),
         })
     }
 }
@@ -258,10 +261,10 @@ impl FileRow for TimeframeRow {
         let group = table.field(row, ColumnName::TimeframeGroupId);
         let service = table.field(row, ColumnName::ServiceId);
         Ok(TimeframeRow {
-            frame: FrameId(source.names.frames.number(group)),
+            frame: FrameId(name_number(&source.names.frames, group)),
             start: natural(start).unwrap_or(0),
             end: natural(end).unwrap_or(DAY_SECONDS),
-            service: ServiceId(source.names.services.number(service)),
+            service: ServiceId(name_number(&source.names.services, service)),
         })
     }
 }
@@ -313,12 +316,15 @@ impl FileRow for ProductRow {
         let rider = table.field(row, ColumnName::RiderCategoryId);
         let medium = table.field(row, ColumnName::FareMediaId);
         Ok(ProductRow {
-            product: ProductId(source.names.products.number(product)),
+            product: ProductId(name_number(&source.names.products, product)),
             rider: filled(
                 rider,
-                RiderId(source.number(IdColumn::RiderCategory, rider)),
+                RiderId(row_number(source, IdColumn::RiderCategory, rider)),
             ),
-            medium: filled(medium, MediumId(source.number(IdColumn::FareMedia, medium))),
+            medium: filled(
+                medium,
+                MediumId(row_number(source, IdColumn::FareMedia, medium)),
+            ),
             amount: Money(amount.unwrap_or(0)),
         })
     }
@@ -335,6 +341,7 @@ impl FileRow for LegRuleRow {
         let &[_, _, _, _, _, _, _, priority] = source
             .tables
             .numbers::<8>(FileName::FareLegRules, row);
+        let names = source.names;
         let group = table.field(row, ColumnName::LegGroupId);
         let network = table.field(row, ColumnName::NetworkId);
         let from_area = table.field(row, ColumnName::FromAreaId);
@@ -343,13 +350,16 @@ impl FileRow for LegRuleRow {
         let to_frame = table.field(row, ColumnName::ToTimeframeGroupId);
         let product = table.field(row, ColumnName::FareProductId);
         Ok(LegRuleRow {
-            group: filled(group, LegGroupId(source.names.groups.number(group))),
-            network: filled(network, NetworkId(source.names.networks.number(network))),
-            from_area: filled(from_area, AreaId(source.number(IdColumn::Area, from_area))),
-            to_area: filled(to_area, AreaId(source.number(IdColumn::Area, to_area))),
-            from_frame: filled(from_frame, FrameId(source.names.frames.number(from_frame))),
-            to_frame: filled(to_frame, FrameId(source.names.frames.number(to_frame))),
-            product: ProductId(source.names.products.number(product)),
+            group: filled(group, LegGroupId(name_number(&names.groups, group))),
+            network: filled(network, NetworkId(name_number(&names.networks, network))),
+            from_area: filled(
+                from_area,
+                AreaId(row_number(source, IdColumn::Area, from_area)),
+            ),
+            to_area: filled(to_area, AreaId(row_number(source, IdColumn::Area, to_area))),
+            from_frame: filled(from_frame, FrameId(name_number(&names.frames, from_frame))),
+            to_frame: filled(to_frame, FrameId(name_number(&names.frames, to_frame))),
+            product: ProductId(name_number(&names.products, product)),
             priority: nat_of(priority),
         })
     }
@@ -366,6 +376,7 @@ impl FileRow for TransferRuleRow {
         let &[_, _, count, seconds, limit_kind, kind, _] = source
             .tables
             .numbers::<7>(FileName::FareTransferRules, row);
+        let names = source.names;
         let from = table.field(row, ColumnName::FromLegGroupId);
         let to = table.field(row, ColumnName::ToLegGroupId);
         let limit = Limit {
@@ -374,13 +385,32 @@ impl FileRow for TransferRuleRow {
         };
         let product = table.field(row, ColumnName::FareProductId);
         Ok(TransferRuleRow {
-            from: filled(from, LegGroupId(source.names.groups.number(from))),
-            to: filled(to, LegGroupId(source.names.groups.number(to))),
+            from: filled(from, LegGroupId(name_number(&names.groups, from))),
+            to: filled(to, LegGroupId(name_number(&names.groups, to))),
             count: natural(count),
             limit: filled(table.field(row, ColumnName::DurationLimit), limit),
             kind: nat_of(kind) as u8,
-            product: filled(product, ProductId(source.names.products.number(product))),
+            product: filled(product, ProductId(name_number(&names.products, product))),
         })
+    }
+}
+
+// A row of `transfers.txt` that isn't passed over.
+#[tactic(auto, unfolding(feed_faults::specs::AcceptedFeed::link_row), using(crate::proofs::ValueLaws::values))]
+fn link_row<C: CallTable>(source: &Source<C>, row: u32) -> LinkRow
+    requires within { row < row_count (table_in source.now file.Transfers) }
+    requires judged { is_passed_over (field (table_in source.now file.Transfers) row) ≡ false }
+    ensures { result ≡ link_row source.now row }
+{
+    let transfers = source.tables.get(FileName::Transfers);
+    let &[kind, _, _, seconds] = source.tables.numbers::<4>(FileName::Transfers, row);
+    let from = transfers.field(row, ColumnName::FromStopId);
+    let to = transfers.field(row, ColumnName::ToStopId);
+    LinkRow {
+        from: StopId(row_number(source, IdColumn::Stop, from)),
+        to: StopId(row_number(source, IdColumn::Stop, to)),
+        forbidden: is_code(kind, CHANGE_FORBIDDEN),
+        seconds: nat_of(seconds),
     }
 }
 
@@ -404,25 +434,6 @@ impl<'t, C: CallTable> Source<'t, C> {
         }
     }
 
-    // A row of `transfers.txt` that isn't passed over.
-    #[tactic(auto, unfolding(feed_faults::specs::AcceptedFeed::link_row), using(crate::proofs::ValueLaws::values))]
-    fn link_row(&self, row: u32) -> LinkRow
-        requires within { row < row_count (table_in self.now file.Transfers) }
-        requires judged { is_passed_over (field (table_in self.now file.Transfers) row) ≡ false }
-        ensures { result ≡ link_row self.now row }
-    {
-        let transfers = self.tables.get(FileName::Transfers);
-        let &[kind, _, _, seconds] = self.tables.numbers::<4>(FileName::Transfers, row);
-        let from = transfers.field(row, ColumnName::FromStopId);
-        let to = transfers.field(row, ColumnName::ToStopId);
-        LinkRow {
-            from: StopId(self.number(IdColumn::Stop, from)),
-            to: StopId(self.number(IdColumn::Stop, to)),
-            forbidden: is_code(kind, CHANGE_FORBIDDEN),
-            seconds: nat_of(seconds),
-        }
-    }
-
     /// The rows of `transfers.txt` that aren't passed over, in order.
     ///
     /// # Errors
@@ -434,7 +445,7 @@ impl<'t, C: CallTable> Source<'t, C> {
         let mut rows = LinkRows::empty(self.alloc);
         for row in 0..transfers.rows() {
             if !is_passed_over(&transfers.row(row)) {
-                rows.push(self.link_row(row))?;
+                rows.push(link_row(self, row))?;
             }
         }
         Ok(rows)
