@@ -103,12 +103,27 @@ fn relation_fault<C: CallTable>(
     fault_of_table(alloc, feed, file)
 }
 
+// The first fault of the files among each other, in their order.
+#[tactic(auto, unfolding(feed_faults::specs::FirstFault::first_relation_fault))]
+fn first_fault<C: CallTable>(
+    alloc: Global,
+    feed: &JudgedFeed<C>,
+) -> Result<Option<FeedFault>, AllocError>
+    ensures { IfOk result (λ fault. fault ≡ first_relation_fault feed.now) }
+{
+    for (i, file) in FileName::all().iter().enumerate() {
+        if let Some(fault) = relation_fault(alloc, feed, *file)? {
+            return Ok(Some(fault));
+        }
+    }
+    Ok(None)
+}
+
 /// The first fault of the files among each other, in the order of the files and of their rows, by what was read of the stop
 /// times. None exactly where they have none.
 ///
 /// # Errors
 /// Want of memory.
-#[tactic(auto, unfolding(feed_faults::specs::FirstFault::first_relation_fault))]
 pub fn first_relation_fault<C: CallTable>(
     alloc: Global,
     tables: &Tables<C>,
@@ -121,10 +136,5 @@ pub fn first_relation_fault<C: CallTable>(
     ensures { IfOk result (λ fault. fault ≡ first_relation_fault tables.now) }
 {
     let feed = JudgedFeed::of(alloc, tables, ids, calls)?;
-    for (i, file) in FileName::all().iter().enumerate() {
-        if let Some(fault) = relation_fault(alloc, &feed, *file)? {
-            return Ok(Some(fault));
-        }
-    }
-    Ok(None)
+    first_fault(alloc, &feed)
 }
