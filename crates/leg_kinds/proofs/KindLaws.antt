@@ -1,10 +1,10 @@
 -- Legs that stand alike in the order differ in their moments at most, and lists are kept by that.
-use Rattle.std.proofs.Common.{◌≡◌, refl, sym, ◌∙◌, ap, ℕ, ◌+◌, true, List, [], ◌∷◌, ◌++◌, length, Option, Some, None, arith}
+use Rattle.std.proofs.Common.{◌≡◌, refl, sym, ◌∙◌, ap, ℕ, ◌+◌, true, List, [], ◌∷◌, ◌++◌, length, Option, Some, None, false, arith}
 use Rattle.std.specs.Prelude.{◌==◌, slice_get, option_map}
 use Rattle.std.specs.Cmp.Lexicographic.{slice_cmp}
 use Rattle.std.specs.FinMap.{IsAntisymmetric, nat_cmp-IsAntisymmetric, slice_cmp-IsAntisymmetric}
 use Rattle.std.specs.Option.{option_map_or}
-use Rattle.std.specs.Ordering.{nat_cmp, ordering_then, ordering_index}
+use Rattle.std.specs.Ordering.{nat_cmp, is_eq, is_lt, ordering_then, ordering_index}
 use Rattle.std.specs.declared.cmp.Ordering.{Ordering}
 use Rattle.std.specs.declared.cmp.Ordering.TheVariants.{Less, Equal, Greater}
 use Rattle.std.proofs.lemmas.List.{length-map, map-append}
@@ -90,3 +90,30 @@ module _ {T : Type 0} where
   pub list_none : (kept : List (KeptList T)) (number : ℕ) → slice_get kept number ≡ None → [] ≡ items_at (kind_lists kept) number
   list_none kept number at =
       sym (ap (λ (o : Option (KindList T)). option_map_or (λ (l : KindList T). l.items) o []) (slice_get-map as_list kept number ∙ ap (option_map as_list) at))
+
+  -- how the leg of a list stands to another, by the number of the list
+  pub before_of : (kept : List (KeptList T)) (number : ℕ) (own : KeptList T) (leg : LegFacts) → slice_get kept number ≡ Some own
+      → is_lt (facts_cmp (kept_leg own) leg) ≡ (rank kept leg number == 0)
+  before_of kept number own leg at = rw at (first (facts_cmp (kept_leg own) leg))
+    where
+      first : (o : Ordering) → is_lt o ≡ (ordering_index o == 0)
+      first Less = refl
+      first Equal = refl
+      first Greater = refl
+
+  pub before_none : (kept : List (KeptList T)) (number : ℕ) (leg : LegFacts) → slice_get kept number ≡ None
+      → false ≡ (rank kept leg number == 0)
+  before_none kept number leg at = rw at refl
+
+  pub same_of : (kept : List (KeptList T)) (number : ℕ) (own : KeptList T) (leg : LegFacts) → slice_get kept number ≡ Some own
+      → is_eq (facts_cmp (kept_leg own) leg) ≡ (rank kept leg number == 1)
+  same_of kept number own leg at = rw at (alike (facts_cmp (kept_leg own) leg))
+    where
+      alike : (o : Ordering) → is_eq o ≡ (ordering_index o == 1)
+      alike Less = refl
+      alike Equal = refl
+      alike Greater = refl
+
+  pub same_none : (kept : List (KeptList T)) (number : ℕ) (leg : LegFacts) → slice_get kept number ≡ None
+      → false ≡ (rank kept leg number == 1)
+  same_none kept number leg at = rw at refl
