@@ -14,7 +14,7 @@ use Rattle.feed_rows.specs.declared.journeys.Journey.{Journey}
 use Rattle.feed_rows.specs.declared.journeys.RideFacts.{RideFacts}
 use Rattle.feed_rows.specs.FeedRows.{FeedRows}
 use Rattle.feed_rows.specs.Journeys.{facts_at}
-use Rattle.feed_rows.specs.EntryText.{run_fields, way_fields, ride_line, ticket_fields, leg_line, change_fields, change_line, stop_before, last_lines, walk_lines}
+use Rattle.feed_rows.specs.EntryText.{ride_line, ticket_fields, leg_line, change_fields, change_line, stop_before, last_lines, walk_lines}
 use Rattle.feed_rows.specs.Lines.{fields_text, line}
 use Rattle.ticket_explain.specs.LineParts.{head_text, ended, kind_text, leg_cost, leg_head, change_head, whole_ride, ride_between}
 
@@ -62,12 +62,6 @@ change_line_none feed i pick none = step (slice_get feed.transfer_rules pick.rul
     step : (o : Option TransferRuleRow) → slice_get feed.transfer_rules pick.rule.0 ≡ o → None ≡ change_line feed i pick
     step None is = rw is refl
     step (Some row) got = absurd (none-some row.kind (sym none ∙ rw got refl))
-
--- a ride's line of two halves
-pub ride_ended : (feed : FeedRows) (ride : Ride) (facts : RideFacts) (trip : List ℕ) (boarding alighting : Call) (from to : List ℕ) →
-    head_text (codes "ride") (run_fields feed ride trip boarding alighting) ++ fields_text (way_fields facts from to) ≡ whole_ride feed ride facts trip boarding alighting from to
-unfolding whole_ride
-ride_ended feed ride facts trip boarding alighting from to = head_ended (codes "ride") (run_fields feed ride trip boarding alighting) (way_fields facts from to)
 
 -- the line of a ride whose trip and calls are known is that between the calls
 pub ride_line_known : (feed : FeedRows) (ride : Ride) (facts : RideFacts) (row : TripRow) (boarding alighting : Call) →

@@ -2,6 +2,7 @@
 ghost use Rattle.std.specs.Prelude.{◌≡◌, ◌++◌, IfOk, OnOk};
 ghost use Rattle.feed_rows.specs.EntryText.{journey_line, entry_lines, lines_of_entries};
 
+use crate::field::Field;
 use crate::line::Line;
 use crate::prices::write_sum;
 use crate::text::Text;
@@ -16,9 +17,8 @@ use std::alloc::{AllocError, Global};
 fn write_journey(feed: &Feed, line: &mut Line, triple: Triple) -> Result<(), AllocError>
     ensures { OnOk result (line.new ≡ journey_line feed.now triple) }
 {
-    line.start(b"journey")?;
-    line.moment(triple.arrival)?;
-    line.number(u64::from(triple.rides))?;
+    let rides = Field::Number(u64::from(triple.rides));
+    line.begin(b"journey", &[Field::Moment(triple.arrival), rides])?;
     write_sum(feed, line, triple.price)
 }
 

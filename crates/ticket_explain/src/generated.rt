@@ -7,6 +7,7 @@ ghost use Rattle.feed_rows.specs.MoneyText.{money_text};
 ghost use Rattle.feed_rows.specs.GeneratedTexts.{gen_line, triple_line, gen_text};
 ghost use Rattle.ticket_explain.specs.CommandLines.{gen_lines};
 
+use crate::field::Field;
 use crate::line::Line;
 use crate::text::Text;
 use feed_rows::{Entry, Feed, Triple};
@@ -16,23 +17,25 @@ use std::alloc::{AllocError, Global};
 fn write_gen(feed: &Feed, line: &mut Line) -> Result<(), AllocError>
     ensures { OnOk result (line.new ≡ gen_line feed.now) }
 {
-    line.start(b"gen")?;
-    line.number(feed.stops.items().len() as u64)?;
-    line.number(feed.routes.items().len() as u64)?;
-    line.number(feed.trips.items().len() as u64)?;
-    line.number(feed.stop_times.items().len() as u64)?;
-    line.end()
+    let counts = [
+        Field::Number(feed.stops.items().len() as u64),
+        Field::Number(feed.routes.items().len() as u64),
+        Field::Number(feed.trips.items().len() as u64),
+        Field::Number(feed.stop_times.items().len() as u64),
+    ];
+    line.write(b"gen", &counts)
 }
 
 // Writes the line of a triple, whose price is in a currency with so many decimals.
 fn write_triple(line: &mut Line, triple: Triple, decimals: u8) -> Result<(), AllocError>
     ensures { OnOk result (line.new ≡ line_text (codes "triple") (moment_text triple.arrival.0 ∷ decimal triple.rides ∷ money_text decimals triple.price.0 ∷ [])) }
 {
-    line.start(b"triple")?;
-    line.moment(triple.arrival)?;
-    line.number(u64::from(triple.rides))?;
-    line.money(triple.price, decimals)?;
-    line.end()
+    let fields = [
+        Field::Moment(triple.arrival),
+        Field::Number(u64::from(triple.rides)),
+        Field::Amount(triple.price, decimals),
+    ];
+    line.write(b"triple", &fields)
 }
 
 // Adds the line of a triple.

@@ -2,6 +2,7 @@
 #![tactic(auto)]
 
 mod entries;
+mod field;
 mod generated;
 mod line;
 mod lookups;
@@ -12,6 +13,7 @@ mod tickets;
 mod travel;
 
 pub use entries::text_of;
+pub use field::Field;
 pub use generated::gen_lines_of;
 pub use line::Line;
 pub use lookups::facts_of;

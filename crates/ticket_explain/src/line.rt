@@ -1,11 +1,15 @@
 //! The line of a text that is being written.
-ghost use Rattle.std.specs.Prelude.{◌≡◌, ◌<◌, ◌≤◌, ◌/◌, ◌++◌, ◌∷◌, [], pos, ◌+ℤ◌, OnOk, decimal};
-ghost use Rattle.transit_base.specs.Limits.{most_time};
+ghost use Rattle.std.specs.Prelude.{◌≡◌, ◌<◌, ◌++◌, ◌∷◌, [], OnOk, decimal, map};
+ghost use Rattle.std.specs.List.{flat_map};
 ghost use Rattle.transit_base.specs.Dates.{is_dated};
 ghost use Rattle.transit_base.specs.DateTexts.{two_digits, date_text, time_text, moment_text};
 ghost use Rattle.feed_rows.specs.MoneyText.{sign_text, decimals_text, units_of_whole, money_text};
 ghost use Rattle.feed_rows.specs.EntryText.{service_time_text};
+ghost use Rattle.feed_rows.specs.Lines.{fields_text, line};
+ghost use Rattle.ticket_explain.specs.Fields.{field_text, behind_tab};
+ghost use Rattle.ticket_explain.specs.LineParts.{head_text};
 
+use crate::field::Field;
 use itoa::Buffer;
 use std::alloc::{AllocError, Global};
 use std::marker::Model;
@@ -43,39 +47,90 @@ impl Line {
         self.bytes.extend_from_slice(word)
     }
 
-    /// Adds a tab and a field.
-    pub fn field(&mut self, text: &[u8]) -> Result<(), AllocError>
-        ensures { OnOk result (self.new ≡ self.old ++ 9 ∷ text.now) }
+    /// Begins the line anew, with a word and its first fields.
+    #[tactic(auto, using(crate::proofs::LineLaws::head_of))]
+    pub fn begin(&mut self, word: &[u8], fields: &[Field<'_>]) -> Result<(), AllocError>
+        ensures { OnOk result (self.new ≡ head_text word.now (map field_text fields.now)) }
     {
-        self.bytes.push(b'\t')?;
-        self.bytes.extend_from_slice(text)
+        self.start(word)?;
+        self.push_all(fields)
+    }
+
+    /// Adds the last fields, and ends the line.
+    #[tactic(auto, using(crate::proofs::LineLaws::end_of))]
+    pub fn finish(&mut self, fields: &[Field<'_>]) -> Result<(), AllocError>
+        ensures { OnOk result (self.new ≡ self.old ++ fields_text (map field_text fields.now)) }
+    {
+        self.push_all(fields)?;
+        self.end()
+    }
+
+    /// Writes a whole line.
+    pub fn write(&mut self, word: &[u8], fields: &[Field<'_>]) -> Result<(), AllocError>
+        ensures { OnOk result (self.new ≡ line word.now (map field_text fields.now)) }
+    {
+        self.start(word)?;
+        self.finish(fields)
+    }
+
+    // Adds fields, each behind a tab.
+    fn push_all(&mut self, fields: &[Field<'_>]) -> Result<(), AllocError>
+        ensures { OnOk result (self.new ≡ self.old ++ flat_map behind_tab fields.now) }
+    {
+        for field in fields {
+            self.bytes.push(b'\t')?;
+            self.push(*field)?;
+        }
+        Ok(())
+    }
+
+    // Adds the text of a field.
+    fn push(&mut self, field: Field<'_>) -> Result<(), AllocError>
+        ensures { OnOk result (self.new ≡ self.old ++ field_text field.entry) }
+    {
+        match field {
+            Field::Text(bytes) => self.bytes.extend_from_slice(bytes),
+            Field::Number(number) => self.push_number(number),
+            Field::Amount(amount, decimals) => self.push_amount(amount, decimals),
+            Field::Date(day) => self.push_date(day),
+            Field::Moment(moment) => self.push_moment(moment),
+            Field::Second(second) => self.push_second(second),
+        }
     }
 
     /// Adds a tab and a number.
     pub fn number(&mut self, number: u64) -> Result<(), AllocError>
         ensures { OnOk result (self.new ≡ self.old ++ 9 ∷ decimal number) }
     {
-        let mut buffer = Buffer::new();
-        self.field(buffer.format(number).as_bytes())
+        self.bytes.push(b'\t')?;
+        self.push_number(number)
     }
 
-    /// Adds a tab and an amount of a currency with so many decimals.
-    #[tactic(auto, unfolding(feed_rows::specs::MoneyText::money_text))]
-    pub fn money(&mut self, amount: Money, decimals: u8) -> Result<(), AllocError>
-        ensures { OnOk result (self.new ≡ self.old ++ 9 ∷ money_text decimals amount.0) }
+    // Adds a number.
+    fn push_number(&mut self, number: u64) -> Result<(), AllocError>
+        ensures { OnOk result (self.new ≡ self.old ++ decimal number) }
     {
-        self.bytes.push(b'\t')?;
+        let mut buffer = Buffer::new();
+        self.bytes
+            .extend_from_slice(buffer.format(number).as_bytes())
+    }
+
+    // Adds an amount of a currency with so many decimals; nothing where none has so many.
+    #[tactic(auto, unfolding(feed_rows::specs::MoneyText::money_text))]
+    fn push_amount(&mut self, amount: Money, decimals: u8) -> Result<(), AllocError>
+        ensures { OnOk result (self.new ≡ self.old ++ money_text decimals amount.0) }
+    {
         if decimals != 0 && decimals != 2 && decimals != 3 {
             return Ok(());
         }
         let size = amount.0.unsigned_abs();
-        self.sign(amount)?;
-        self.whole(size, decimals)?;
-        self.decimals(size, decimals)
+        self.push_sign(amount)?;
+        self.push_number(size / unit_of(decimals))?;
+        self.push_decimals(size, decimals)
     }
 
     // Adds the sign of a negative amount.
-    fn sign(&mut self, amount: Money) -> Result<(), AllocError>
+    fn push_sign(&mut self, amount: Money) -> Result<(), AllocError>
         ensures { OnOk result (self.new ≡ self.old ++ sign_text amount.0) }
     {
         if amount.0 < 0 {
@@ -84,22 +139,8 @@ impl Line {
         Ok(())
     }
 
-    // Adds the wholes of so many minor units.
-    fn whole(&mut self, size: u64, decimals: u8) -> Result<(), AllocError>
-        ensures { OnOk result (self.new ≡ self.old ++ decimal (size / units_of_whole decimals)) }
-    {
-        let unit = match decimals {
-            0 => 1,
-            2 => 100,
-            _ => 1000,
-        };
-        let mut buffer = Buffer::new();
-        self.bytes
-            .extend_from_slice(buffer.format(size / unit).as_bytes())
-    }
-
     // Adds the decimals of so many minor units.
-    fn decimals(&mut self, size: u64, decimals: u8) -> Result<(), AllocError>
+    fn push_decimals(&mut self, size: u64, decimals: u8) -> Result<(), AllocError>
         ensures { OnOk result (self.new ≡ self.old ++ decimals_text decimals size) }
     {
         let [tens, ones] = two_digits((size % 100) as u8);
@@ -113,49 +154,24 @@ impl Line {
         }
     }
 
-    /// Adds a tab and a day; nothing follows the tab where the day has no text.
-    pub fn date(&mut self, day: Day) -> Result<(), AllocError>
-        ensures { OnOk result (self.new ≡ self.old ++ 9 ∷ date_text day.0) }
+    // Adds a moment.
+    fn push_moment(&mut self, moment: Moment) -> Result<(), AllocError>
+        ensures { OnOk result (self.new ≡ self.old ++ moment_text moment.0) }
     {
-        self.bytes.push(b'\t')?;
-        self.push_date(day)
-    }
-
-    /// Adds a tab and a moment.
-    pub fn moment(&mut self, moment: Moment) -> Result<(), AllocError>
-        ensures { OnOk result (self.new ≡ self.old ++ 9 ∷ moment_text moment.0) }
-    {
-        self.date(moment.day())?;
+        self.push_date(moment.day())?;
         self.bytes.push(b' ')?;
         self.push_time(moment.time_of_day())
     }
 
-    /// Adds a tab and a second of the service day as a time; nothing follows the tab where it has no text.
-    #[tactic(auto, using(crate::proofs::LineLaws::time_before, crate::proofs::LineLaws::time_past, crate::proofs::LineLaws::time_within))]
-    pub fn service_time(&mut self, second: i64) -> Result<(), AllocError>
-        ensures { OnOk result (self.new ≡ self.old ++ 9 ∷ service_time_text second) }
+    // Adds a second of the service day as a time, where it has one.
+    #[tactic(auto, using(crate::proofs::LineLaws::early, crate::proofs::LineLaws::late, crate::proofs::LineLaws::time_within))]
+    fn push_second(&mut self, second: i64) -> Result<(), AllocError>
+        ensures { OnOk result (self.new ≡ self.old ++ service_time_text second) }
     {
-        self.bytes.push(b'\t')?;
         if second < 0 || second > i64::from(MOST_TIME) {
             return Ok(());
         }
         self.push_time(Secs(second as u32))
-    }
-
-    /// Adds a tab and the second of the service day that is so many seconds after the first, as a time; nothing follows
-    /// the tab where it has no text.
-    #[tactic(auto, using(crate::proofs::LineLaws::far_before, crate::proofs::LineLaws::far_past))]
-    pub fn start_time(&mut self, shift: i64, first: u32) -> Result<(), AllocError>
-        requires { first ≤ most_time }
-        ensures { OnOk result (self.new ≡ self.old ++ 9 ∷ service_time_text (shift +ℤ pos first)) }
-    {
-        if shift < -i64::from(MOST_TIME) {
-            return self.field(b"");
-        }
-        if shift > i64::from(MOST_TIME) {
-            return self.field(b"");
-        }
-        self.service_time(shift + i64::from(first))
     }
 
     /// Ends the line.
@@ -193,6 +209,17 @@ impl Line {
             return Ok(());
         }
         self.bytes.extend_from_slice(time_text(seconds).bytes())
+    }
+}
+
+// How many minor units a whole of a currency with so many decimals has.
+fn unit_of(decimals: u8) -> u64
+    ensures { result ≡ units_of_whole decimals }
+{
+    match decimals {
+        0 => 1,
+        2 => 100,
+        _ => 1000,
     }
 }
 

@@ -6,6 +6,7 @@ ghost use Rattle.feed_rows.specs.EntryText.{amount_text, currency_text};
 ghost use Rattle.feed_rows.specs.PriceTexts.{price_text, uncovered_text};
 ghost use Rattle.ticket_explain.specs.CommandLines.{price_line, price_lines, uncovered_lines};
 
+use crate::field::Field;
 use crate::line::Line;
 use crate::lookups::currency;
 use crate::text::Text;
@@ -21,17 +22,15 @@ use transit_base::Money;
 pub fn write_sum(feed: &Feed, line: &mut Line, sum: Money) -> Result<(), AllocError>
     ensures { OnOk result (line.new ≡ line.old ++ fields_text (amount_text feed.now sum.0 ∷ currency_text feed.now ∷ [])) }
 {
-    line.money(sum, feed.decimals)?;
-    line.field(currency(feed))?;
-    line.end()
+    let amount = Field::Amount(sum, feed.decimals);
+    line.finish(&[amount, Field::Text(currency(feed))])
 }
 
 // Writes the line of the price of so many rides.
 fn write_price(feed: &Feed, line: &mut Line, rides: usize, price: Money) -> Result<(), AllocError>
     ensures { OnOk result (line.new ≡ price_line feed.now rides price.0) }
 {
-    line.start(b"price")?;
-    line.number(rides as u64)?;
+    line.begin(b"price", &[Field::Number(rides as u64)])?;
     write_sum(feed, line, price)
 }
 

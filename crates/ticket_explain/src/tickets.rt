@@ -7,6 +7,7 @@ ghost use Rattle.feed_rows.specs.FareSums.{transfer_kind, starts_chain, is_inclu
 ghost use Rattle.feed_rows.specs.EntryText.{ticket_fields, leg_line, change_fields, change_line, leg_lines, fare_lines};
 ghost use Rattle.ticket_explain.specs.LineParts.{ended, kind_text, leg_cost, leg_head, change_head, leg_part, change_part};
 
+use crate::field::Field;
 use crate::line::Line;
 use crate::lookups::{amount_of, item_at, medium_id, product_name, rule_kind};
 use crate::text::Text;
@@ -14,22 +15,6 @@ use crate::travel::push_if;
 use feed_rows::{ChangeChoice, Choice, Feed, LegChoice};
 use std::alloc::AllocError;
 use transit_base::{Money, ProductRowId};
-
-// Adds a product, a medium and an amount of a currency with so many decimals, and ends the line.
-fn write_product(
-    line: &mut Line,
-    product: &[u8],
-    medium: &[u8],
-    amount: Money,
-    decimals: u8,
-) -> Result<(), AllocError>
-    ensures { OnOk result (line.new ≡ line.old ++ fields_text (product.now ∷ medium.now ∷ money_text decimals amount.0 ∷ [])) }
-{
-    line.field(product)?;
-    line.field(medium)?;
-    line.money(amount, decimals)?;
-    line.end()
-}
 
 // Adds a product row with an amount, and ends the line; whether the feed has the row and what it names.
 fn write_ticket(
@@ -49,8 +34,13 @@ fn write_ticket(
     let Some(medium) = medium_id(feed, row) else {
         return Ok(false);
     };
-    line.number(u64::from(id.0) + 1)?;
-    write_product(line, product, medium, amount, feed.decimals)?;
+    let fields = [
+        Field::Number(u64::from(id.0) + 1),
+        Field::Text(product),
+        Field::Text(medium),
+        Field::Amount(amount, feed.decimals),
+    ];
+    line.finish(&fields)?;
     Ok(true)
 }
 
@@ -85,10 +75,12 @@ fn write_leg_head(
     requires { leg + 1 < 2 ^ 64 }
     ensures { OnOk result (line.new ≡ leg_head leg charged pick) }
 {
-    line.start(b"leg")?;
-    line.number(leg as u64 + 1)?;
-    line.field(kind_text(charged))?;
-    line.number(u64::from(pick.rule.0) + 1)
+    let fields = [
+        Field::Number(leg as u64 + 1),
+        Field::Text(kind_text(charged)),
+        Field::Number(u64::from(pick.rule.0) + 1),
+    ];
+    line.begin(b"leg", &fields)
 }
 
 // Writes the line of a leg; whether the feed has what it says.
@@ -123,18 +115,25 @@ fn write_change_head(
     requires { change + 1 < 2 ^ 64 }
     ensures { OnOk result (line.new ≡ change_head change kind pick) }
 {
-    line.start(b"change")?;
-    line.number(change as u64 + 1)?;
-    line.number(u64::from(kind))?;
-    line.number(u64::from(pick.rule.0) + 1)
+    let fields = [
+        Field::Number(change as u64 + 1),
+        Field::Number(u64::from(kind)),
+        Field::Number(u64::from(pick.rule.0) + 1),
+    ];
+    line.begin(b"change", &fields)
 }
 
 // Adds what stands for no product row, and ends the line.
 fn write_no_ticket(line: &mut Line, decimals: u8) -> Result<(), AllocError>
     ensures { OnOk result (line.new ≡ line.old ++ fields_text (codes "-" ∷ [] ∷ [] ∷ money_text decimals (pos 0) ∷ [])) }
 {
-    line.field(b"-")?;
-    write_product(line, b"", b"", Money(0), decimals)
+    let fields = [
+        Field::Text(b"-"),
+        Field::Text(b""),
+        Field::Text(b""),
+        Field::Amount(Money(0), decimals),
+    ];
+    line.finish(&fields)
 }
 
 // Adds a change's product row, or what stands for none, and ends the line; whether the feed has what it says.

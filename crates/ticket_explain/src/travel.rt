@@ -1,10 +1,10 @@
 //! The lines of a journey's walks and rides, in order of travel.
-ghost use Rattle.std.specs.Prelude.{◌≡◌, ◌++◌, ◌∷◌, [], IfOk, OnOk, codes, decimal, option_map};
+ghost use Rattle.std.specs.Prelude.{◌≡◌, ◌++◌, IfOk, OnOk, option_map};
 ghost use Rattle.plain_laws.specs.Plain.{when};
-ghost use Rattle.feed_rows.specs.Lines.{line as line_text};
 ghost use Rattle.feed_rows.specs.EntryText.{stay_line, walk_line, walk_lines, ride_lines, last_lines, travel_lines};
 ghost use Rattle.ticket_explain.specs.LineParts.{if_written, walk_part, ride_part};
 
+use crate::field::Field;
 use crate::line::Line;
 use crate::lookups::{facts_at, item_at, stop_before, stop_id};
 use crate::rides::write_ride;
@@ -27,17 +27,6 @@ pub fn push_if(text: &mut Text, line: &Line, written: bool) -> Result<(), AllocE
     Ok(())
 }
 
-// Writes the line of a walk of so many seconds.
-fn write_walk_of(line: &mut Line, start: &[u8], end: &[u8], seconds: u32) -> Result<(), AllocError>
-    ensures { OnOk result (line.new ≡ line_text (codes "walk") (start.now ∷ end.now ∷ decimal seconds ∷ [])) }
-{
-    line.start(b"walk")?;
-    line.field(start)?;
-    line.field(end)?;
-    line.number(u64::from(seconds))?;
-    line.end()
-}
-
 // Writes the line of a walk from one stop to another, if there is one; whether there is.
 #[tactic(auto, unfolding(feed_rows::specs::EntryText::walk_line))]
 fn write_walk(
@@ -58,7 +47,8 @@ fn write_walk(
     let Some(seconds) = timetable.link(from, to) else {
         return Ok(false);
     };
-    write_walk_of(line, start, end, seconds.0)?;
+    let seconds = Field::Number(u64::from(seconds.0));
+    line.write(b"walk", &[Field::Text(start), Field::Text(end), seconds])?;
     Ok(true)
 }
 
@@ -103,9 +93,7 @@ fn write_stay(timetable: &Timetable, line: &mut Line, stop: StopId) -> Result<bo
     let Some(id) = stop_id(timetable.feed(), stop) else {
         return Ok(false);
     };
-    line.start(b"stay")?;
-    line.field(id)?;
-    line.end()?;
+    line.write(b"stay", &[Field::Text(id)])?;
     Ok(true)
 }
 
