@@ -1,6 +1,8 @@
 //! The entries whose text this is.
 ghost use Rattle.std.specs.Prelude.{◌≡◌, IfOk, IfSome, List, Some};
+ghost use Rattle.feed_rows.specs.SoundFeed.{IsSoundFeed};
 ghost use Rattle.feed_rows.specs.declared.fares.Entry.{Entry};
+ghost use Rattle.fare_timeframes.specs.BuiltTimeframes.{AreTimeframesOf};
 ghost use Rattle.ticket_read.specs.Judgement.{IsNearQuery};
 ghost use Rattle.ticket_read.specs.EntryTexts.{IsTextOf, HasOneListByText};
 
@@ -29,7 +31,26 @@ pub fn entries_of(
 {
     let timeframes = Timeframes::build(alloc, timetable.feed())?;
     match Fares::build(alloc, timetable.feed()) {
-        Ok(fares) => Reader::new(timetable, query, &timeframes, &fares).entries(alloc, text),
+        Ok(fares) => entries_by(timetable, &fares, &timeframes, alloc, query, text),
         Err(AllocError) => Err(AllocError),
     }
+}
+
+// The same, where the fares and the timeframes of the feed are at hand.
+fn entries_by<'s, 'f>(
+    timetable: &'s Timetable<'f>,
+    fares: &'s Fares<'f>,
+    timeframes: &'s Timeframes,
+    alloc: Global,
+    query: &'s Query,
+    text: &[u8],
+) -> Result<Option<Entries>, AllocError>
+    requires near { IsNearQuery query.now }
+    requires timeframes { AreTimeframesOf timetable.now timeframes.now }
+    requires fares { fares.now ≡ timetable.now }
+    requires sound { IsSoundFeed timetable.now }
+    ensures told { IfOk result (λ read. IfSome read (λ entries. IsTextOf timetable.now query.now entries text.now)) }
+    ensures only { IfOk result (λ read. (entries : List Entry) → IsTextOf timetable.now query.now entries text.now → read ≡ Some entries) }
+{
+    Reader::new(timetable, query, timeframes, fares).entries(alloc, text)
 }

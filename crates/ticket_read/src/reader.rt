@@ -2,6 +2,7 @@
 ghost use Rattle.std.specs.Prelude.{◌≡◌, ◌≤◌, length, map, option_map, IfOk, IfSome, List, Some};
 ghost use Rattle.feed_rows.specs.JourneyEntries.{rides_price};
 ghost use Rattle.feed_rows.specs.SoundFeed.{IsSoundFeed};
+ghost use Rattle.plain_laws.specs.Plain.{when};
 ghost use Rattle.transit_base.specs.declared.moments.Money.{Money};
 ghost use Rattle.fare_timeframes.specs.BuiltTimeframes.{AreTimeframesOf};
 ghost use Rattle.ticket_read.specs.Judgement.{asked, IsNearQuery, judged, entry_of};
@@ -23,12 +24,28 @@ use std::marker::Model;
 use transit_base::Money;
 
 /// How far a text is read.
-#[derive(Drop)]
 pub struct Reading {
     /// The entries whose lines all are read.
     pub done: Entries,
     /// What the lines of the entry after them tell.
     pub draft: Option<Draft>,
+}
+
+// Written out, so that what holds one needn't look into it to let go of it.
+impl Drop for Reading {
+    fn drop(self) {
+        let Reading { done: _, draft: _ } = self;
+    }
+}
+
+impl Reading {
+    // The entries whose lines all are read.
+    fn into_done(self) -> Entries
+        ensures { result ≡ self.done }
+    {
+        let Reading { done, draft: _ } = self;
+        done
+    }
 }
 
 /// A query over a timetable, with what judges its entries. Contracts see it as the feed and the query.
@@ -151,71 +168,59 @@ impl<'s, 'f> Reader<'s, 'f> {
         self.judge(alloc, journey, choice)
     }
 
-    // Closes the entry whose lines were read last, if there is one; none where it is none of the query.
+    // Closes the entry whose lines were read last, if there is one; whether it is one of the query.
     #[tactic(auto, unfolding(crate::specs::Readings::closed))]
-    fn close(&self, alloc: Global, reading: Reading) -> Result<Option<Reading>, AllocError>
-        ensures { IfOk result (λ after. after ≡ closed self.now.feed self.now.query reading) }
+    fn close(&self, alloc: Global, reading: &mut Reading) -> Result<bool, AllocError>
+        ensures { IfOk result (λ is. when is reading.new ≡ closed self.now.feed self.now.query reading.old) }
     {
-        let Reading { mut done, draft } = reading;
-        let Some(draft) = draft else {
-            return Ok(Some(Reading { done, draft: None }));
+        let Some(draft) = reading.draft.take() else {
+            return Ok(true);
         };
         let Some(entry) = self.entry_of(alloc, draft)? else {
-            return Ok(None);
+            return Ok(false);
         };
-        done.push(entry)?;
-        Ok(Some(Reading { done, draft: None }))
+        reading.done.push(entry)?;
+        Ok(true)
     }
 
-    // Goes on with the next entry.
+    // Goes on with the next entry; whether the one before it is one of the query.
     #[tactic(auto, unfolding(crate::specs::Readings::begun))]
-    fn begin(&self, alloc: Global, reading: Reading) -> Result<Option<Reading>, AllocError>
-        ensures { IfOk result (λ after. after ≡ begun self.now.feed self.now.query reading) }
+    fn begin(&self, alloc: Global, reading: &mut Reading) -> Result<bool, AllocError>
+        ensures { IfOk result (λ is. when is reading.new ≡ begun self.now.feed self.now.query reading.old) }
     {
-        let Some(before) = self.close(alloc, reading)? else {
-            return Ok(None);
-        };
-        Ok(Some(Reading {
-            done: before.done,
-            draft: Some(Draft::empty(alloc)),
-        }))
+        if !self.close(alloc, reading)? {
+            return Ok(false);
+        }
+        reading.draft = Some(Draft::empty(alloc));
+        Ok(true)
     }
 
-    // Takes what a line tells.
-    fn take(
-        &self,
-        alloc: Global,
-        reading: Reading,
-        item: Item,
-    ) -> Result<Option<Reading>, AllocError>
-        ensures { IfOk result (λ after. after ≡ told self.now.feed self.now.query reading item) }
+    // Takes what a line tells; whether it can stand there.
+    fn take(&self, alloc: Global, reading: &mut Reading, item: Item) -> Result<bool, AllocError>
+        ensures { IfOk result (λ is. when is reading.new ≡ told self.now.feed self.now.query reading.old item) }
     {
         if let Item::Head = item {
             return self.begin(alloc, reading);
         }
-        let Reading { done, draft } = reading;
-        let Some(mut draft) = draft else {
-            return Ok(None);
+        let Some(draft) = &mut reading.draft else {
+            return Ok(false);
         };
         draft.add(item)?;
-        Ok(Some(Reading {
-            done,
-            draft: Some(draft),
-        }))
+        Ok(true)
     }
 
-    // Reads a line; none where it is no line of an entry, or ends the lines of what is no entry.
+    // Reads a line; not where it is no line of an entry, or ends the lines of what is no entry.
     #[tactic(auto, unfolding(crate::specs::Readings::read_line))]
     fn read_line(
         &self,
         alloc: Global,
-        reading: Reading,
+        reading: &mut Reading,
         line: &[u8],
-    ) -> Result<Option<Reading>, AllocError>
-        ensures { IfOk result (λ after. after ≡ read_line self.now.feed self.now.query reading line.now) }
+    ) -> Result<bool, AllocError>
+        ensures { IfOk result (λ is. when is reading.new ≡ read_line self.now.feed self.now.query reading.old line.now) }
     {
         let Some(item) = item_in(self.timetable, alloc, line)? else {
-            return Ok(None);
+            return Ok(false);
         };
         self.take(alloc, reading, item)
     }
@@ -233,15 +238,14 @@ impl<'s, 'f> Reader<'s, 'f> {
         };
         for k in 1..lines.len() {
             let line = field(lines.as_slice(), k - 1);
-            match self.read_line(alloc, reading, line)? {
-                Some(after) => reading = after,
-                None => return Ok(None),
+            if !self.read_line(alloc, &mut reading, line)? {
+                return Ok(None);
             }
         }
-        let Some(last) = self.close(alloc, reading)? else {
+        if !self.close(alloc, &mut reading)? {
             return Ok(None);
-        };
-        Ok(Some(last.done))
+        }
+        Ok(Some(reading.into_done()))
     }
 
     /// The entries whose text this is, byte by byte. None exactly where it is the text of no list of entries of the query.

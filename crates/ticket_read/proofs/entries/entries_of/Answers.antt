@@ -1,15 +1,6 @@
 use Rattle.ticket_read.proofs.EntryLaws.{one_list_by_text}
 use Rattle.ticket_read.proofs.entries.entries_of.Goals as goal
 
-pub entries-requires : goal.entries-requires
-entries-requires c = rw c.new.ensures c.feed.ensures.sound
-
-pub returns-in-Ok-clause-told : goal.returns-in-Ok-clause-told
-returns-in-Ok-clause-told c = rw c.new.ensures at c.entries.ensures.told
-
-pub returns-in-Ok-clause-only : goal.returns-in-Ok-clause-only
-returns-in-Ok-clause-only c = rw c.new.ensures at c.entries.ensures.only
-
 pub returns-in-Ok-clause-one : goal.returns-in-Ok-clause-one
 returns-in-Ok-clause-one c = one_list_by_text c.args.timetable.now c.args.query.now c.feed.ensures.sound
 
