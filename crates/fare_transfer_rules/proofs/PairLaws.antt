@@ -1,5 +1,5 @@
 -- The rows for changes between two leg groups, and those for changes from one.
-use Rattle.std.proofs.Common.{◌≡◌, refl, sym, ◌∙◌, ap, subst, ℕ, Bool, true, ◌&&◌, List, Option, Some, None, length, filter, Contains}
+use Rattle.std.proofs.Common.{◌≡◌, refl, sym, ◌∙◌, ap, subst, ℕ, true, ◌&&◌, List, Option, Some, None, length, filter, Contains}
 use Rattle.std.specs.Prelude.{◌==◌, slice_get}
 use Rattle.std.specs.List.{list_any}
 use Rattle.std.proofs.lemmas.Bool.{and_parts, and_from, eq-eqb}
@@ -8,7 +8,7 @@ use Rattle.transit_base.specs.declared.numbers.LegGroupId.{LegGroupId}
 use Rattle.feed_rows.specs.declared.rows.TransferRuleRow.{TransferRuleRow}
 use Rattle.feed_rows.specs.FeedRows.{FeedRows}
 use Rattle.feed_rows.specs.TransferRules.{group_matches}
-use Rattle.plain_laws.specs.Plain.{at_and, filled_and, picks_below}
+use Rattle.plain_laws.specs.Plain.{at_and, filled_and}
 use Rattle.plain_laws.proofs.Laws.{same_test, filled_and-true, list_any-place, place_of_any, any_passes, Contains-slice_get, Contains-filter, filter-tells, Contains-picks_below, picks_below-tells, picks_below-same}
 use Rattle.fare_transfer_rules.specs.declared.XferRules.{XferRules}
 use Rattle.fare_transfer_rules.specs.declared.groups.ClassedRow.{ClassedRow}

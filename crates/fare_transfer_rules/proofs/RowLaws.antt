@@ -11,7 +11,7 @@ use Rattle.feed_rows.specs.declared.fares.TransferFacts.{TransferFacts}
 use Rattle.feed_rows.specs.declared.rows.TransferRuleRow.{TransferRuleRow}
 use Rattle.feed_rows.specs.FeedRows.{FeedRows}
 use Rattle.feed_rows.specs.SoundFeed.{IsSoundFeed}
-use Rattle.feed_rows.specs.TransferRules.{is_listed_group, group_matches, asked_change, is_candidate, suffices, count_le, is_least_count, is_selected_transfer, is_arranged, selected_transfers}
+use Rattle.feed_rows.specs.TransferRules.{group_matches, asked_change, is_candidate, suffices, count_le, is_least_count, is_selected_transfer, is_arranged, selected_transfers}
 use Rattle.plain_laws.specs.Plain.{at_and, empty_or, filled_and, picks_below, ids_where}
 use Rattle.plain_laws.proofs.Laws.{same_test, filled_and-true, list_all-at, list_all-from, list_any-place, place_of_any, any_passes, slice_get-Contains, Contains-picks_below, picks_below-same}
 use Rattle.feed_laws.proofs.SelectionLaws.{is_arranged-suffices}
