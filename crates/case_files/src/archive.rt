@@ -46,19 +46,33 @@ impl Drop for Archive {
 }
 
 impl Archive {
-    /// The sections of the text. What stands before the first is a comment.
+    /// No sections.
+    pub fn empty(alloc: Global) -> Archive {
+        Archive {
+            sections: Vec::new(alloc),
+        }
+    }
+
+    /// The sections of the text, each of whose lines ends with a line feed. What stands before the first is a comment.
     ///
     /// # Errors
     /// Want of memory.
     pub fn parse(alloc: Global, text: &[u8]) -> Result<Archive, AllocError> {
-        let mut sections = Vec::<Section>::new(alloc);
+        let mut archive = Archive::empty(alloc);
         for line in text.lines_with_terminator() {
-            match section_name(line) {
-                Some(name) => sections.push(Section::named(alloc, name)?)?,
-                None => push_line(&mut sections, line)?,
-            }
+            archive.take(alloc, line)?;
         }
-        Ok(Archive { sections })
+        Ok(archive)
+    }
+
+    // Takes the line: it starts a section, or stands behind the lines of the last one, if there is one.
+    fn take(&mut self, alloc: Global, line: &[u8]) -> Result<(), AllocError> {
+        if let Some(name) = section_name(line) {
+            self.sections.push(Section::named(alloc, name)?)?;
+        } else if let Some(section) = self.sections.last_mut() {
+            section.lines.extend_from_slice(line)?;
+        }
+        Ok(())
     }
 
     /// The sections.
@@ -74,12 +88,27 @@ impl Archive {
         }
     }
 
+    /// The same, as characters; none where it is not UTF-8.
+    pub fn str_of(&self, name: &str) -> Option<&str> {
+        str::from_utf8(self.text_of(name)?).ok()
+    }
+
+    /// The line that this text is, if it is one.
+    pub fn line_of(&self, name: &str) -> Option<&str> {
+        let line = self.str_of(name)?.strip_suffix('\n')?;
+        if line.contains('\n') {
+            return None;
+        }
+        Some(line)
+    }
+
     /// The name of the first section whose name an earlier one has, if there is one.
     pub fn doubled_name(&self) -> Option<&str> {
         let sections = self.sections.as_slice();
-        for (count, section) in sections.iter().enumerate() {
-            if first_named(&sections[..count], section.name()).is_some() {
-                return Some(section.name());
+        for place in 0..sections.len() {
+            let name = sections[place].name();
+            if first_named(&sections[..place], name).is_some() {
+                return Some(name);
             }
         }
         None
@@ -96,18 +125,12 @@ fn first_named<'a>(sections: &'a [Section], name: &str) -> Option<&'a Section> {
     None
 }
 
-// Puts the line behind those of the last section, if there is one.
-fn push_line(sections: &mut Vec<Section>, line: &[u8]) -> Result<(), AllocError> {
-    match sections.last_mut() {
-        Some(section) => section.lines.extend_from_slice(line),
-        None => Ok(()),
-    }
-}
-
 // The name that the line gives to the section behind it, if it starts one.
 fn section_name(line: &[u8]) -> Option<&str> {
-    let line = line.strip_suffix(b"\n").unwrap_or(line);
-    let name = line.strip_prefix(b"-- ")?.strip_suffix(b" --")?;
+    let name = line.strip_prefix(b"-- ")?.strip_suffix(b" --\n")?;
     let name = str::from_utf8(name).ok()?.trim();
-    (!name.is_empty()).then_some(name)
+    if name.is_empty() {
+        return None;
+    }
+    Some(name)
 }

@@ -1,10 +1,13 @@
 //! A case: words, a feed, and what must come.
+ghost use Rattle.std.specs.Prelude.{IfOk, IsTrue};
+ghost use Rattle.folder_io.specs.KeptFiles.{are_whole};
 
 use crate::archive::Archive;
 use crate::failing_call::FailingCall;
-use crate::feed_texts::FeedFiles;
+use crate::feed_texts::{files_of, unknown_name};
+use crate::texts::{are_triples, has_lines};
 use anyhow::{Result, bail};
-use bstr::ByteSlice;
+use folder_io::Files;
 use plan_arguments::WordList;
 use std::alloc::{AllocError, Global};
 use std::str;
@@ -20,154 +23,154 @@ const SECTIONS: [&str; 7] = [
     "failing calls",
 ];
 
-/// The text that must come.
-#[derive(Drop)]
-pub enum Wanted {
-    /// This very text.
-    Text(Vec<u8>),
-    /// A text with journeys of these arrivals, rides and prices, a line for each and in order, and with these lines.
-    Journeys { triples: Vec<u8>, lines: Vec<u8> },
-}
-
-/// A case.
+/// A case: its sections, those of the feed that it starts from, and what they say.
 pub struct Case {
-    pub words: WordList,
-    pub files: FeedFiles,
+    sections: Archive,
+    feed: Archive,
+    words: WordList,
     /// The calls that fail in turn, each in a run of its own.
-    pub failing_calls: Vec<FailingCall>,
-    pub status: u8,
-    pub wanted: Wanted,
+    failing_calls: Vec<FailingCall>,
+    status: u8,
 }
 
 // Written out, so that what holds one needn't look into it to let go of it.
 impl Drop for Case {
     fn drop(self) {
         let Case {
+            sections: _,
+            feed: _,
             words: _,
-            files: _,
             failing_calls: _,
             status: _,
-            wanted: _,
         } = self;
     }
 }
 
 impl Case {
-    /// The name of the feed whose files the case starts from, if it names one.
-    ///
-    /// # Errors
-    /// More than one line.
-    pub fn feed_name(archive: &Archive) -> Result<Option<&str>> {
-        match archive.text_of("feed") {
-            None => Ok(None),
-            Some(text) => Ok(Some(only_line(text)?)),
-        }
-    }
-
     /// The case of these sections. The files are those of the feed that it starts from, and its own in their place.
     ///
     /// # Errors
     /// Want of memory, or sections that are no case.
-    pub fn new(alloc: Global, archive: &Archive, mut files: FeedFiles) -> Result<Case> {
-        let status = status_of(archive)?;
-        files.add(alloc, archive, &SECTIONS)?;
-        let words = words_of(alloc, text_in(archive, "words")?)?;
-        let failing_calls = failing_calls_of(alloc, archive.text_of("failing calls"))?;
-        let wanted = wanted_of(alloc, archive)?;
-        Ok(Case {
-            words,
-            files,
-            failing_calls,
-            status,
-            wanted,
-        })
+    pub fn new(alloc: Global, sections: Archive, feed: Archive) -> Result<Case> {
+        let mut case = Case {
+            sections,
+            feed,
+            words: WordList::empty(alloc),
+            failing_calls: Vec::new(alloc),
+            status: 0,
+        };
+        case.read(alloc)?;
+        Ok(case)
+    }
+
+    // Reads what the sections say.
+    fn read(&mut self, alloc: Global) -> Result<()> {
+        check_names(&self.sections, &self.feed)?;
+        let Some(status) = status_of(&self.sections) else {
+            bail!("the status is no line with a number up to 255");
+        };
+        self.status = status;
+        let Some(words) = self.sections.str_of("words") else {
+            bail!("there is no section of words in UTF-8");
+        };
+        add_words(&mut self.words, words)?;
+        add_calls(&mut self.failing_calls, &self.sections)
+    }
+
+    /// The words.
+    pub fn words(&self) -> &WordList {
+        &self.words
+    }
+
+    /// The calls that fail in turn, each in a run of its own.
+    pub fn failing_calls(&self) -> &[FailingCall] {
+        self.failing_calls.as_slice()
+    }
+
+    /// The files of the feed.
+    ///
+    /// # Errors
+    /// Want of memory.
+    pub fn files(&self, alloc: Global) -> Result<Files, AllocError>
+        ensures { IfOk result (λ files. IsTrue (are_whole files)) }
+    {
+        files_of(alloc, &self.feed, &self.sections)
+    }
+
+    /// Whether a run with this status and this text came to what the case says: to its very text, or to one with journeys
+    /// of its arrivals, rides and prices, a line for each and in order, and with its lines.
+    pub fn is_met(&self, status: u8, text: &[u8]) -> bool {
+        if status != self.status {
+            return false;
+        }
+        match self.sections.text_of("stdout") {
+            Some(wanted) => text == wanted,
+            None => {
+                are_triples(text, self.sections.text_of("journey lines").unwrap_or(&[]))
+                    && has_lines(text, self.sections.text_of("lines among them").unwrap_or(&[]))
+            }
+        }
     }
 }
 
-// The status, where no two sections have one name.
-fn status_of(archive: &Archive) -> Result<u8> {
-    if let Some(name) = archive.doubled_name() {
+// Refuses names of sections that are no case.
+fn check_names(sections: &Archive, feed: &Archive) -> Result<()> {
+    if let Some(name) = sections.doubled_name() {
         bail!("there are two sections {name:?}");
     }
-    let status = only_line(text_in(archive, "status")?)?;
-    match status.parse::<u8>() {
-        Ok(status) => Ok(status),
-        Err(_) => bail!("the status {status:?} is no number up to 255"),
+    if let Some(name) = unknown_name(sections, &SECTIONS) {
+        bail!("the section {name:?} is neither known nor a file");
+    }
+    if let Some(name) = unknown_name(feed, &[]) {
+        bail!("the section {name:?} of the feed is no file");
+    }
+    if !says_what_must_come(sections) {
+        bail!("what must come is neither a text nor journey lines");
+    }
+    Ok(())
+}
+
+// Whether what must come is a text, or journey lines with or without lines among them.
+fn says_what_must_come(sections: &Archive) -> bool {
+    match sections.text_of("stdout") {
+        Some(_) => {
+            sections.text_of("journey lines").is_none()
+                && sections.text_of("lines among them").is_none()
+        }
+        None => sections.text_of("journey lines").is_some(),
     }
 }
 
-// The text of the section that a case must have.
-fn text_in<'a>(archive: &'a Archive, name: &str) -> Result<&'a [u8]> {
-    match archive.text_of(name) {
-        Some(text) => Ok(text),
-        None => bail!("there is no section {name:?}"),
-    }
+// The status, if there is one.
+fn status_of(sections: &Archive) -> Option<u8> {
+    sections.line_of("status")?.parse::<u8>().ok()
 }
 
-// The text as characters.
-fn str_of(text: &[u8]) -> Result<&str> {
-    match str::from_utf8(text) {
-        Ok(text) => Ok(text),
-        Err(_) => bail!("{:?} is not UTF-8", text.as_bstr()),
-    }
-}
-
-// The line that the text is.
-fn only_line(text: &[u8]) -> Result<&str> {
-    match str_of(text)?.strip_suffix('\n') {
-        Some(line) if !line.contains('\n') => Ok(line),
-        _ => bail!("{:?} is not one line", text.as_bstr()),
-    }
-}
-
-// The words, one a line.
-fn words_of(alloc: Global, text: &[u8]) -> Result<WordList> {
-    Ok(lines_of(alloc, str_of(text)?)?)
-}
-
-// The lines as words.
-fn lines_of(alloc: Global, text: &str) -> Result<WordList, AllocError> {
-    let mut words = WordList::empty(alloc);
-    for word in text.split_terminator('\n') {
+// Adds the words, one a line.
+fn add_words(words: &mut WordList, lines: &str) -> Result<(), AllocError> {
+    for word in lines.split_terminator('\n') {
         words.push(word)?;
     }
-    Ok(words)
+    Ok(())
 }
 
-// The calls that fail, one a line; without a text all go well, in one run.
-fn failing_calls_of(alloc: Global, text: Option<&[u8]>) -> Result<Vec<FailingCall>> {
-    let Some(text) = text else {
-        return Ok(vec![in alloc; FailingCall::Never; 1]?);
+// Adds the calls that fail, one a line; without a section of them all go well, in one run.
+fn add_calls(calls: &mut Vec<FailingCall>, sections: &Archive) -> Result<()> {
+    let Some(text) = sections.text_of("failing calls") else {
+        calls.push(FailingCall::NONE)?;
+        return Ok(());
     };
-    let calls = calls_in(alloc, str_of(text)?)?;
+    let Ok(lines) = str::from_utf8(text) else {
+        bail!("the calls that fail are not UTF-8");
+    };
+    for line in lines.split_terminator('\n') {
+        let Some(call) = FailingCall::parse(line) else {
+            bail!("{line:?} names no call that fails");
+        };
+        calls.push(call)?;
+    }
     if calls.is_empty() {
         bail!("no call that fails is named");
     }
-    Ok(calls)
-}
-
-// The calls that the lines name.
-fn calls_in(alloc: Global, text: &str) -> Result<Vec<FailingCall>> {
-    let mut calls = Vec::new(alloc);
-    for line in text.split_terminator('\n') {
-        calls.push(FailingCall::parse(line)?)?;
-    }
-    Ok(calls)
-}
-
-// What must come.
-fn wanted_of(alloc: Global, archive: &Archive) -> Result<Wanted> {
-    let lines = archive.text_of("lines among them");
-    match (archive.text_of("stdout"), archive.text_of("journey lines")) {
-        (Some(text), None) if lines.is_none() => Ok(Wanted::Text(text.to_vec(alloc)?)),
-        (None, Some(triples)) => Ok(journeys_of(alloc, triples, lines.unwrap_or(&[]))?),
-        _ => bail!("what must come is neither a text nor journey lines"),
-    }
-}
-
-// Journeys of these triples, and these lines.
-fn journeys_of(alloc: Global, triples: &[u8], lines: &[u8]) -> Result<Wanted, AllocError> {
-    let triples = triples.to_vec(alloc)?;
-    let lines = lines.to_vec(alloc)?;
-    Ok(Wanted::Journeys { triples, lines })
+    Ok(())
 }

@@ -1,9 +1,8 @@
 //! The files of a feed, from sections.
-ghost use Rattle.std.specs.Prelude.{IfOk, IsTrue};
+ghost use Rattle.std.specs.Prelude.{◌≡◌, true, IfOk, IsTrue, OnOk};
 ghost use Rattle.folder_io.specs.KeptFiles.{are_whole};
 
-use crate::archive::{Archive, Section};
-use anyhow::{Result, bail};
+use crate::archive::Archive;
 use feed_files::FileName;
 use folder_io::{ByteText, FileBytes, Files};
 use std::alloc::{AllocError, Global};
@@ -25,77 +24,41 @@ const UNOPENED: [&str; 13] = [
     "translations.txt",
 ];
 
-// A file: its name, and its bytes.
-#[derive(Drop)]
-struct FeedFile {
-    name: FileName,
-    bytes: Vec<u8>,
-}
-
-/// Files of a feed. Of two of one name the later one counts.
-pub struct FeedFiles {
-    files: Vec<FeedFile>,
-}
-
-// Written out, so that what holds one needn't look into it to let go of it.
-impl Drop for FeedFiles {
-    fn drop(self) {
-        let FeedFiles { files: _ } = self;
-    }
-}
-
-impl FeedFiles {
-    /// No files.
-    pub fn empty(alloc: Global) -> FeedFiles {
-        FeedFiles {
-            files: Vec::new(alloc),
-        }
-    }
-
-    /// Adds the files that the sections hold, where each but those of these names is one.
-    ///
-    /// # Errors
-    /// Want of memory, or a section that is no file.
-    pub fn add(&mut self, alloc: Global, archive: &Archive, others: &[&str]) -> Result<()> {
-        for section in archive.sections() {
-            let name = section.name();
-            if !is_among(others, name) && !is_among(&UNOPENED, name) {
-                self.add_file(alloc, section)?;
-            }
-        }
-        Ok(())
-    }
-
-    // Adds the file that the section holds.
-    fn add_file(&mut self, alloc: Global, section: &Section) -> Result<()> {
+/// The name of the first section that is neither a file nor one of these, if there is one.
+pub fn unknown_name<'a>(archive: &'a Archive, others: &[&str]) -> Option<&'a str> {
+    for section in archive.sections() {
         let name = section.name();
-        let Some(file) = file_named(name) else {
-            bail!("the section {name:?} is neither known nor a file");
-        };
-        Ok(self.push(alloc, file, section.text())?)
-    }
-
-    // Adds the file with these bytes.
-    fn push(&mut self, alloc: Global, name: FileName, bytes: &[u8]) -> Result<(), AllocError> {
-        let bytes = bytes.to_vec(alloc)?;
-        self.files.push(FeedFile { name, bytes })?;
-        Ok(())
-    }
-
-    /// A folder's files.
-    ///
-    /// # Errors
-    /// Want of memory.
-    pub fn files(&self, alloc: Global) -> Result<Files, AllocError>
-        ensures { IfOk result (λ files. IsTrue (are_whole files)) }
-    {
-        let mut files = Files::empty();
-        for file in self.files.iter() {
-            let bytes = ByteText::copy_of(alloc, file.bytes.as_slice())?;
-            files.put(file.name, FileBytes::Bytes(bytes));
+        if file_named(name).is_none() && !is_among(&UNOPENED, name) && !is_among(others, name) {
+            return Some(name);
         }
-        Ok(files)
     }
+    None
+}
+
+/// The files of a feed, where those of its own sections count in place of those that it starts from.
+///
+/// # Errors
+/// Want of memory.
+pub fn files_of(alloc: Global, start: &Archive, own: &Archive) -> Result<Files, AllocError>
+    ensures { IfOk result (λ files. IsTrue (are_whole files)) }
+{
+    let mut files = Files::empty();
+    put_files(&mut files, alloc, start)?;
+    put_files(&mut files, alloc, own)?;
+    Ok(files)
+}
+
+// Puts the files that the sections hold. Of two of one name the later one counts.
+fn put_files(files: &mut Files, alloc: Global, archive: &Archive) -> Result<(), AllocError>
+    ensures { are_whole files.old ≡ true → OnOk result (are_whole files.new ≡ true) }
+{
+    for section in archive.sections() {
+        if let Some(name) = file_named(section.name()) {
+            let bytes = ByteText::copy_of(alloc, section.text())?;
+            files.put(name, FileBytes::Bytes(bytes));
+        }
+    }
+    Ok(())
 }
 
 // Whether the name is one of these.

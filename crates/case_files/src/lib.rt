@@ -6,6 +6,7 @@ mod case;
 mod failing_call;
 mod feed_texts;
 mod library;
+mod texts;
 mod trial;
 mod trials;
 

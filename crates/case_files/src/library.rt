@@ -2,10 +2,11 @@
 
 use crate::archive::Archive;
 use crate::case::Case;
-use crate::feed_texts::FeedFiles;
 use anyhow::{Context, Result, bail};
 use std::alloc::Global;
 use std::fs;
+use std::fs::{DirEntry, ReadDir};
+use std::io;
 
 /// A folder with the folders `cases` and `feeds`, whose files are `NAME.txtar`.
 #[derive(Drop)]
@@ -33,10 +34,10 @@ impl Library {
     fn add_case_names(&self, rt: &HostRuntime, names: &mut Vec<String>) -> Result<()> {
         let folder = self.folder.as_str();
         let folder = format!(in rt.alloc(); "{folder}/cases")?;
-        for entry in fs::read_dir(rt, folder.as_str()).context("reading the folder of the cases")? {
-            names.push(case_name(rt.alloc(), entry?.file_name())?)?;
+        match fs::read_dir(rt, folder.as_str()) {
+            Ok(mut entries) => add_names(rt.alloc(), names, &mut entries),
+            Err(error) => Err(error).context("reading the folder of the cases"),
         }
-        Ok(())
     }
 
     /// The case of that name.
@@ -44,36 +45,57 @@ impl Library {
     /// # Errors
     /// Want of memory, or a file that can't be read or is no case.
     pub fn case(&self, rt: &HostRuntime, name: &str) -> Result<Case> {
-        let archive = self.archive(rt, "cases", name)?;
-        let mut files = FeedFiles::empty(rt.alloc());
-        if let Some(name) = Case::feed_name(&archive)? {
-            let feed = self.archive(rt, "feeds", name)?;
-            files.add(rt.alloc(), &feed, &[])?;
+        let sections = self.archive(rt, "cases", name)?;
+        let feed = self.feed_of(rt, &sections)?;
+        Case::new(rt.alloc(), sections, feed)
+    }
+
+    // The sections of the feed that the case of these sections starts from; none where it names none.
+    fn feed_of(&self, rt: &HostRuntime, sections: &Archive) -> Result<Archive> {
+        if sections.text_of("feed").is_none() {
+            return Ok(Archive::empty(rt.alloc()));
         }
-        Case::new(rt.alloc(), &archive, files)
+        match sections.line_of("feed") {
+            Some(name) => self.archive(rt, "feeds", name),
+            None => bail!("the name of the feed is not one line"),
+        }
     }
 
     // The sections of the file of that name in that folder.
     fn archive(&self, rt: &HostRuntime, folder: &str, name: &str) -> Result<Archive> {
         let library = self.folder.as_str();
         let path = format!(in rt.alloc(); "{library}/{folder}/{name}.txtar")?;
-        archive_at(rt, path.as_str())
+        archive_at(rt, path.as_str()).context(path)
     }
 }
 
 // The sections of the file at that path.
 fn archive_at(rt: &HostRuntime, path: &str) -> Result<Archive> {
-    let text = fs::read(rt, path).context(format_args!("reading {path}"))?;
+    let text = fs::read(rt, path)?;
     if !text.ends_with(b"\n") {
-        bail!("{path} does not end with a line feed");
+        bail!("it does not end with a line feed");
     }
     Ok(Archive::parse(rt.alloc(), text.as_slice())?)
 }
 
-// The name of the case that the file is.
-fn case_name(alloc: Global, file: &str) -> Result<String> {
-    match file.strip_suffix(".txtar") {
-        Some(name) => Ok(String::from_str(alloc, name)?),
-        None => bail!("{file:?} in the folder of the cases is no case"),
+// Appends the names of the cases that the entries of a folder are.
+fn add_names(
+    alloc: Global,
+    names: &mut Vec<String>,
+    entries: &mut ReadDir<HostRuntime>,
+) -> Result<()> {
+    for entry in entries {
+        add_name(alloc, names, &entry?)?;
     }
+    Ok(())
+}
+
+// Appends the name of the case that the entry is.
+fn add_name(alloc: Global, names: &mut Vec<String>, entry: &DirEntry<HostRuntime>) -> Result<()> {
+    let file = entry.file_name();
+    let Some(name) = file.strip_suffix(".txtar") else {
+        bail!("{file:?} in the folder of the cases is no case");
+    };
+    names.push(String::from_str(alloc, name)?)?;
+    Ok(())
 }

@@ -1,7 +1,8 @@
 //! Trying a program on the cases that its arguments name.
 
+use crate::case::Case;
 use crate::library::Library;
-use crate::trial::{Difference, Outcome, Program, first_difference};
+use crate::trial::{Outcome, Program, first_difference};
 use anyhow::{Result, bail};
 use bstr::ByteSlice;
 use plan_arguments::{Command, command_of, read_arguments};
@@ -41,21 +42,31 @@ fn try_all<P: Program>(rt: &HostRuntime, library: &Library, names: &[String]) ->
     Ok(differing == 0)
 }
 
-// Whether the case differs from what it says, which is then printed. One that can't be read differs.
+// Whether the case of that name differs from what it says, which is then printed. One that can't be read differs.
 fn differs<P: Program>(rt: &HostRuntime, library: &Library, name: &str) -> Result<bool> {
-    let case = match library.case(rt, name) {
-        Ok(case) => case,
+    match library.case(rt, name) {
+        Ok(case) => comes_to_another::<P>(rt, &case, name),
         Err(error) => {
             println!(rt; "{name}: {error:#}")?;
-            return Ok(true);
+            Ok(true)
         }
-    };
-    let Some(Difference { earlier, came }) = first_difference::<P>(rt.alloc(), &case)? else {
+    }
+}
+
+// Whether the case comes to something else than it says, which is then printed.
+fn comes_to_another<P: Program>(rt: &HostRuntime, case: &Case, name: &str) -> Result<bool> {
+    let Some(came) = first_difference::<P>(rt.alloc(), case)? else {
         return Ok(false);
     };
-    let Outcome { status, text } = came;
-    let text = text.as_slice().as_bstr();
-    let run = earlier.saturating_add(1);
-    println!(rt; "{name}: in run {run} status {status} came, with {text:?}")?;
+    print_outcome(rt, name, &came)?;
     Ok(true)
+}
+
+// Prints what a run of the case came to.
+fn print_outcome(rt: &HostRuntime, name: &str, came: &Outcome) -> Result<()> {
+    let run = came.run.saturating_add(1);
+    let status = came.status;
+    let text = came.sink.bytes().as_bstr();
+    println!(rt; "{name}: in run {run} status {status} came, with {text:?}")?;
+    Ok(())
 }
