@@ -95,11 +95,8 @@ impl Archive {
 
     /// The line that this text is, if it is one.
     pub fn line_of(&self, name: &str) -> Option<&str> {
-        let line = self.str_of(name)?.strip_suffix('\n')?;
-        if line.contains('\n') {
-            return None;
-        }
-        Some(line)
+        let (line, rest) = self.str_of(name)?.split_once('\n')?;
+        if rest.is_empty() { Some(line) } else { None }
     }
 
     /// The name of the first section whose name an earlier one has, if there is one.
@@ -128,9 +125,5 @@ fn first_named<'a>(sections: &'a [Section], name: &str) -> Option<&'a Section> {
 // The name that the line gives to the section behind it, if it starts one.
 fn section_name(line: &[u8]) -> Option<&str> {
     let name = line.strip_prefix(b"-- ")?.strip_suffix(b" --\n")?;
-    let name = str::from_utf8(name).ok()?.trim();
-    if name.is_empty() {
-        return None;
-    }
-    Some(name)
+    str::from_utf8(name).ok()
 }

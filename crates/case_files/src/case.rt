@@ -10,7 +10,6 @@ use anyhow::{Result, bail};
 use folder_io::Files;
 use plan_arguments::WordList;
 use std::alloc::{AllocError, Global};
-use std::str;
 
 // The sections of a case that are no files.
 const SECTIONS: [&str; 7] = [
@@ -74,7 +73,10 @@ impl Case {
             bail!("there is no section of words in UTF-8");
         };
         add_words(&mut self.words, words)?;
-        add_calls(&mut self.failing_calls, &self.sections)
+        if !add_calls(&mut self.failing_calls, &self.sections)? {
+            bail!("the calls that fail are not named one a line");
+        }
+        Ok(())
     }
 
     /// The words.
@@ -118,11 +120,8 @@ fn check_names(sections: &Archive, feed: &Archive) -> Result<()> {
     if let Some(name) = sections.doubled_name() {
         bail!("there are two sections {name:?}");
     }
-    if let Some(name) = unknown_name(sections, &SECTIONS) {
+    if let Some(name) = unknown_name(sections, &SECTIONS).or(unknown_name(feed, &[])) {
         bail!("the section {name:?} is neither known nor a file");
-    }
-    if let Some(name) = unknown_name(feed, &[]) {
-        bail!("the section {name:?} of the feed is no file");
     }
     if !says_what_must_come(sections) {
         bail!("what must come is neither a text nor journey lines");
@@ -154,23 +153,19 @@ fn add_words(words: &mut WordList, lines: &str) -> Result<(), AllocError> {
     Ok(())
 }
 
-// Adds the calls that fail, one a line; without a section of them all go well, in one run.
-fn add_calls(calls: &mut Vec<FailingCall>, sections: &Archive) -> Result<()> {
-    let Some(text) = sections.text_of("failing calls") else {
+// Adds the calls that fail, one a line; without a section of them all go well, in one run. Answers whether each line names
+// one, and there is one.
+fn add_calls(calls: &mut Vec<FailingCall>, sections: &Archive) -> Result<bool, AllocError> {
+    if sections.text_of("failing calls").is_none() {
         calls.push(FailingCall::NONE)?;
-        return Ok(());
-    };
-    let Ok(lines) = str::from_utf8(text) else {
-        bail!("the calls that fail are not UTF-8");
-    };
+        return Ok(true);
+    }
+    let lines = sections.str_of("failing calls").unwrap_or("");
     for line in lines.split_terminator('\n') {
         let Some(call) = FailingCall::parse(line) else {
-            bail!("{line:?} names no call that fails");
+            return Ok(false);
         };
         calls.push(call)?;
     }
-    if calls.is_empty() {
-        bail!("no call that fails is named");
-    }
-    Ok(())
+    Ok(!calls.is_empty())
 }

@@ -3,9 +3,9 @@
 use crate::archive::Archive;
 use crate::case::Case;
 use anyhow::{Context, Result, bail};
-use std::alloc::Global;
+use std::alloc::{AllocError, Global};
 use std::fs;
-use std::fs::{DirEntry, ReadDir};
+use std::fs::ReadDir;
 use std::io;
 
 /// A folder with the folders `cases` and `feeds`, whose files are `NAME.txtar`.
@@ -22,21 +22,22 @@ impl Library {
     /// The names of all cases, in order.
     ///
     /// # Errors
-    /// Want of memory, a folder that can't be read, or a file in it that is no case.
+    /// Want of memory, or a folder that can't be read.
     pub fn case_names(&self, rt: &HostRuntime) -> Result<Vec<String>> {
         let mut names = Vec::new(rt.alloc());
-        self.add_case_names(rt, &mut names)?;
+        self.add_case_names(rt, &mut names)
+            .context("reading the folder of the cases")?;
         names.sort()?;
         Ok(names)
     }
 
     // Appends the names of all cases.
-    fn add_case_names(&self, rt: &HostRuntime, names: &mut Vec<String>) -> Result<()> {
+    fn add_case_names(&self, rt: &HostRuntime, names: &mut Vec<String>) -> io::Result<()> {
         let folder = self.folder.as_str();
         let folder = format!(in rt.alloc(); "{folder}/cases")?;
         match fs::read_dir(rt, folder.as_str()) {
             Ok(mut entries) => add_names(rt.alloc(), names, &mut entries),
-            Err(error) => Err(error).context("reading the folder of the cases"),
+            Err(error) => Err(error),
         }
     }
 
@@ -83,19 +84,16 @@ fn add_names(
     alloc: Global,
     names: &mut Vec<String>,
     entries: &mut ReadDir<HostRuntime>,
-) -> Result<()> {
+) -> io::Result<()> {
     for entry in entries {
-        add_name(alloc, names, &entry?)?;
+        add_name(alloc, names, entry?.file_name())?;
     }
     Ok(())
 }
 
-// Appends the name of the case that the entry is.
-fn add_name(alloc: Global, names: &mut Vec<String>, entry: &DirEntry<HostRuntime>) -> Result<()> {
-    let file = entry.file_name();
-    let Some(name) = file.strip_suffix(".txtar") else {
-        bail!("{file:?} in the folder of the cases is no case");
-    };
+// Appends the name of the case that the file is. One that is none has its whole name, and a case of that name is missing.
+fn add_name(alloc: Global, names: &mut Vec<String>, file: &str) -> Result<(), AllocError> {
+    let name = file.strip_suffix(".txtar").unwrap_or(file);
     names.push(String::from_str(alloc, name)?)?;
     Ok(())
 }
