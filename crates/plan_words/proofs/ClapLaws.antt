@@ -10,7 +10,7 @@ use Rattle.clap.specs.Simple.{built, is_simple, matches_of}
 use Rattle.clap.specs.Walk.{Rule, Text, arg_by_id, arg_by_index, arg_by_long, first_of, is_empty, rows_after, rows_of}
 use Rattle.clap.specs.declared.parser.matches.ArgMatches.{ArgMatches}
 use Rattle.clap.proofs.WalkLemmas.{first_value-rows, raw_values-rows}
-use Rattle.plan_words.specs.Found.{IsFound, known_as}
+use Rattle.plan_words.specs.Found.{IsFound, known_command}
 use Rattle.plan_words.specs.Words.{behind, form_of}
 use Rattle.plan_words.specs.declared.grammar.Form.{Form}
 use Rattle.plan_words.specs.declared.grammar.Form.TheVariants as form
@@ -74,84 +74,65 @@ joined_among (k ∷ ks) word any = step (joined_among ks word) (is_some (joined_
         let rest = among (rw e at any) in
         (rest.0, or_right (bytes_eq (id_of rest.0) (id_of k)) _ rest.1, rest.2)
 
--- what `clap` makes of a command's arguments
-abbrev rules_of : Form → List Rule
-rules_of f = (built (known_as f)).top.rules
+-- what `clap` makes of the command's arguments
+abbrev known_rules : List Rule
+known_rules = (built known_command).top.rules
 
--- an option of a form is found by its name and by its id
-abbrev IsKept : Form → Named → Type 0
-IsKept f k =
-    (arg_by_long (rules_of f) (name_of k) ≡ Some (option_taken k)) ×
-    (arg_by_id (rules_of f) (id_of k) ≡ Some (option_taken k))
+-- an option is found by its name and by its id
+abbrev IsKept : Named → Type 0
+IsKept k =
+    (arg_by_long known_rules (name_of k) ≡ Some (option_taken k)) ×
+    (arg_by_id known_rules (id_of k) ≡ Some (option_taken k))
 
-kept : (f : Form) (k : Named) → is_one_of (form_of f).options (id_of k) ≡ true → IsKept f k
-kept form.Plan rides takes = (refl, refl)
-kept form.Plan rider takes = (refl, refl)
-kept form.Plan within takes = (refl, refl)
-kept form.Price rides takes = none_takes takes
-kept form.Price rider takes = (refl, refl)
-kept form.Price within takes = none_takes takes
-kept form.Check k takes = none_takes takes
-kept form.Gen k takes = none_takes takes
+kept : (k : Named) → IsKept k
+kept rides = (refl, refl)
+kept rider = (refl, refl)
+kept within = (refl, refl)
 
 -- the flag is found by its name
-flag_kept : (f : Form) → is_one_of (form_of f).flags flag_id ≡ true → arg_by_long
-    (rules_of f) flag_name ≡ Some flag_taken
-flag_kept form.Plan takes = refl
-flag_kept form.Price takes = none_takes takes
-flag_kept form.Check takes = none_takes takes
-flag_kept form.Gen takes = none_takes takes
+flag_kept : arg_by_long known_rules flag_name ≡ Some flag_taken
+flag_kept = refl
 
 -- the positional words are found by their place and by their id
-words_kept : (f : Form)
-    → (arg_by_index (rules_of f) 1 ≡ Some words_taken) × (arg_by_id (rules_of f) (codes "WORDS") ≡ Some words_taken)
-words_kept form.Plan = (refl, refl)
-words_kept form.Price = (refl, refl)
-words_kept form.Check = (refl, refl)
-words_kept form.Gen = (refl, refl)
+words_by_place : arg_by_index known_rules 1 ≡ Some words_taken
+words_by_place = refl
 
-no_defaults : (f : Form) → list_all (λ rule. is_empty rule.defaults) (rules_of f) ≡ true
-no_defaults form.Plan = refl
-no_defaults form.Price = refl
-no_defaults form.Check = refl
-no_defaults form.Gen = refl
+words_by_name : arg_by_id known_rules (codes "WORDS") ≡ Some words_taken
+words_by_name = refl
+
+no_defaults : list_all (λ rule. is_empty rule.defaults) known_rules ≡ true
+no_defaults = refl
 
 -- the word joins a value to one of these options
 abbrev JoinsOne : List Text → Text → Type 0
 JoinsOne names word =
     (k : Named) × (is_one_of names (id_of k) ≡ true) × (is_some (joined_value (id_of k) word) ≡ true)
 
-known : (f : Form) → IsKnown (form_of f) (rules_of f)
+known : (f : Form) → IsKnown (form_of f) known_rules
 known f = record {
   flags = flag_is f;
-  by_flag = flag_kept f;
+  by_flag = λ takes. flag_kept;
   named = λ word any.
       named_among (options_in f) word (subst (λ names. is_one_of names word ≡ true) (options_are f) any);
   joined = λ word any.
       subst (λ names. JoinsOne names word) (sym (options_are f)) (joined_among (options_in f) word
       (subst (λ names. list_any (λ name. is_some (joined_value name word)) names ≡ true) (options_are f) any));
-  by_long = λ k takes. (kept f k takes).0;
-  by_id = λ k takes. (kept f k takes).1;
-  words_by_index = (words_kept f).0;
-  words_by_id = (words_kept f).1;
-  no_defaults = no_defaults f;
+  by_long = λ k takes. (kept k).0;
+  by_id = λ k takes. (kept k).1;
+  words_by_index = words_by_place;
+  words_by_id = words_by_name;
+  no_defaults = no_defaults;
 }
 
-pub simple : (f : Form) → is_simple (known_as f) ≡ true
-simple form.Plan = refl
-simple form.Price = refl
-simple form.Check = refl
-simple form.Gen = refl
+pub simple : is_simple known_command ≡ true
+simple = refl
 
 behind_is : (all : List Text) → drop 1 all ≡ behind all
 behind_is [] = refl
 behind_is (word ∷ words) = refl
 
-matches_are : (f : Form) (all : List Text) → matches_of (known_as f) all ≡ rows_after (rules_of f) [] (behind all)
-matches_are form.Plan all = ap (rows_after (rules_of form.Plan) []) (behind_is all)
-matches_are form.Price all = ap (rows_after (rules_of form.Price) []) (behind_is all)
-matches_are form.Check all = ap (rows_after (rules_of form.Check) []) (behind_is all)
-matches_are form.Gen all = ap (rows_after (rules_of form.Gen) []) (behind_is all)
+matches_are : (all : List Text) → matches_of known_command all ≡ rows_after known_rules [] (behind all)
+matches_are all = ap (rows_after known_rules []) (behind_is all)
 
 all_taken : (f : Form) (words : List Text) → fits_form (form_of f) words ≡ true
     → all_below (length words) (λ i. is_taken (role_at (form_of f) words i)) ≡ true
@@ -160,25 +141,25 @@ all_taken f words fits = first_of_two _ _ (first_of_two _ _ (first_of_two _ _ (f
 
 -- the matches of words that fit
 pub is_found : (f : Form) (all : List Text) (m : ArgMatches) → fits_form (form_of f) (behind all) ≡ true
-    → rows_of (found_of m) ≡ matches_of (known_as f) all
+    → rows_of (found_of m) ≡ matches_of known_command all
     → IsFound (form_of f) (behind all) m
 is_found f all m fits rows =
     let words = behind all in
     let taken = all_taken f words fits in
-    let are = rows ∙ matches_are f all in
+    let are = rows ∙ matches_are all in
     record {
       named =
           ap (λ (o : Option (List Text)). unwrap_or o []) (raw_values-rows (found_of m) (codes "WORDS")) ∙ ap
           (values_in (codes "WORDS")) are
-          ∙ words_found (form_of f) (rules_of f) (known f) words taken;
+          ∙ words_found (form_of f) known_rules (known f) words taken;
       options = λ option takes.
           let which = (known f).named option takes in
           let is_k = subst (λ o. is_one_of (form_of f).options o ≡ true) which.1 takes in
           subst (λ o. first_value (found_of m) o ≡ option_value words o) (sym which.1)
           (first_value-rows (found_of m) (id_of which.0) ∙ ap (first_of (id_of which.0)) are ∙ option_found
-          (form_of f) (rules_of f) (known f) words taken which.0 is_k);
+          (form_of f) known_rules (known f) words taken which.0 is_k);
       flags = λ flag takes.
           subst (λ o. is_some (first_value (found_of m) o) ≡ has_flag words o) (sym ((known f).flags flag takes))
           (ap is_some (first_value-rows (found_of m) flag_id ∙ ap (first_of flag_id) are)
-          ∙ flag_found (form_of f) (rules_of f) (known f) words taken);
+          ∙ flag_found (form_of f) known_rules (known f) words taken);
     }

@@ -6,8 +6,6 @@ use Rattle.clap.specs.Simple.{App, new_app, new_rule, on_top, with_rule}
 use Rattle.clap.specs.Walk.{Rule}
 use Rattle.clap.specs.declared.builder.action.ArgAction.TheVariants.{Append}
 use Rattle.clap.specs.declared.parser.matches.ArgMatches.{ArgMatches}
-use Rattle.plan_words.specs.declared.grammar.Form.{Form}
-use Rattle.plan_words.specs.declared.grammar.Form.TheVariants as form
 
 -- the option of that id, which words name so
 abbrev pub option_rule : List ℕ → List ℕ → Rule
@@ -33,20 +31,17 @@ plain_command =
     with_rule (on_top (λ s. record s { disable_help_flag = true; disable_version_flag = true })
     (new_app (codes "farewise"))) words_rule
 
--- a command with the options of a plan
-abbrev pub with_plan_rules : App → App
-with_plan_rules app =
+-- a command with the options of all commands
+abbrev pub with_all_rules : App → App
+with_all_rules app =
     with_rule (with_rule (with_rule (with_rule app (option_rule (codes "--rides") (codes "rides")))
     (option_rule (codes "--rider") (codes "rider")))
     (option_rule (codes "--within") (codes "within")))
     (flag_rule (codes "--stats") (codes "stats"))
 
--- the command as `clap` knows it
-abbrev pub known_as : Form → App
-known_as form.Plan = with_plan_rules plain_command
-known_as form.Price = with_rule plain_command (option_rule (codes "--rider") (codes "rider"))
-known_as form.Check = plain_command
-known_as form.Gen = plain_command
+-- the command as `clap` knows it, whichever is named
+abbrev pub known_command : App
+known_command = with_all_rules plain_command
 
 -- the positional words that were found, in order
 abbrev pub named_in : ArgMatches → List (List ℕ)

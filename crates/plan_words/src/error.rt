@@ -22,14 +22,3 @@ impl From<AllocError> for WordsError {
         WordsError::NoMemory
     }
 }
-
-impl From<UsageFault> for WordsError {
-    ghost use Rattle.std.specs.Prelude.{◌≡◌};
-    ghost use Rattle.plan_words.specs.declared.error.WordsError.TheVariants as error;
-
-    ghost from_gives = { λ e f. f ≡ error.Usage e };
-
-    fn from(fault: UsageFault) -> WordsError {
-        WordsError::Usage(fault)
-    }
-}

@@ -6,7 +6,7 @@ ghost use Rattle.std.specs.Option.{option_copied};
 ghost use Rattle.clap.specs.Matches.{found_of, first_value};
 ghost use Rattle.clap.specs.Simple.{app_of, with_rule};
 ghost use Rattle.feed_rows.specs.CommandWords.{fits_form, word_at};
-ghost use Rattle.plan_words.specs.Found.{flag_rule, option_rule, plain_command, with_plan_rules, known_as, named_in, IsFound};
+ghost use Rattle.plan_words.specs.Found.{flag_rule, option_rule, plain_command, with_all_rules, named_in, IsFound};
 ghost use Rattle.plan_words.specs.Rides.{texts_of};
 ghost use Rattle.plan_words.specs.Words.{behind, form_of};
 
@@ -57,26 +57,14 @@ fn plain_command<'a>(alloc: Global) -> Result<Command<'a>, AllocError>
         .arg(words)
 }
 
-// The command with the options of a plan.
-fn with_plan_options<'a>(command: Command<'a>, alloc: Global) -> Result<Command<'a>, AllocError>
-    ensures { IfOk result (λ more. app_of more ≡ with_plan_rules (app_of command.entry)) }
+// The command with the options of all commands: which of them a command takes is judged before.
+fn with_all_options<'a>(command: Command<'a>, alloc: Global) -> Result<Command<'a>, AllocError>
+    ensures { IfOk result (λ more. app_of more ≡ with_all_rules (app_of command.entry)) }
 {
     let command = with_option(command, alloc, "--rides", "rides")?;
     let command = with_option(command, alloc, "--rider", "rider")?;
     let command = with_option(command, alloc, "--within", "within")?;
     with_flag(command, alloc, "--stats", "stats")
-}
-
-// The command as `clap` knows it.
-fn command_of<'a>(alloc: Global, form: Form) -> Result<Command<'a>, AllocError>
-    ensures { IfOk result (λ command. app_of command ≡ known_as form) }
-{
-    let command = plain_command(alloc)?;
-    match form {
-        Form::Plan => with_plan_options(command, alloc),
-        Form::Price => with_option(command, alloc, "--rider", "rider"),
-        Form::Check | Form::Gen => Ok(command),
-    }
 }
 
 /// What `clap` finds in words that fit their command, the first of which it takes for the program's name.
@@ -87,7 +75,8 @@ pub(crate) fn found_in(form: Form, words: &WordList) -> Result<ArgMatches<'_>, A
     requires { fits_form (form_of form) (behind words.now) ≡ true }
     ensures { IfOk result (IsFound (form_of form) (behind words.now)) }
 {
-    let command = command_of(words.alloc(), form)?;
+    let command = plain_command(words.alloc())?;
+    let command = with_all_options(command, words.alloc())?;
     match command.try_get_matches_from(words.as_slice()) {
         Ok(found) => Ok(found),
         Err(_) => Err(AllocError),

@@ -2,12 +2,10 @@
 ghost use Rattle.std.specs.Prelude.{◌≡◌, true, List, ℕ, Ok, IfOk, IfErr, option_map};
 ghost use Rattle.feed_rows.specs.CommandWords.{positional_words, fits_form};
 ghost use Rattle.feed_rows.specs.Commands.{read_plan, read_price, read_gen};
-ghost use Rattle.feed_rows.specs.Requests.{Request};
 ghost use Rattle.plan_words.specs.Errors.{IsErrorOf};
 ghost use Rattle.plan_words.specs.Found.{IsFound};
 ghost use Rattle.plan_words.specs.Words.{asked_of, behind, form_of, command_of, command_named};
-ghost use Rattle.plan_words.specs.Request.{request_of, price_request, gen_request, asked_request, IsUsualPlan, IsUsualGen, IsUsualRequest};
-ghost use Rattle.plan_words.specs.Rides.{AreUsualRides};
+ghost use Rattle.plan_words.specs.Request.{asked_request, IsUsualRequest};
 
 use crate::error::WordsError;
 use crate::found::{all_named, found_in, is_set, named, value_of};
@@ -18,6 +16,7 @@ use clap::ArgMatches;
 use feed_rows::{USUAL_WINDOW, UsageFault};
 use feed_text::time_of;
 use plan_arguments::WordList;
+use std::alloc::AllocError;
 use transit_base::Moment;
 
 // The seconds within which a plan may ask to arrive, at most.
@@ -73,9 +72,9 @@ pub struct GenWords {
 }
 
 // The plan that `clap` found the fields of, or its first fault.
-fn plan_in<'a>(found: &ArgMatches<'a>) -> Result<PlanWords<'a>, WordsError>
-    ensures value { (words : List (List ℕ)) → IsFound (form_of Form.Plan) words found.now → IfOk result (λ plan. Ok (Request.Plan (request_of plan)) ≡ read_plan (positional_words (form_of Form.Plan) words) words) }
-    ensures usual { IfOk result IsUsualPlan }
+fn plan_in<'a>(found: &ArgMatches<'a>) -> Result<Asked<'a>, WordsError>
+    ensures value { (words : List (List ℕ)) → IsFound (form_of Form.Plan) words found.now → IfOk result (λ asked. Ok (asked_request asked) ≡ read_plan (positional_words (form_of Form.Plan) words) words) }
+    ensures usual { IfOk result IsUsualRequest }
     ensures err { (words : List (List ℕ)) → IsFound (form_of Form.Plan) words found.now → IfErr result (IsErrorOf (read_plan (positional_words (form_of Form.Plan) words) words)) }
 {
     let Some(day) = date_in(named(found, 2).as_bytes()) else {
@@ -91,7 +90,7 @@ fn plan_in<'a>(found: &ArgMatches<'a>) -> Result<PlanWords<'a>, WordsError>
     let Some(window) = option_number(within, USUAL_WINDOW, 1, MOST_WINDOW) else {
         return Err(WordsError::Usage(UsageFault::BadWindow));
     };
-    Ok(PlanWords {
+    Ok(Asked::Plan(PlanWords {
         from: named(found, 0),
         to: named(found, 1),
         departure: Moment::at(day, i64::from(seconds)),
@@ -99,48 +98,60 @@ fn plan_in<'a>(found: &ArgMatches<'a>) -> Result<PlanWords<'a>, WordsError>
         rider: value_of(found, "--rider"),
         window,
         stats: is_set(found, "--stats"),
-    })
+    }))
 }
 
-// The plan that the words ask for, or their first fault.
-fn plan_of(words: &WordList) -> Result<PlanWords<'_>, WordsError>
-    requires { fits_form (form_of Form.Plan) (behind words.now) ≡ true }
-    ensures value { IfOk result (λ plan. Ok (Request.Plan (request_of plan)) ≡ read_plan (positional_words (form_of Form.Plan) (behind words.now)) (behind words.now)) }
-    ensures usual { IfOk result IsUsualPlan }
-    ensures err { IfErr result (IsErrorOf (read_plan (positional_words (form_of Form.Plan) (behind words.now)) (behind words.now))) }
-{
-    let found = found_in(Form::Plan, words)?;
-    plan_in(&found)
-}
-
-// The rides whose price the words ask for, or their first fault.
-fn price_of(words: &WordList) -> Result<PriceWords<'_>, WordsError>
-    requires { fits_form (form_of Form.Price) (behind words.now) ≡ true }
-    ensures value { IfOk result (λ price. Ok (Request.Price (price_request price)) ≡ read_price (positional_words (form_of Form.Price) (behind words.now)) (behind words.now)) }
-    ensures usual { IfOk result (λ price. AreUsualRides price.rides) }
+// The rides whose price the words ask for, of which `clap` found these fields, or their first fault.
+fn price_in<'a>(words: &WordList, found: &ArgMatches<'a>) -> Result<Asked<'a>, WordsError>
+    requires fits { fits_form (form_of Form.Price) (behind words.now) ≡ true }
+    requires found { IsFound (form_of Form.Price) (behind words.now) found.now }
+    ensures value { IfOk result (λ asked. Ok (asked_request asked) ≡ read_price (positional_words (form_of Form.Price) (behind words.now)) (behind words.now)) }
+    ensures usual { IfOk result IsUsualRequest }
     ensures err { IfErr result (IsErrorOf (read_price (positional_words (form_of Form.Price) (behind words.now)) (behind words.now))) }
 {
-    let found = found_in(Form::Price, words)?;
-    let rides = rides_in(all_named(words.alloc(), &found)?)?;
-    let rider = value_of(&found, "--rider");
-    Ok(PriceWords { rider, rides })
+    let texts = all_named(words.alloc(), found)?;
+    match rides_in(texts) {
+        Ok(rides) => Ok(Asked::Price(PriceWords {
+            rider: value_of(found, "--rider"),
+            rides,
+        })),
+        Err(fault) => Err(WordsError::Usage(fault)),
+    }
 }
 
-// The generated feed that the words ask for, or their first fault.
-fn gen_of(words: &WordList) -> Result<GenWords, WordsError>
-    requires { fits_form (form_of Form.Gen) (behind words.now) ≡ true }
-    ensures value { IfOk result (λ asked. Ok (Request.Gen (gen_request asked)) ≡ read_gen (positional_words (form_of Form.Gen) (behind words.now)) (behind words.now)) }
-    ensures usual { IfOk result IsUsualGen }
-    ensures err { IfErr result (IsErrorOf (read_gen (positional_words (form_of Form.Gen) (behind words.now)) (behind words.now))) }
+// The generated feed that `clap` found the fields of, or its first fault.
+fn gen_in<'a>(found: &ArgMatches<'a>) -> Result<Asked<'a>, WordsError>
+    ensures value { (words : List (List ℕ)) → IsFound (form_of Form.Gen) words found.now → IfOk result (λ asked. Ok (asked_request asked) ≡ read_gen (positional_words (form_of Form.Gen) words) words) }
+    ensures usual { IfOk result IsUsualRequest }
+    ensures err { (words : List (List ℕ)) → IsFound (form_of Form.Gen) words found.now → IfErr result (IsErrorOf (read_gen (positional_words (form_of Form.Gen) words) words)) }
 {
-    let found = found_in(Form::Gen, words)?;
-    let Some(seed) = number_in(named(&found, 0).as_bytes(), 0, 65_535) else {
+    let Some(seed) = number_in(named(found, 0).as_bytes(), 0, 65_535) else {
         return Err(WordsError::Usage(UsageFault::BadSeed));
     };
-    let Some(lines) = number_in(named(&found, 1).as_bytes(), 2, 32) else {
+    let Some(lines) = number_in(named(found, 1).as_bytes(), 2, 32) else {
         return Err(WordsError::Usage(UsageFault::BadLines));
     };
-    Ok(GenWords { seed, lines })
+    Ok(Asked::Gen(GenWords { seed, lines }))
+}
+
+// What words that fit their command ask for, of which `clap` found these fields, or their first fault.
+fn asked_in<'a>(
+    form: Form,
+    words: &WordList,
+    found: &ArgMatches<'a>,
+) -> Result<Asked<'a>, WordsError>
+    requires fits { fits_form (form_of form) (behind words.now) ≡ true }
+    requires found { IsFound (form_of form) (behind words.now) found.now }
+    ensures value { IfOk result (λ asked. Ok (asked_request asked) ≡ (command_of form).read (positional_words (form_of form) (behind words.now)) (behind words.now)) }
+    ensures usual { IfOk result IsUsualRequest }
+    ensures err { IfErr result (IsErrorOf ((command_of form).read (positional_words (form_of form) (behind words.now)) (behind words.now))) }
+{
+    match form {
+        Form::Plan => plan_in(found),
+        Form::Price => price_in(words, found),
+        Form::Check => Ok(Asked::Check),
+        Form::Gen => gen_in(found),
+    }
 }
 
 // The command of that name.
@@ -176,13 +187,8 @@ pub fn asked_of(words: &WordList) -> Result<Asked<'_>, WordsError>
     if !form.fits(words) {
         return Err(WordsError::Usage(UsageFault::WrongWords));
     }
-    match form {
-        Form::Plan => Ok(Asked::Plan(plan_of(words)?)),
-        Form::Price => Ok(Asked::Price(price_of(words)?)),
-        Form::Check => {
-            found_in(Form::Check, words)?;
-            Ok(Asked::Check)
-        }
-        Form::Gen => Ok(Asked::Gen(gen_of(words)?)),
+    match found_in(form, words) {
+        Ok(found) => asked_in(form, words, &found),
+        Err(AllocError) => Err(WordsError::NoMemory),
     }
 }

@@ -2,7 +2,7 @@ use Rattle.std.proofs.Common.{◌≡◌, ◌∙◌, ap, subst}
 use Rattle.std.specs.Prelude.{IfOk, codes}
 use Rattle.clap.specs.Simple.{App, app_of, with_rule}
 use Rattle.plan_words.specs.Found.{flag_rule, option_rule}
-use Rattle.plan_words.proofs.found.with_plan_options.Goals as goal
+use Rattle.plan_words.proofs.found.with_all_options.Goals as goal
 
 pub returns : goal.returns
 returns c =
