@@ -7,8 +7,8 @@ use Rattle.feed_rows.specs.PriceQueries.{PriceQuery as NamedQuery}
 use Rattle.feed_rows.specs.Rides.{ride_facts}
 use Rattle.command_answers.specs.declared.ride_prices.rides.NamedRide.{NamedRide}
 use Rattle.command_answers.specs.declared.ride_prices.query.PriceQuery.{PriceQuery}
-use Rattle.command_answers.specs.declared.ride_prices.query.PriceQueryError.{PriceQueryError}
-use Rattle.command_answers.specs.declared.ride_prices.query.PriceQueryError.TheVariants as error
+use Rattle.plan_words.specs.declared.error.WordsError.{WordsError}
+use Rattle.plan_words.specs.declared.error.WordsError.TheVariants as error
 
 -- the rides, without what is known of them
 abbrev pub rides_of : List NamedRide → List Ride
@@ -23,6 +23,6 @@ abbrev pub query_of : PriceQuery → NamedQuery
 query_of query = record { rides = rides_of query.rides.items; rider = query.rider }
 
 -- the fault is that of the names; of want of memory nothing is said
-abbrev pub IsErrorOf : {X : Type 0} → Result X UsageFault → PriceQueryError → Type 0
+abbrev pub IsErrorOf : {X : Type 0} → Result X UsageFault → WordsError → Type 0
 IsErrorOf named (error.Usage fault) = named ≡ Err fault
 IsErrorOf named error.NoMemory = Unit {0}

@@ -9,10 +9,10 @@ ghost use Rattle.plan_words.specs.Rides.{AreUsualRides};
 
 use crate::outcome::{Outcome, answered, refused};
 use crate::refusal::Refusal;
-use crate::ride_prices::{PriceQuery, PriceQueryError, price_of, price_query_of};
+use crate::ride_prices::{PriceQuery, price_of, price_query_of};
 use feed_rows::Feed;
 use feed_timetable::Timetable;
-use plan_words::PriceWords;
+use plan_words::{PriceWords, WordsError};
 use std::alloc::{AllocError, Global};
 use ticket_explain::{Text, price_lines_of, uncovered_lines_of};
 
@@ -28,8 +28,11 @@ fn price_text(alloc: Global, feed: &Feed, query: &PriceQuery) -> Result<Text, Al
     price_lines_of(alloc, feed, query.rides.len(), &priced.choice, priced.sum)
 }
 
-// What the price of rides answers, over the timetable of the feed.
-fn outcome_over(
+/// What the price of rides answers, over the timetable of the feed.
+///
+/// # Errors
+/// Want of memory.
+pub fn price_outcome(
     alloc: Global,
     timetable: &Timetable,
     words: &PriceWords,
@@ -42,21 +45,7 @@ fn outcome_over(
             let text = price_text(alloc, timetable.feed(), &query)?;
             Ok(answered(text))
         }
-        Err(PriceQueryError::Usage(fault)) => refused(alloc, Refusal::Usage(fault)),
-        Err(PriceQueryError::NoMemory) => Err(AllocError),
-    }
-}
-
-/// What the price of rides answers.
-///
-/// # Errors
-/// Want of memory.
-pub fn price_outcome(alloc: Global, feed: &Feed, words: &PriceWords) -> Result<Outcome, AllocError>
-    requires usual { AreUsualRides words.now.rides }
-    ensures { IfOk result (IsOutcome (task_by (Task.Prices feed.now) (price_query_of feed.now (price_request words.now)))) }
-{
-    match Timetable::build(alloc, feed) {
-        Ok(timetable) => outcome_over(alloc, &timetable, words),
-        Err(AllocError) => Err(AllocError),
+        Err(WordsError::Usage(fault)) => refused(alloc, Refusal::Usage(fault)),
+        Err(WordsError::NoMemory) => Err(AllocError),
     }
 }

@@ -5,5 +5,5 @@ mod query;
 mod rides;
 
 pub use prices::price_of;
-pub use query::{PriceQuery, PriceQueryError, price_query_of};
+pub use query::{PriceQuery, price_query_of};
 pub use rides::NamedRide;

@@ -80,7 +80,7 @@ fn plan_text(
 }
 
 // What a plan answers over a timetable.
-fn plan_over(
+fn plan_outcome(
     alloc: Global,
     timetable: &Timetable,
     plan: &PlanWords,
@@ -95,22 +95,6 @@ fn plan_over(
     };
     let text = plan_text(alloc, timetable, &query, plan.stats, triples)?;
     Ok(answered(text))
-}
-
-// What a plan answers.
-fn plan_outcome(
-    alloc: Global,
-    feed: &Feed,
-    plan: &PlanWords,
-    triples: bool,
-) -> Result<Outcome, AllocError>
-    requires usual { IsUsualPlan plan.now }
-    ensures { IfOk result (IsOutcome (planned triples feed.now (request_of plan.now))) }
-{
-    match Timetable::build(alloc, feed) {
-        Ok(timetable) => plan_over(alloc, &timetable, plan, triples),
-        Err(AllocError) => Err(AllocError),
-    }
 }
 
 // The plan over a generated feed: from its first stop to its last, which has this id, on 2025-06-02 at 07:00:00.
@@ -130,15 +114,36 @@ fn generated_plan(last: &str) -> PlanWords<'_>
 }
 
 // What a generated feed answers: the triples of the plan from its first stop to its last.
-fn gen_outcome(alloc: Global, feed: &Feed, words: &GenWords) -> Result<Outcome, AllocError>
+fn gen_outcome(
+    alloc: Global,
+    timetable: &Timetable,
+    words: &GenWords,
+) -> Result<Outcome, AllocError>
     requires usual { IsUsualGen words.now }
-    ensures { IfOk result (IsOutcome (task_by (Task.Generates feed.now) (query_of feed.now (generated_plan words.now.lines)))) }
+    ensures { IfOk result (IsOutcome (task_by (Task.Generates timetable.now) (query_of timetable.now (generated_plan words.now.lines)))) }
 {
     let last = stop_id(alloc, words.lines - 1, words.lines - 1)?;
-    plan_outcome(alloc, feed, &generated_plan(last.as_str()), true)
+    plan_outcome(alloc, timetable, &generated_plan(last.as_str()), true)
 }
 
-/// What a command answers over a feed.
+// What a command answers over the timetable of its feed.
+fn outcome_over(
+    alloc: Global,
+    timetable: &Timetable,
+    asked: &Asked,
+) -> Result<Outcome, AllocError>
+    requires { IsUsualRequest asked.now }
+    ensures { IfOk result (IsOutcome (task_of timetable.now (asked_request asked.now))) }
+{
+    match asked {
+        Asked::Check => check_outcome(alloc, timetable.feed()),
+        Asked::Plan(plan) => plan_outcome(alloc, timetable, plan, false),
+        Asked::Price(words) => price_outcome(alloc, timetable, words),
+        Asked::Gen(words) => gen_outcome(alloc, timetable, words),
+    }
+}
+
+/// What a command answers over a feed. A check alone makes no timetable of it.
 ///
 /// # Errors
 /// Want of memory.
@@ -146,10 +151,11 @@ pub(crate) fn outcome_of(alloc: Global, feed: &Feed, asked: &Asked) -> Result<Ou
     requires { IsUsualRequest asked.now }
     ensures { IfOk result (IsOutcome (task_of feed.now (asked_request asked.now))) }
 {
-    match asked {
-        Asked::Check => check_outcome(alloc, feed),
-        Asked::Plan(plan) => plan_outcome(alloc, feed, plan, false),
-        Asked::Price(words) => price_outcome(alloc, feed, words),
-        Asked::Gen(words) => gen_outcome(alloc, feed, words),
+    if let Asked::Check = asked {
+        return check_outcome(alloc, feed);
+    }
+    match Timetable::build(alloc, feed) {
+        Ok(timetable) => outcome_over(alloc, &timetable, asked),
+        Err(AllocError) => Err(AllocError),
     }
 }

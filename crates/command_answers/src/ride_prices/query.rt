@@ -11,7 +11,7 @@ use crate::ride_prices::rides::{NamedRide, named_ride};
 use fare_products::chosen_rider;
 use feed_rows::UsageFault;
 use feed_timetable::Timetable;
-use plan_words::{PriceWords, RideWords};
+use plan_words::{PriceWords, RideWords, WordsError};
 use std::alloc::{AllocError, Global};
 use transit_base::RiderId;
 
@@ -20,37 +20,6 @@ use transit_base::RiderId;
 pub struct PriceQuery {
     pub rides: Vec<NamedRide>,
     pub rider: Option<RiderId>,
-}
-
-/// Why words ask for no price over a feed.
-#[derive(Clone, Copy)]
-pub enum PriceQueryError {
-    /// The first fault of the names that the words give.
-    Usage(UsageFault),
-    /// Want of memory.
-    NoMemory,
-}
-
-impl From<AllocError> for PriceQueryError {
-    ghost use Rattle.std.specs.Prelude.{◌≡◌};
-    ghost use Rattle.command_answers.specs.declared.ride_prices.query.PriceQueryError.TheVariants as error;
-
-    ghost from_gives = { λ e f. f ≡ error.NoMemory };
-
-    fn from(_error: AllocError) -> PriceQueryError {
-        PriceQueryError::NoMemory
-    }
-}
-
-impl From<UsageFault> for PriceQueryError {
-    ghost use Rattle.std.specs.Prelude.{◌≡◌};
-    ghost use Rattle.command_answers.specs.declared.ride_prices.query.PriceQueryError.TheVariants as error;
-
-    ghost from_gives = { λ e f. f ≡ error.Usage e };
-
-    fn from(fault: UsageFault) -> PriceQueryError {
-        PriceQueryError::Usage(fault)
-    }
 }
 
 // Adds a ride.
@@ -66,7 +35,7 @@ fn named_rides(
     alloc: Global,
     timetable: &Timetable,
     words: &RideWords,
-) -> Result<Vec<NamedRide>, PriceQueryError>
+) -> Result<Vec<NamedRide>, WordsError>
     requires { AreUsualRides words.now }
     ensures named { IfOk result (λ rides. named_rides timetable.now (words_of words.now) ≡ Ok (rides_of rides.items)) }
     ensures known { IfOk result (λ rides. AreKnown timetable.now rides.items) }
@@ -76,7 +45,7 @@ fn named_rides(
     let mut rides = Vec::new(alloc);
     for k in 0..words.count() {
         let Some(named) = named_ride(timetable, &words.ride(k)) else {
-            return Err(PriceQueryError::Usage(UsageFault::NoSuchRide(k as u32 + 1)));
+            return Err(WordsError::Usage(UsageFault::NoSuchRide(k as u32 + 1)));
         };
         add(&mut rides, named)?;
     }
@@ -119,7 +88,7 @@ pub fn price_query_of(
     alloc: Global,
     timetable: &Timetable,
     words: &PriceWords,
-) -> Result<PriceQuery, PriceQueryError>
+) -> Result<PriceQuery, WordsError>
     requires { AreUsualRides words.now.rides }
     ensures value { IfOk result (λ query. price_query_of timetable.now (price_request words.now) ≡ Ok (query_of query)) }
     ensures known { IfOk result (λ query. AreKnown timetable.now query.rides.items) }
@@ -128,8 +97,10 @@ pub fn price_query_of(
 {
     let rides = named_rides(alloc, timetable, &words.rides)?;
     if let Some(i) = first_missed(timetable, rides.as_slice()) {
-        return Err(PriceQueryError::Usage(UsageFault::NoChange(i as u32 + 1)));
+        return Err(WordsError::Usage(UsageFault::NoChange(i as u32 + 1)));
     }
-    let rider = chosen_rider(timetable.feed(), words.rider)?;
-    Ok(PriceQuery { rides, rider })
+    match chosen_rider(timetable.feed(), words.rider) {
+        Ok(rider) => Ok(PriceQuery { rides, rider }),
+        Err(fault) => Err(WordsError::Usage(fault)),
+    }
 }

@@ -7,6 +7,6 @@ use Rattle.plan_app.proofs.planning.gen_outcome.Goals as goal
 
 pub returns : goal.returns
 returns c =
-    subst (λ request. IfOk c.plan_outcome.result (IsOutcome (task_by (Task.Generates c.args.feed.now) (query_of c.args.feed.now request))))
+    subst (λ request. IfOk c.plan_outcome.result (IsOutcome (task_by (Task.Generates c.args.timetable.now) (query_of c.args.timetable.now request))))
     (c.generated_plan.ensures.value c.args.words.now.lines (c.as_str.ensures.value ∙ c.in_ok-last.ensures))
     c.plan_outcome.ensures

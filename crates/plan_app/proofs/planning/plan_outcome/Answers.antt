@@ -1,10 +1,7 @@
-use Rattle.std.proofs.Common.{subst}
-use Rattle.std.specs.Prelude.{IfOk}
-use Rattle.command_answers.specs.Outcomes.{IsOutcome}
-use Rattle.plan_app.specs.Made.{planned}
 use Rattle.plan_words.specs.Request.{request_of}
+use Rattle.plan_app.proofs.MadeLaws.{plan_due}
 use Rattle.plan_app.proofs.planning.plan_outcome.Goals as goal
 
-pub returns-in-Ok : goal.returns-in-Ok
-returns-in-Ok c =
-    subst (λ feed. IfOk c.plan_over.result (IsOutcome (planned c.args.triples feed (request_of c.args.plan.now)))) c.in-Ok.ensures c.plan_over.ensures
+pub returns : goal.returns
+returns c =
+    plan_due c.args.triples _ (request_of c.args.plan.now) _ _ _ _ c.in-Ok.ensures.value c.answered.ensures.told c.answered.ensures.text c.in_ok-text.ensures

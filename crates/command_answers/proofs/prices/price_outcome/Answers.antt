@@ -3,7 +3,7 @@ use Rattle.plan_words.specs.Request.{price_request}
 use Rattle.command_answers.specs.Due.{ArePriceLines}
 use Rattle.command_answers.specs.NamedRides.{query_of, rides_of}
 use Rattle.command_answers.proofs.PriceLaws.{price_due}
-use Rattle.command_answers.proofs.prices.outcome_over.Goals as goal
+use Rattle.command_answers.proofs.prices.price_outcome.Goals as goal
 
 pub returns-in_ok-text-in-Ok : goal.returns-in_ok-text-in-Ok
 returns-in_ok-text-in-Ok c =
