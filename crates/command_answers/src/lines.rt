@@ -1,7 +1,7 @@
 //! The lines that are written.
 ghost use Rattle.std.specs.Prelude.{◌≡◌, IfOk, OnOk, string_bytes};
 ghost use Rattle.feed_rows.specs.CommandTexts.{usage_line, refused_line, place_text, check_text, stats_line};
-ghost use Rattle.feed_rows.specs.UsageFaults.{usage_argument, stop_word_text};
+ghost use Rattle.feed_rows.specs.UsageFaults.{stop_word_text};
 ghost use Rattle.command_answers.specs.Written.{WritesLines};
 
 use feed_files::{ColumnName, FeedFault};
@@ -20,11 +20,12 @@ fn stop_word(word: StopWord) -> &'static str
     }
 }
 
-// The argument of a usage fault, as it is printed.
-fn argument_of(alloc: Global, fault: UsageFault) -> Result<String, AllocError>
-    ensures { IfOk result (λ text. string_bytes text ≡ usage_argument fault) }
+/// The line of a usage fault.
+pub fn usage_line_of(alloc: Global, fault: UsageFault) -> Result<String, AllocError>
+    ensures { IfOk result (λ line. string_bytes line ≡ usage_line fault) }
 {
-    let word = match fault {
+    let name = fault.text();
+    let argument = match fault {
         UsageFault::WrongWords => "-",
         UsageFault::BadDate => "DATE",
         UsageFault::BadTime => "TIME",
@@ -35,19 +36,9 @@ fn argument_of(alloc: Global, fault: UsageFault) -> Result<String, AllocError>
         UsageFault::UnknownStop(word) | UsageFault::WrongStopKind(word) => stop_word(word),
         UsageFault::UnknownRider | UsageFault::RiderNeeded => "--rider",
         UsageFault::BadRide(k) | UsageFault::NoSuchRide(k) | UsageFault::NoChange(k) => {
-            return format!(in alloc; "{k}");
+            return format!(in alloc; "usage\t{name}\t{k}\n");
         }
     };
-    String::from_str(alloc, word)
-}
-
-/// The line of a usage fault.
-pub fn usage_line_of(alloc: Global, fault: UsageFault) -> Result<String, AllocError>
-    ensures { IfOk result (λ line. string_bytes line ≡ usage_line fault) }
-{
-    let name = fault.text();
-    let argument = argument_of(alloc, fault)?;
-    let argument = argument.as_str();
     format!(in alloc; "usage\t{name}\t{argument}\n")
 }
 
