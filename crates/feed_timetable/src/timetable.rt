@@ -73,17 +73,20 @@ impl<'f> Timetable<'f> {
     pub fn build(alloc: Global, feed: &'f Feed) -> Result<Timetable<'f>, AllocError>
         ensures { IfOk result (λ timetable. timetable ≡ feed.now) }
     {
-        let stops = Stops::build(alloc, feed)?;
-        let trips = Trips::build(alloc, feed)?;
-        let walks = Walks::build_with(alloc, feed, stops.sets())?;
+        // What has no lifetime is made first, and the trips last, so that least is held at each way out.
         let calendar = Calendar::build(alloc, feed)?;
-        Ok(Timetable {
-            feed,
-            stops,
-            trips,
-            walks,
-            calendar,
-        })
+        let stops = Stops::build(alloc, feed)?;
+        let walks = Walks::build_with(alloc, feed, stops.sets())?;
+        match Trips::build(alloc, feed) {
+            Ok(trips) => Ok(Timetable {
+                feed,
+                stops,
+                trips,
+                walks,
+                calendar,
+            }),
+            Err(AllocError) => Err(AllocError),
+        }
     }
 
     /// The feed.
@@ -129,7 +132,7 @@ impl<'f> Timetable<'f> {
     pub fn stands_for(&self, stop: StopId, member: StopId) -> bool
         ensures { result ≡ stands_for self.now stop member }
     {
-        self.members(stop).iter().any(|s| s.0 == member.0)
+        self.members(stop).contains(&member)
     }
 
     /// The seconds of the walk from one platform to another or to itself; none where there is no walk.
