@@ -8,7 +8,7 @@ use feed_files::{ColumnName, FeedFault};
 use feed_rows::{Feed, StopWord, UsageFault};
 use folder_io::{Sink, Wrote};
 use std::alloc::{AllocError, Global};
-use ticket_explain::{Line, Text};
+use ticket_explain::{Field, Line, Text};
 
 // The word that names a stop, as it is printed.
 fn stop_word(word: StopWord) -> &'static str
@@ -68,15 +68,15 @@ pub fn refused_line_of(alloc: Global, fault: FeedFault) -> Result<String, AllocE
 fn write_counts(line: &mut Line, feed: &Feed) -> Result<(), AllocError>
     ensures { OnOk result (line.new ≡ check_text feed.now) }
 {
-    line.start(b"accepted")?;
-    line.number(feed.stops.items().len() as u64)?;
-    line.number(feed.routes.items().len() as u64)?;
-    line.number(feed.trips.items().len() as u64)?;
-    line.number(feed.stop_times.items().len() as u64)?;
-    line.number(feed.leg_rules.items().len() as u64)?;
-    line.number(feed.transfer_rules.items().len() as u64)?;
-    line.end()?;
-    Ok(())
+    let counts = [
+        Field::Number(feed.stops.items().len() as u64),
+        Field::Number(feed.routes.items().len() as u64),
+        Field::Number(feed.trips.items().len() as u64),
+        Field::Number(feed.stop_times.items().len() as u64),
+        Field::Number(feed.leg_rules.items().len() as u64),
+        Field::Number(feed.transfer_rules.items().len() as u64),
+    ];
+    line.write(b"accepted", &counts)
 }
 
 /// The line of `check` for an accepted feed: how many rows its main files have.
@@ -93,9 +93,7 @@ pub fn stats_line_of(alloc: Global, labels: usize) -> Result<Line, AllocError>
     ensures { IfOk result (λ line. line ≡ stats_line labels) }
 {
     let mut line = Line::empty(alloc);
-    line.start(b"stats")?;
-    line.number(labels as u64)?;
-    line.end()?;
+    line.write(b"stats", &[Field::Number(labels as u64)])?;
     Ok(line)
 }
 

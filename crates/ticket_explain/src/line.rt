@@ -39,8 +39,8 @@ impl Line {
         }
     }
 
-    /// Begins the line anew, with a word.
-    pub fn start(&mut self, word: &[u8]) -> Result<(), AllocError>
+    // Begins the line anew, with a word.
+    fn start(&mut self, word: &[u8]) -> Result<(), AllocError>
         ensures { OnOk result (self.new ≡ word.now) }
     {
         self.bytes.clear();
@@ -96,14 +96,6 @@ impl Line {
             Field::Moment(moment) => self.push_moment(moment),
             Field::Second(second) => self.push_second(second),
         }
-    }
-
-    /// Adds a tab and a number.
-    pub fn number(&mut self, number: u64) -> Result<(), AllocError>
-        ensures { OnOk result (self.new ≡ self.old ++ 9 ∷ decimal number) }
-    {
-        self.bytes.push(b'\t')?;
-        self.push_number(number)
     }
 
     // Adds a number.
@@ -174,8 +166,8 @@ impl Line {
         self.push_time(Secs(second as u32))
     }
 
-    /// Ends the line.
-    pub fn end(&mut self) -> Result<(), AllocError>
+    // Ends the line.
+    fn end(&mut self) -> Result<(), AllocError>
         ensures { OnOk result (self.new ≡ self.old ++ 10 ∷ []) }
     {
         self.bytes.push(b'\n')?;
