@@ -27,16 +27,10 @@ use transit_base::{StopId, TripId};
 const NOT_AVAILABLE: i64 = 1;
 
 /// What was read of stop_times.txt, and its table, of which nothing is kept.
+#[derive(Drop)]
 pub struct StopTimes {
     pub calls: ReadCalls,
     pub table: SeenTable,
-}
-
-// Written out, so that what holds one needn't look into it to let go of it.
-impl Drop for StopTimes {
-    fn drop(self) {
-        let StopTimes { calls: _, table: _ } = self;
-    }
 }
 
 /// Why stop_times.txt gives no stop times.
