@@ -3,6 +3,9 @@ use Rattle.std.specs.List.{flat_map}
 use Rattle.std.specs.Option.{option_map_or}
 use Rattle.label_bag.specs.Bags.{Gathers}
 use Rattle.plain_laws.specs.Plain.{joined_below}
+use Rattle.plain_laws.proofs.Laws.{All-slice_get}
+use Rattle.fare_price.specs.declared.ways.Way.{Way}
+use Rattle.fare_price.specs.Stands.{IsBounded}
 use Rattle.fare_price.specs.Ways.{is_as_good, ways_by, ways_from, ways_at, next_ways}
 use Rattle.fare_price.proofs.GatherLaws.{gathers_none, gathers_joined}
 use Rattle.fare_price.proofs.fares.RiderFares.next_ways.Goals as goal
@@ -31,3 +34,10 @@ returns-clause-best c =
 
 pub loop-number-init : goal.loop-number-init
 loop-number-init c = subst (Gathers is_as_good [] []) (sym c.empty-next.ensures) (gathers_none is_as_good [])
+
+pub offer_from-requires-clause-bounded : goal.offer_from-requires-clause-bounded
+offer_from-requires-clause-bounded c =
+    All-slice_get (λ (way : Way). IsBounded 11 way.stand) c.args.ways.now c.loop-number.number c.get.result.now c.get.ensures c.requires.bounded
+
+pub returns-clause-kept : goal.returns-clause-kept
+returns-clause-kept c = c.in_ok-keep.ensures
