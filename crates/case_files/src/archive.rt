@@ -12,14 +12,6 @@ pub struct Section {
 }
 
 impl Section {
-    // A section of that name, without lines.
-    fn named(alloc: Global, name: &str) -> Result<Section, AllocError> {
-        Ok(Section {
-            name: String::from_str(alloc, name)?,
-            lines: Vec::new(alloc),
-        })
-    }
-
     /// The name.
     pub fn name(&self) -> &str {
         self.name.as_str()
@@ -65,14 +57,28 @@ impl Archive {
         Ok(archive)
     }
 
-    // Takes the line: it starts a section, or stands behind the lines of the last one, if there is one.
+    // Takes the line: it starts a section, or stands behind the lines of the last one.
     fn take(&mut self, alloc: Global, line: &[u8]) -> Result<(), AllocError> {
-        if let Some(name) = section_name(line) {
-            self.sections.push(Section::named(alloc, name)?)?;
-        } else if let Some(section) = self.sections.last_mut() {
-            section.lines.extend_from_slice(line)?;
+        match section_name(line) {
+            Some(name) => self.start(alloc, name),
+            None => self.push_line(line),
         }
+    }
+
+    // Starts a section of that name.
+    fn start(&mut self, alloc: Global, name: &str) -> Result<(), AllocError> {
+        let name = String::from_str(alloc, name)?;
+        let lines = Vec::new(alloc);
+        self.sections.push(Section { name, lines })?;
         Ok(())
+    }
+
+    // Puts the line behind those of the last section, if there is one.
+    fn push_line(&mut self, line: &[u8]) -> Result<(), AllocError> {
+        match self.sections.last_mut() {
+            Some(section) => section.lines.extend_from_slice(line),
+            None => Ok(()),
+        }
     }
 
     /// The sections.

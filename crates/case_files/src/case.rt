@@ -109,7 +109,10 @@ impl Case {
             Some(wanted) => text == wanted,
             None => {
                 are_triples(text, self.sections.text_of("journey lines").unwrap_or(&[]))
-                    && has_lines(text, self.sections.text_of("lines among them").unwrap_or(&[]))
+                    && has_lines(
+                        text,
+                        self.sections.text_of("lines among them").unwrap_or(&[]),
+                    )
             }
         }
     }

@@ -4,9 +4,8 @@ use crate::archive::Archive;
 use crate::case::Case;
 use anyhow::{Context, Result, bail};
 use std::alloc::{AllocError, Global};
-use std::fs;
 use std::fs::ReadDir;
-use std::io;
+use std::{fs, io};
 
 /// A folder with the folders `cases` and `feeds`, whose files are `NAME.txtar`.
 #[derive(Drop)]

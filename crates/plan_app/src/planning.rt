@@ -127,11 +127,7 @@ fn gen_outcome(
 }
 
 // What a command answers over the timetable of its feed.
-fn outcome_over(
-    alloc: Global,
-    timetable: &Timetable,
-    asked: &Asked,
-) -> Result<Outcome, AllocError>
+fn outcome_over(alloc: Global, timetable: &Timetable, asked: &Asked) -> Result<Outcome, AllocError>
     requires { IsUsualRequest asked.now }
     ensures { IfOk result (IsOutcome (task_of timetable.now (asked_request asked.now))) }
 {
