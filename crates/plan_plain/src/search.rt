@@ -53,26 +53,19 @@ impl<'s> Model for Search<'s> {
 }
 
 impl<'s> Search<'s> {
-    // The greatest number of rides.
-    fn limit(&self) -> u8
-        ensures is { result ≡ self.now.query.rides }
+    // The query.
+    fn query(&self) -> &'s Query
+        ensures is { result.now ≡ self.now.query }
         ensures usual { IsUsualQuery self.now.query }
     {
-        self.rides.query().rides
+        self.rides.query()
     }
 
-    // The stops at which journeys start.
-    fn firsts(&self) -> &'s [StopId]
-        ensures { result.now ≡ stop_set self.now.feed self.now.query.from }
+    // The platforms that a stop stands for.
+    fn members(&self, stop: StopId) -> &'s [StopId]
+        ensures { result.now ≡ stop_set self.now.feed stop }
     {
-        self.rides.timetable().members(self.rides.query().from)
-    }
-
-    // The stops at which journeys end.
-    fn lasts(&self) -> &'s [StopId]
-        ensures { result.now ≡ stop_set self.now.feed self.now.query.to }
-    {
-        self.rides.timetable().members(self.rides.query().to)
+        self.rides.timetable().members(stop)
     }
 
     // Where one stands at a first stop, before any ride.
@@ -102,7 +95,7 @@ impl<'s> Search<'s> {
         requires few { length path.now.rides ≤ self.now.query.rides }
         ensures { IfOk result (IsCheapest self.now.feed path.now.rides self.now.query.rider) }
     {
-        let _limit = self.limit();
+        let _query = self.query();
         path.price(alloc)
     }
 
@@ -126,7 +119,7 @@ impl<'s> Search<'s> {
         requires { IsWithinWindow self.now.query standing.at.0 }
         ensures { IsEarliestEnd self.now.feed self.now.query (stand_of standing) result }
     {
-        let lasts = self.lasts();
+        let lasts = self.members(self.query().to);
         let mut earliest = None;
         for k in 0..lasts.len() {
             earliest = self.earlier(standing, lasts[k], earliest);
@@ -147,7 +140,7 @@ impl<'s> Search<'s> {
         requires few { length path.now.rides ≤ self.now.query.rides }
         ensures { OnOk result (Gains self.now.feed self.now.query (HasRides self.now.feed self.now.query first path.now.rides) front.old front.new) }
     {
-        let _limit = self.limit();
+        let _query = self.query();
         let Some(end) = self.earliest_end(standing) else {
             return Ok(());
         };
@@ -242,7 +235,7 @@ impl<'s> Search<'s> {
         ensures gains { OnOk result (Gains self.now.feed self.now.query (StartsAt self.now.feed self.now.query first) front.old front.new) }
     {
         let standing = self.start(first);
-        self.explore(alloc, first, standing, path, self.limit(), front)?;
+        self.explore(alloc, first, standing, path, self.query().rides, front)?;
         Ok(())
     }
 
@@ -256,7 +249,7 @@ impl<'s> Search<'s> {
         requires { path.old ≡ no_ride (terms self.now.feed self.now.query.rider) }
         ensures { OnOk result (Gains self.now.feed self.now.query (IsEntry self.now.feed self.now.query) front.old front.new) }
     {
-        let firsts = self.firsts();
+        let firsts = self.members(self.query().from);
         for k in 0..firsts.len() {
             self.offer_from(alloc, firsts[k], path, front)?;
         }
@@ -292,17 +285,17 @@ pub fn plain_entries(
     ensures covers { IfOk result (λ entries. CoversOffers timetable.now query.now entries.items) }
 {
     match Fares::build(alloc, timetable.feed()) {
-        Ok(fares) => entries_by_fares(alloc, &fares, timetable, query),
+        Ok(fares) => entries_by_fares(timetable, query, alloc, &fares),
         Err(AllocError) => Err(AllocError),
     }
 }
 
 // The exact answer to a query, by the fares of its feed.
-fn entries_by_fares(
+fn entries_by_fares<'s>(
+    timetable: &'s Timetable<'s>,
+    query: &'s Query,
     alloc: Global,
     fares: &Fares,
-    timetable: &Timetable,
-    query: &Query,
 ) -> Result<Vec<Entry>, AllocError>
     requires usual { IsUsualQuery query.now }
     requires same { fares.now ≡ timetable.now }
@@ -310,17 +303,17 @@ fn entries_by_fares(
     ensures covers { IfOk result (λ entries. CoversOffers timetable.now query.now entries.items) }
 {
     match RiderFares::of(alloc, fares, query.rider) {
-        Ok(fares) => entries_for_rider(alloc, &fares, timetable, query),
+        Ok(fares) => entries_for_rider(timetable, query, alloc, &fares),
         Err(AllocError) => Err(AllocError),
     }
 }
 
 // The exact answer to a query, by the fares for its rider.
-fn entries_for_rider(
+fn entries_for_rider<'s>(
+    timetable: &'s Timetable<'s>,
+    query: &'s Query,
     alloc: Global,
     fares: &RiderFares,
-    timetable: &Timetable,
-    query: &Query,
 ) -> Result<Vec<Entry>, AllocError>
     requires usual { IsUsualQuery query.now }
     requires same { fares.now ≡ terms timetable.now query.now.rider }

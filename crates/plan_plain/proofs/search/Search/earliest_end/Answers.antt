@@ -1,4 +1,6 @@
-use Rattle.std.proofs.Common.{refl, inl, arith}
+use Rattle.std.proofs.Common.{refl, inl, ap, ◌∙◌, arith}
+use Rattle.feed_rows.specs.StopLinks.{stop_set}
+use Rattle.feed_rows.specs.declared.journeys.Query.{Query}
 use Rattle.plan_plain.proofs.SearchLaws.{earliest_more, earliest_end}
 use Rattle.plan_plain.proofs.search.Search.earliest_end.Goals as goal
 
@@ -14,4 +16,4 @@ loop-k-preserved c = earliest_more _ _ _ _ _ _ _ _ c.loop-k-test.true c.loop-k.i
 pub returns : goal.returns
 returns c =
     earliest_end c.args.self.now.feed c.args.self.now.query _ _ c.loop-k.k _
-    c.lasts-lasts.ensures c.loop-k-test.false c.loop-k.invariant
+    (c.members-lasts.ensures ∙ ap (λ (q : Query). stop_set c.args.self.now.feed q.to) c.query.ensures.is) c.loop-k-test.false c.loop-k.invariant

@@ -1,4 +1,6 @@
-use Rattle.std.proofs.Common.{◌∙◌}
+use Rattle.std.proofs.Common.{ap, ◌∙◌}
+use Rattle.feed_rows.specs.StopLinks.{stop_set}
+use Rattle.feed_rows.specs.declared.journeys.Query.{Query}
 use Rattle.plan_plain.proofs.SearchLaws.{gains_first, gains_entries}
 use Rattle.plan_plain.proofs.search.Search.offer_all.Goals as goal
 
@@ -9,4 +11,4 @@ loop-k-preserved c = record {
 }
 
 pub returns : goal.returns
-returns c = gains_entries c.args.self.now.feed c.args.self.now.query c.firsts-firsts.result.now c.loop-k.k c.args.front.now c.loop-k.front c.firsts-firsts.ensures c.loop-k-test.false c.loop-k.invariant.gains
+returns c = gains_entries c.args.self.now.feed c.args.self.now.query c.members-firsts.result.now c.loop-k.k c.args.front.now c.loop-k.front (c.members-firsts.ensures ∙ ap (λ (q : Query). stop_set c.args.self.now.feed q.from) c.query.ensures.is) c.loop-k-test.false c.loop-k.invariant.gains

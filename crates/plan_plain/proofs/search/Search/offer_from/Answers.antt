@@ -1,6 +1,7 @@
-use Rattle.std.proofs.Common.{[], sym, subst}
+use Rattle.std.proofs.Common.{[], ap, sym, subst}
 use Rattle.feed_timetable.specs.Standings.{stand_of}
 use Rattle.feed_rows.specs.JourneyStands.{first_stand}
+use Rattle.feed_rows.specs.declared.journeys.Query.{Query}
 use Rattle.plan_plain.specs.Paths.{Taken}
 use Rattle.plan_plain.specs.Searches.{Gains, GoesOn, IsSearched}
 use Rattle.plan_plain.proofs.SearchLaws.{gains_start, searched_first}
@@ -18,7 +19,7 @@ returns-clause-gains c =
     let query = c.args.self.now.query in
     gains_start feed query c.args.first c.args.front.now c.explore.new.front c.start-standing.ensures.sound
     (subst (λ n. Gains feed query (GoesOn feed query c.args.first []
-    (first_stand query c.args.first) n) c.args.front.now c.explore.new.front) c.limit.ensures.is
-    (subst (λ stand. Gains feed query (GoesOn feed query c.args.first [] stand c.limit.result) c.args.front.now c.explore.new.front) c.start-standing.ensures.stand
+    (first_stand query c.args.first) n) c.args.front.now c.explore.new.front) (ap (λ (q : Query). q.rides) c.query.ensures.is)
+    (subst (λ stand. Gains feed query (GoesOn feed query c.args.first [] stand c.query.result.now.rides) c.args.front.now c.explore.new.front) c.start-standing.ensures.stand
     (subst (λ (taken : Taken). Gains feed query (GoesOn feed query c.args.first taken.rides
-    (stand_of c.start-standing.result) c.limit.result) c.args.front.now c.explore.new.front) c.requires.path c.in_ok-explore.ensures.gains)))
+    (stand_of c.start-standing.result) c.query.result.now.rides) c.args.front.now c.explore.new.front) c.requires.path c.in_ok-explore.ensures.gains)))

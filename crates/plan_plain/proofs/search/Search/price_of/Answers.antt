@@ -15,5 +15,5 @@ returns c =
 pub price-requires : goal.price-requires
 price-requires c =
     let long = count_of_legs _ _ _ c.requires.legs in
-    let few = c.limit-limit.ensures.usual.rides in
+    let few = c.query-query.ensures.usual.rides in
     omega (arith, long, few, c.requires.few)
