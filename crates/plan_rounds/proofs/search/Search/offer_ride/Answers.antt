@@ -1,6 +1,12 @@
-use Rattle.std.proofs.Common.{refl, subst, arith, length, ◌<◌}
+use Rattle.std.proofs.Common.{◌≡◌, refl, subst, arith, length, ◌<◌}
+use Rattle.std.specs.Prelude.{Some}
 use Rattle.std.proofs.lemmas.Option.{slice_get_read}
+use Rattle.plain_laws.proofs.Laws.{All-slice_get}
+use Rattle.feed_rows.specs.declared.states.Move.{Move}
+use Rattle.feed_rows.specs.FareSteps.{move_after}
+use Rattle.feed_rows.specs.Legs.{leg_facts}
 use Rattle.fare_timeframes.specs.BuiltTimeframes.{AreTimeframesOf}
+use Rattle.round_labels.specs.Labels.{IsSmall}
 use Rattle.plan_rounds.specs.Searched.{Searched, Lacks}
 use Rattle.plan_rounds.specs.Moves.{AreMovesOf}
 use Rattle.plan_rounds.proofs.RideSteps.{leads_more, leads_by}
@@ -9,6 +15,29 @@ use Rattle.plan_rounds.specs.Moves.{HasBetter}
 use Rattle.plan_rounds.proofs.FutileLaws.{leads_without}
 use Rattle.plan_rounds.proofs.search.Search.offer_ride.Goals as goal
 use Rattle.plan_rounds.proofs.search.Search.offer_ride.Goals.{then-not-is_bettered+in_ok-offer_move, else-not-is_bettered}
+
+pub find_moves-requires-clause-bounded : goal.find_moves-requires-clause-bounded
+find_moves-requires-clause-bounded c = c.requires.source.bounded
+
+pub offer_move-requires-clause-small : goal.offer_move-requires-clause-small
+offer_move-requires-clause-small c =
+    let moves = c.find_moves.new.found.moves in
+    let lt : c.loop-k.k < length moves.items = omega (arith, c.loop-k-test.true, c.len-k-end.ensures, moves.ok.0) in
+    let at = slice_get_read moves.items (length moves.items) c.loop-k.k c.index.result.now refl lt c.index.ensures in
+    All-slice_get IsSmall moves.items c.loop-k.k c.index.result.now at c.in_ok-find_moves.ensures.moves.small
+
+pub offer_move-requires-clause-pays : goal.offer_move-requires-clause-pays
+offer_move-requires-clause-pays c =
+    let feed = c.args.self.now.feed in
+    let query = c.args.self.now.query in
+    let label = c.args.source.now.label.now in
+    let moves = c.find_moves.new.found.moves in
+    let lt : c.loop-k.k < length moves.items = omega (arith, c.loop-k-test.true, c.len-k-end.ensures, moves.ok.0) in
+    let at = slice_get_read moves.items (length moves.items) c.loop-k.k c.index.result.now refl lt c.index.ensures in
+    let frames = subst (λ (a : Searched). AreTimeframesOf a.feed c.self.inside.timeframes.now) c.self.view_is c.self.invariant.0 in
+    let are = subst (λ leg. AreMovesOf feed query label leg moves.items) (c.in_ok-leg_facts_into.ensures feed frames) c.in_ok-find_moves.ensures.moves in
+    All-slice_get (λ (m : Move). move_after feed query.rider label.state label.held.0 (leg_facts feed c.args.caught.now.facts) m ≡ Some m)
+    moves.items c.loop-k.k c.index.result.now at are.exact.right
 
 pub loop-k-preserved : goal.loop-k-preserved
 loop-k-preserved c =

@@ -1,8 +1,9 @@
-use Rattle.std.proofs.Common.{length, sym, ◌∙◌, pos, ⊎_elim, inl, inr, slice_index_or}
+use Rattle.std.proofs.Common.{length, subst, sym, ◌∙◌, pos, ⊎_elim, inl, inr, slice_index_or}
 use Rattle.std.specs.Prelude.{None}
 use Rattle.std.proofs.lemmas.List.Elements.{Contains-get_or}
 use Rattle.std.proofs.lemmas.Option.{slice_get-get_or}
 use Rattle.plan_rides.specs.declared.caught.CaughtRide.{CaughtRide}
+use Rattle.round_table.specs.Finals.{HasEnds}
 use Rattle.plan_rounds.specs.Searched.{Lacks}
 use Rattle.plan_rounds.proofs.RideSteps.{by_first, rides_more}
 use Rattle.plan_rounds.proofs.ScanLaws.{by_passed, right_from, steps_from}
@@ -23,6 +24,11 @@ offer_ride-requires-clause-right c =
     let serve = c.requires.serve in
     right_from c.args.self.now c.args.round.now c.args.source.now c.args.reached.now serve.latest rides c.requires.round c.requires.source
     c.requires.from serve.holds (slice_index_or rides c.loop-k.k none) (Contains-get_or rides c.loop-k.k none c.loop-k-test.true) (sym c.departs_since.ensures ∙ c.if-departs_since.true)
+
+pub offer_ride-requires-clause-ended : goal.offer_ride-requires-clause-ended
+offer_ride-requires-clause-ended c =
+    let me = c.args.self.now in
+    subst (λ labels. HasEnds me.feed me.query labels c.args.round.now.finals.now) (sym c.requires.labels) c.requires.round.ended
 
 pub loop-k-preserved : goal.loop-k-preserved
 loop-k-preserved c =
