@@ -39,7 +39,6 @@ impl Table {
     ///
     /// `Fault` is the first of NotUtf8, MissingFile (where the file is needed), TooManyRows (more than `max_rows` data rows),
     /// DoubledColumn and MissingColumn. What is wrong with rows and fields isn't looked at.
-    #[tactic(auto, unfolding(feed_faults::specs::FormFaults::form_fault_of_bytes, feed_faults::specs::FormFaults::form_fault_of_table), using(crate::proofs::HeaderLaws::too_many, crate::proofs::HeaderLaws::few_enough))]
     pub fn read(
         alloc: Global,
         bytes: &[u8],
