@@ -1,7 +1,35 @@
-use Rattle.std.proofs.Common.{◌∙◌, arith, sym}
+use Rattle.std.proofs.Common.{◌∙◌, ap, arith, length, sym}
+use Rattle.std.proofs.lemmas.List.{length-map}
+use Rattle.plan_patterns.specs.declared.cuts.RunWithHalts.{RunWithHalts}
 use Rattle.plan_patterns.proofs.CutLaws.{alike, cut_all, cut_more, cut_none, cut_same}
 use Rattle.plan_patterns.proofs.cuts.cut.Goals as goal
 use Rattle.plan_patterns.proofs.cuts.cut.Goals.{then-not-goes_on+in_ok-of+in_ok-push, else-not-goes_on}
+
+pub goes_on-requires : goal.goes_on-requires
+goes_on-requires c = c.loop-at-test.true
+
+pub halts_from-own-requires : goal.halts_from-own-requires
+halts_from-own-requires c =
+    let within = c.loop-at.invariant.within in
+    omega (arith, c.loop-at-test.true, within)
+
+pub slice_bounds-of-count : goal.slice_bounds-of-count
+slice_bounds-of-count c =
+    let within = c.loop-at.invariant.within in
+    let many = ap length c.requires.runs ∙ length-map c.args.together.now (λ (entry : RunWithHalts). entry.run) in
+    omega (arith, c.loop-at-test.true, within, many)
+
+pub slice_bounds-of-start : goal.slice_bounds-of-start
+slice_bounds-of-start c =
+    let within = c.loop-at.invariant.within in
+    let many = ap length c.requires.runs ∙ length-map c.args.together.now (λ (entry : RunWithHalts). entry.run) in
+    omega (arith, c.loop-at-test.true, within, many)
+
+pub slice_bounds-of-end : goal.slice_bounds-of-end
+slice_bounds-of-end c =
+    let within = c.loop-at.invariant.within in
+    let many = ap length c.requires.runs ∙ length-map c.args.together.now (λ (entry : RunWithHalts). entry.run) in
+    omega (arith, c.loop-at-test.true, within, many)
 
 pub of-requires : goal.of-requires
 of-requires c = record {

@@ -16,6 +16,33 @@ runs_with-requires-clause-many c =
     ap length (c.get.ensures ∙ active_at feed c.args.query.now c.args.active.now c.loop-days.days c.requires.active lt)
     ∙ length-list_below (length feed.service_names) (λ s. is_active feed (record { 0 = s }) (day_after_first (first_day c.args.query.now) c.loop-days.days).0)
 
+pub runs_with-requires-clause-trip : goal.runs_with-requires-clause-trip
+runs_with-requires-clause-trip c = c.requires.inside
+
+pub day_after-day-requires-clause-low : goal.day_after-day-requires-clause-low
+day_after-day-requires-clause-low c = c.first_day-first.ensures.low
+
+pub day_after-day-requires-clause-high : goal.day_after-day-requires-clause-high
+day_after-day-requires-clause-high c = c.first_day-first.ensures.high
+
+pub day_after-day-requires-clause-few : goal.day_after-day-requires-clause-few
+day_after-day-requires-clause-few c = omega (arith, c.loop-days-test.true, c.days_of-days-end.ensures.few)
+
+pub add_day-requires-clause-sound : goal.add_day-requires-clause-sound
+add_day-requires-clause-sound c = c.requires.sound
+
+pub add_day-requires-clause-usual : goal.add_day-requires-clause-usual
+add_day-requires-clause-usual c = c.requires.usual
+
+pub add_day-requires-clause-inside : goal.add_day-requires-clause-inside
+add_day-requires-clause-inside c = c.requires.inside
+
+pub add_day-requires-clause-day : goal.add_day-requires-clause-day
+add_day-requires-clause-day c = c.day_after-day.ensures.near
+
+pub loop-days-init : goal.loop-days-init
+loop-days-init c = sym (append-nil c.args.runs.now.items)
+
 pub add_day-requires-clause-runs : goal.add_day-requires-clause-runs
 add_day-requires-clause-runs c =
     let days = c.days_of-days-end.ensures.value in
