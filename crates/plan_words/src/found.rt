@@ -57,13 +57,23 @@ fn plain_command<'a>(alloc: Global) -> Result<Command<'a>, AllocError>
         .arg(words)
 }
 
-// The command with the options of all commands: which of them a command takes is judged before.
+// The command with the options of all commands: which of them a command takes is judged before. Each result is matched, as a
+// `?` on a value with lifetimes is written out longer.
 fn with_all_options<'a>(command: Command<'a>, alloc: Global) -> Result<Command<'a>, AllocError>
     ensures { IfOk result (λ more. app_of more ≡ with_all_rules (app_of command.entry)) }
 {
-    let command = with_option(command, alloc, "--rides", "rides")?;
-    let command = with_option(command, alloc, "--rider", "rider")?;
-    let command = with_option(command, alloc, "--within", "within")?;
+    let command = match with_option(command, alloc, "--rides", "rides") {
+        Ok(command) => command,
+        Err(AllocError) => return Err(AllocError),
+    };
+    let command = match with_option(command, alloc, "--rider", "rider") {
+        Ok(command) => command,
+        Err(AllocError) => return Err(AllocError),
+    };
+    let command = match with_option(command, alloc, "--within", "within") {
+        Ok(command) => command,
+        Err(AllocError) => return Err(AllocError),
+    };
     with_flag(command, alloc, "--stats", "stats")
 }
 
@@ -75,8 +85,14 @@ pub(crate) fn found_in(form: Form, words: &WordList) -> Result<ArgMatches<'_>, A
     requires { fits_form (form_of form) (behind words.now) ≡ true }
     ensures { IfOk result (IsFound (form_of form) (behind words.now)) }
 {
-    let command = plain_command(words.alloc())?;
-    let command = with_all_options(command, words.alloc())?;
+    let command = match plain_command(words.alloc()) {
+        Ok(command) => command,
+        Err(AllocError) => return Err(AllocError),
+    };
+    let command = match with_all_options(command, words.alloc()) {
+        Ok(command) => command,
+        Err(AllocError) => return Err(AllocError),
+    };
     match command.try_get_matches_from(words.as_slice()) {
         Ok(found) => Ok(found),
         Err(_) => Err(AllocError),

@@ -9,6 +9,6 @@ returns c =
     let rider = option_rule (codes "--rider") (codes "rider") in
     let within = option_rule (codes "--within") (codes "within") in
     subst (λ (app : App). IfOk c.with_flag.result (λ more. app_of more ≡ with_rule app (flag_rule (codes "--stats") (codes "stats"))))
-    (c.in_ok-command-3.ensures
-    ∙ ap (λ (app : App). with_rule app within) (c.in_ok-command-2.ensures ∙ ap (λ (app : App). with_rule app rider) c.in_ok-command.ensures))
+    (c.in-Ok-with_option-2.ensures
+    ∙ ap (λ (app : App). with_rule app within) (c.in-Ok-with_option.ensures ∙ ap (λ (app : App). with_rule app rider) c.in-Ok.ensures))
     c.with_flag.ensures
