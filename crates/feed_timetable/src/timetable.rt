@@ -75,7 +75,10 @@ impl<'f> Timetable<'f> {
     {
         // What has no lifetime is made first, and the trips last, so that least is held at each way out.
         let calendar = Calendar::build(alloc, feed)?;
-        let stops = Stops::build(alloc, feed)?;
+        let stops = match Stops::build(alloc, feed) {
+            Ok(stops) => stops,
+            Err(AllocError) => return Err(AllocError),
+        };
         let walks = Walks::build_with(alloc, feed, stops.sets())?;
         match Trips::build(alloc, feed) {
             Ok(trips) => Ok(Timetable {

@@ -61,13 +61,15 @@ impl<'f> Trips<'f> {
         ensures { IfOk result (λ trips. trips ≡ feed.now) }
     {
         let _rows = &feed.trips;
-        let calls = calls_by_trip(alloc, feed)?;
         let frequencies = runs_by_trip(alloc, feed)?;
-        Ok(Trips {
-            feed,
-            calls,
-            frequencies,
-        })
+        match calls_by_trip(alloc, feed) {
+            Ok(calls) => Ok(Trips {
+                feed,
+                calls,
+                frequencies,
+            }),
+            Err(AllocError) => Err(AllocError),
+        }
     }
 
     /// The trip with this id. None exactly where no trip has it.
