@@ -1,8 +1,11 @@
 -- The currency of accepted products.
-use Rattle.std.proofs.Common.{◌≡◌, refl, ℕ, ◌<◌, List, [], ◌∷◌, length, get_or, arith}
+use Rattle.std.proofs.Common.{◌≡◌, refl, ℕ, ◌<◌, List, [], ◌∷◌, length, get_or, true, nat_lt, arith}
+use Rattle.std.specs.Prelude.{unwrap_or}
 use Rattle.feed_files.specs.declared.names.FileName.TheVariants as file
 use Rattle.feed_files.specs.declared.names.ColumnName.TheVariants.{Currency}
-use Rattle.feed_faults.specs.Records.{row_count, field}
+use Rattle.feed_faults.specs.Records.{FileTable, row_count, field}
+use Rattle.feed_faults.specs.FieldGrammars.{currency_decimals}
+use Rattle.feed_faults.specs.AcceptedFeed.{feed_currency, feed_decimals}
 use Rattle.feed_soundness.proofs.RuleShapes.{currency}
 use Rattle.feed_faults.specs.FeedTables.{FeedTables, table_in}
 use Rattle.feed_soundness.specs.AcceptedTables.{AreFormed}
@@ -20,3 +23,9 @@ three_bytes (a ∷ []) e = absurd (omega arith)
 three_bytes (a ∷ b ∷ []) e = absurd (omega arith)
 three_bytes (a ∷ b ∷ c ∷ []) e = refl
 three_bytes (a ∷ b ∷ c ∷ d ∷ rest) e = absurd (omega arith)
+
+-- where there is a product, the decimals are those of the first one's currency
+pub decimals_of_first : (products : FileTable) → nat_lt 0 (row_count products) ≡ true
+    → feed_decimals products ≡ unwrap_or (currency_decimals (field products 0 Currency)) 2
+unfolding feed_currency feed_decimals
+decimals_of_first products some = rw some refl
