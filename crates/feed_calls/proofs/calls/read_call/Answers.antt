@@ -1,5 +1,4 @@
 use Rattle.std.proofs.Common.{rules, refl, sym, ap, ◌∙◌, ◌==◌, not, arith}
-use Rattle.std.proofs.lemmas.Result.{err_from_is_err_and}
 use Rattle.feed_faults.specs.AcceptedFeed.{finite_count}
 use Rattle.feed_faults.specs.FieldValues.{nat_of, int_or_zero}
 use Rattle.feed_text.proofs.ValueLaws.{natural_is, int_is_short, time_fits, time_is_few}
@@ -48,83 +47,3 @@ returns-clause-row g c =
     (c.of-2.ensures ∙ c.natural-2.ensures ∙ ap finite_count (rw columns at c.in_ok-departure.ensures.number) ∙ natural_is _)
     (c.permits.ensures ∙ ap (λ n. not (nat_of n == 1)) (rw columns at c.in_ok-pickup.ensures.number))
     (c.permits-2.ensures ∙ ap (λ n. not (nat_of n == 1)) (rw columns at c.in_ok-drop_off.ensures.number))
-
-pub returns-then-is_long-clause-fault : goal.returns-then-is_long-clause-fault
-returns-then-is_long-clause-fault g c = rw (sym c.is_long.ensures ∙ c.if-is_long.true, c.row_fault.ensures) refl
-
-pub returns-in_err-trip-clause-fault : goal.returns-in_err-trip-clause-fault
-returns-in_err-trip-clause-fault g c =
-    let columns = c.rule_of.ensures.columns in
-    let short = sym c.is_long.ensures ∙ c.if-is_long.false in
-    let fault = rw columns at c.in_err-trip.ensures.fault in
-    let told = err_from_is_err_and c.from_residual.result c.from_residual.ensures.1 in
-    rw (told.1, told.2, short, fault) refl
-
-pub returns-in_err-stop-clause-fault : goal.returns-in_err-stop-clause-fault
-returns-in_err-stop-clause-fault g c =
-    let columns = c.rule_of.ensures.columns in
-    let short = sym c.is_long.ensures ∙ c.if-is_long.false in
-    let trip = rw columns at c.in_ok-trip.ensures.sound in
-    let fault = rw columns at c.in_err-stop.ensures.fault in
-    let told = err_from_is_err_and c.from_residual-in_err-stop.result c.from_residual-in_err-stop.ensures.1 in
-    rw (told.1, told.2, short, trip, fault) refl
-
-pub returns-in_err-sequence-clause-fault : goal.returns-in_err-sequence-clause-fault
-returns-in_err-sequence-clause-fault g c =
-    let columns = c.rule_of.ensures.columns in
-    let short = sym c.is_long.ensures ∙ c.if-is_long.false in
-    let trip = rw columns at c.in_ok-trip.ensures.sound in
-    let stop = rw columns at c.in_ok-stop.ensures.sound in
-    let fault = rw columns at c.in_err-sequence.ensures.fault in
-    let told = err_from_is_err_and c.from_residual-in_err-sequence.result c.from_residual-in_err-sequence.ensures.1 in
-    rw (told.1, told.2, short, trip, stop, fault) refl
-
-pub returns-in_err-arrival-clause-fault : goal.returns-in_err-arrival-clause-fault
-returns-in_err-arrival-clause-fault g c =
-    let columns = c.rule_of.ensures.columns in
-    let short = sym c.is_long.ensures ∙ c.if-is_long.false in
-    let trip = rw columns at c.in_ok-trip.ensures.sound in
-    let stop = rw columns at c.in_ok-stop.ensures.sound in
-    let sequence = rw columns at c.in_ok-sequence.ensures.sound in
-    let fault = rw columns at c.in_err-arrival.ensures.fault in
-    let told = err_from_is_err_and c.from_residual-in_err-arrival.result c.from_residual-in_err-arrival.ensures.1 in
-    rw (told.1, told.2, short, trip, stop, sequence, fault) refl
-
-pub returns-in_err-departure-clause-fault : goal.returns-in_err-departure-clause-fault
-returns-in_err-departure-clause-fault g c =
-    let columns = c.rule_of.ensures.columns in
-    let short = sym c.is_long.ensures ∙ c.if-is_long.false in
-    let trip = rw columns at c.in_ok-trip.ensures.sound in
-    let stop = rw columns at c.in_ok-stop.ensures.sound in
-    let sequence = rw columns at c.in_ok-sequence.ensures.sound in
-    let arrival = rw columns at c.in_ok-arrival.ensures.sound in
-    let fault = rw columns at c.in_err-departure.ensures.fault in
-    let told = err_from_is_err_and c.from_residual-in_err-departure.result c.from_residual-in_err-departure.ensures.1 in
-    rw (told.1, told.2, short, trip, stop, sequence, arrival, fault) refl
-
-pub returns-in_err-pickup-clause-fault : goal.returns-in_err-pickup-clause-fault
-returns-in_err-pickup-clause-fault g c =
-    let columns = c.rule_of.ensures.columns in
-    let short = sym c.is_long.ensures ∙ c.if-is_long.false in
-    let trip = rw columns at c.in_ok-trip.ensures.sound in
-    let stop = rw columns at c.in_ok-stop.ensures.sound in
-    let sequence = rw columns at c.in_ok-sequence.ensures.sound in
-    let arrival = rw columns at c.in_ok-arrival.ensures.sound in
-    let departure = rw columns at c.in_ok-departure.ensures.sound in
-    let fault = rw columns at c.in_err-pickup.ensures.fault in
-    let told = err_from_is_err_and c.from_residual-in_err-pickup.result c.from_residual-in_err-pickup.ensures.1 in
-    rw (told.1, told.2, short, trip, stop, sequence, arrival, departure, fault) refl
-
-pub returns-in_err-drop_off-clause-fault : goal.returns-in_err-drop_off-clause-fault
-returns-in_err-drop_off-clause-fault g c =
-    let columns = c.rule_of.ensures.columns in
-    let short = sym c.is_long.ensures ∙ c.if-is_long.false in
-    let trip = rw columns at c.in_ok-trip.ensures.sound in
-    let stop = rw columns at c.in_ok-stop.ensures.sound in
-    let sequence = rw columns at c.in_ok-sequence.ensures.sound in
-    let arrival = rw columns at c.in_ok-arrival.ensures.sound in
-    let departure = rw columns at c.in_ok-departure.ensures.sound in
-    let pickup = rw columns at c.in_ok-pickup.ensures.sound in
-    let fault = rw columns at c.in_err-drop_off.ensures.fault in
-    let told = err_from_is_err_and c.from_residual-in_err-drop_off.result c.from_residual-in_err-drop_off.ensures.1 in
-    rw (told.1, told.2, short, trip, stop, sequence, arrival, departure, pickup, fault) refl
