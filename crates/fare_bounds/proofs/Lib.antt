@@ -1,0 +1,6 @@
+pub mod FirstLaws
+pub mod AmountLaws
+pub mod PayableLaws
+pub mod LevelLaws
+pub mod StepLaws
+pub mod BoundLaws

@@ -1,0 +1,1 @@
+-- Under these two types the leg is free.

@@ -1,0 +1,4 @@
+pub mod Amounts
+pub mod Payable
+pub mod Levels
+pub mod FareBounds

@@ -1,0 +1,181 @@
+//! From what some further rides add at least to what one ride more adds.
+ghost use Rattle.std.specs.Prelude.{◌≡◌, ℕ, ◌+◌, ◌*◌, ◌<◌, ◌≤ℤ◌, IfOk, length, vec_len};
+ghost use Rattle.feed_rows.specs.Codes.{includes_leg_after};
+ghost use Rattle.fare_bounds.specs.Amounts.{floor_of, IsAmount, AreAmounts, amount_at, place_of, row_place};
+ghost use Rattle.fare_bounds.specs.Levels.{costs_by, AreLegCosts, AreLesserCosts, AreCosts, AreCostsTo, IsLevelBelow, IsFilled, added_by, IsChangeAbove, IsNextLevel};
+
+use crate::amounts::{NEVER, amount_at, at_place, lower, place_of, row_place};
+use crate::least::LeastAmounts;
+use crate::level::{LegCosts, Level};
+use feed_rows::{Feed, TransferRuleRow};
+use std::alloc::{AllocError, Global};
+use transit_base::LegGroupId;
+
+/// The `fare_transfer_type` under which only the first two of a leg, the change and the next leg are paid.
+const LEG_BEFORE_AND_CHANGE: u8 = 0;
+/// The `fare_transfer_type` under which only the change is paid.
+const CHANGE_ALONE: u8 = 2;
+
+impl LegCosts {
+    /// Where there is no leg.
+    fn never() -> LegCosts
+        ensures { (count : ℕ) → AreCosts count result }
+    {
+        LegCosts {
+            free: NEVER,
+            charged: NEVER,
+            apart: NEVER,
+        }
+    }
+
+    /// The lesser of both, each by itself.
+    fn lesser(&self, other: &LegCosts) -> LegCosts
+        ensures first { AreLesserCosts result self.now }
+        ensures second { AreLesserCosts result other.now }
+        ensures amounts { (count : ℕ) → AreCosts count self.now → AreCosts count other.now → AreCosts count result }
+    {
+        LegCosts {
+            free: self.free.min(other.free),
+            charged: self.charged.min(other.charged),
+            apart: self.apart.min(other.apart),
+        }
+    }
+}
+
+impl Level {
+    /// The level for so many rides at most, which add this.
+    ///
+    /// # Errors
+    /// Want of memory.
+    pub fn filled(alloc: Global, rides: u8, places: usize, amount: i64) -> Result<Level, AllocError>
+        requires { IsAmount (2 * rides) amount }
+        ensures { IfOk result (IsFilled rides places amount) }
+    {
+        Ok(Level {
+            rides,
+            with_held: vec![in alloc; amount; places]?,
+            without_held: vec![in alloc; NEVER; places]?,
+        })
+    }
+
+    /// What a leg of the group at the place and the rides after it add, where such legs cost no less than this.
+    fn leg_costs(&self, least: i64, place: usize) -> LegCosts
+        requires rides { self.now.rides < 255 }
+        requires least { IsAmount 1 least }
+        ensures costs { AreLegCosts self.now place least result }
+        ensures amounts { AreCosts (2 * self.now.rides + 1) result }
+    {
+        if least >= NEVER {
+            return LegCosts::never();
+        }
+        let with_held = at_place(&self.with_held, place);
+        costs_by(least, with_held, at_place(&self.without_held, place))
+    }
+
+    /// The least that a leg and the rides after it add, where legs cost no less than this by the place of their group.
+    fn least_costs(&self, legs: &[i64]) -> LegCosts
+        requires rides { self.now.rides < 255 }
+        requires legs { AreAmounts 1 legs.now }
+        ensures costs { (place : ℕ) → AreLegCosts self.now place (amount_at legs.now place) result }
+        ensures amounts { AreCosts (2 * self.now.rides + 1) result }
+    {
+        let mut least = LegCosts::never();
+        for place in 0..legs.len() {
+            least = least.lesser(&self.leg_costs(amount_at(legs, place), place));
+        }
+        least
+    }
+
+    /// What a leg and the rides after it add, where its group is one that the field matches; `least` is that of all
+    /// groups.
+    fn costs_to(&self, to: Option<LegGroupId>, legs: &[i64], least: &LegCosts) -> LegCosts
+        requires rides { self.now.rides < 255 }
+        requires legs { AreAmounts 1 legs.now }
+        requires all { (place : ℕ) → AreLegCosts self.now place (amount_at legs.now place) least.now }
+        requires least { AreCosts (2 * self.now.rides + 1) least.now }
+        ensures costs { AreCostsTo self.now to legs.now result }
+        ensures amounts { AreCosts (2 * self.now.rides + 1) result }
+    {
+        match to {
+            Some(_) => {
+                let place = place_of(to);
+                self.leg_costs(amount_at(legs, place), place)
+            }
+            None => *least,
+        }
+    }
+
+    /// Lowers what stands for the groups before a change of the row to what the change with all that follows adds.
+    fn take_change(&mut self, row: &TransferRuleRow, added: i64)
+        requires place { row_place row.now.from < vec_len self.old.with_held }
+        requires same { vec_len self.old.without_held ≡ vec_len self.old.with_held }
+        requires added { floor_of (2 * self.old.rides) ≤ℤ added }
+        ensures below { IsLevelBelow self.new self.old }
+        ensures row { IsChangeAbove self.new row.now added }
+    {
+        let place = row_place(row.from);
+        if row.kind == CHANGE_ALONE {
+            lower(&mut self.without_held, place, added);
+        } else {
+            lower(&mut self.with_held, place, added);
+        }
+    }
+
+    /// The level for one ride more.
+    ///
+    /// # Errors
+    /// Want of memory.
+    pub fn next(
+        &self,
+        alloc: Global,
+        feed: &Feed,
+        amounts: &LeastAmounts,
+    ) -> Result<Level, AllocError>
+        requires rides { self.now.rides < 255 }
+        requires places { vec_len amounts.now.legs ≡ length feed.now.group_names + 2 }
+        ensures { IfOk result (IsNextLevel feed.now amounts.now self.now) }
+    {
+        let least = self.least_costs(&amounts.legs);
+        let mut level = Level::filled(alloc, self.rides + 1, amounts.legs.len(), least.apart)?;
+        for row in feed.transfer_rules.items() {
+            let costs = self.costs_to(row.to, &amounts.legs, &least);
+            level.take_change(row, added_by(row.kind, amounts.charge(row.product), &costs));
+        }
+        Ok(level)
+    }
+}
+
+/// What a change of this type adds with the leg and the rides after it, where it costs this and they that.
+fn added_by(kind: u8, charge: i64, costs: &LegCosts) -> i64
+    requires charge { IsAmount 1 charge }
+    requires costs { AreCosts 600 costs.now }
+    ensures { result ≡ added_by kind charge costs.now.free costs.now.charged }
+{
+    if includes_leg_after(kind) {
+        charge + costs.free
+    } else {
+        charge + costs.charged
+    }
+}
+
+/// Whether the leg after a change of this type is included in it.
+fn includes_leg_after(kind: u8) -> bool
+    ensures { result ≡ includes_leg_after kind }
+{
+    kind == LEG_BEFORE_AND_CHANGE || kind == CHANGE_ALONE
+}
+
+/// What a leg and the rides after it add, where legs cost no less than this, and by what the rides add.
+fn costs_by(least: i64, with_held: i64, without_held: i64) -> LegCosts
+    requires least { IsAmount 1 least }
+    requires with_held { IsAmount 600 with_held }
+    requires without_held { IsAmount 600 without_held }
+    ensures { result ≡ costs_by least with_held without_held }
+{
+    let rest = with_held.min(without_held).min(0);
+    LegCosts {
+        free: rest,
+        charged: least + rest,
+        apart: (least + with_held.min(0)).min(without_held),
+    }
+}
