@@ -34,7 +34,7 @@ PROGRAM = """\
 
 ghost use Rattle.std.specs.Prelude.{◌≤◌, ◌^◌, nat_abs};
 
-use fare_automaton::Automaton;
+use fare_automaton::{Automaton, LegTimes};
 use fare_timeframes::Timeframes;
 use feed_check::load;
 use feed_rows::{FareState, LegFacts, Move, RideFacts};
@@ -141,11 +141,15 @@ fn steps(
     let mut sum = 0i64;
     for leg in legs {
         let options = automaton.options(alloc, leg)?;
+        let times = LegTimes {
+            departure: leg.departure,
+            arrival: leg.arrival,
+        };
         for stand in stands {
             automaton.step_into(
                 &stand.state,
                 low(stand.held),
-                leg,
+                times,
                 &options,
                 &mut places,
                 &mut moves,

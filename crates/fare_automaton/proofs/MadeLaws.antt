@@ -4,7 +4,6 @@ use Rattle.std.specs.Prelude.{if◌then◌else◌, Option, Some, None, is_none, 
 use Rattle.std.specs.Option.{option_map_or}
 use Rattle.std.proofs.lemmas.Option.{same_Some, none-some, slice_get_within, slice_get-map, slice_get-get_or}
 use Rattle.std.proofs.lemmas.List.{length-map}
-use Rattle.transit_base.specs.declared.numbers.LegGroupId.{LegGroupId}
 use Rattle.transit_base.specs.declared.numbers.ProductRowId.{ProductRowId}
 use Rattle.transit_base.specs.declared.numbers.RiderId.{RiderId}
 use Rattle.transit_base.specs.declared.numbers.XferId.{XferId}
@@ -21,7 +20,8 @@ use Rattle.feed_rows.specs.FareSteps.{leg_taken, place_taken, is_whole, asked_af
 use Rattle.plain_laws.specs.Plain.{joined_below}
 use Rattle.plain_laws.proofs.Laws.{Contains-joined_below, joined_below-tells, AllPairs-joined_below, All-from, All-slice_get, slice_get-Contains, Contains-map, map-tells}
 use Rattle.fare_automaton.specs.declared.changes.GroupedLeg.{GroupedLeg}
-use Rattle.fare_automaton.specs.Changes.{leg_of}
+use Rattle.fare_automaton.specs.declared.changes.LegTimes.{LegTimes}
+use Rattle.fare_automaton.specs.Changes.{chosen_at, leg_by, leg_of, times_of}
 use Rattle.fare_automaton.specs.Options.{ArePicks, HasPlaces, place_list, first_made, next_made, made_at}
 use Rattle.fare_laws.specs.BareMoves.{bare}
 use Rattle.fare_laws.proofs.MoveLaws.{place_by, first_tells, first_is_bare, first_when, next_tells, next_when}
@@ -107,7 +107,7 @@ module _ (feed : FeedRows) (rider : Option RiderId) (leg : LegFacts) (picks : Li
 -- ---- a first leg
 
 module _ (feed : FeedRows) (rider : Option RiderId) (leg : LegFacts) where
-  first_of : (pick : LegChoice) → is_leg_choice feed rider leg pick ≡ true → AreOf (move_of_first feed rider leg) pick (first_made feed leg pick)
+  first_of : (pick : LegChoice) → is_leg_choice feed rider leg pick ≡ true → AreOf (move_of_first feed rider leg) pick (first_made feed (times_of leg) pick)
   first_of pick paid = by (chosen_leg feed leg pick) refl
     where
       only : (m x : Move) → Contains (m ∷ []) x → m ≡ x
@@ -140,10 +140,10 @@ module _ (feed : FeedRows) (rider : Option RiderId) (leg : LegFacts) where
       }
 
   pub starts_are : (picks : List LegChoice) (moves : List Move) → ArePicks feed rider leg picks →
-      moves ≡ joined_below (length picks) (made_at (first_made feed leg) picks) → AreMovesAfter feed rider None (pos 0) leg moves
+      moves ≡ joined_below (length picks) (made_at (first_made feed (times_of leg)) picks) → AreMovesAfter feed rider None (pos 0) leg moves
   starts_are picks moves are is =
       subst (AreMovesAfter feed rider None (pos 0) leg) (sym is)
-      (let all = all_made feed rider leg picks are (move_of_first feed rider leg) (first_made feed leg) first_of (λ move e. (first_tells feed rider leg move e).paid_leg) in
+      (let all = all_made feed rider leg picks are (move_of_first feed rider leg) (first_made feed (times_of leg)) first_of (λ move e. (first_tells feed rider leg move e).paid_leg) in
       record { right = all.right; all = all.all; once = all.once })
 
 -- ---- a leg after a state
@@ -206,7 +206,7 @@ module _ (feed : FeedRows) (rider : Option RiderId) (state : FareState) (held : 
   all_true : (a b c : Bool) → a ≡ true → b ≡ true → c ≡ true → true ≡ (a && b && c)
   all_true a b c e f g = rw (e, f, g) refl
 
-  next_of : (pick : LegChoice) → is_leg_choice feed rider leg pick ≡ true → AreOf (move_of_next feed rider state held leg) pick (next_made feed rider state held leg pick)
+  next_of : (pick : LegChoice) → is_leg_choice feed rider leg pick ≡ true → AreOf (move_of_next feed rider state held leg) pick (next_made feed rider state held (times_of leg) pick)
   next_of pick paid = by (chosen_leg feed leg pick) refl
     where
       by : (o : Option FareLeg) → chosen_leg feed leg pick ≡ o →
@@ -243,33 +243,31 @@ module _ (feed : FeedRows) (rider : Option RiderId) (state : FareState) (held : 
           }
 
   pub steps_are : (picks : List LegChoice) (moves : List Move) → ArePicks feed rider leg picks →
-      moves ≡ joined_below (length picks) (made_at (next_made feed rider state held leg) picks) → AreMovesAfter feed rider (Some state) held leg moves
+      moves ≡ joined_below (length picks) (made_at (next_made feed rider state held (times_of leg)) picks) → AreMovesAfter feed rider (Some state) held leg moves
   steps_are picks moves are is =
       subst (AreMovesAfter feed rider (Some state) held leg) (sym is)
-      (let all = all_made feed rider leg picks are (move_of_next feed rider state held leg) (next_made feed rider state held leg) next_of (λ move e. (next_tells feed rider state held leg move e).paid_leg) in
+      (let all = all_made feed rider leg picks are (move_of_next feed rider state held leg) (next_made feed rider state held (times_of leg)) next_of (λ move e. (next_tells feed rider state held leg move e).paid_leg) in
       record { right = all.right; all = all.all; once = all.once })
 
-  -- the leg by a rule of this group
-  abbrev of_group : Option LegGroupId → FareLeg
-  of_group group = record { group = group; departure = leg.departure; arrival = leg.arrival }
-
-  -- a leg that was chosen has its own moments
-  pub chosen_moments : (pick : LegChoice) (next : GroupedLeg) → Some (leg_of next) ≡ chosen_leg feed leg pick →
-      leg_of next ≡ of_group next.group
+-- a leg that was chosen has these moments
+module _ (feed : FeedRows) (rider : Option RiderId) (state : FareState) (held : ℤ) (times : LegTimes) where
+  pub chosen_moments : (pick : LegChoice) (next : GroupedLeg) → Some (leg_of next) ≡ chosen_at feed times pick →
+      leg_of next ≡ leg_by times next.group
   chosen_moments pick next is = by (slice_get feed.leg_rules pick.rule.0) is
     where
-      by : (o : Option LegRuleRow) → Some (leg_of next) ≡ option_map (λ (rule : LegRuleRow). of_group rule.group) o →
-          leg_of next ≡ of_group next.group
+      by : (o : Option LegRuleRow) → Some (leg_of next) ≡ option_map (λ (rule : LegRuleRow). leg_by times rule.group) o →
+          leg_of next ≡ leg_by times next.group
       by None e = absurd (cc)
       by (Some rule) e =
-          let same : leg_of next ≡ of_group rule.group = same_Some _ _ e in
-          same ∙ ap of_group (sym (ap (λ (l : FareLeg). l.group) same))
+          let same : leg_of next ≡ leg_by times rule.group = same_Some _ _ e in
+          same ∙ ap (leg_by times) (sym (ap (λ (l : FareLeg). l.group) same))
 
   -- the moves by the places of the change to it
   pub made_by_places : (pick : LegChoice) (next : GroupedLeg) (places : List (Option ChangeChoice)) →
-      Some (leg_of next) ≡ chosen_leg feed leg pick → HasPlaces feed rider state leg places next.group →
-      map (full (leg_of next) pick) places ≡ next_made feed rider state held leg pick
+      Some (leg_of next) ≡ chosen_at feed times pick → HasPlaces feed rider state times places next.group →
+      map (λ place. next_move feed state held (leg_of next) (bare pick place)) places ≡ next_made feed rider state held times pick
   made_by_places pick next places chosen has =
       let places_of = λ (l : FareLeg). place_list feed rider (asked_after state l) in
-      ap (map (full (leg_of next) pick)) (has ∙ ap places_of (sym (chosen_moments pick next chosen)))
-      ∙ ap (λ (o : Option FareLeg). option_map_or (λ l. map (full l pick) (places_of l)) o []) chosen
+      let by_places = λ (l : FareLeg). map (λ (place : Option ChangeChoice). next_move feed state held l (bare pick place)) in
+      ap (by_places (leg_of next)) (has ∙ ap places_of (sym (chosen_moments pick next chosen)))
+      ∙ ap (λ (o : Option FareLeg). option_map_or (λ l. by_places l (places_of l)) o []) chosen

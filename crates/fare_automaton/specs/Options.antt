@@ -13,10 +13,12 @@ use Rattle.feed_rows.specs.declared.states.Move.{Move}
 use Rattle.feed_rows.specs.FeedRows.{FeedRows}
 use Rattle.feed_rows.specs.LegRules.{is_selected_rule}
 use Rattle.feed_rows.specs.TransferRules.{AskedChange, is_selected}
-use Rattle.feed_rows.specs.FareChoices.{is_open, chosen_leg, is_leg_choice}
+use Rattle.feed_rows.specs.FareChoices.{is_open, is_leg_choice}
 use Rattle.feed_rows.specs.FareSteps.{asked_after, is_arranged_after, is_place_after, first_move, next_move}
 use Rattle.plain_laws.specs.Plain.{at_and, joined_below}
 use Rattle.fare_laws.specs.BareMoves.{bare}
+use Rattle.fare_automaton.specs.declared.changes.LegTimes.{LegTimes}
+use Rattle.fare_automaton.specs.Changes.{chosen_at, leg_by}
 use Rattle.fare_automaton.specs.Compiled.{is_chosen}
 
 -- ---- legs
@@ -91,25 +93,22 @@ place_list feed rider (Some change) =
 
 -- ---- moves
 
--- the move of a first leg that is paid so
-abbrev pub first_made : FeedRows → LegFacts → LegChoice → List Move
-first_made feed leg pick =
-    option_map_or (λ first. first_move feed first (bare pick None) ∷ []) (chosen_leg feed leg pick) []
+-- the move of a first leg with these moments that is paid so
+abbrev pub first_made : FeedRows → LegTimes → LegChoice → List Move
+first_made feed times pick =
+    option_map_or (λ first. first_move feed first (bare pick None) ∷ []) (chosen_at feed times pick) []
 
--- the moves of a leg after the state that is paid so: by each place of the change to it
-abbrev pub next_made : FeedRows → Option RiderId → FareState → ℤ → LegFacts → LegChoice → List Move
-next_made feed rider state held leg pick =
+-- the moves of a leg with these moments after the state that is paid so: by each place of the change to it
+abbrev pub next_made : FeedRows → Option RiderId → FareState → ℤ → LegTimes → LegChoice → List Move
+next_made feed rider state held times pick =
     option_map_or
     (λ next. map (λ place. next_move feed state held next (bare pick place)) (place_list feed rider (asked_after state next)))
-    (chosen_leg feed leg pick) []
+    (chosen_at feed times pick) []
 
--- these are the places of the change from the state to the leg, where its rule is of this group
-abbrev pub HasPlaces : FeedRows → Option RiderId → FareState → LegFacts → List (Option ChangeChoice)
+-- these are the places of the change from the state to a leg with these moments, where its rule is of this group
+abbrev pub HasPlaces : FeedRows → Option RiderId → FareState → LegTimes → List (Option ChangeChoice)
     → Option LegGroupId → Type 0
-HasPlaces feed rider state leg places group =
-    places
-    ≡ place_list feed rider
-    (asked_after state (record { group = group; departure = leg.departure; arrival = leg.arrival }))
+HasPlaces feed rider state times places group = places ≡ place_list feed rider (asked_after state (leg_by times group))
 
 -- the lists of all choices, one after another
 abbrev pub made_at : (LegChoice → List Move) → List LegChoice → ℕ → List Move

@@ -8,6 +8,13 @@ ghost use Rattle.fare_automaton.specs.Changes.{leg_of, facts_of, has_clock, aske
 use feed_rows::{FareState, Limit};
 use transit_base::{LegGroupId, Moment};
 
+/// When a leg departs and arrives.
+#[derive(Clone, Copy)]
+pub struct LegTimes {
+    pub departure: Moment,
+    pub arrival: Moment,
+}
+
 /// A leg as changes see it: the leg group of its rule, and its moments.
 #[derive(Clone, Copy)]
 pub struct GroupedLeg {

@@ -3,10 +3,10 @@ ghost use Rattle.std.specs.Prelude.{◌≡◌, ◌&&◌, ◌==◌, option_map, i
 ghost use Rattle.plain_laws.specs.Plain.{at_and, empty_or, filled_and};
 ghost use Rattle.feed_rows.specs.FareChoices.{is_open, chosen_leg, is_leg_choice, is_change_product};
 ghost use Rattle.feed_rows.specs.FareSteps.{leg_taken, place_taken, is_whole, is_row_after, is_place_after};
-ghost use Rattle.fare_automaton.specs.Changes.{leg_of, asked_of};
+ghost use Rattle.fare_automaton.specs.Changes.{leg_of, asked_of, chosen_at};
 
 use crate::automaton::Automaton;
-use crate::changes::{Change, GroupedLeg};
+use crate::changes::{Change, GroupedLeg, LegTimes};
 use feed_rows::{ChangeChoice, LegChoice, LegFacts, Move, ProductRow};
 use transit_base::{ProductId, ProductRowId, RiderId};
 
@@ -15,11 +15,22 @@ impl<'f> Automaton<'f> {
     pub(crate) fn chosen_leg(&self, leg: &LegFacts, pick: &LegChoice) -> Option<GroupedLeg>
         ensures { option_map leg_of result ≡ chosen_leg self.now.feed leg.now pick.now }
     {
+        let times = LegTimes {
+            departure: leg.departure,
+            arrival: leg.arrival,
+        };
+        self.chosen_at(times, pick)
+    }
+
+    /// The same of a leg with these moments.
+    pub(crate) fn chosen_at(&self, times: LegTimes, pick: &LegChoice) -> Option<GroupedLeg>
+        ensures { option_map leg_of result ≡ chosen_at self.now.feed times pick.now }
+    {
         let rule = self.leg_row(pick.rule)?;
         Some(GroupedLeg {
             group: rule.group,
-            departure: leg.departure,
-            arrival: leg.arrival,
+            departure: times.departure,
+            arrival: times.arrival,
         })
     }
 

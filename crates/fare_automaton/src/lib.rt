@@ -19,4 +19,5 @@ mod rows;
 mod steps;
 
 pub use automaton::Automaton;
+pub use changes::LegTimes;
 pub use known::KnownOptions;

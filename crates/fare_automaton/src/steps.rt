@@ -4,12 +4,13 @@ ghost use Rattle.std.specs.Option.{ForSome};
 ghost use Rattle.plain_laws.specs.Plain.{joined_below};
 ghost use Rattle.feed_rows.specs.FareSteps.{next_move};
 ghost use Rattle.fare_automaton.specs.Steps.{AreStarts, AreSteps};
-ghost use Rattle.fare_automaton.specs.Changes.{leg_of};
+ghost use Rattle.fare_automaton.specs.Changes.{leg_of, leg_by, times_of};
+ghost use Rattle.feed_rows.specs.declared.journeys.LegFacts.{LegFacts};
 ghost use Rattle.fare_laws.specs.BareMoves.{bare};
 ghost use Rattle.fare_automaton.specs.Options.{ArePicks, HasPlaces, first_made, next_made, made_at};
 
 use crate::automaton::Automaton;
-use crate::changes::{GroupedLeg, change_after};
+use crate::changes::{GroupedLeg, LegTimes, change_after};
 use feed_rows::{ChangeChoice, FareState, LegChoice, LegFacts, Move, Moves};
 use std::alloc::{AllocError, Global};
 use transit_base::{LegGroupId, Money};
@@ -24,7 +25,7 @@ impl<'f> Automaton<'f> {
     {
         let options = self.options(alloc, leg)?;
         let mut moves = Vec::new(alloc);
-        self.start_into(leg, &options, &mut moves)?;
+        self.start_into(times_of(leg), &options, &mut moves)?;
         move_list(alloc, &moves)
     }
 
@@ -46,26 +47,32 @@ impl<'f> Automaton<'f> {
         let options = self.options(alloc, leg)?;
         let mut places = Vec::new(alloc);
         let mut moves = Vec::new(alloc);
-        self.step_into(state, held, leg, &options, &mut places, &mut moves)?;
+        self.step_into(
+            state,
+            held,
+            times_of(leg),
+            &options,
+            &mut places,
+            &mut moves,
+        )?;
         move_list(alloc, &moves)
     }
 
-    /// Replaces what `moves` holds by the moves of a first leg with these options: all that there are, each once.
+    /// Replaces what `moves` holds by the moves of a first leg with these moments and options: all that there are, each once.
     ///
     /// # Errors
     /// Want of memory.
     pub fn start_into(
         &self,
-        leg: &LegFacts,
+        times: LegTimes,
         options: &[LegChoice],
         moves: &mut Vec<Move>,
     ) -> Result<(), AllocError>
-        requires options { ArePicks self.now.feed self.now.rider leg.now options.now }
-        ensures { OnOk result (AreStarts self.now.feed self.now.rider leg.now moves.new.items) }
+        ensures { (leg : LegFacts) → times_of leg ≡ times → ArePicks self.now.feed self.now.rider leg options.now → OnOk result (AreStarts self.now.feed self.now.rider leg moves.new.items) }
     {
         moves.clear();
         for number in 0..options.len() {
-            self.push_first(leg, &options[number], moves)?;
+            self.push_first(times, &options[number], moves)?;
         }
         Ok(())
     }
@@ -73,13 +80,13 @@ impl<'f> Automaton<'f> {
     /// Adds the move of a first leg that is paid so.
     fn push_first(
         &self,
-        leg: &LegFacts,
+        times: LegTimes,
         pick: &LegChoice,
         moves: &mut Vec<Move>,
     ) -> Result<(), AllocError>
-        ensures { OnOk result (moves.new.items ≡ moves.old.items ++ first_made self.now.feed leg.now pick.now) }
+        ensures { OnOk result (moves.new.items ≡ moves.old.items ++ first_made self.now.feed times pick.now) }
     {
-        match self.chosen_leg(leg, pick) {
+        match self.chosen_at(times, pick) {
             Some(first) => {
                 moves.push(self.first_move(&first, &bare(pick, None)))?;
                 Ok(())
@@ -88,8 +95,8 @@ impl<'f> Automaton<'f> {
         }
     }
 
-    /// Replaces what `moves` holds by the moves of a leg with these options after the state, where so much is held: all that
-    /// there are, each once. What `places` holds is lost.
+    /// Replaces what `moves` holds by the moves of a leg with these moments and options after the state, where so much is held:
+    /// all that there are, each once. What `places` holds is lost.
     ///
     /// # Errors
     /// Want of memory.
@@ -97,19 +104,18 @@ impl<'f> Automaton<'f> {
         &self,
         state: &FareState,
         held: Money,
-        leg: &LegFacts,
+        times: LegTimes,
         options: &[LegChoice],
         places: &mut Vec<Option<ChangeChoice>>,
         moves: &mut Vec<Move>,
     ) -> Result<(), AllocError>
         requires held { nat_abs held.0 ≤ 10 ^ 16 }
-        requires options { ArePicks self.now.feed self.now.rider leg.now options.now }
-        ensures { OnOk result (AreSteps self.now.feed self.now.rider state.now held.0 leg.now moves.new.items) }
+        ensures { (leg : LegFacts) → times_of leg ≡ times → ArePicks self.now.feed self.now.rider leg options.now → OnOk result (AreSteps self.now.feed self.now.rider state.now held.0 leg moves.new.items) }
     {
         moves.clear();
         let mut known = None;
         for number in 0..options.len() {
-            known = self.push_next(state, held, leg, &options[number], known, places, moves)?;
+            known = self.push_next(state, held, times, &options[number], known, places, moves)?;
         }
         Ok(())
     }
@@ -120,20 +126,20 @@ impl<'f> Automaton<'f> {
         &self,
         state: &FareState,
         held: Money,
-        leg: &LegFacts,
+        times: LegTimes,
         pick: &LegChoice,
         known: Option<Option<LegGroupId>>,
         places: &mut Vec<Option<ChangeChoice>>,
         moves: &mut Vec<Move>,
     ) -> Result<Option<Option<LegGroupId>>, AllocError>
         requires held { nat_abs held.0 ≤ 10 ^ 16 }
-        requires known { ForSome known (HasPlaces self.now.feed self.now.rider state.now leg.now places.old.items) }
-        ensures moves { OnOk result (moves.new.items ≡ moves.old.items ++ next_made self.now.feed self.now.rider state.now held.0 leg.now pick.now) }
-        ensures known { IfOk result (λ group. ForSome group (HasPlaces self.now.feed self.now.rider state.now leg.now places.new.items)) }
+        requires known { ForSome known (HasPlaces self.now.feed self.now.rider state.now times places.old.items) }
+        ensures moves { OnOk result (moves.new.items ≡ moves.old.items ++ next_made self.now.feed self.now.rider state.now held.0 times pick.now) }
+        ensures known { IfOk result (λ group. ForSome group (HasPlaces self.now.feed self.now.rider state.now times places.new.items)) }
     {
-        match self.chosen_leg(leg, pick) {
+        match self.chosen_at(times, pick) {
             Some(next) => {
-                self.keep_places(state, leg, &next, known, places)?;
+                self.keep_places(state, times, &next, known, places)?;
                 self.push_moves(state, held, &next, pick, places, moves)?;
                 Ok(Some(next.group))
             }
@@ -145,14 +151,14 @@ impl<'f> Automaton<'f> {
     fn keep_places(
         &self,
         state: &FareState,
-        leg: &LegFacts,
+        times: LegTimes,
         next: &GroupedLeg,
         known: Option<Option<LegGroupId>>,
         places: &mut Vec<Option<ChangeChoice>>,
     ) -> Result<(), AllocError>
-        requires known { ForSome known (HasPlaces self.now.feed self.now.rider state.now leg.now places.old.items) }
-        requires next { leg_of next.now ≡ record { group = next.now.group; departure = leg.now.departure; arrival = leg.now.arrival } }
-        ensures { OnOk result (HasPlaces self.now.feed self.now.rider state.now leg.now places.new.items next.now.group) }
+        requires known { ForSome known (HasPlaces self.now.feed self.now.rider state.now times places.old.items) }
+        requires next { leg_of next.now ≡ leg_by times next.now.group }
+        ensures { OnOk result (HasPlaces self.now.feed self.now.rider state.now times places.new.items next.now.group) }
     {
         if is_known(known, next.group) {
             Ok(())
@@ -200,6 +206,16 @@ impl<'f> Automaton<'f> {
                 ..self.first_move(next, &bare(pick, None))
             },
         }
+    }
+}
+
+/// The moments of the leg.
+fn times_of(leg: &LegFacts) -> LegTimes
+    ensures { result ≡ times_of leg.now }
+{
+    LegTimes {
+        departure: leg.departure,
+        arrival: leg.arrival,
     }
 }
 

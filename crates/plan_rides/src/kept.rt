@@ -1,5 +1,5 @@
 //! The rides from positions, kept from one traveller to the next.
-ghost use Rattle.std.specs.Prelude.{◌≡◌, true, List, Option, OnOk};
+ghost use Rattle.std.specs.Prelude.{◌≡◌, true, false, IfOk, List, Option, OnOk};
 ghost use Rattle.plan_rides.specs.Departures.{Serves};
 ghost use Rattle.plan_rides.specs.InTime.{AreLastDepartures};
 ghost use Rattle.plan_rides.specs.Reached.{AreKept, HoldsFrom, IsNoLater, Positioned, none_kept};
@@ -85,7 +85,7 @@ impl KeptRides {
 impl<'s> Positions<'s> {
     /// Keeps the rides from the position for whoever gets there: that arrive at a stop no later than the latest moment there, at none
     /// where that is none, and at any at a stop past their end. `lasts` says when the last departure from each stop gets
-    /// somewhere early enough. What is kept was so by the same moments.
+    /// somewhere early enough. What is kept was so by the same moments. The answer is whether other rides are kept than before.
     ///
     /// # Errors
     /// Want of memory.
@@ -95,19 +95,20 @@ impl<'s> Positions<'s> {
         latest: &[Option<Moment>],
         lasts: &[Option<Moment>],
         reached: &Reached,
-    ) -> Result<(), AllocError>
+    ) -> Result<bool, AllocError>
         requires serves { Serves self.now.feed self.now.patterns reached.now.stop.0 reached.now.serving }
         requires lasts { AreLastDepartures self.now.feed self.now.query latest.now lasts.now }
         requires kept { AreKept self.now latest.now kept.old }
         ensures kept { OnOk result (AreKept self.now latest.now kept.new) }
         ensures holds { OnOk result (HoldsFrom self.now latest.now reached.now kept.new.rides) }
+        ensures same { IfOk result (λ anew. anew ≡ false → kept.new ≡ kept.old) }
     {
         if kept.serve(reached) {
-            return Ok(());
+            return Ok(false);
         }
         kept.clear();
         self.add_rides(&mut kept.rides, latest, lasts, reached)?;
         kept.of = Some(*reached);
-        Ok(())
+        Ok(true)
     }
 }

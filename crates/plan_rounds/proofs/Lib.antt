@@ -2,6 +2,7 @@ pub mod FinalSteps
 pub mod FutileLaws
 pub mod HorizonLaws
 pub mod KeptLaws
+pub mod LegLaws
 pub mod MoveBounds
 pub mod MoveLaws
 pub mod ProspectLaws

@@ -1,15 +1,18 @@
 -- The moves that an automaton finds for a label.
-use Rattle.std.proofs.Common.{◌≡◌, ◌∙◌, ℕ, ◌+◌, ◌<◌, sym, subst, ap, ⊎_elim, arith, false, List, pos}
+use Rattle.std.proofs.Common.{◌≡◌, refl, ◌∙◌, ℕ, ◌+◌, ◌<◌, sym, subst, ap, ⊎_elim, arith, false, List, pos}
 use Rattle.std.specs.Prelude.{slice_get, Some, None, Result, Ok, Err, OnOk}
 use Rattle.std.proofs.lemmas.Bool.{cases_lt}
 use Rattle.std.proofs.lemmas.Option.{same_Some}
 use Rattle.feed_rows.specs.declared.journeys.LegFacts.{LegFacts}
 use Rattle.feed_rows.specs.declared.journeys.Query.{Query}
+use Rattle.feed_rows.specs.declared.journeys.RideFacts.{RideFacts}
 use Rattle.feed_rows.specs.declared.states.FareState.{FareState}
 use Rattle.feed_rows.specs.declared.states.Move.{Move}
 use Rattle.feed_rows.specs.FareSteps.{AreMovesAfter}
 use Rattle.feed_rows.specs.FeedRows.{FeedRows}
+use Rattle.feed_rows.specs.Legs.{leg_facts}
 use Rattle.feed_rows.specs.SoundFeed.{IsSoundFeed}
+use Rattle.fare_automaton.specs.Changes.{times_of}
 use Rattle.fare_automaton.specs.Terms.{FareTerms, terms}
 use Rattle.fare_automaton.specs.Steps.{AreStarts, AreSteps}
 use Rattle.round_labels.specs.declared.label.Label.{Label}
@@ -24,6 +27,11 @@ moves_of feed query label leg moves sound bounded are = record {
   exact = are;
   small = λ k d lt. move_small feed query.rider label.state label.held.0 leg _ sound bounded.held (are.right k d lt);
 }
+
+-- a ride's moments are those of the leg that it is
+pub ride_times : (feed : FeedRows) (ride : RideFacts) → times_of (leg_facts feed ride) ≡ record { departure = ride.departure; arrival = ride.arrival }
+unfolding leg_facts
+ride_times feed ride = refl
 
 -- of a label without rides
 pub moves_of_starts : {E : Type 0} (result : Result (Unit {0}) E) (own : FareTerms) (feed : FeedRows) (query : Query) (label : Label) (leg : LegFacts) (moves : List Move) →

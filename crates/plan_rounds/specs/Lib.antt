@@ -1,5 +1,6 @@
 pub mod Gathered
 pub mod Horizons
+pub mod Legs
 pub mod Moves
 pub mod Prospects
 pub mod Scans

@@ -5,9 +5,9 @@ use Rattle.feed_rows.specs.declared.journeys.Query.{Query}
 use Rattle.feed_rows.specs.declared.states.Move.{Move}
 use Rattle.feed_rows.specs.FareSteps.{AreMovesAfter}
 use Rattle.feed_rows.specs.FeedRows.{FeedRows}
+use Rattle.fare_automaton.specs.Known.{KnownPicks}
 use Rattle.fare_automaton.specs.Terms.{terms}
 use Rattle.round_labels.specs.declared.label.Label.{Label}
-use Rattle.plan_rounds.specs.declared.search.Found.{Found}
 use Rattle.plan_rounds.specs.Searched.{Searched}
 use Rattle.round_labels.specs.Labels.{IsSmall, same_parts}
 
@@ -17,8 +17,8 @@ pub record AreMovesOf (feed : FeedRows) (query : Query) (label : Label) (leg : L
   pub small : All IsSmall moves
 
 -- what is kept of options is for the rider of what is asked
-abbrev pub HasFares : Searched → Found → Type 0
-HasFares task found = found.known.terms ≡ terms task.feed task.query.rider
+abbrev pub HasFares : Searched → KnownPicks → Type 0
+HasFares task known = known.terms ≡ terms task.feed task.query.rider
 
 -- the one leads to the same state of fares as the other, and neither pays more nor costs more
 unfoldable pub betters : Move → Move → Bool

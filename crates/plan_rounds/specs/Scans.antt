@@ -1,5 +1,7 @@
 -- How a round goes on from its labels: by the positions that they reach.
-use Rattle.std.specs.Prelude.{◌≡◌, ◌⊎◌, ℕ, ◌+◌, ◌*◌, ◌<◌, ◌^◌, Bool, true, false, List, Contains, Option, Some, IfSome, length, slice_get}
+use Rattle.std.specs.Prelude.{◌≡◌, ◌⊎◌, ℕ, ◌+◌, ◌<◌, ◌^◌, ℤ, Bool, true, false, List, Contains, Option, Some, IfSome, length, slice_get}
+use Rattle.std.specs.List.Sorted.{IsSortedByKey}
+use Rattle.std.specs.Ordering.{nat_cmp, int_cmp, ordering_then}
 use Rattle.transit_base.specs.declared.moments.Moment.{Moment}
 use Rattle.feed_rows.specs.declared.journeys.Query.{Query}
 use Rattle.feed_rows.specs.FeedRows.{FeedRows}
@@ -72,9 +74,15 @@ IsRoundBy task horizon count round = IsRound task round × (round.horizon.now �
 
 -- ---- positions that are reached
 
--- the place of a position among all, by pattern
-abbrev pub place_of : Reached → ℕ
-place_of reached = reached.serving.pattern * 2 ^ 32 + reached.serving.position
+-- by what positions are put in order: the pattern, the place there, and when one gets there
+abbrev pub order_key : Reached → ℕ × ℕ × ℤ
+order_key reached = (reached.serving.pattern, reached.serving.position, reached.earliest.0)
+
+-- so these positions stand
+abbrev pub AreInOrder : List Reached → Type 0
+AreInOrder list =
+    IsSortedByKey order_key
+    (λ x y. ordering_then (ordering_then (nat_cmp x.0 y.0) (nat_cmp x.1 y.1)) (int_cmp x.2 y.2)) list
 
 -- one step leads from the label there, by a ride that boards at the position
 abbrev pub StepsAt : Searched → Positioned → Label → Reached → LabelFacts → Type 0

@@ -5,6 +5,7 @@
 mod bounds;
 mod ends;
 mod horizon;
+mod legs;
 mod moves;
 mod plan;
 mod prospects;

@@ -1,20 +1,23 @@
 //! How a round goes on from its labels: pattern by pattern, and position by position.
 ghost use Rattle.std.specs.Prelude.{◌≡◌, ◌<◌, true, false, Some, int_le, slice_get, OnOk};
-ghost use Rattle.std.specs.List.Sorted.{IsNonDecreasingBy, IsPermutation};
+ghost use Rattle.std.specs.List.Sorted.{IsPermutation};
 ghost use Rattle.plan_rides.specs.InTime.{AreLastDepartures};
 ghost use Rattle.plan_rides.specs.Reached.{AreKept, IsReachedFrom};
 ghost use Rattle.round_labels.specs.Labels.{stand_of_label};
+ghost use Rattle.plan_rounds.specs.Legs.{AreKinds, HasKinds, StayKnown};
 ghost use Rattle.plan_rounds.specs.Moves.{HasFares};
 ghost use Rattle.plan_rounds.specs.declared.scan.Round.{Round};
-ghost use Rattle.plan_rounds.specs.Scans.{AddsMarks, AreFairFor, AreFairIn, AreMarks, HasLasts, IsFairIn, IsMarked, IsNear, IsRound, IsRoundBy, ServeFor, SpreadsIn, StepsAt, StepsFromPosition, place_of};
+ghost use Rattle.plan_rounds.specs.Scans.{AddsMarks, AreFairFor, AreFairIn, AreInOrder, AreMarks, HasLasts, IsFairIn, IsMarked, IsNear, IsRound, IsRoundBy, ServeFor, SpreadsIn, StepsAt, StepsFromPosition};
 ghost use Rattle.plan_rounds.specs.Sources.{IsSource, SpreadsFrom};
 ghost use Rattle.plan_rounds.specs.Stores.{StepsFrom};
 ghost use Rattle.round_labels.specs.declared.label.Label.{Label};
 
 use crate::horizon::Horizon;
+use crate::legs::{KeptLegs, RideLegs};
 use crate::prospects::Prospects;
-use crate::search::{Found, Search, Source};
-use plan_rides::{CaughtRide, KeptRides, Positions, Reached, Traveller};
+use crate::search::{Found, Room, Search, Source};
+use fare_automaton::KnownOptions;
+use plan_rides::{CaughtRide, Positions, Reached, Traveller};
 use round_labels::{LabelList, StopBags};
 use round_table::Final;
 use std::alloc::AllocError;
@@ -56,8 +59,8 @@ pub struct Cutoffs<'p> {
 
 /// The rides from the position that was looked at last: those that are tried by the prospects of the horizon, and the others.
 pub struct Kept {
-    pub(crate) soon: KeptRides,
-    pub(crate) all: KeptRides,
+    pub(crate) soon: KeptLegs,
+    pub(crate) all: KeptLegs,
 }
 
 // Written out, so that what holds one needn't look into it to let go of it.
@@ -67,19 +70,13 @@ impl Drop for Kept {
     }
 }
 
-/// The place of a position among all, by pattern.
-fn place_of(reached: Reached) -> u64
-    ensures { result ≡ place_of reached }
-{
-    u64::from(reached.serving.pattern) * (1 << 32) + u64::from(reached.serving.position)
-}
-
-/// Puts positions in the order of their patterns, and of their places there.
+/// Puts positions in the order of their patterns, of their places there, and of when one gets there: so the rides from a position
+/// that are found first serve for all who get there.
 fn put_in_order(reached: &mut Vec<Reached>)
     ensures moved { IsPermutation reached.old.items reached.new.items }
-    ensures rises { IsNonDecreasingBy place_of reached.new.items }
+    ensures rises { AreInOrder reached.new.items }
 {
-    reached.sort_unstable_by_key(|at| place_of(*at));
+    reached.sort_unstable_by_key(|at| (at.serving.pattern, at.serving.position, at.earliest.0));
 }
 
 /// Whether the ride departs no earlier than one gets to the position.
@@ -186,26 +183,29 @@ impl<'s, 'l> Search<'s, 'l> {
     /// Offers what the rides lead to from the label that depart no earlier than it gets to the position.
     fn offer_rides(
         &self,
-        found: &mut Found<'s, 'l>,
+        known: &KnownOptions<'l, 's>,
+        room: &mut Room,
         bags: &mut StopBags,
         round: &Round<'s, '_>,
         source: &Source,
         reached: &Reached,
-        rides: &[CaughtRide],
+        legs: RideLegs,
     ) -> Result<(), AllocError>
         requires round { IsRound self.now round.now }
         requires source { IsSource self.now.feed self.now.query source.now }
         requires labels { source.now.labels.now ≡ round.now.labels.now }
         requires counts { source.now.label.now.rides ≡ round.now.count }
         requires from { IsReachedFrom round.now.positions.now (stand_of_label source.now.label.now) reached.now }
-        requires serve { ServeFor self.now round.now source.now.label.now reached.now rides.now }
-        requires fares { HasFares self.now found.old }
-        ensures fares { HasFares self.now found.new }
-        ensures spreads { OnOk result (SpreadsFrom self.now round.now.finals.now source.now (StepsAt self.now round.now.positions.now source.now.label.now reached.now) bags.old bags.new) }
+        requires serve { ServeFor self.now round.now source.now.label.now reached.now legs.rides.now }
+        requires kinds { AreKinds self.now.feed known.now legs.rides.now legs.kinds.now }
+        requires fares { HasFares self.now known.now }
+        ensures { OnOk result (SpreadsFrom self.now round.now.finals.now source.now (StepsAt self.now round.now.positions.now source.now.label.now reached.now) bags.old bags.new) }
     {
-        for k in 0..rides.len() {
-            if departs_since(&rides[k], reached) {
-                self.offer_ride(found, bags, source, round.finals, &rides[k])?;
+        for k in 0..legs.rides.len() {
+            let caught = &legs.rides[k];
+            if departs_since(caught, reached) {
+                let options = known.options(legs.kinds[k]);
+                self.offer_ride(room, bags, source, round.finals, caught, options)?;
             }
         }
         Ok(())
@@ -219,28 +219,41 @@ impl<'s, 'l> Search<'s, 'l> {
         round: &Round<'s, '_>,
         reached: &Reached,
         cutoffs: Cutoffs,
-        kept: &mut KeptRides,
+        kept: &mut KeptLegs,
     ) -> Result<(), AllocError>
         requires round { IsRound self.now round.now }
         requires marked { IsMarked round.now reached.now }
         requires lasts { AreLastDepartures round.now.positions.now.feed round.now.positions.now.query cutoffs.latest.now cutoffs.lasts.now }
-        requires kept { AreKept round.now.positions.now cutoffs.latest.now kept.old }
+        requires kept { AreKept round.now.positions.now cutoffs.latest.now kept.old.rides }
+        requires kinds { HasKinds self.now.feed found.old.known kept.old }
         requires fair { (x : Label) → slice_get round.now.labels.now reached.now.number ≡ Some x → IsFairIn self.now round.now x cutoffs.latest.now }
-        requires fares { HasFares self.now found.old }
-        ensures kept { OnOk result (AreKept round.now.positions.now cutoffs.entry.latest.now kept.new) }
-        ensures fares { HasFares self.now found.new }
+        requires fares { HasFares self.now found.old.known }
+        ensures kept { OnOk result (AreKept round.now.positions.now cutoffs.entry.latest.now kept.new.rides) }
+        ensures kinds { OnOk result (HasKinds self.now.feed found.new.known kept.new) }
+        ensures fares { HasFares self.now found.new.known }
+        ensures still { StayKnown found.old.known found.new.known }
         ensures spreads { OnOk result (SpreadsIn self.now round.now (StepsFromPosition self.now round.now reached.now) bags.old bags.new) }
     {
-        round
-            .positions
-            .keep(kept, cutoffs.latest, cutoffs.lasts, reached)?;
+        self.keep_legs(found, round, reached, cutoffs, kept)?;
         let label = round.labels.get(reached.number as usize);
         let source = Source {
             labels: round.labels,
             number: reached.number,
             label: &label,
         };
-        self.offer_rides(found, bags, round, &source, reached, kept.rides())
+        let legs = RideLegs {
+            rides: kept.rides.rides(),
+            kinds: &kept.kinds,
+        };
+        self.offer_rides(
+            &found.known,
+            &mut found.room,
+            bags,
+            round,
+            &source,
+            reached,
+            legs,
+        )
     }
 
     /// Offers what one more ride leads to from the labels that reach these positions, position by position. What `kept` holds is
@@ -255,8 +268,8 @@ impl<'s, 'l> Search<'s, 'l> {
     ) -> Result<(), AllocError>
         requires round { IsRound self.now round.now }
         requires marks { AreMarks self.now round.now marks.now }
-        requires fares { HasFares self.now found.old }
-        ensures fares { HasFares self.now found.new }
+        requires fares { HasFares self.now found.old.known }
+        ensures fares { HasFares self.now found.new.known }
         ensures spreads { OnOk result (SpreadsIn self.now round.now (StepsFrom self.now.feed self.now.query round.now.labels.now round.now.count) bags.old bags.new) }
     {
         let soon = self.cutoffs_for(round.horizon, round.count, true);

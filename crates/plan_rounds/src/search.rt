@@ -1,5 +1,6 @@
 //! The search: each round goes on by one more ride from the labels of the round before.
 ghost use Rattle.std.specs.Prelude.{◌≡◌, ◌+◌, ◌<◌, ◌≤◌, ◌^◌, ◌++◌, [], true, length, IfOk, IfSome, IsTrue, OnOk, Some};
+ghost use Rattle.fare_automaton.specs.Options.{ArePicks};
 ghost use Rattle.feed_rows.specs.FareSteps.{move_after};
 ghost use Rattle.feed_rows.specs.Journeys.{stands_for};
 ghost use Rattle.feed_rows.specs.Legs.{leg_facts};
@@ -23,15 +24,16 @@ ghost use Rattle.round_labels.specs.Bags.{gathered};
 ghost use Rattle.plan_rounds.specs.Stores.{AreStored, AreWhole, IsNever, IsStartOf, Spreads, StepsBy, StepsFrom};
 
 use crate::horizon::Horizon;
+use crate::legs::KeptLegs;
 use crate::moves::is_bettered;
 use crate::prospects::Prospects;
 use crate::scan::{Kept, Marks, Round};
-use fare_automaton::{Automaton, KnownOptions};
+use fare_automaton::{Automaton, KnownOptions, LegTimes};
 use fare_timeframes::{Timeframes, blank_leg};
-use feed_rows::{ChangeChoice, Feed, LegFacts, Move, Query};
+use feed_rows::{ChangeChoice, Feed, LegChoice, LegFacts, Move, Query, RideFacts};
 use feed_timetable::Timetable;
 use pareto_front::Front;
-use plan_rides::{CaughtRide, KeptRides, Rides};
+use plan_rides::{CaughtRide, Rides};
 use round_labels::{Label, LabelList, StopBags};
 use round_table::Final;
 use std::alloc::{AllocError, Global};
@@ -79,13 +81,28 @@ pub struct Source<'l> {
     pub(crate) label: &'l Label,
 }
 
+/// What is found of the moves of one ride after another, kept for its memory.
+pub struct Room {
+    places: Vec<Option<ChangeChoice>>,
+    moves: Vec<Move>,
+}
+
+// Written out, so that what holds one needn't look into it to let go of it.
+impl Drop for Room {
+    fn drop(self) {
+        let Room {
+            places: _,
+            moves: _,
+        } = self;
+    }
+}
+
 /// What can be paid for legs, kept by their kinds, and what is found for one ride after another, kept for its memory.
 pub struct Found<'s, 'l> {
     pub(crate) known: KnownOptions<'l, 's>,
     /// What fare rules look at in the leg that is the ride.
     pub(crate) leg: LegFacts,
-    places: Vec<Option<ChangeChoice>>,
-    moves: Vec<Move>,
+    pub(crate) room: Room,
 }
 
 // Written out, so that what holds one needn't look into it to let go of it.
@@ -94,8 +111,7 @@ impl<'s, 'l> Drop for Found<'s, 'l> {
         let Found {
             known: _,
             leg: _,
-            places: _,
-            moves: _,
+            room: _,
         } = self;
     }
 }
@@ -170,56 +186,60 @@ impl<'s, 'l> Search<'s, 'l> {
         Ok(())
     }
 
-    /// Replaces what is found of moves by those of the leg that is found, after the label: all that there are, each once.
-    fn find_moves(&self, found: &mut Found<'s, 'l>, label: &Label) -> Result<(), AllocError>
+    /// Replaces what is found of moves by those of the leg that is this ride, after the label: all that there are, each once.
+    /// The options are what can be paid for the leg.
+    fn find_moves(
+        &self,
+        room: &mut Room,
+        label: &Label,
+        ride: &RideFacts,
+        options: &[LegChoice],
+    ) -> Result<(), AllocError>
         requires bounded { IsBounded label.now }
-        requires fares { HasFares self.now found.old }
-        ensures moves { OnOk result (AreMovesOf self.now.feed self.now.query label.now found.old.leg found.new.moves.items) }
-        ensures fares { HasFares self.now found.new }
+        requires options { ArePicks self.now.feed self.now.query.rider (leg_facts self.now.feed ride.now) options.now }
+        ensures { OnOk result (AreMovesOf self.now.feed self.now.query label.now (leg_facts self.now.feed ride.now) room.new.moves.items) }
     {
         let _feed = self.feed();
-        let number = found.known.know(self.alloc, &found.leg)?;
-        let options = found.known.options(number);
+        let times = LegTimes {
+            departure: ride.departure,
+            arrival: ride.arrival,
+        };
         match &label.state {
-            None => self
-                .automaton
-                .start_into(&found.leg, options, &mut found.moves),
+            None => self.automaton.start_into(times, options, &mut room.moves),
             Some(state) => self.automaton.step_into(
                 state,
                 label.held,
-                &found.leg,
+                times,
                 options,
-                &mut found.places,
-                &mut found.moves,
+                &mut room.places,
+                &mut room.moves,
             ),
         }
     }
 
-    /// Offers what the ride leads to from the label.
+    /// Offers what the ride leads to from the label. The options are what can be paid for the leg that it is.
     pub(crate) fn offer_ride(
         &self,
-        found: &mut Found<'s, 'l>,
+        room: &mut Room,
         bags: &mut StopBags,
         source: &Source,
         finals: &[Final],
         caught: &CaughtRide,
+        options: &[LegChoice],
     ) -> Result<(), AllocError>
         requires source { IsSource self.now.feed self.now.query source.now }
         requires right { IsRight self.now.feed self.now.query (stand_of_label source.now.label.now) caught.now }
         requires ended { HasEnds self.now.feed self.now.query source.now.labels.now finals.now }
-        requires fares { HasFares self.now found.old }
-        ensures fares { HasFares self.now found.new }
-        ensures spreads { OnOk result (SpreadsFrom self.now finals.now source.now (StepsBy self.now.feed self.now.query (facts_of source.now.label.now) caught.now.ride) bags.old bags.new) }
+        requires options { ArePicks self.now.feed self.now.query.rider (leg_facts self.now.feed caught.now.facts) options.now }
+        ensures { OnOk result (SpreadsFrom self.now finals.now source.now (StepsBy self.now.feed self.now.query (facts_of source.now.label.now) caught.now.ride) bags.old bags.new) }
     {
         if self.is_futile(source, finals, caught) {
             return Ok(());
         }
-        self.timeframes
-            .leg_facts_into(&caught.facts, &mut found.leg)?;
-        self.find_moves(found, source.label)?;
-        for k in 0..found.moves.len() {
-            if !is_bettered(&found.moves, k) {
-                self.offer_move(bags, source, finals, caught, &found.moves[k])?;
+        self.find_moves(room, source.label, &caught.facts, options)?;
+        for k in 0..room.moves.len() {
+            if !is_bettered(&room.moves, k) {
+                self.offer_move(bags, source, finals, caught, &room.moves[k])?;
             }
         }
         Ok(())
@@ -286,8 +306,8 @@ impl<'s, 'l> Search<'s, 'l> {
         requires stored { AreStored self.now.feed self.now.query (count + 1) labels.now bags.old }
         requires ended { HasEnds self.now.feed self.now.query labels.now finals.now }
         requires horizon { IfSome horizon.now (IsHorizon self.now finals.now) }
-        requires fares { HasFares self.now found.old }
-        ensures fares { HasFares self.now found.new }
+        requires fares { HasFares self.now found.old.known }
+        ensures fares { HasFares self.now found.new.known }
         ensures spreads { OnOk result (Spreads self.now.feed self.now.query (Lacks self.now finals.now) labels.now (count + 1) (StepsFrom self.now.feed self.now.query labels.now count) bags.old bags.new) }
     {
         let _limit = self.limit();
@@ -342,7 +362,7 @@ impl<'s, 'l> Search<'s, 'l> {
         front: &mut Front<Final>,
     ) -> Result<(), AllocError>
         requires start { IsGathered self.now 0 labels.old bags.old front.old }
-        requires fares { HasFares self.now found.old }
+        requires fares { HasFares self.now found.old.known }
         ensures { OnOk result (IsGathered self.now self.now.query.rides labels.new bags.new front.new) }
     {
         for count in 0..self.limit() {
@@ -368,16 +388,18 @@ impl<'s, 'l> Search<'s, 'l> {
         let mut found = Found {
             known: KnownOptions::of(alloc, self.automaton),
             leg: blank_leg(alloc),
-            places: Vec::new(alloc),
-            moves: Vec::new(alloc),
+            room: Room {
+                places: Vec::new(alloc),
+                moves: Vec::new(alloc),
+            },
         };
         let mut marks = Marks {
             reached: Vec::new(alloc),
             near: Vec::new(alloc),
         };
         let mut kept = Kept {
-            soon: KeptRides::none(alloc),
-            all: KeptRides::none(alloc),
+            soon: KeptLegs::none(alloc),
+            all: KeptLegs::none(alloc),
         };
         self.spread_by(&mut found, &mut marks, &mut kept, bags, labels, front)
     }

@@ -1,6 +1,7 @@
 -- The moves of one option more; and those of all options are all that there are.
-use Rattle.std.proofs.Common.{◌≡◌, ◌∙◌, ap, ℕ, length, arith}
+use Rattle.std.proofs.Common.{◌≡◌, ◌∙◌, sym, ap, ℕ, length, arith}
 use Rattle.plain_laws.specs.Plain.{joined_below}
+use Rattle.fare_automaton.specs.declared.changes.LegTimes.{LegTimes}
 use Rattle.fare_automaton.specs.Options.{first_made, made_at}
 use Rattle.fare_automaton.proofs.MadeLaws.{added_made, starts_are}
 use Rattle.fare_laws.proofs.StartLaws.{start_extends}
@@ -11,17 +12,17 @@ loop-number-init c = c.clear.ensures.items
 
 pub loop-number-preserved : goal.loop-number-preserved
 loop-number-preserved c =
-    added_made _ _ (first_made c.args.self.now.feed c.args.leg.now) c.args.options.now c.loop-number.number _ (omega arith)
+    added_made _ _ (first_made c.args.self.now.feed c.args.times) c.args.options.now c.loop-number.number _ (omega arith)
     c.loop-number.invariant c.in_ok-push_first.ensures
 
 pub returns : goal.returns
-returns c =
+returns c leg same picks =
     let feed = c.args.self.now.feed in
     let rider = c.args.self.now.rider in
-    let leg = c.args.leg.now in
     let options = c.args.options.now in
     let moves = c.loop-number.moves.items in
     let whole : c.loop-number.number ≡ length options = omega arith in
-    let are = starts_are feed rider leg options moves c.requires.options
-    (c.loop-number.invariant ∙ ap (λ (n : ℕ). joined_below n (made_at (first_made feed leg) options)) whole) in
+    let are = starts_are feed rider leg options moves picks
+    (c.loop-number.invariant ∙ ap (λ (n : ℕ). joined_below n (made_at (first_made feed c.args.times) options)) whole
+    ∙ ap (λ (times : LegTimes). joined_below (length options) (made_at (first_made feed times) options)) (sym same)) in
     record { exact = are; extends = λ choice pays. start_extends feed rider leg choice moves pays are }

@@ -5,4 +5,4 @@ use Rattle.fare_automaton.specs.Options.{first_made, made_at}
 use Rattle.fare_automaton.proofs.automaton.Automaton.start_into.Given as goal
 
 abbrev pub invariant-loop-number : goal.invariant-loop-number
-invariant-loop-number l = l.moves.items ≡ joined_below l.number (made_at (first_made l.self.feed l.leg) l.options)
+invariant-loop-number l = l.moves.items ≡ joined_below l.number (made_at (first_made l.self.feed l.times) l.options)

@@ -1,7 +1,8 @@
 -- The moves of one option more; and those of all options are all that there are.
-use Rattle.std.proofs.Common.{◌≡◌, ◌∙◌, ap, ℕ, length, arith}
+use Rattle.std.proofs.Common.{◌≡◌, ◌∙◌, sym, ap, ℕ, length, arith}
 use Rattle.std.proofs.lemmas.Option.{none-some}
 use Rattle.plain_laws.specs.Plain.{joined_below}
+use Rattle.fare_automaton.specs.declared.changes.LegTimes.{LegTimes}
 use Rattle.fare_automaton.specs.Options.{next_made, made_at}
 use Rattle.fare_automaton.proofs.MadeLaws.{added_made, steps_are}
 use Rattle.fare_laws.proofs.ExtensionLaws.{step_extends}
@@ -13,23 +14,23 @@ loop-number-init c = record { moves = c.clear.ensures.items; known = λ group is
 pub loop-number-preserved : goal.loop-number-preserved
 loop-number-preserved c = record {
   moves = added_made _ _
-      (next_made c.args.self.now.feed c.args.self.now.rider c.args.state.now c.args.held.0 c.args.leg.now)
+      (next_made c.args.self.now.feed c.args.self.now.rider c.args.state.now c.args.held.0 c.args.times)
       c.args.options.now c.loop-number.number _ (omega arith) c.loop-number.invariant.moves c.in_ok-known.ensures.moves;
   known = c.in_ok-known.ensures.known;
 }
 
 pub returns : goal.returns
-returns c =
+returns c leg same picks =
     let feed = c.args.self.now.feed in
     let rider = c.args.self.now.rider in
     let state = c.args.state.now in
     let held = c.args.held.0 in
-    let leg = c.args.leg.now in
     let options = c.args.options.now in
     let moves = c.loop-number.moves.items in
     let whole : c.loop-number.number ≡ length options = omega arith in
-    let are = steps_are feed rider state held leg options moves c.requires.options
-    (c.loop-number.invariant.moves ∙ ap (λ (n : ℕ). joined_below n (made_at (next_made feed rider state held leg) options)) whole) in
+    let are = steps_are feed rider state held leg options moves picks
+    (c.loop-number.invariant.moves ∙ ap (λ (n : ℕ). joined_below n (made_at (next_made feed rider state held c.args.times) options)) whole
+    ∙ ap (λ (times : LegTimes). joined_below (length options) (made_at (next_made feed rider state held times) options)) (sym same)) in
     record {
       exact = are;
       extends = λ legs choice pays has_state has_held.

@@ -10,8 +10,8 @@ use Rattle.plan_rounds.proofs.SourceLaws.{source_of}
 use Rattle.plan_rounds.proofs.SpreadLaws.{spreads_at, spreads_same}
 use Rattle.plan_rounds.proofs.search.Search.offer_from.Goals as goal
 
-pub keep-requires-clause-serves : goal.keep-requires-clause-serves
-keep-requires-clause-serves c = c.requires.marked.from.serves
+pub keep_legs-requires-clause-serves : goal.keep_legs-requires-clause-serves
+keep_legs-requires-clause-serves c = c.requires.marked.from.serves
 
 pub get-label-requires : goal.get-label-requires
 get-label-requires c =
@@ -42,7 +42,7 @@ pub offer_rides-requires-clause-serve : goal.offer_rides-requires-clause-serve
 offer_rides-requires-clause-serve c = record {
   latest = c.args.cutoffs.latest.now;
   fair = c.requires.fair c.get-label.result c.get-label.ensures;
-  holds = subst (HoldsFrom c.args.round.now.positions.now c.args.cutoffs.latest.now c.args.reached.now) (sym c.rides.ensures) c.in_ok-keep.ensures.holds;
+  holds = subst (HoldsFrom c.args.round.now.positions.now c.args.cutoffs.latest.now c.args.reached.now) (sym c.rides.ensures) c.in_ok-keep_legs.ensures.holds;
 }
 
 pub returns-clause-spreads : goal.returns-clause-spreads
@@ -57,4 +57,4 @@ returns-clause-spreads c =
     (spreads_at me.feed me.query (Lacks me round.finals.now) round.labels.now _ _ _ _ _ counts spreads)
     (λ b step. subst (λ (x : Label). StepsAt me round.positions.now x c.args.reached.now b)
     (same_Some step.0 c.get-label.result (sym step.1 ∙ c.get-label.ensures)) step.2))
-    c.offer_rides.ensures.spreads
+    c.offer_rides.ensures

@@ -5,6 +5,7 @@ use Rattle.std.proofs.lemmas.Option.{slice_get_read, slice_get_within}
 use Rattle.plan_rides.specs.Reached.{AreKept}
 use Rattle.plan_rounds.specs.Scans.{IsMarked, StepsAtFirst}
 use Rattle.plan_rounds.specs.Searched.{Lacks}
+use Rattle.plan_rounds.proofs.LegLaws.{kinds_none, kinds_still}
 use Rattle.plan_rounds.proofs.ScanLaws.{steps_all, steps_more, steps_none}
 use Rattle.plan_rounds.proofs.SourceLaws.{from_all}
 use Rattle.plan_rounds.proofs.SpreadLaws.{spreads_but, spreads_more, spreads_none}
@@ -20,8 +21,10 @@ loop-k-init c =
           (StepsAtFirst me round c.args.marks.now.reached.items 0) c.args.bags.now
           (λ b steps. absurd (steps_none me round c.args.marks.now.reached.items b steps));
       fares = c.requires.fares;
-      soon = subst (AreKept round.positions.now c.cutoffs_for-soon.result.latest.now) (sym c.clear.ensures) tt;
-      all = subst (AreKept round.positions.now c.cutoffs_for-all.result.latest.now) (sym c.clear-2.ensures) tt;
+      soon = subst (AreKept round.positions.now c.cutoffs_for-soon.result.latest.now) (sym c.clear.ensures.rides) tt;
+      all = subst (AreKept round.positions.now c.cutoffs_for-all.result.latest.now) (sym c.clear-2.ensures.rides) tt;
+      soon_kinds = kinds_none me.feed c.args.found.now.known c.clear.new.self c.clear.ensures.rides c.clear.ensures.kinds;
+      all_kinds = kinds_none me.feed c.args.found.now.known c.clear-2.new.self c.clear-2.ensures.rides c.clear-2.ensures.kinds;
     }
 
 pub index-requires : goal.index-requires
@@ -76,6 +79,8 @@ loop-k-preserved c =
             fares = rw w.found-is w.in_ok-offer_from.ensures.fares;
             soon = rw w.kept-is w.in_ok-offer_from.ensures.kept;
             all = rw w.kept-is was.all;
+            soon_kinds = rw (w.found-is, w.kept-is) w.in_ok-offer_from.ensures.kinds;
+            all_kinds = rw (w.found-is, w.kept-is) (kinds_still me.feed _ _ _ _ w.in_ok-offer_from.ensures.still was.all_kinds);
           }
       | else-index+in_ok-offer_from-2 w ↦
           record {
@@ -84,6 +89,8 @@ loop-k-preserved c =
             fares = rw w.found-is w.in_ok-offer_from-2.ensures.fares;
             soon = rw w.kept-is was.soon;
             all = rw w.kept-is w.in_ok-offer_from-2.ensures.kept;
+            soon_kinds = rw (w.found-is, w.kept-is) (kinds_still me.feed _ _ _ _ w.in_ok-offer_from-2.ensures.still was.soon_kinds);
+            all_kinds = rw (w.found-is, w.kept-is) w.in_ok-offer_from-2.ensures.kinds;
           }
     ]
 

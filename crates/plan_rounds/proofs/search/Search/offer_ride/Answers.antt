@@ -5,10 +5,8 @@ use Rattle.plain_laws.proofs.Laws.{All-slice_get}
 use Rattle.feed_rows.specs.declared.states.Move.{Move}
 use Rattle.feed_rows.specs.FareSteps.{move_after}
 use Rattle.feed_rows.specs.Legs.{leg_facts}
-use Rattle.fare_timeframes.specs.BuiltTimeframes.{AreTimeframesOf}
 use Rattle.round_labels.specs.Labels.{IsSmall}
-use Rattle.plan_rounds.specs.Searched.{Searched, Lacks}
-use Rattle.plan_rounds.specs.Moves.{AreMovesOf}
+use Rattle.plan_rounds.specs.Searched.{Lacks}
 use Rattle.plan_rounds.proofs.RideSteps.{leads_more, leads_by}
 use Rattle.plan_rounds.proofs.SpreadLaws.{spreads_none, spreads_more, spreads_same}
 use Rattle.plan_rounds.specs.Moves.{HasBetter}
@@ -21,30 +19,28 @@ find_moves-requires-clause-bounded c = c.requires.source.bounded
 
 pub offer_move-requires-clause-small : goal.offer_move-requires-clause-small
 offer_move-requires-clause-small c =
-    let moves = c.find_moves.new.found.moves in
+    let moves = c.find_moves.new.room.moves in
     let lt : c.loop-k.k < length moves.items = omega (arith, c.loop-k-test.true, c.len-k-end.ensures, moves.ok.0) in
     let at = slice_get_read moves.items (length moves.items) c.loop-k.k c.index.result.now refl lt c.index.ensures in
-    All-slice_get IsSmall moves.items c.loop-k.k c.index.result.now at c.in_ok-find_moves.ensures.moves.small
+    All-slice_get IsSmall moves.items c.loop-k.k c.index.result.now at c.in_ok-find_moves.ensures.small
 
 pub offer_move-requires-clause-pays : goal.offer_move-requires-clause-pays
 offer_move-requires-clause-pays c =
     let feed = c.args.self.now.feed in
     let query = c.args.self.now.query in
     let label = c.args.source.now.label.now in
-    let moves = c.find_moves.new.found.moves in
+    let moves = c.find_moves.new.room.moves in
     let lt : c.loop-k.k < length moves.items = omega (arith, c.loop-k-test.true, c.len-k-end.ensures, moves.ok.0) in
     let at = slice_get_read moves.items (length moves.items) c.loop-k.k c.index.result.now refl lt c.index.ensures in
-    let frames = subst (λ (a : Searched). AreTimeframesOf a.feed c.self.inside.timeframes.now) c.self.view_is c.self.invariant.0 in
-    let are = subst (λ leg. AreMovesOf feed query label leg moves.items) (c.in_ok-leg_facts_into.ensures feed frames) c.in_ok-find_moves.ensures.moves in
     All-slice_get (λ (m : Move). move_after feed query.rider label.state label.held.0 (leg_facts feed c.args.caught.now.facts) m ≡ Some m)
-    moves.items c.loop-k.k c.index.result.now at are.exact.right
+    moves.items c.loop-k.k c.index.result.now at c.in_ok-find_moves.ensures.exact.right
 
 pub loop-k-preserved : goal.loop-k-preserved
 loop-k-preserved c =
     let feed = c.args.self.now.feed in
     let query = c.args.self.now.query in
     let source = c.args.source.now in
-    let moves = c.find_moves.new.found.moves in
+    let moves = c.find_moves.new.room.moves in
     let lt : c.loop-k.k < length moves.items = omega (arith, c.loop-k-test.true, c.len-k-end.ensures, moves.ok.0) in
     elim c.if-not-is_bettered.branch [
       | then-not-is_bettered+in_ok-offer_move w ↦
@@ -56,19 +52,17 @@ loop-k-preserved c =
           (subst (λ ms. HasBetter ms c.loop-k.k) c.deref.ensures.value (c.is_bettered.ensures.better w.if-not-is_bettered.false)) c.loop-k.invariant)
     ]
 
-pub returns-then-is_futile-clause-spreads : goal.returns-then-is_futile-clause-spreads
-returns-then-is_futile-clause-spreads c =
+pub returns-then-is_futile : goal.returns-then-is_futile
+returns-then-is_futile c =
     spreads_none c.args.self.now.feed c.args.self.now.query (Lacks c.args.self.now c.args.finals.now) c.args.source.now.labels.now _ _
     c.args.bags.now (c.is_futile.ensures c.if-is_futile.true)
 
-pub returns-clause-spreads : goal.returns-clause-spreads
-returns-clause-spreads c =
+pub returns : goal.returns
+returns c =
     let feed = c.args.self.now.feed in
     let query = c.args.self.now.query in
     let source = c.args.source.now in
-    let moves = c.find_moves.new.found.moves in
-    let frames = subst (λ (a : Searched). AreTimeframesOf a.feed c.self.inside.timeframes.now) c.self.view_is c.self.invariant.0 in
-    let are = subst (λ leg. AreMovesOf feed query source.label.now leg moves.items) (c.in_ok-leg_facts_into.ensures feed frames) c.in_ok-find_moves.ensures.moves in
+    let moves = c.find_moves.new.room.moves in
     spreads_same feed query (Lacks c.args.self.now c.args.finals.now) source.labels.now _ _ _ _ _ c.loop-k.invariant
-    (λ b. leads_by feed query source c.requires.source c.args.caught.now c.requires.right moves.items c.loop-k.k b are
+    (λ b. leads_by feed query source c.requires.source c.args.caught.now c.requires.right moves.items c.loop-k.k b c.in_ok-find_moves.ensures
     (omega (arith, c.loop-k-test.false, c.len-k-end.ensures, moves.ok.0)))

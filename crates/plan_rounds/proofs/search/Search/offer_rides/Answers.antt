@@ -1,7 +1,10 @@
-use Rattle.std.proofs.Common.{length, subst, sym, ◌∙◌, pos, ⊎_elim, inl, inr, slice_index_or}
+use Rattle.std.proofs.Common.{length, ◌<◌, arith, subst, sym, ◌∙◌, pos, ⊎_elim, inl, inr, slice_index_or}
 use Rattle.std.specs.Prelude.{None}
 use Rattle.std.proofs.lemmas.List.Elements.{Contains-get_or}
 use Rattle.std.proofs.lemmas.Option.{slice_get-get_or}
+use Rattle.feed_rows.specs.Legs.{leg_facts}
+use Rattle.fare_automaton.specs.Options.{ArePicks}
+use Rattle.fare_automaton.specs.Terms.{FareTerms}
 use Rattle.plan_rides.specs.declared.caught.CaughtRide.{CaughtRide}
 use Rattle.round_table.specs.Finals.{HasEnds}
 use Rattle.plan_rounds.specs.Searched.{Lacks}
@@ -20,10 +23,23 @@ none =
 
 pub offer_ride-requires-clause-right : goal.offer_ride-requires-clause-right
 offer_ride-requires-clause-right c =
-    let rides = c.args.rides.now in
+    let rides = c.args.legs.rides.now in
     let serve = c.requires.serve in
     right_from c.args.self.now c.args.round.now c.args.source.now c.args.reached.now serve.latest rides c.requires.round c.requires.source
     c.requires.from serve.holds (slice_index_or rides c.loop-k.k none) (Contains-get_or rides c.loop-k.k none c.loop-k-test.true) (sym c.departs_since.ensures ∙ c.if-departs_since.true)
+
+pub offer_ride-requires-clause-options : goal.offer_ride-requires-clause-options
+offer_ride-requires-clause-options c =
+    let me = c.args.self.now in
+    let rides = c.args.legs.rides.now in
+    let kinds = c.args.legs.kinds.now in
+    let k = c.loop-k.k in
+    let caught = slice_index_or rides k none in
+    let many = c.requires.kinds.many in
+    let lt : k < length kinds = omega (arith, many, c.loop-k-test.true) in
+    let leg = leg_facts me.feed caught.facts in
+    let kind = c.requires.kinds.fit k caught (slice_index_or kinds k 0) (slice_get-get_or rides k none c.loop-k-test.true) (slice_get-get_or kinds k 0 lt) in
+    subst (λ (t : FareTerms). ArePicks t.feed t.rider leg c.options-options.result.now) c.requires.fares (c.options-options.ensures leg kind)
 
 pub offer_ride-requires-clause-ended : goal.offer_ride-requires-clause-ended
 offer_ride-requires-clause-ended c =
@@ -34,7 +50,7 @@ pub loop-k-preserved : goal.loop-k-preserved
 loop-k-preserved c =
     let me = c.args.self.now in
     let source = c.args.source.now in
-    let rides = c.args.rides.now in
+    let rides = c.args.legs.rides.now in
     let serve = c.requires.serve in
     let k = c.loop-k.k in
     let was = c.loop-k.invariant in
@@ -42,27 +58,21 @@ loop-k-preserved c =
     let at = slice_get-get_or rides k none c.loop-k-test.true in
     elim c.if-departs_since.branch [
       | then-departs_since+in_ok-offer_ride w ↦
-          record {
-            spreads = rw w.bags-is (spreads_more me.feed me.query lack source.labels.now _ _ _ _ _ _ _ was.spreads w.in_ok-offer_ride.ensures.spreads
-                (λ b. rides_more me.feed me.query source rides k (slice_index_or rides k none) b at));
-            fares = rw w.found-is w.in_ok-offer_ride.ensures.fares;
-          }
+          rw w.bags-is (spreads_more me.feed me.query lack source.labels.now _ _ _ _ _ _ _ was w.in_ok-offer_ride.ensures
+          (λ b. rides_more me.feed me.query source rides k (slice_index_or rides k none) b at))
       | else-departs_since w ↦
-          record {
-            spreads = rw w.bags-is (spreads_same me.feed me.query lack source.labels.now _ _ _ _ _ was.spreads
-                (λ b. by_passed me c.args.round.now source c.args.reached.now serve.latest rides c.requires.round c.requires.source
-                c.requires.from serve.holds k (slice_index_or rides k none) b at (sym c.departs_since.ensures ∙ w.if-departs_since.false)));
-            fares = rw w.found-is was.fares;
-          }
+          rw w.bags-is (spreads_same me.feed me.query lack source.labels.now _ _ _ _ _ was
+          (λ b. by_passed me c.args.round.now source c.args.reached.now serve.latest rides c.requires.round c.requires.source
+          c.requires.from serve.holds k (slice_index_or rides k none) b at (sym c.departs_since.ensures ∙ w.if-departs_since.false)))
     ]
 
-pub returns-clause-spreads : goal.returns-clause-spreads
-returns-clause-spreads c =
+pub returns : goal.returns
+returns c =
     let me = c.args.self.now in
     let source = c.args.source.now in
-    let rides = c.args.rides.now in
+    let rides = c.args.legs.rides.now in
     let serve = c.requires.serve in
-    spreads_but me.feed me.query (Lacks me c.args.round.now.finals.now) source.labels.now _ _ _ _ _ c.loop-k.invariant.spreads
+    spreads_but me.feed me.query (Lacks me c.args.round.now.finals.now) source.labels.now _ _ _ _ _ c.loop-k.invariant
     (λ b step. ⊎_elim (λ by. inl (by_first me.feed me.query source rides (length rides) c.loop-k.k b c.loop-k-test.false by)) inr
     (steps_from me c.args.round.now source c.args.reached.now serve.latest rides c.requires.round c.requires.source c.requires.from serve.holds b
     c.requires.counts serve.fair step))

@@ -5,5 +5,5 @@ use Rattle.plan_rounds.proofs.search.Search.spread_by.Given as goal
 abbrev pub invariant-loop-count : goal.invariant-loop-count
 invariant-loop-count l = record {
   are : IsGathered l.self l.count l.labels l.bags l.front;
-  fares : HasFares l.self l.found;
+  fares : HasFares l.self l.found.known;
 }

@@ -1,0 +1,51 @@
+use Rattle.std.proofs.Common.{◌∙◌, ap, subst, sym, List, ℕ, length, pos, slice_index_or, arith}
+use Rattle.std.specs.Prelude.{None}
+use Rattle.std.proofs.lemmas.List.{length_push}
+use Rattle.std.proofs.lemmas.Option.{slice_get-get_or}
+use Rattle.plan_rides.specs.declared.caught.CaughtRide.{CaughtRide}
+use Rattle.plan_rounds.specs.Legs.{FitKinds}
+use Rattle.plan_rounds.proofs.LegLaws.{fit_none, fit_still, fit_more}
+use Rattle.plan_rounds.proofs.search.Search.find_kinds.Goals as goal
+
+abbrev none : CaughtRide
+none =
+    record {
+      ride = record { trip = record { 0 = 0 }; day = record { 0 = pos 0 }; shift = pos 0; from = 0; to = 0 };
+      facts = record { from = record { 0 = 0 }; to = record { 0 = 0 }; network = None; departure = record { 0 = pos 0 }; arrival = record { 0 = pos 0 } };
+    }
+
+pub loop-k-init : goal.loop-k-init
+loop-k-init c = record {
+  many = ap (λ (ks : List ℕ). length ks) c.clear.ensures.items;
+  fit = subst (FitKinds c.args.self.now.feed c.args.found.now.known c.args.rides.now) (sym c.clear.ensures.items)
+      (fit_none c.args.self.now.feed c.args.rides.now c.args.found.now.known);
+  fares = c.requires;
+  still = λ leg number is. is;
+}
+
+pub loop-k-preserved : goal.loop-k-preserved
+loop-k-preserved c =
+    let feed = c.args.self.now.feed in
+    let rides = c.args.rides.now in
+    let k = c.loop-k.k in
+    let was = c.loop-k.invariant in
+    let kinds = c.loop-k.kinds.items in
+    let kind = c.in_ok-kind.kind in
+    let known = c.kind_of.new.found.known in
+    let fit = fit_more feed rides known kinds k kind (slice_index_or rides k none) was.many
+    (slice_get-get_or rides k none c.loop-k-test.true) c.in_ok-kind.ensures.kind
+    (fit_still feed rides c.loop-k.found.known known kinds c.in_ok-kind.ensures.still was.fit) in
+    let items = c.in_ok-push.ensures.items in
+    let long = length_push kinds kind in
+    record {
+      many = ap length items ∙ omega (arith, long, was.many);
+      fit = subst (FitKinds feed known rides) (sym items) fit;
+      fares = c.in_ok-kind.ensures.terms ∙ was.fares;
+      still = λ leg number is. c.in_ok-kind.ensures.still leg number (was.still leg number is);
+    }
+
+pub returns-clause-kinds : goal.returns-clause-kinds
+returns-clause-kinds c = record {
+  many = omega (arith, c.loop-k.invariant.many, c.loop-k-test.false);
+  fit = c.loop-k.invariant.fit;
+}

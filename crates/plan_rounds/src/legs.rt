@@ -1,0 +1,115 @@
+//! The legs that the rides from a position are: their kinds are found once for all labels that take them.
+ghost use Rattle.std.specs.Prelude.{◌≡◌, [], IfOk, OnOk};
+ghost use Rattle.feed_rows.specs.Legs.{leg_facts};
+ghost use Rattle.leg_kinds.specs.Kinds.{IsOfKind};
+ghost use Rattle.plan_rides.specs.Departures.{Serves};
+ghost use Rattle.plan_rides.specs.InTime.{AreLastDepartures};
+ghost use Rattle.plan_rides.specs.Reached.{AreKept, HoldsFrom, none_kept};
+ghost use Rattle.plan_rounds.specs.Legs.{AreKinds, HasKinds, StayKnown};
+ghost use Rattle.plan_rounds.specs.Moves.{HasFares};
+
+use crate::scan::{Cutoffs, Round};
+use crate::search::{Found, Search};
+use plan_rides::{CaughtRide, KeptRides, Reached};
+use std::alloc::{AllocError, Global};
+
+/// The rides from the position that was looked at last, and in the same order the numbers of their legs' kinds.
+pub struct KeptLegs {
+    pub(crate) rides: KeptRides,
+    pub(crate) kinds: Vec<usize>,
+}
+
+// Written out, so that what holds one needn't look into it to let go of it.
+impl Drop for KeptLegs {
+    fn drop(self) {
+        let KeptLegs { rides: _, kinds: _ } = self;
+    }
+}
+
+impl KeptLegs {
+    /// None yet.
+    pub(crate) fn none(alloc: Global) -> KeptLegs {
+        KeptLegs {
+            rides: KeptRides::none(alloc),
+            kinds: Vec::new(alloc),
+        }
+    }
+
+    /// Lets go of the rides, but not of their room.
+    pub(crate) fn clear(&mut self)
+        ensures rides { self.new.rides ≡ none_kept }
+        ensures kinds { self.new.kinds.items ≡ [] }
+    {
+        self.rides.clear();
+        self.kinds.clear();
+    }
+}
+
+/// Rides from a position, and in the same order the numbers of their legs' kinds.
+#[derive(Clone, Copy)]
+pub struct RideLegs<'r> {
+    pub(crate) rides: &'r [CaughtRide],
+    pub(crate) kinds: &'r [usize],
+}
+
+impl<'s, 'l> Search<'s, 'l> {
+    /// The number of the kind of the leg that is the ride.
+    fn kind_of(&self, found: &mut Found<'s, 'l>, caught: &CaughtRide) -> Result<usize, AllocError>
+        ensures kind { IfOk result (IsOfKind found.new.known.lists (leg_facts self.now.feed caught.now.facts)) }
+        ensures terms { found.new.known.terms ≡ found.old.known.terms }
+        ensures still { StayKnown found.old.known found.new.known }
+    {
+        self.timeframes
+            .leg_facts_into(&caught.facts, &mut found.leg)?;
+        found.known.know(self.alloc, &found.leg)
+    }
+
+    /// Replaces the numbers by those of the kinds of the legs that are these rides.
+    fn find_kinds(
+        &self,
+        found: &mut Found<'s, 'l>,
+        rides: &[CaughtRide],
+        kinds: &mut Vec<usize>,
+    ) -> Result<(), AllocError>
+        requires { HasFares self.now found.old.known }
+        ensures kinds { OnOk result (AreKinds self.now.feed found.new.known rides.now kinds.new.items) }
+        ensures fares { HasFares self.now found.new.known }
+        ensures still { StayKnown found.old.known found.new.known }
+    {
+        kinds.clear();
+        for k in 0..rides.len() {
+            let kind = self.kind_of(found, &rides[k])?;
+            kinds.push(kind)?;
+        }
+        Ok(())
+    }
+
+    /// Keeps the rides from the position for whoever gets there, and the kinds of their legs.
+    pub(crate) fn keep_legs(
+        &self,
+        found: &mut Found<'s, 'l>,
+        round: &Round<'s, '_>,
+        reached: &Reached,
+        cutoffs: Cutoffs,
+        kept: &mut KeptLegs,
+    ) -> Result<(), AllocError>
+        requires serves { Serves round.now.positions.now.feed round.now.positions.now.patterns reached.now.stop.0 reached.now.serving }
+        requires lasts { AreLastDepartures round.now.positions.now.feed round.now.positions.now.query cutoffs.latest.now cutoffs.lasts.now }
+        requires kept { AreKept round.now.positions.now cutoffs.latest.now kept.old.rides }
+        requires kinds { HasKinds self.now.feed found.old.known kept.old }
+        requires fares { HasFares self.now found.old.known }
+        ensures kept { OnOk result (AreKept round.now.positions.now cutoffs.entry.latest.now kept.new.rides) }
+        ensures holds { OnOk result (HoldsFrom round.now.positions.now cutoffs.entry.latest.now reached.now kept.new.rides.rides) }
+        ensures kinds { OnOk result (HasKinds self.now.feed found.new.known kept.new) }
+        ensures fares { HasFares self.now found.new.known }
+        ensures still { StayKnown found.old.known found.new.known }
+    {
+        let anew = round
+            .positions
+            .keep(&mut kept.rides, cutoffs.latest, cutoffs.lasts, reached)?;
+        if !anew {
+            return Ok(());
+        }
+        self.find_kinds(found, kept.rides.rides(), &mut kept.kinds)
+    }
+}
