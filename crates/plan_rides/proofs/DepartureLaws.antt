@@ -34,7 +34,7 @@ use Rattle.plan_patterns.specs.declared.serving.Serving.{Serving}
 use Rattle.plan_patterns.specs.Columns.{AreBoardable, IsBoarding}
 use Rattle.plan_patterns.specs.Grouping.{ArePatterns, PatternOf, PatternsOf, all_runs, halts_at, halts_by_pattern, runs_at}
 use Rattle.plan_patterns.specs.Halts.{halt_of, halts_of}
-use Rattle.plan_patterns.specs.Runs.{IsHeld, IsHeldOf, IsKnown, moment_of}
+use Rattle.plan_patterns.specs.Runs.{IsHeld, IsHeldOf, IsKnown, IsNear, moment_of}
 use Rattle.plan_patterns.specs.Servings.{boards_at, list_at, serving_of, servings_at}
 use Rattle.plan_rides.specs.declared.departures.Departure.{Departure}
 use Rattle.plan_rides.specs.Boarding.{Seeking, is_boarding, is_marked}
@@ -204,6 +204,11 @@ ride_end feed ride facts sound is =
     subst (λ (f : RideFacts). f.to.0 < length feed.stops) r.facts_are (call_stop feed ride.trip ride.to r.alighting sound r.alights)
 
 -- ---- the runs of patterns, and where they serve stops
+
+-- a run of the feed lies within the bounds of days and shifts
+pub run_near : (feed : FeedRows) (run : Run) → IsRunOf feed run → IsNear run
+run_near feed run is =
+    record { day_low = is.served.low; day_high = is.served.high; shift_low = is.low; shift_high = is.high }
 
 -- the halts of a pattern, by its number
 list_at-halts : (patterns : List PatternOf) (p : ℕ) → list_at (halts_by_pattern patterns) p ≡ halts_at patterns p

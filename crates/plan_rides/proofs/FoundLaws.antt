@@ -1,11 +1,10 @@
 -- The rides from a position since a moment, and how lists of them grow.
 use Rattle.std.proofs.Common.{◌≡◌, refl, sym, ◌∙◌, ap, subst, ℕ, ◌+◌, ◌<◌, ◌≤◌, ◌⊎◌, inl, inr, ⊎_elim, true, false, ◌&&◌, List, [], ◌∷◌, ◌++◌, length, get_or, arith, ℤ, pos, ◌+ℤ◌, ◌≤ℤ◌, ◌<ℤ◌}
-use Rattle.std.specs.Prelude.{Option, Some, None, slice_get, All, Contains, int_le}
+use Rattle.std.specs.Prelude.{Some, None, slice_get, All, Contains, int_le}
 use Rattle.std.proofs.lemmas.Int.{ints}
 use Rattle.std.proofs.lemmas.Option.{same_Some, none-some, slice_get_within, slice_get-get_or, cond_some}
 use Rattle.std.proofs.lemmas.Bool.{cases_lt, and_parts, both_ways}
 use Rattle.std.proofs.lemmas.List.Elements.{Contains-append_left, Contains-get_or, Contains-push, Contains-push_cases}
-use Rattle.transit_base.specs.declared.moments.Moment.{Moment}
 use Rattle.transit_base.specs.declared.numbers.StopId.{StopId}
 use Rattle.feed_rows.specs.declared.journeys.Call.{Call}
 use Rattle.feed_rows.specs.declared.journeys.Query.{Query}
@@ -22,19 +21,19 @@ use Rattle.feed_laws.proofs.RideLaws.{ride_facts_tells}
 use Rattle.plan_rides.specs.declared.caught.CaughtRide.{CaughtRide}
 use Rattle.plan_rides.specs.declared.departures.Departure.{Departure}
 use Rattle.plan_rides.specs.declared.positions.Reached.{Reached}
+use Rattle.plan_rides.specs.Cutoffs.{AreLastDepartures, CutoffOf, IsEarlyRide, is_early}
 use Rattle.plan_rides.specs.Departures.{TakesServing, departure_with, AreSince, IsDeparture, IsFirstLate, IsFromStop, IsBy, IsByBefore, IsByTo, IsByAmong, ride_to, facts_to, facts_in_time}
-use Rattle.plan_rides.specs.InTime.{AreLastDepartures, HasCaught, HasRide, IsRight, IsWithinWindow, deadline, is_early, next_in_time}
-use Rattle.plan_rides.specs.Lasts.{IsEarlyRide}
+use Rattle.plan_rides.specs.InTime.{HasCaught, HasRide, IsRight, IsWithinWindow, deadline, next_in_time}
 use Rattle.plan_rides.specs.Reached.{AddsFound, AddsReached, HoldsFrom, IsAny, IsFound, IsFromReached, IsNoLater, IsReachedFrom, Positioned}
 use Rattle.plan_rides.proofs.CaughtLaws.{IsCaughtRide, caught_facts, caught_ride, facts_by, stop_id}
-use Rattle.plan_rides.proofs.LatestLaws.{caught_parts, early_past, no_lasts, onward}
+use Rattle.plan_rides.proofs.CutoffLaws.{any_last, caught_parts, early_any, onward}
 use Rattle.plan_rides.proofs.DepartureLaws.{taken_stop}
 
 -- no moment is later than itself
 itself : (x : ℤ) → x ≤ℤ x
 itself x = omega (arith, ints)
 
-module _ (feed : FeedRows) (query : Query) (latest : List (Option Moment)) (stop : ℕ) (from : ℤ) where
+module _ (feed : FeedRows) (query : Query) (latest : CutoffOf) (stop : ℕ) (from : ℤ) where
   -- one part after another
   pub found_more : (Part More Whole : Ride → Type 0) (old mid new : List CaughtRide) →
       AddsFound feed query latest stop from Part old mid → AddsFound feed query latest stop from More mid new →
@@ -100,7 +99,7 @@ module _ (feed : FeedRows) (query : Query) (latest : List (Option Moment)) (stop
       (cases_lt among.0 k))
 
   -- where the departures from one on are too late, those before it are all that get somewhere
-  pub found_until : (lasts : List (Option Moment)) (departures : List Departure) (n k : ℕ) (old new : List CaughtRide) →
+  pub found_until : (lasts : CutoffOf) (departures : List Departure) (n k : ℕ) (old new : List CaughtRide) →
       AreLastDepartures feed query latest lasts → All (IsFromStop feed stop) departures → IsFirstLate departures lasts stop n →
       n ≤ k → AddsFound feed query latest stop from (IsByAmong feed departures k) old new →
       AddsFound feed query latest stop from (IsByAmong feed departures (length departures)) old new
@@ -128,7 +127,7 @@ module _ (feed : FeedRows) (query : Query) (latest : List (Option Moment)) (stop
 same_ride : (feed : FeedRows) (d : Departure) (to : ℕ) (ride : Ride) → IsByTo feed d to ride → ride ≡ ride_to d to
 same_ride feed d to ride by = ap (λ x. ride_to x ride.to) by.0.made ∙ ap (ride_to d) by.1
 
-module _ (feed : FeedRows) (query : Query) (latest : List (Option Moment)) (d : Departure) where
+module _ (feed : FeedRows) (query : Query) (latest : CutoffOf) (d : Departure) where
   module _ (to : ℕ) (call : Call) (right : IsDeparture feed d) (later : d.from < to)
       (is : slice_get (calls_of feed d.trip) to ≡ Some call) where
     -- where it ends in time, it has these facts, and is found
@@ -217,7 +216,7 @@ module _ (feed : FeedRows) (query : Query) (latest : List (Option Moment)) (d : 
 -- ---- the rides from a position
 
 -- all departures
-pub found_since : (me : Positioned) (latest : List (Option Moment)) (reached : Reached) (departures : List Departure)
+pub found_since : (me : Positioned) (latest : CutoffOf) (reached : Reached) (departures : List Departure)
     (old new : List CaughtRide) →
     AreSince me.feed me.patterns reached.serving reached.stop.0 reached.earliest.0 departures →
     AddsFound me.feed me.query latest reached.stop.0 reached.earliest.0 (IsByAmong me.feed departures (length departures)) old new →
@@ -253,7 +252,7 @@ found_right me stand reached caught is found = record {
     in_time = le-int_le caught.facts.arrival.0 (deadline me.query) found.until
 
 -- a ride that is caught in time from here and arrives early enough gets somewhere early enough
-pub caught_wanted : (feed : FeedRows) (query : Query) (latest : List (Option Moment)) (stand : Stand) (ride : Ride) (next : Stand) →
+pub caught_wanted : (feed : FeedRows) (query : Query) (latest : CutoffOf) (stand : Stand) (ride : Ride) (next : Stand) →
     IsWithinWindow query stand.at → is_early latest next.stop.0 next.at ≡ true → (c : IsCaughtRide feed query stand ride next) →
     IsEarlyRide feed query latest ride c.facts
 caught_wanted feed query latest stand ride next within early c =
@@ -281,7 +280,7 @@ from_reached me stand reached ride next is takes c = record {
     met at departs earliest walk way a b same = omega (arith, ints)
 
 -- so it is found there
-pub has_found : (me : Positioned) (latest : List (Option Moment)) (stand : Stand) (reached : Reached) (ride : Ride) (next : Stand)
+pub has_found : (me : Positioned) (latest : CutoffOf) (stand : Stand) (reached : Reached) (ride : Ride) (next : Stand)
     (old new : List CaughtRide) → IsWithinWindow me.query stand.at → IsReachedFrom me stand reached →
     next_in_time me.feed me.query stand ride ≡ Some next → is_early latest next.stop.0 next.at ≡ true →
     TakesServing me.patterns reached.serving ride →
@@ -308,17 +307,17 @@ below_none me stand list = record {
   right = λ x at. let lt = at.1 in absurd (omega (arith, lt));
 }
 
-pub below_more : (me : Positioned) (stand : Stand) (list : List Reached) (k : ℕ) (x : Reached) (old new : List CaughtRide) →
-    IsWithinWindow me.query stand.at → slice_get list k ≡ Some x → IsReachedFrom me stand x → HasFoundBelow me stand list k old →
-    AddsFound me.feed me.query [] x.stop.0 x.earliest.0 (IsFromReached me x) old new → HasFoundBelow me stand list (k + 1) new
-below_more me stand list k x old new within at is before adds = record {
+pub below_more : (me : Positioned) (any : CutoffOf) (stand : Stand) (list : List Reached) (k : ℕ) (x : Reached) (old new : List CaughtRide) →
+    length any.spans ≡ 0 → IsWithinWindow me.query stand.at → slice_get list k ≡ Some x → IsReachedFrom me stand x → HasFoundBelow me stand list k old →
+    AddsFound me.feed me.query any x.stop.0 x.earliest.0 (IsFromReached me x) old new → HasFoundBelow me stand list (k + 1) new
+below_more me any stand list k x old new none within at is before adds = record {
   all = λ ride next e takes.
       let below = takes.1 in
       ⊎_elim
       (λ lower. adds.still ride (before.all ride next e (takes.0, lower, takes.2, takes.3, takes.4)))
       (λ upper.
       let same : takes.0 ≡ k = omega (arith, below, upper) in
-      has_found me [] stand x ride next old new within is e (early_past [] next.stop.0 next.at (omega arith))
+      has_found me any stand x ride next old new within is e (early_any any next.stop.0 next.at none)
       (subst (λ (y : Reached). TakesServing me.patterns y.serving ride) (same_Some _ _ (sym takes.3 ∙ ap (slice_get list) same ∙ at)) takes.4)
       adds)
       (cases_lt takes.0 k);
@@ -326,11 +325,11 @@ below_more me stand list k x old new within at is before adds = record {
 }
 
 -- at all of them each boards that is caught
-pub all_caught : (me : Positioned) (stand : Stand) (number n : ℕ) (list : List Reached) (rides : List CaughtRide) →
-    AddsReached me [] stand number IsAny [] list → length list ≤ n → HasFoundBelow me stand list n rides →
+pub all_caught : (me : Positioned) (any : CutoffOf) (stand : Stand) (number n : ℕ) (list : List Reached) (rides : List CaughtRide) →
+    length any.spans ≡ 0 → AddsReached me any stand number IsAny [] list → length list ≤ n → HasFoundBelow me stand list n rides →
     HasCaught me.feed me.query stand rides
-all_caught me stand number n list rides reach whole found ride next e =
-    let is = reach.all [] (no_lasts me.feed me.query) ride next e (early_past [] next.stop.0 next.at (omega arith)) tt in
+all_caught me any stand number n list rides none reach whole found ride next e =
+    let is = reach.all any (any_last me.feed me.query any any none) ride next e (early_any any next.stop.0 next.at none) tt in
     let at = slice_get-Contains list is.0 is.1 in
     let lt = slice_get_within list at.0 is.0 at.1 in
     found.all ride next e (at.0, omega (arith, lt, whole), is.0, at.1, is.3)
@@ -343,7 +342,7 @@ all_right me stand n list rides found k x lt = found.right (get_or rides k x) (C
 -- ---- rides that are kept
 
 -- those that were found
-pub holds_found : (me : Positioned) (latest : List (Option Moment)) (reached : Reached) (rides : List CaughtRide) →
+pub holds_found : (me : Positioned) (latest : CutoffOf) (reached : Reached) (rides : List CaughtRide) →
     AddsFound me.feed me.query latest reached.stop.0 reached.earliest.0 (IsFromReached me reached) [] rides →
     HoldsFrom me latest reached rides
 holds_found me latest reached rides adds = record {
@@ -354,7 +353,7 @@ holds_found me latest reached rides adds = record {
 }
 
 -- they serve for those who get there later
-pub holds_later : (me : Positioned) (latest : List (Option Moment)) (one other : Reached) (rides : List CaughtRide) →
+pub holds_later : (me : Positioned) (latest : CutoffOf) (one other : Reached) (rides : List CaughtRide) →
     IsNoLater one other → HoldsFrom me latest one rides → HoldsFrom me latest other rides
 holds_later me latest one other rides no_later holds = record {
   all = λ ride facts e from. holds.all ride facts e (record {
@@ -373,7 +372,7 @@ holds_later me latest one other rides no_later holds = record {
       };
 }
 
-module _ (me : Positioned) (latest : List (Option Moment)) (stand : Stand) (reached : Reached) (rides : List CaughtRide)
+module _ (me : Positioned) (latest : CutoffOf) (stand : Stand) (reached : Reached) (rides : List CaughtRide)
     (is : IsReachedFrom me stand reached) (holds : HoldsFrom me latest reached rides) where
   -- of them each is caught from here that departs no earlier than one gets there
   pub kept_right : (caught : CaughtRide) → Contains rides caught → reached.earliest.0 ≤ℤ caught.facts.departure.0 →

@@ -1,9 +1,10 @@
 pub mod ArrivalLaws
+pub mod BoardLaws
 pub mod CaughtLaws
+pub mod CutoffLaws
 pub mod DepartureLaws
 pub mod FoundLaws
-pub mod LastLaws
-pub mod LatestLaws
 pub mod MarkLaws
 pub mod ReachLaws
 pub mod ServedLaws
+pub mod SpanLaws

@@ -1,10 +1,9 @@
 -- The positions that a traveller gets to, and how lists of them grow.
 use Rattle.std.proofs.Common.{◌≡◌, refl, sym, ◌∙◌, ap, subst, ℕ, ◌+◌, ◌<◌, ◌≤◌, ◌⊎◌, inl, inr, ⊎_elim, false, List, [], ◌∷◌, ◌++◌, length, get_or, arith, ℤ, pos, ◌+ℤ◌}
-use Rattle.std.specs.Prelude.{Option, Some, None, slice_get, Contains}
+use Rattle.std.specs.Prelude.{Some, None, slice_get, Contains}
 use Rattle.std.proofs.lemmas.Bool.{cases_lt}
 use Rattle.std.proofs.lemmas.List.Elements.{Contains-append_left, Contains-push, Contains-push_cases}
 use Rattle.std.proofs.lemmas.Option.{same_Some, none-some, slice_get-get_or}
-use Rattle.transit_base.specs.declared.moments.Moment.{Moment}
 use Rattle.transit_base.specs.declared.numbers.StopId.{StopId}
 use Rattle.feed_rows.specs.declared.journeys.Ride.{Ride}
 use Rattle.feed_rows.specs.declared.journeys.RideFacts.{RideFacts}
@@ -15,6 +14,7 @@ use Rattle.feed_walks.specs.declared.steps.Step.{Step}
 use Rattle.plan_rides.specs.declared.positions.Reached.{Reached}
 use Rattle.plan_rides.specs.declared.servings.TimedServing.{TimedServing}
 use Rattle.plan_rides.specs.Boarding.{MayBoard, Seeking}
+use Rattle.plan_rides.specs.Cutoffs.{CutoffOf, is_early}
 use Rattle.plan_rides.specs.Departures.{BoardsAt, TakesServing}
 use Rattle.plan_rides.specs.InTime.{IsWithinWindow, next_in_time}
 use Rattle.plan_rides.specs.Reached.{AddsReached, IsAny, IsReachedFrom, IsReachedIn, Positioned}
@@ -22,9 +22,9 @@ use Rattle.plan_rides.specs.Served.{AreTimed, IsTimed, TakesTimed, is_open}
 use Rattle.plan_rides.specs.Travelling.{IsBarred, BoardsNear}
 use Rattle.plan_rides.proofs.CaughtLaws.{caught_ride, caught_spanned, in_walks, stop_id, walk_or_own}
 use Rattle.plan_rides.proofs.DepartureLaws.{ride_stop}
-use Rattle.plan_rides.proofs.ServedLaws.{never_closed, timed_step}
+use Rattle.plan_rides.proofs.ServedLaws.{never_closed, never_late, timed_step}
 
-module _ (me : Positioned) (lasts : List (Option Moment)) (stand : Stand) (number : ℕ) where
+module _ (me : Positioned) (lasts : CutoffOf) (stand : Stand) (number : ℕ) where
   still_in : (old new : List Reached) (ride : Ride) → ((reached : Reached) → Contains old reached → Contains new reached) →
       IsReachedIn me old number ride → IsReachedIn me new number ride
   still_in old new ride still is = (is.0, still is.0 is.1, is.2, is.3)
@@ -71,6 +71,17 @@ module _ (me : Positioned) (lasts : List (Option Moment)) (stand : Stand) (numbe
       let c = caught_ride me.feed me.query stand ride next e in
       let from : c.facts.from.0 ≡ stop.0 = ap (λ (f : RideFacts). f.from.0) (same_Some _ _ (sym c.is ∙ boards.is)) ∙ boards.at in
       none-some c.way (sym none ∙ ap (way_to me.feed me.query stand) (sym (ap stop_id from)) ∙ c.way_is))
+
+  -- nor has one at which the traveller is too late
+  pub reach_late : (stop : StopId) (way : ℕ) (earliest : ℤ) (list : List Reached) → IsWithinWindow me.query stand.at →
+      way_to me.feed me.query stand stop ≡ Some way → earliest ≡ stand.at +ℤ pos way → is_early lasts stop.0 earliest ≡ false →
+      AddsReached me lasts stand number (BoardsAt me.feed stop.0) list list
+  reach_late stop way earliest list within way_is at late = record {
+    still = λ x has. has;
+    all = λ latest last ride next e early boards. absurd
+        (never_late me.feed me.query latest lasts stand stop way earliest ride next within last way_is at late e early boards);
+    right = λ x has. inl has;
+  }
 
   -- ---- the positions of a stop
 

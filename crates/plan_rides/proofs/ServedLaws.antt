@@ -1,6 +1,6 @@
 -- The moments between which the rides depart that board at a position.
 use Rattle.std.proofs.Common.{◌≡◌, refl, sym, ◌∙◌, ap, subst, ℕ, ◌+◌, ◌-◌, ◌<◌, ◌≤◌, ◌⊎◌, inl, inr, ⊎_elim, true, false, List, [], ◌∷◌, ◌++◌, length, get_or, arith, ℤ, pos, ◌+ℤ◌, ◌≤ℤ◌}
-use Rattle.std.specs.Prelude.{Option, Some, slice_get, unwrap_or, All, int_le}
+use Rattle.std.specs.Prelude.{Some, slice_get, unwrap_or, All, int_le}
 use Rattle.std.proofs.lemmas.Int.{ints}
 use Rattle.std.proofs.lemmas.Bool.{and_from, both_ways, cases_lt}
 use Rattle.std.proofs.lemmas.List.{get_or_default, length_push}
@@ -23,12 +23,13 @@ use Rattle.plan_patterns.specs.Grouping.{PatternOf, PatternsOf, runs_at}
 use Rattle.plan_patterns.specs.Servings.{list_at}
 use Rattle.plan_rides.specs.declared.servings.TimedServing.{TimedServing}
 use Rattle.plan_rides.specs.Boarding.{Seeking}
-use Rattle.plan_rides.specs.Departures.{AreServed, Serves, TakesOneOf, TakesServing}
-use Rattle.plan_rides.specs.InTime.{AreLastDepartures, IsWithinWindow, deadline, is_early, next_in_time}
+use Rattle.plan_rides.specs.Cutoffs.{AreLastDepartures, CutoffOf, is_early}
+use Rattle.plan_rides.specs.Departures.{AreServed, BoardsAt, Serves, TakesOneOf, TakesServing}
+use Rattle.plan_rides.specs.InTime.{IsWithinWindow, deadline, next_in_time}
 use Rattle.plan_rides.specs.Served.{AddsTimed, AreTimed, AreTimedStops, IsTimed, TakesTimed, is_open}
 use Rattle.plan_rides.proofs.CaughtLaws.{IsCaughtRide, caught_ride}
 use Rattle.plan_rides.proofs.DepartureLaws.{boarding_for, ride_stop, taken_stop, takes_more}
-use Rattle.plan_rides.proofs.LatestLaws.{caught_parts, earlier_early}
+use Rattle.plan_rides.proofs.CutoffLaws.{caught_parts, earlier_early}
 
 -- the stop of a number
 abbrev stop_id : ℕ → StopId
@@ -205,7 +206,7 @@ timed_step patterns served k x ride lt takes =
     (cases_lt takes.0 k)
 
 -- no ride is caught at a position from which the last run has left, or the first departs too late
-pub never_closed : (feed : FeedRows) (query : Query) (latest lasts : List (Option Moment)) (stand : Stand) (stop : StopId)
+pub never_closed : (feed : FeedRows) (query : Query) (latest lasts : CutoffOf) (stand : Stand) (stop : StopId)
     (way : ℕ) (earliest : ℤ) (patterns : List PatternOf) (timed : TimedServing) (ride : Ride) (next : Stand) →
     IsWithinWindow query stand.at → AreLastDepartures feed query latest lasts →
     way_to feed query stand stop ≡ Some way → earliest ≡ stand.at +ℤ pos way →
@@ -241,3 +242,30 @@ never_closed feed query latest lasts stand stop way earliest patterns timed ride
     met : (from departs until : ℤ) (walk : ℕ) → (from +ℤ pos walk) ≤ℤ departs → walk ≡ way → departs ≤ℤ until →
         earliest ≡ from +ℤ pos way → earliest ≤ℤ until
     met from departs until walk a b d same = omega (arith, ints)
+
+-- nor at a stop at which one is too late
+pub never_late : (feed : FeedRows) (query : Query) (latest lasts : CutoffOf) (stand : Stand) (stop : StopId) (way : ℕ)
+    (earliest : ℤ) (ride : Ride) (next : Stand) → IsWithinWindow query stand.at → AreLastDepartures feed query latest lasts →
+    way_to feed query stand stop ≡ Some way → earliest ≡ stand.at +ℤ pos way → is_early lasts stop.0 earliest ≡ false →
+    next_in_time feed query stand ride ≡ Some next → is_early latest next.stop.0 next.at ≡ true → BoardsAt feed stop.0 ride → ⊥
+never_late feed query latest lasts stand stop way earliest ride next within last way_is at late e early boards =
+    both_ways (is_early lasts stop.0 earliest) late
+    (earlier_early lasts stop.0 earliest c.facts.departure.0 (met stand.at c.facts.departure.0 c.way c.catches walked at)
+    (subst (λ n. is_early lasts n c.facts.departure.0 ≡ true) from (last ride c.facts c.is parts.0 parts.1 parts.2)))
+  where
+    c : IsCaughtRide feed query stand ride next
+    c = caught_ride feed query stand ride next e
+
+    parts : (query.departure.0 ≤ℤ c.facts.departure.0) × (c.facts.arrival.0 ≤ℤ deadline query)
+        × (is_early latest c.facts.to.0 c.facts.arrival.0 ≡ true)
+    parts = caught_parts feed query latest stand ride next within early c
+
+    from : c.facts.from.0 ≡ stop.0
+    from = ap (λ (f : RideFacts). f.from.0) (same_Some _ _ (sym c.is ∙ boards.is)) ∙ boards.at
+
+    walked : c.way ≡ way
+    walked = same_Some _ _ (sym c.way_is ∙ ap (way_to feed query stand) (ap stop_id from) ∙ way_is)
+
+    met : (begins departs : ℤ) (walk : ℕ) → (begins +ℤ pos walk) ≤ℤ departs → walk ≡ way → earliest ≡ begins +ℤ pos way →
+        earliest ≤ℤ departs
+    met begins departs walk a b same = omega (arith, ints)

@@ -21,7 +21,8 @@ use Rattle.plan_patterns.specs.Runs.{AreTripsOf}
 use Rattle.plan_patterns.specs.Servings.{servings_at}
 use Rattle.plan_rides.specs.declared.departures.Departure.{Departure}
 use Rattle.plan_rides.specs.Boarding.{Seeking, is_marked}
-use Rattle.plan_rides.specs.InTime.{deadline, departure_of, is_early}
+use Rattle.plan_rides.specs.Cutoffs.{CutoffOf, is_early}
+use Rattle.plan_rides.specs.InTime.{deadline, departure_of}
 use Rattle.plan_rides.specs.Runs.{RunOf, run_of, IsRun}
 
 -- the query has rides, and the ride goes so, boards at a stop that is marked, departs no earlier than the query, and
@@ -195,12 +196,12 @@ pub record BoardsAt (feed : FeedRows) (stop : ℕ) (ride : Ride) : Type 0 where
   pub is : ride_facts feed ride ≡ Some facts
   pub at : facts.from.0 ≡ stop
 
--- the boardings from the n-th on are later than the last moment at the stop
-pub record AreLateFrom (boardings : List Boarding) (lasts : List (Option Moment)) (stop n : ℕ) : Type 0 where
+-- the boardings from the n-th on are too late at the stop
+pub record AreLateFrom (boardings : List Boarding) (lasts : CutoffOf) (stop n : ℕ) : Type 0 where
   pub within : n ≤ length boardings
   pub late : AllWithin (λ (b : Boarding). is_early lasts stop b.at.0 ≡ false) boardings n (length boardings)
 
--- the departures from the n-th on are later than the last moment at the stop
-pub record IsFirstLate (departures : List Departure) (lasts : List (Option Moment)) (stop n : ℕ) : Type 0 where
+-- the departures from the n-th on are too late at the stop
+pub record IsFirstLate (departures : List Departure) (lasts : CutoffOf) (stop n : ℕ) : Type 0 where
   pub within : n ≤ length departures
   pub late : AllWithin (λ (d : Departure). is_early lasts stop d.at.0 ≡ false) departures n (length departures)

@@ -1,11 +1,9 @@
 -- Rides that are caught and end within a query's window.
-use Rattle.std.specs.Prelude.{◌≡◌, ℕ, ◌≤◌, Bool, true, false, Option, Some, None, Contains, List, slice_get, ℤ, pos, negsuc, ◌+ℤ◌, ◌≤ℤ◌, int_le, option_and_then}
+use Rattle.std.specs.Prelude.{◌≡◌, ◌≤◌, Option, Some, Contains, List, ℤ, pos, negsuc, ◌+ℤ◌, ◌≤ℤ◌, int_le, option_and_then}
 use Rattle.transit_base.specs.Moments.{moment_at}
-use Rattle.transit_base.specs.declared.moments.Moment.{Moment}
 use Rattle.feed_rows.specs.declared.journeys.Call.{Call}
 use Rattle.feed_rows.specs.declared.journeys.Query.{Query}
 use Rattle.feed_rows.specs.declared.journeys.Ride.{Ride}
-use Rattle.feed_rows.specs.declared.journeys.RideFacts.{RideFacts}
 use Rattle.feed_rows.specs.FeedRows.{FeedRows}
 use Rattle.feed_rows.specs.Limits.{most_window}
 use Rattle.feed_rows.specs.JourneyStands.{Stand, stand_at_end, next_stand}
@@ -50,28 +48,6 @@ pub record IsRight (feed : FeedRows) (query : Query) (stand : Stand) (caught : C
 -- the list has the ride
 abbrev pub HasRide : List CaughtRide → Ride → Type 0
 HasRide rides ride = (caught : CaughtRide) × Contains rides caught × (caught.ride ≡ ride)
-
--- the moment is no later than this one; none is where there is none
-unfoldable pub is_by : Option Moment → ℤ → Bool
-is_by (Some latest) at = int_le at latest.0
-is_by None at = false
-
--- the same; any moment is where no list says
-unfoldable pub is_by_any : Option (Option Moment) → ℤ → Bool
-is_by_any (Some latest) at = is_by latest at
-is_by_any None at = true
-
--- the moment is no later than the latest at the stop; any will do at a stop past the end of the list
-abbrev pub is_early : List (Option Moment) → ℕ → ℤ → Bool
-is_early latest stop at = is_by_any (slice_get latest stop) at
-
--- no ride that departs since the query and arrives in time gets somewhere early enough that departs from its stop later than
--- the last moment there
-abbrev pub AreLastDepartures : FeedRows → Query → List (Option Moment) → List (Option Moment) → Type 0
-AreLastDepartures feed query latest lasts =
-    (ride : Ride) (facts : RideFacts) → ride_facts feed ride ≡ Some facts → query.departure.0 ≤ℤ facts.departure.0 →
-    facts.arrival.0 ≤ℤ deadline query → is_early latest facts.to.0 facts.arrival.0 ≡ true →
-    is_early lasts facts.from.0 facts.departure.0 ≡ true
 
 -- when a run departs from a call
 abbrev pub departure_of : RunOf → Call → ℤ

@@ -1,10 +1,10 @@
 pub mod Asked
 pub mod Boarding
+pub mod Cutoffs
 pub mod Departures
 pub mod InTime
-pub mod Lasts
-pub mod Latest
 pub mod Reached
 pub mod Runs
 pub mod Served
+pub mod Spans
 pub mod Travelling

@@ -1,6 +1,5 @@
 -- Positions of patterns that a traveller gets to, and the rides from there.
 use Rattle.std.specs.Prelude.{◌≡◌, ◌⊎◌, ⊤, ℕ, true, List, [], Contains, Option, None, Some, IfSome, ℤ, pos, ◌+ℤ◌, ◌≤ℤ◌}
-use Rattle.transit_base.specs.declared.moments.Moment.{Moment}
 use Rattle.feed_rows.specs.declared.journeys.Query.{Query}
 use Rattle.feed_rows.specs.declared.journeys.Ride.{Ride}
 use Rattle.feed_rows.specs.declared.journeys.RideFacts.{RideFacts}
@@ -10,9 +9,9 @@ use Rattle.feed_rows.specs.Rides.{ride_facts}
 use Rattle.plan_patterns.specs.Grouping.{PatternOf}
 use Rattle.plan_rides.specs.declared.caught.CaughtRide.{CaughtRide}
 use Rattle.plan_rides.specs.declared.positions.Reached.{Reached}
+use Rattle.plan_rides.specs.Cutoffs.{AreLastDepartures, CutoffOf, IsEarlyRide, is_early}
 use Rattle.plan_rides.specs.Departures.{Serves, TakesServing}
-use Rattle.plan_rides.specs.InTime.{AreLastDepartures, HasRide, deadline, is_early, next_in_time}
-use Rattle.plan_rides.specs.Lasts.{IsEarlyRide}
+use Rattle.plan_rides.specs.InTime.{HasRide, deadline, next_in_time}
 
 -- a feed, a query over it, and the patterns of its runs
 pub record Positioned : Type 0 where
@@ -40,12 +39,12 @@ abbrev pub IsAny : Ride → Type 0
 IsAny ride = ⊤
 
 -- the new list has what it had, and with this number the positions at which the rides of this part board that are caught from
--- here in time and arrive early enough, whatever is early enough, as long as these last moments serve for it; what else it has
+-- here in time and arrive early enough, whatever is early enough, as long as none of them departs too late; what else it has
 -- is reached from here
-pub record AddsReached (me : Positioned) (lasts : List (Option Moment)) (stand : Stand) (number : ℕ) (Part : Ride → Type 0)
+pub record AddsReached (me : Positioned) (lasts : CutoffOf) (stand : Stand) (number : ℕ) (Part : Ride → Type 0)
     (old new : List Reached) : Type 0 where
   pub still : (reached : Reached) → Contains old reached → Contains new reached
-  pub all : (latest : List (Option Moment)) → AreLastDepartures me.feed me.query latest lasts → (ride : Ride) (next : Stand) →
+  pub all : (latest : CutoffOf) → AreLastDepartures me.feed me.query latest lasts → (ride : Ride) (next : Stand) →
       next_in_time me.feed me.query stand ride ≡ Some next → is_early latest next.stop.0 next.at ≡ true → Part ride →
       IsReachedIn me new number ride
   pub right : (reached : Reached) → Contains new reached →
@@ -60,7 +59,7 @@ pub record IsFound (feed : FeedRows) (query : Query) (stop : ℕ) (from : ℤ) (
 
 -- the new list has what it had, and each ride of this part that gets somewhere early enough; what else it has boards at this
 -- stop, departs no earlier than this, and arrives in time
-pub record AddsFound (feed : FeedRows) (query : Query) (latest : List (Option Moment)) (stop : ℕ) (from : ℤ)
+pub record AddsFound (feed : FeedRows) (query : Query) (latest : CutoffOf) (stop : ℕ) (from : ℤ)
     (Part : Ride → Type 0) (old new : List CaughtRide) : Type 0 where
   pub still : (ride : Ride) → HasRide old ride → HasRide new ride
   pub all : (ride : Ride) (facts : RideFacts) → IsEarlyRide feed query latest ride facts → Part ride → HasRide new ride
@@ -80,7 +79,7 @@ pub record IsNoLater (one other : Reached) : Type 0 where
   pub early : one.earliest.0 ≤ℤ other.earliest.0
 
 -- among the rides are those from the position for whoever gets there then; each boards at its stop, and arrives in time
-pub record HoldsFrom (me : Positioned) (latest : List (Option Moment)) (reached : Reached) (rides : List CaughtRide) : Type 0 where
+pub record HoldsFrom (me : Positioned) (latest : CutoffOf) (reached : Reached) (rides : List CaughtRide) : Type 0 where
   pub all : (ride : Ride) (facts : RideFacts) → IsEarlyRide me.feed me.query latest ride facts → IsFromReached me reached ride →
       HasRide rides ride
   pub right : (caught : CaughtRide) → Contains rides caught →
@@ -95,5 +94,5 @@ abbrev pub none_kept : Kept
 none_kept = record { of = None; rides = [] }
 
 -- the rides are those from the position, where there is one
-abbrev pub AreKept : Positioned → List (Option Moment) → Kept → Type 0
+abbrev pub AreKept : Positioned → CutoffOf → Kept → Type 0
 AreKept me latest kept = IfSome kept.of (λ of. HoldsFrom me latest of kept.rides)

@@ -1,6 +1,5 @@
 -- Where and when patterns serve stops.
-use Rattle.std.specs.Prelude.{◌≡◌, ℕ, ◌<◌, Bool, ◌&&◌, List, Option, Some, length, slice_get, All, ℤ, ◌≤ℤ◌, int_le}
-use Rattle.transit_base.specs.declared.moments.Moment.{Moment}
+use Rattle.std.specs.Prelude.{◌≡◌, ℕ, ◌<◌, Bool, ◌&&◌, List, Some, length, slice_get, All, ℤ, ◌≤ℤ◌, int_le}
 use Rattle.feed_rows.specs.declared.journeys.Query.{Query}
 use Rattle.feed_rows.specs.declared.journeys.Ride.{Ride}
 use Rattle.feed_rows.specs.declared.journeys.RideFacts.{RideFacts}
@@ -11,11 +10,11 @@ use Rattle.plan_patterns.specs.Grouping.{PatternOf, PatternsOf}
 use Rattle.plan_patterns.specs.Servings.{list_at}
 use Rattle.plan_rides.specs.declared.servings.TimedServing.{TimedServing}
 use Rattle.plan_rides.specs.Boarding.{Seeking}
+use Rattle.plan_rides.specs.Cutoffs.{CutoffOf, is_early}
 use Rattle.plan_rides.specs.Departures.{IsSpanned, Serves, TakesServing}
-use Rattle.plan_rides.specs.InTime.{is_early}
 
--- the last departure is no earlier than the moment, and the first no later than the last moment at the stop
-abbrev pub is_open : TimedServing → ℤ → List (Option Moment) → ℕ → Bool
+-- the last departure is no earlier than the moment, and the first is early enough at the stop
+abbrev pub is_open : TimedServing → ℤ → CutoffOf → ℕ → Bool
 is_open timed from lasts stop = int_le from timed.last.0 && is_early lasts stop timed.first.0
 
 -- a position at which riders may board at this stop; each ride that boards there, no earlier than the query, departs no

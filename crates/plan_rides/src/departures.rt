@@ -4,12 +4,13 @@ ghost use Rattle.plan_patterns.specs.declared.runs.Run.{Run};
 ghost use Rattle.plan_patterns.specs.Columns.{AreInOrder};
 ghost use Rattle.plan_patterns.specs.Runs.{IsNear};
 ghost use Rattle.plan_rides.specs.Boarding.{is_boarding};
+ghost use Rattle.plan_rides.specs.Cutoffs.{cutoff_of};
 ghost use Rattle.plan_rides.specs.Departures.{AddsTrip, AreBoarded, AreDepartures, AreLateFrom, AreListed, HoldsRuns, departure_at};
 ghost use Rattle.plan_rides.specs.Departures.{facts_in_time, ride_to, run_with};
 ghost use Rattle.plan_rides.specs.InTime.{deadline, IsUsualQuery};
 ghost use Rattle.transit_base.specs.Limits.{most_time};
 
-use crate::latest::is_early;
+use crate::cutoffs::{Cutoff, is_early};
 use crate::sought::Sought;
 use feed_rows::{Call, Query, Ride, RideFacts, StopTimeRow};
 use feed_timetable::Timetable;
@@ -174,10 +175,10 @@ pub fn departure_at(
     }
 }
 
-/// How many of the boardings are no later than the last moment at the stop.
-pub fn first_late(boardings: &[Boarding], lasts: &[Option<Moment>], stop: StopId) -> usize
+/// How many of the boardings are early enough at the stop.
+pub fn first_late(boardings: &[Boarding], lasts: &Cutoff, stop: StopId) -> usize
     requires { AreInOrder boardings.now }
-    ensures { AreLateFrom boardings.now lasts.now stop.0 result }
+    ensures { AreLateFrom boardings.now (cutoff_of lasts.now) stop.0 result }
 {
     boardings.partition_point(|boarding| is_early(lasts, stop, boarding.at))
 }

@@ -1,15 +1,14 @@
 //! The rides from positions, kept from one traveller to the next.
-ghost use Rattle.std.specs.Prelude.{◌≡◌, true, false, IfOk, List, Option, OnOk};
+ghost use Rattle.std.specs.Prelude.{◌≡◌, true, false, IfOk, OnOk};
+ghost use Rattle.plan_rides.specs.Cutoffs.{AreLastDepartures, CutoffOf, cutoff_of};
 ghost use Rattle.plan_rides.specs.Departures.{Serves};
-ghost use Rattle.plan_rides.specs.InTime.{AreLastDepartures};
 ghost use Rattle.plan_rides.specs.Reached.{AreKept, HoldsFrom, IsNoLater, Positioned, none_kept};
-ghost use Rattle.transit_base.specs.declared.moments.Moment.{Moment};
 
 use crate::caught::CaughtRide;
+use crate::cutoffs::Cutoff;
 use crate::positions::{Positions, Reached};
 use std::alloc::{AllocError, Global};
 use std::marker::Model;
-use transit_base::Moment;
 
 impl Reached {
     // Whether it is the same position, and one gets there no later.
@@ -66,7 +65,7 @@ impl KeptRides {
 
     // Whether the rides that are kept serve for the position.
     fn serve(&self, reached: &Reached) -> bool
-        ensures { result ≡ true → (me : Positioned) (latest : List (Option Moment)) → AreKept me latest self.now → HoldsFrom me latest reached.now self.now.rides }
+        ensures { result ≡ true → (me : Positioned) (latest : CutoffOf) → AreKept me latest self.now → HoldsFrom me latest reached.now self.now.rides }
     {
         match &self.of {
             Some(of) => of.is_no_later(reached),
@@ -83,24 +82,23 @@ impl KeptRides {
 }
 
 impl<'s> Positions<'s> {
-    /// Keeps the rides from the position for whoever gets there: that arrive at a stop no later than the latest moment there, at none
-    /// where that is none, and at any at a stop past their end. `lasts` says when the last departure from each stop gets
-    /// somewhere early enough. What is kept was so by the same moments. The answer is whether other rides are kept than before.
+    /// Keeps the rides from the position for whoever gets there: those that arrive early enough by `latest`. By `lasts` none
+    /// of them departs too late. What is kept was so by the same cutoff. The answer is whether other rides are kept than before.
     ///
     /// # Errors
     /// Want of memory.
     pub fn keep(
         &self,
         kept: &mut KeptRides,
-        latest: &[Option<Moment>],
-        lasts: &[Option<Moment>],
+        latest: &Cutoff,
+        lasts: &Cutoff,
         reached: &Reached,
     ) -> Result<bool, AllocError>
         requires serves { Serves self.now.feed self.now.patterns reached.now.stop.0 reached.now.serving }
-        requires lasts { AreLastDepartures self.now.feed self.now.query latest.now lasts.now }
-        requires kept { AreKept self.now latest.now kept.old }
-        ensures kept { OnOk result (AreKept self.now latest.now kept.new) }
-        ensures holds { OnOk result (HoldsFrom self.now latest.now reached.now kept.new.rides) }
+        requires lasts { AreLastDepartures self.now.feed self.now.query (cutoff_of latest.now) (cutoff_of lasts.now) }
+        requires kept { AreKept self.now (cutoff_of latest.now) kept.old }
+        ensures kept { OnOk result (AreKept self.now (cutoff_of latest.now) kept.new) }
+        ensures holds { OnOk result (HoldsFrom self.now (cutoff_of latest.now) reached.now kept.new.rides) }
         ensures same { IfOk result (λ anew. anew ≡ false → kept.new ≡ kept.old) }
     {
         if kept.serve(reached) {

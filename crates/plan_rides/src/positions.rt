@@ -5,16 +5,17 @@ ghost use Rattle.feed_rows.specs.FeedRows.{FeedRows};
 ghost use Rattle.feed_timetable.specs.Standings.{stand_of};
 ghost use Rattle.plan_patterns.specs.Runs.{IsNear};
 ghost use Rattle.plan_rides.specs.Boarding.{AreMarks, MayRide};
+ghost use Rattle.plan_rides.specs.Cutoffs.{AreLastDepartures, cutoff_of};
 ghost use Rattle.plan_rides.specs.Departures.{BoardsAt, IsBy, IsByTo, IsDeparture, Serves, run_with};
-ghost use Rattle.plan_rides.specs.InTime.{AreLastDepartures, HasCaught, IsRight, IsUsualQuery, IsWithinWindow};
+ghost use Rattle.plan_rides.specs.InTime.{HasCaught, IsRight, IsUsualQuery, IsWithinWindow};
 ghost use Rattle.plan_rides.specs.Reached.{AddsFound, AddsReached, IsAny, IsFromReached, positioned};
 ghost use Rattle.plan_rides.specs.Served.{AreTimedStops};
 ghost use Rattle.plan_rides.specs.Travelling.{IsBarred};
 ghost use Rattle.transit_base.specs.Limits.{most_time};
 
 use crate::caught::CaughtRide;
-use crate::departures::{Departure, departure_at, first_late};
-use crate::latest::is_early;
+use crate::cutoffs::{Cutoff, is_early};
+use crate::departures::{Departure, deadline, departure_at, first_late};
 use crate::servings::TimedServing;
 use crate::sought::Sought;
 use feed_rows::{Call, Query};
@@ -46,7 +47,7 @@ pub struct Reached {
 // Adds the ride by the departure that alights at the call.
 fn add_ride(
     query: &Query,
-    latest: &[Option<Moment>],
+    latest: &Cutoff,
     departure: &Departure,
     to: u32,
     call: &Call,
@@ -56,7 +57,7 @@ fn add_ride(
     requires near { IsNear (run_with departure.now) }
     requires later { departure.now.from < to }
     requires time { call.now.arrival ≤ most_time }
-    ensures { (feed : FeedRows) → IsDeparture feed departure.now → slice_get (calls_of feed departure.now.trip) to ≡ Some call.now → OnOk result (AddsFound feed query.now latest.now departure.now.stop.0 departure.now.at.0 (IsByTo feed departure.now to) rides.old.items rides.new.items) }
+    ensures { (feed : FeedRows) → IsDeparture feed departure.now → slice_get (calls_of feed departure.now.trip) to ≡ Some call.now → OnOk result (AddsFound feed query.now (cutoff_of latest.now) departure.now.stop.0 departure.now.at.0 (IsByTo feed departure.now to) rides.old.items rides.new.items) }
 {
     let Some(facts) = departure.facts_in_time(query, call) else {
         return Ok(());
@@ -75,13 +76,13 @@ fn add_ride(
 fn add_departure(
     timetable: &Timetable,
     query: &Query,
-    latest: &[Option<Moment>],
+    latest: &Cutoff,
     departure: &Departure,
     rides: &mut Vec<CaughtRide>,
 ) -> Result<(), AllocError>
     requires usual { IsUsualQuery query.now }
     requires right { IsDeparture timetable.now departure.now }
-    ensures { OnOk result (AddsFound timetable.now query.now latest.now departure.now.stop.0 departure.now.at.0 (IsBy timetable.now departure.now) rides.old.items rides.new.items) }
+    ensures { OnOk result (AddsFound timetable.now query.now (cutoff_of latest.now) departure.now.stop.0 departure.now.at.0 (IsBy timetable.now departure.now) rides.old.items rides.new.items) }
 {
     let calls = timetable.calls_of(departure.trip);
     for to in departure.from + 1..calls.len() as u32 {
@@ -130,23 +131,26 @@ impl<'s> Model for Positions<'s> {
 }
 
 impl<'s> Positions<'s> {
-    // Appends the positions at a stop that the traveller gets to. One from which the last run has left by then, or the first
-    // departs too late, is passed over.
+    // Appends the positions at a stop that the traveller gets to. A stop at which they are too late is passed over, and so is
+    // a position from which the last run has left by then, or the first departs too late.
     fn reach_stop(
         &self,
-        lasts: &[Option<Moment>],
+        lasts: &Cutoff,
         who: &Traveller,
         stop: StopId,
         reached: &mut Vec<Reached>,
     ) -> Result<(), AllocError>
         requires within { IsWithinWindow self.now.query who.now.standing.at.0 }
         requires may { MayRide self.now.feed self.now.query (stand_of who.now.standing) }
-        ensures { OnOk result (AddsReached self.now lasts.now (stand_of who.now.standing) who.now.number (BoardsAt self.now.feed stop.0) reached.old.items reached.new.items) }
+        ensures { OnOk result (AddsReached self.now (cutoff_of lasts.now) (stand_of who.now.standing) who.now.number (BoardsAt self.now.feed stop.0) reached.old.items reached.new.items) }
     {
         let Some(seconds) = self.timetable.way_to(self.query, who.standing, stop) else {
             return Ok(());
         };
         let earliest = who.standing.at.plus(Secs(seconds));
+        if !is_early(lasts, stop, earliest) {
+            return Ok(());
+        }
         let served = self.served.get(stop.0 as usize);
         for k in 0..served.len() {
             let timed = &served[k];
@@ -165,13 +169,13 @@ impl<'s> Positions<'s> {
     // Appends those where the traveller stands, where no walk leads from there to itself: a journey may still begin there.
     fn reach_barred(
         &self,
-        lasts: &[Option<Moment>],
+        lasts: &Cutoff,
         who: &Traveller,
         reached: &mut Vec<Reached>,
     ) -> Result<(), AllocError>
         requires within { IsWithinWindow self.now.query who.now.standing.at.0 }
         requires may { MayRide self.now.feed self.now.query (stand_of who.now.standing) }
-        ensures { OnOk result (AddsReached self.now lasts.now (stand_of who.now.standing) who.now.number (IsBarred self.now.feed (stand_of who.now.standing)) reached.old.items reached.new.items) }
+        ensures { OnOk result (AddsReached self.now (cutoff_of lasts.now) (stand_of who.now.standing) who.now.number (IsBarred self.now.feed (stand_of who.now.standing)) reached.old.items reached.new.items) }
     {
         let stop = who.standing.stop;
         if let Some(_seconds) = self.timetable.link(stop, stop) {
@@ -181,19 +185,19 @@ impl<'s> Positions<'s> {
         Ok(())
     }
 
-    /// Appends the positions that the traveller gets to. `lasts` says when the last rides depart from each stop that serve.
+    /// Appends the positions that the traveller gets to, where they are early enough by `lasts`.
     ///
     /// # Errors
     /// Want of memory.
     pub fn reach(
         &self,
-        lasts: &[Option<Moment>],
+        lasts: &Cutoff,
         who: &Traveller,
         reached: &mut Vec<Reached>,
     ) -> Result<(), AllocError>
         requires within { IsWithinWindow self.now.query who.now.standing.at.0 }
         requires may { MayRide self.now.feed self.now.query (stand_of who.now.standing) }
-        ensures { OnOk result (AddsReached self.now lasts.now (stand_of who.now.standing) who.now.number IsAny reached.old.items reached.new.items) }
+        ensures { OnOk result (AddsReached self.now (cutoff_of lasts.now) (stand_of who.now.standing) who.now.number IsAny reached.old.items reached.new.items) }
     {
         self.reach_barred(lasts, who, reached)?;
         let walks = self.timetable.walks_from(who.standing.stop);
@@ -221,31 +225,34 @@ impl<'s> Positions<'s> {
             standing,
             number: 0,
         };
+        let any = Cutoff {
+            spans: &[],
+            until: deadline(self.query),
+        };
         let mut reached = Vec::new(alloc);
-        self.reach(&[], &who, &mut reached)?;
+        self.reach(&any, &who, &mut reached)?;
         let mut rides = Vec::new(alloc);
         for k in 0..reached.len() {
-            self.add_rides(&mut rides, &[], &[], &reached[k])?;
+            self.add_rides(&mut rides, &any, &any, &reached[k])?;
         }
         Ok(rides)
     }
 
-    /// Appends the rides from the position that depart no earlier than one is there, end within the window and arrive at a stop no
-    /// later than the latest moment there: at none where that is none, and at any at a stop past their end. `lasts` says when the
-    /// last of them departs from each stop, so that no later ones are looked at.
+    /// Appends the rides from the position that depart no earlier than one is there, end within the window and arrive early
+    /// enough by `latest`. By `lasts` none of them departs too late, so that no later ones are looked at.
     ///
     /// # Errors
     /// Want of memory.
     pub(crate) fn add_rides(
         &self,
         rides: &mut Vec<CaughtRide>,
-        latest: &[Option<Moment>],
-        lasts: &[Option<Moment>],
+        latest: &Cutoff,
+        lasts: &Cutoff,
         reached: &Reached,
     ) -> Result<(), AllocError>
         requires serves { Serves self.now.feed self.now.patterns reached.now.stop.0 reached.now.serving }
-        requires lasts { AreLastDepartures self.now.feed self.now.query latest.now lasts.now }
-        ensures { OnOk result (AddsFound self.now.feed self.now.query latest.now reached.now.stop.0 reached.now.earliest.0 (IsFromReached self.now reached.now) rides.old.items rides.new.items) }
+        requires lasts { AreLastDepartures self.now.feed self.now.query (cutoff_of latest.now) (cutoff_of lasts.now) }
+        ensures { OnOk result (AddsFound self.now.feed self.now.query (cutoff_of latest.now) reached.now.stop.0 reached.now.earliest.0 (IsFromReached self.now reached.now) rides.old.items rides.new.items) }
     {
         let timetable = self.timetable;
         let query = self.query;

@@ -6,20 +6,20 @@ ghost use Rattle.feed_timetable.specs.Standings.{stand_of};
 ghost use Rattle.plan_rides.specs.Asked.{asked, arrival_in_time};
 ghost use Rattle.plan_rides.specs.Boarding.{MayRide};
 ghost use Rattle.plan_rides.specs.InTime.{IsUsualQuery, IsDeadline, IsWithinWindow, HasCaught, IsRight};
-ghost use Rattle.plan_rides.specs.Latest.{AreLasts, IsOneMore};
+ghost use Rattle.plan_rides.specs.Spans.{AreBoardSpans, AreEndSpans, IsOneMoreSpan};
 
+use crate::boards::add_patterns;
 use crate::caught::CaughtRide;
 use crate::departures::{deadline, patterns_of};
-use crate::lasts::add_patterns;
-use crate::latest::latest_from;
 use crate::positions::Positions;
 use crate::servings::served_stops;
 use crate::sought::Sought;
+use crate::spans::{end_span, span_from};
 use feed_rows::Query;
 use feed_timetable::{Standing, Timetable};
 use std::alloc::{AllocError, Global};
 use std::marker::Model;
-use transit_base::{Moment, StopId};
+use transit_base::{Moment, Secs, StopId};
 
 /// The rides of a query over a timetable, by where they can be caught: by the patterns of its runs.
 /// Contracts see it as the feed and the query.
@@ -142,54 +142,76 @@ impl<'s> Rides<'s> {
         &self.positions
     }
 
-    /// When the last ride departs from each stop that gets somewhere no later than the latest moment there; none exactly
-    /// where no ride does.
+    /// The least seconds from each stop after a ride to a journey's end without a further one.
     ///
     /// # Errors
     /// Want of memory.
-    pub fn last_departures(
-        &self,
-        alloc: Global,
-        latest: &[Option<Moment>],
-    ) -> Result<Vec<Option<Moment>>, AllocError>
-        requires { 1 < self.now.query.rides }
-        ensures { IfOk result (λ lasts. AreLasts self.now.feed self.now.query latest.now lasts.items) }
-    {
-        let positions = &self.positions;
-        let stops = positions.timetable.feed().stops.items().len();
-        let mut lasts = vec![in alloc; None; stops]?;
-        add_patterns(
-            positions.timetable,
-            &positions.patterns,
-            &positions.sought,
-            latest,
-            &mut lasts,
-        );
-        Ok(lasts)
-    }
-
-    /// How late one may stand at each stop, where one may be as late as this, or take one more ride first: by these last
-    /// departures.
-    ///
-    /// # Errors
-    /// Want of memory.
-    pub fn latest_before(
-        &self,
-        alloc: Global,
-        latest: &[Option<Moment>],
-        lasts: &[Option<Moment>],
-    ) -> Result<Vec<Option<Moment>>, AllocError>
-        requires stops { length latest.now ≡ length self.now.feed.stops }
-        requires lasts { AreLasts self.now.feed self.now.query latest.now lasts.now }
-        ensures { IfOk result (λ new. IsOneMore self.now.feed self.now.query latest.now new.items) }
+    pub fn end_spans(&self, alloc: Global) -> Result<Vec<Option<Secs>>, AllocError>
+        ensures many { IfOk result (λ spans. length spans.items ≡ length self.now.feed.stops) }
+        ensures ends { IfOk result (λ spans. AreEndSpans self.now.feed self.now.query spans.items) }
     {
         let positions = &self.positions;
         let timetable = positions.timetable;
         let query = positions.query;
-        let mut new = Vec::with_capacity(alloc, latest.len())?;
-        for stop in 0..latest.len() {
-            let moment = latest_from(timetable, query, StopId(stop as u32), latest[stop], lasts);
-            new.push(moment)?;
+        let stops = timetable.feed().stops.items().len();
+        let mut spans = Vec::with_capacity(alloc, stops)?;
+        for stop in 0..stops {
+            spans.push(end_span(timetable, query, StopId(stop as u32)))?;
+        }
+        Ok(spans)
+    }
+
+    /// The least seconds from each stop where a ride boards to a journey's end, by these spans from where it alights.
+    ///
+    /// # Errors
+    /// Want of memory.
+    pub fn board_spans(
+        &self,
+        alloc: Global,
+        spans: &[Option<Secs>],
+    ) -> Result<Vec<Option<Secs>>, AllocError>
+        requires rides { 1 < self.now.query.rides }
+        requires many { length spans.now ≡ length self.now.feed.stops }
+        ensures many { IfOk result (λ boards. length boards.items ≡ length self.now.feed.stops) }
+        ensures boards { IfOk result (λ boards. AreBoardSpans self.now.feed self.now.query spans.now boards.items) }
+    {
+        let positions = &self.positions;
+        let stops = positions.timetable.feed().stops.items().len();
+        let mut boards = vec![in alloc; None; stops]?;
+        add_patterns(
+            positions.timetable,
+            &positions.patterns,
+            &positions.sought,
+            spans,
+            &mut boards,
+        );
+        Ok(boards)
+    }
+
+    /// The least seconds from each stop after a ride, where they are these, or one more ride is taken first: by these spans
+    /// from where it boards.
+    ///
+    /// # Errors
+    /// Want of memory.
+    pub fn spans_before(
+        &self,
+        alloc: Global,
+        spans: &[Option<Secs>],
+        boards: &[Option<Secs>],
+    ) -> Result<Vec<Option<Secs>>, AllocError>
+        requires spans { length spans.now ≡ length self.now.feed.stops }
+        requires boards { length boards.now ≡ length self.now.feed.stops }
+        requires serve { AreBoardSpans self.now.feed self.now.query spans.now boards.now }
+        ensures many { IfOk result (λ new. length new.items ≡ length self.now.feed.stops) }
+        ensures more { IfOk result (λ new. IsOneMoreSpan self.now.feed self.now.query spans.now new.items) }
+    {
+        let positions = &self.positions;
+        let timetable = positions.timetable;
+        let query = positions.query;
+        let mut new = Vec::with_capacity(alloc, spans.len())?;
+        for stop in 0..spans.len() {
+            let span = span_from(timetable, query, StopId(stop as u32), spans[stop], boards);
+            new.push(span)?;
         }
         Ok(new)
     }

@@ -2,10 +2,11 @@
 //! query departs, which tell without a look into the pattern whether one can be caught there.
 ghost use Rattle.std.specs.Prelude.{◌≡◌, ◌<◌, IfOk, OnOk, length};
 ghost use Rattle.feed_rows.specs.SoundFeed.{IsSoundFeed};
+ghost use Rattle.plan_rides.specs.Cutoffs.{cutoff_of};
 ghost use Rattle.plan_rides.specs.Departures.{AreDepartures, Serves};
 ghost use Rattle.plan_rides.specs.Served.{AddsTimed, AreTimed, AreTimedStops, is_open};
 
-use crate::latest::is_early;
+use crate::cutoffs::{Cutoff, is_early};
 use crate::sought::Sought;
 use feed_rows::Query;
 use feed_timetable::Timetable;
@@ -24,9 +25,9 @@ pub struct TimedServing {
 }
 
 impl TimedServing {
-    /// Whether a run may depart there at the moment or later, and no later than the last moment at the stop.
-    pub fn is_open(&self, from: Moment, lasts: &[Option<Moment>], stop: StopId) -> bool
-        ensures { result ≡ is_open self.now from.0 lasts.now stop.0 }
+    /// Whether a run may depart there at the moment or later, and early enough at the stop.
+    pub fn is_open(&self, from: Moment, lasts: &Cutoff, stop: StopId) -> bool
+        ensures { result ≡ is_open self.now from.0 (cutoff_of lasts.now) stop.0 }
     {
         from.0 <= self.last.0 && is_early(lasts, stop, self.first)
     }

@@ -1,10 +1,12 @@
 -- What a search needn't look at: whatever it leads to is found already.
 use Rattle.std.proofs.Common.{◌≡◌, subst, ◌≤◌, ◌+◌, sym, List, arith, ℕ, ap, true, ◌∙◌, ◌⊎◌, inl, inr, ⊎_elim, ℤ, ◌+ℤ◌, ◌≤ℤ◌, ◌<◌, refl, Some}
-use Rattle.std.specs.Prelude.{Contains, int_le, slice_get, false}
+use Rattle.std.specs.Prelude.{Bool, ◌||◌, [], ◌∷◌, Contains, int_le, slice_get, false}
+use Rattle.std.specs.List.{list_any}
 use Rattle.std.proofs.lemmas.Int.{ints}
 use Rattle.std.proofs.lemmas.Bool.{both_ways, cases_lt, and_parts, false_from_ne_true, ne_eqb}
 use Rattle.std.proofs.lemmas.List.Folds.{list_any-from_Any}
 use Rattle.std.proofs.lemmas.Option.{same_Some, slice_get_within}
+use Rattle.feed_rows.specs.declared.fares.Triple.{Triple}
 use Rattle.feed_rows.specs.declared.journeys.RideFacts.{RideFacts}
 use Rattle.feed_rows.specs.declared.states.Move.{Move}
 use Rattle.feed_rows.specs.FareFloor.{is_outdone}
@@ -12,19 +14,21 @@ use Rattle.feed_rows.specs.LabelCover.{Covers}
 use Rattle.feed_rows.specs.ParetoTriples.{at_most}
 use Rattle.feed_rows.specs.PartialJourneys.{LabelFacts}
 use Rattle.feed_rows.specs.SoundFeed.{IsSoundFeed}
-use Rattle.feed_laws.proofs.ParetoLaws.{at_most-refl}
+use Rattle.feed_laws.proofs.ParetoLaws.{at_most-refl, at_most-trans}
 use Rattle.plain_laws.proofs.Laws.{list_any_tells, int_le-true, slice_get-Contains}
 use Rattle.plan_rides.specs.InTime.{IsRight}
 use Rattle.plan_rides.specs.declared.caught.CaughtRide.{CaughtRide}
-use Rattle.round_laws.specs.Futility.{is_within, least_end}
+use Rattle.round_laws.specs.Futility.{MayLack, is_within, least_end}
 use Rattle.round_laws.specs.LabelSteps.{facts_after, IsStated}
 use Rattle.round_laws.proofs.BoundLaws.{ahead_of_ride}
+use Rattle.round_laws.proofs.FutilityLaws.{IsUpward, lack_more}
 use Rattle.round_laws.proofs.OutdoneLaws.{ahead_of_outdone, ahead_lacks, lack_below}
 use Rattle.round_table.specs.declared.finals.Final.{Final}
 use Rattle.round_labels.specs.declared.label.Label.{Label}
 use Rattle.round_table.specs.Finals.{HasEnds, is_bettered}
+use Rattle.round_table.specs.Tables.{is_given}
 use Rattle.round_labels.specs.Labels.{facts_of, stand_of_label}
-use Rattle.plan_rounds.specs.Searched.{Searched, Lacks, has_ahead, is_overtaken_by}
+use Rattle.plan_rounds.specs.Searched.{Searched, IsFoundBy, Lacks, has_ahead, is_overtaken_by}
 use Rattle.plan_rounds.specs.Stores.{IsHeldBelow, IsPrunedBy, StepsBy}
 use Rattle.plan_rounds.specs.declared.search.Source.{Source}
 use Rattle.plan_rounds.specs.Moves.{betters, HasBetter}
@@ -35,24 +39,86 @@ use Rattle.plan_rounds.proofs.FinalSteps.{bettered_up}
 use Rattle.round_laws.proofs.CoverLaws.{covers-trans}
 use Rattle.round_laws.proofs.IntLaws.{as_much}
 
+-- ---- what is found
+
 -- the triple of a final is bettered
 pub bettered_itself : (finals : List Final) (final : Final) → Contains finals final → is_bettered finals final.triple
 bettered_itself finals final at =
     list_any-from_Any (λ (f : Final). at_most f.triple final.triple) finals
     (at.0, final, at.1, at.2, at_most-refl final.triple)
 
+-- so is one that is given
+pub given_itself : (given : List Triple) (triple : Triple) → Contains given triple → is_given given triple
+given_itself given triple at =
+    list_any-from_Any (λ (t : Triple). at_most t triple) given (at.0, triple, at.1, at.2, at_most-refl triple)
+
+-- what one that is given is at most betters each that this is at most
+given_up : (given : List Triple) (s t : Triple) → is_given given s → at_most s t ≡ true → is_given given t
+given_up [] s t h le = h
+given_up (x ∷ xs) s t h le =
+    let rest = given_up xs s t in
+    let step = at_most-trans x s t in
+    grind (arith, rest, step)
+
+-- where one triple is found, so is each that it is at most
+pub found_up : (task : Searched) (finals : List Final) → IsUpward (IsFoundBy task finals)
+found_up task finals s t below (inl by_final) = inl (bettered_up finals s t by_final below)
+found_up task finals s t below (inr by_given) = inr (given_up task.given s t by_given below)
+
+-- what is found still is where more is bettered
+pub found_more : (task : Searched) (old new : List Final) → ((t : Triple) → is_bettered old t → is_bettered new t) → (t : Triple) →
+    IsFoundBy task old t → IsFoundBy task new t
+found_more task old new still t (inl by_final) = inl (still t by_final)
+found_more task old new still t (inr by_given) = inr by_given
+
+-- what may be lacking may still be where more is bettered
+pub lacks_more : (task : Searched) (old new : List Final) → ((t : Triple) → is_bettered old t → is_bettered new t) → (b : LabelFacts) →
+    Lacks task old b → Lacks task new b
+lacks_more task old new still b lack strict =
+    lack_more task.feed task.query task.whole (IsFoundBy task old) (IsFoundBy task new) b (found_more task old new still) (lack strict)
+
+-- what may be lacking may be wherever it is covered
+pub lacks_below : (task : Searched) (finals : List Final) (a b : LabelFacts) → IsStated a → IsStated b → Covers a b → Lacks task finals a →
+    Lacks task finals b
+lacks_below task finals a b stated stated' covers lack strict =
+    lack_below task.feed task.query (IsFoundBy task finals) (found_up task finals) task.whole a b stated stated' covers (lack strict)
+
+-- one that is ahead is found
+pub record HasFoundAhead (task : Searched) (finals : List Final) (at : ℤ) (rides : ℕ) (price : ℤ) : Type 0 where
+  pub triple : Triple
+  pub found : IsFoundBy task finals triple
+  pub ahead : is_within at rides price triple ≡ true
+
+pub found_ahead : (task : Searched) (finals : List Final) (at : ℤ) (rides : ℕ) (price : ℤ) → has_ahead task finals at rides price ≡ true →
+    HasFoundAhead task finals at rides price
+found_ahead task finals at rides price is = by (list_any (λ (f : Final). is_within at rides price f.triple) finals) refl is
+  where
+    by : (b : Bool) → list_any (λ (f : Final). is_within at rides price f.triple) finals ≡ b →
+        (b || list_any (λ (t : Triple). is_within at rides price t) task.given) ≡ true → HasFoundAhead task finals at rides price
+    by true some is' =
+        let ahead = list_any_tells (λ (f : Final). is_within at rides price f.triple) finals some in
+        record { triple = ahead.0.triple; found = inl (bettered_itself finals ahead.0 ahead.1); ahead = ahead.2 }
+    by false none is' =
+        let ahead = list_any_tells (λ (t : Triple). is_within at rides price t) task.given is' in
+        record { triple = ahead.0; found = inr (given_itself task.given ahead.0 ahead.1); ahead = ahead.2 }
+
+-- where none is ahead no final is
+none_ahead : (task : Searched) (finals : List Final) (at : ℤ) (rides : ℕ) (price : ℤ) → has_ahead task finals at rides price ≡ false →
+    list_any (λ (f : Final). is_within at rides price f.triple) finals ≡ false
+none_ahead task finals at rides price is = by (list_any (λ (f : Final). is_within at rides price f.triple) finals) is
+  where
+    by : (b : Bool) → (b || list_any (λ (t : Triple). is_within at rides price t) task.given) ≡ false → b ≡ false
+    by true wrong = absurd (let never : true ≡ false = wrong in cc)
+    by false wrong = refl
+
 -- a label that is overtaken may be lacking
 pub overtaken : (task : Searched) (finals : List Final) (x : Label) (b : LabelFacts) → IsSoundFeed task.feed → b ≡ facts_of x →
     is_overtaken_by task finals x ≡ true → Lacks task finals b
-overtaken task finals x b sound same is =
-    let ahead =
-    list_any_tells
-    (λ (f : Final). is_within x.arrival.0 x.rides
-    (least_end task.feed task.query task.whole (facts_of x)) f.triple) finals is in
-    subst (Lacks task finals) (sym same)
-    (ahead_lacks task.feed task.query sound (is_bettered finals)
-    (λ s t below h. bettered_up finals s t h below) task.whole
-    ahead.0.triple (facts_of x) (bettered_itself finals ahead.0 ahead.1) ahead.2)
+overtaken task finals x b sound same is strict =
+    let ahead = found_ahead task finals x.arrival.0 x.rides (least_end task.feed task.query task.whole (facts_of x)) is in
+    subst (MayLack task.feed task.query task.whole (IsFoundBy task finals)) (sym same)
+    (ahead_lacks task.feed task.query sound (IsFoundBy task finals) (found_up task finals) task.whole
+    ahead.triple (facts_of x) ahead.found ahead.ahead)
 
 -- and one that isn't is outdone by no end of labels that the finals have the ends of
 pub not_outdone : (task : Searched) (finals : List Final) (labels : List Label) (x : Label) →
@@ -64,7 +130,9 @@ not_outdone task finals labels x has none y at t ends =
     let better =
     list_any_tells (λ (f : Final). at_most f.triple t) finals
     (has t (k.0, slice_get_within labels k.0 y k.1, y, k.1, ends)) in
-    both_ways (is_overtaken_by task finals x) none
+    both_ways (list_any (λ (f : Final). is_within x.arrival.0 x.rides
+    (least_end task.feed task.query task.whole (facts_of x)) f.triple) finals)
+    (none_ahead task finals x.arrival.0 x.rides (least_end task.feed task.query task.whole (facts_of x)) none)
     (list_any-from_Any
     (λ (f : Final). is_within x.arrival.0 x.rides
     (least_end task.feed task.query task.whole (facts_of x)) f.triple) finals (
@@ -86,18 +154,16 @@ module _ (task : Searched) (finals : List Final) (x : Label) (caught : CaughtRid
   least = least_end task.feed task.query task.whole (facts_of x)
 
   -- where a final is ahead of the ride, what it leads to may be lacking
-  pub ride_overtaken : IsSoundFeed task.feed → has_ahead finals caught.facts.arrival.0 (x.rides + 1) least ≡ true →
+  pub ride_overtaken : IsSoundFeed task.feed → has_ahead task finals caught.facts.arrival.0 (x.rides + 1) least ≡ true →
       Lacks task finals b
-  ride_overtaken sound is =
-      let ahead = list_any_tells
-      (λ (f : Final). is_within caught.facts.arrival.0 (x.rides + 1) least f.triple) finals is in
+  ride_overtaken sound is strict =
+      let ahead = found_ahead task finals caught.facts.arrival.0 (x.rides + 1) least is in
       let before =
-      ahead_of_ride task.feed task.query task.whole sound ahead.0.triple (facts_of x) b caught.ride by.0 by.1
-      (subst (λ (f : RideFacts). is_within f.arrival.0 (x.rides + 1) least ahead.0.triple ≡ true)
-      (sym same_ride) ahead.2) in
-      ahead_lacks task.feed task.query sound (is_bettered finals)
-      (λ s t below h. bettered_up finals s t h below) task.whole
-      ahead.0.triple b (bettered_itself finals ahead.0 ahead.1) before
+      ahead_of_ride task.feed task.query task.whole sound ahead.triple (facts_of x) b caught.ride by.0 by.1
+      (subst (λ (f : RideFacts). is_within f.arrival.0 (x.rides + 1) least ahead.triple ≡ true)
+      (sym same_ride) ahead.ahead) in
+      ahead_lacks task.feed task.query sound (IsFoundBy task finals) (found_up task finals) task.whole
+      ahead.triple b ahead.found before
 
 -- ---- moves of one ride
 
@@ -142,9 +208,7 @@ leads_without task finals source caught moves k old new has spreads = record {
         let a = facts_after from caught.facts has.better in
         let covers = subst (Covers a) (sym is) (better_covers from caught.facts has.better has.other has.betters) in
         ⊎_elim (λ held. inl (held.0, held.1, covers-trans (facts_of held.0) a b held.2 covers))
-        (λ lack. inr (lack_below task.feed task.query (is_bettered finals)
-        (λ s t below h. bettered_up finals s t h below) task.whole
-        a b (ne_eqb (from.rides + 1) 0 (λ e. omega (arith, e)))
+        (λ lack. inr (lacks_below task finals a b (ne_eqb (from.rides + 1) 0 (λ e. omega (arith, e)))
         (subst IsStated (sym is) (ne_eqb (from.rides + 1) 0 (λ e. omega (arith, e)))) covers lack))
         (spreads.all a (has.earlier, has.before, has.better, has.is, refl))
 

@@ -18,7 +18,7 @@ use Rattle.feed_rows.specs.Legs.{leg_facts}
 use Rattle.feed_rows.specs.PartialJourneys.{LabelFacts}
 use Rattle.feed_rows.specs.SoundFeed.{IsSoundFeed}
 use Rattle.plain_laws.proofs.Laws.{le-int_le, slice_get-Contains}
-use Rattle.plan_rides.specs.InTime.{IsRight}
+use Rattle.plan_rides.specs.InTime.{IsRight, IsWithinWindow}
 use Rattle.plan_rides.specs.declared.caught.CaughtRide.{CaughtRide}
 use Rattle.feed_rows.specs.StopLinks.{stop_set}
 use Rattle.plan_rides.proofs.DepartureLaws.{ride_end}
@@ -72,6 +72,10 @@ module _ (feed : FeedRows) (query : Query) (source : Source) (is : IsSource feed
   abbrev leg : LegFacts
   leg = leg_facts feed caught.facts
 
+  -- the label after the ride lies within the window
+  pub within_after : IsSoundFeed feed → IsWithinWindow query caught.facts.arrival.0
+  within_after sound = caught_within feed query (stand_of_label from) caught.ride (stand_at_end caught.facts) sound is.within right.next
+
   pub fresh_after : (taken : Move) → IsSoundFeed feed →
       move_after feed query.rider from.state from.held.0 leg taken ≡ Some taken → IsBounded (went_on from source.number caught.ride caught.facts taken) →
       IsPrunedBy feed query source.labels.now (went_on from source.number caught.ride caught.facts taken) →
@@ -80,7 +84,7 @@ module _ (feed : FeedRows) (query : Query) (source : Source) (is : IsSource feed
     inside = ride_end feed caught.ride caught.facts sound right.facts;
     counts = refl;
     bounded = bounded;
-    within = caught_within feed query (stand_of_label from) caught.ride (stand_at_end caught.facts) sound is.within right.next;
+    within = within_after sound;
     linked = inr (record {
       number = source.number;
       before = label_of from;

@@ -1,6 +1,6 @@
 -- What the positions are that labels reach, and what is offered of the rides from them.
-use Rattle.std.proofs.Common.{◌≡◌, refl, sym, ◌∙◌, ap, subst, ℕ, ◌+◌, ◌<◌, ◌≤◌, ◌⊎◌, inl, inr, ⊎_elim, Bool, true, false, List, [], ◌∷◌, ◌++◌, length, arith, ℤ, ◌<ℤ◌}
-use Rattle.std.specs.Prelude.{Option, Some, slice_get, Contains, IsPermutation, int_le}
+use Rattle.std.proofs.Common.{◌≡◌, refl, sym, ◌∙◌, ap, subst, ℕ, ◌+◌, ◌<◌, ◌≤◌, ◌⊎◌, inl, inr, ⊎_elim, Bool, true, false, List, [], ◌∷◌, ◌++◌, length, arith, ℤ, ◌≤ℤ◌, ◌<ℤ◌}
+use Rattle.std.specs.Prelude.{Some, slice_get, Contains, IsPermutation, int_le}
 use Rattle.std.proofs.lemmas.Bool.{cases_lt}
 use Rattle.std.proofs.lemmas.Int.{ints}
 use Rattle.std.proofs.lemmas.List.{length_push}
@@ -8,26 +8,29 @@ use Rattle.std.proofs.lemmas.List.Sorted.{Contains-permutation, IsPermutation-sy
 use Rattle.std.proofs.lemmas.Option.{same_Some, slice_get_within, slice_get-get_or}
 use Rattle.transit_base.specs.declared.moments.Moment.{Moment}
 use Rattle.feed_rows.specs.declared.journeys.Ride.{Ride}
+use Rattle.feed_rows.specs.declared.journeys.RideFacts.{RideFacts}
 use Rattle.feed_rows.specs.JourneyStands.{Stand, stand_at_end}
 use Rattle.feed_rows.specs.PartialJourneys.{LabelFacts}
 use Rattle.plain_laws.proofs.Laws.{int_le-true, slice_get-Contains, slice_get-push_before, slice_get-push_last}
 use Rattle.plan_rides.specs.declared.caught.CaughtRide.{CaughtRide}
 use Rattle.plan_rides.specs.declared.positions.Reached.{Reached}
-use Rattle.plan_rides.specs.InTime.{AreLastDepartures, IsRight, IsWithinWindow, is_early, next_in_time}
+use Rattle.plan_rides.specs.Cutoffs.{AreLastDepartures, CutoffOf, is_early}
+use Rattle.plan_rides.specs.InTime.{IsRight, IsWithinWindow, next_in_time}
 use Rattle.plan_rides.specs.Reached.{AddsReached, HoldsFrom, IsAny, IsReachedFrom, Positioned}
 use Rattle.plan_rides.proofs.FoundLaws.{has_kept, kept_never, kept_right}
 use Rattle.round_laws.specs.LabelSteps.{IsLabelStep}
+use Rattle.round_laws.proofs.PartLaws.{item_at}
 use Rattle.round_labels.specs.declared.label.Label.{Label}
+use Rattle.plan_rounds.specs.declared.scan.Marks.{Marks}
 use Rattle.plan_rounds.specs.declared.scan.Round.{Round}
 use Rattle.plan_rounds.specs.declared.search.Source.{Source}
-use Rattle.plan_rounds.specs.Horizons.{IsFair}
+use Rattle.plan_rounds.specs.Bounds.{IsFairBy}
 use Rattle.round_labels.specs.Labels.{facts_of, stand_of_label}
-use Rattle.plan_rounds.specs.Prospects.{ProspectLists, latest_of, lasts_of}
-use Rattle.plan_rounds.specs.Scans.{AddsMarks, AreFairFor, AreFairIn, AreReached, HasLasts, IsFairIn, IsNear, IsRound, StepsAmong, StepsAt, StepsAtFirst, StepsFromPosition}
+use Rattle.plan_rounds.specs.Scans.{AddsMarks, AreMarks, AreReached, IsFairIn, IsRound, IsUntilIn, StepsAmong, StepsAt, StepsAtFirst, StepsFromPosition}
 use Rattle.plan_rounds.specs.Searched.{Searched, Lacks}
 use Rattle.plan_rounds.specs.Sources.{IsSource, StepsByFirst}
 use Rattle.plan_rounds.specs.Stores.{StepsBy, StepsTo}
-use Rattle.plan_rounds.proofs.ProspectLaws.{in_time_of}
+use Rattle.plan_rounds.proofs.SpanLaws.{in_time_of}
 use Rattle.plan_rounds.proofs.SourceLaws.{from_more, from_only}
 
 -- a ride of a step is caught in time, also where the positions are of the same feed and query
@@ -39,55 +42,43 @@ step_caught task me x b feed query to =
     (subst (λ q. next_in_time task.feed q (stand_of_label x) to.0 ≡ Some (stand_at_end to.2.facts)) (sym query)
     (in_time_of task.feed task.query (facts_of x) to.0 to.2.facts to.2.rides))
 
--- ---- prospects
-
-pub fair_in : (task : Searched) (round : Round) (near : Bool) (lists : ProspectLists) (more : ℕ) (latest : List (Option Moment)) →
-    IsRound task round → AreFairFor task round.horizon.now near lists → round.count + 1 + more ≡ task.query.rides →
-    latest ≡ latest_of lists more → AreFairIn task round near latest
-fair_in task round near lists more latest is fair left same number x at counts own b to again late =
-    (fair round.finals.now is.horizon x (is.origins number x at counts).within own).rules more b to (omega (arith, left, counts))
-    (subst (λ l. is_early l to.2.facts.to.0 to.2.facts.arrival.0 ≡ false) same late)
-
-pub lasts_in : (task : Searched) (round : Round) (lists : ProspectLists) (more : ℕ) (latest lasts : List (Option Moment)) →
-    IsRound task round → HasLasts task round.horizon.now lists → latest ≡ latest_of lists more → lasts ≡ lasts_of lists more →
-    AreLastDepartures round.positions.now.feed round.positions.now.query latest lasts
-lasts_in task round lists more latest lasts is has one other =
-    subst (λ l. AreLastDepartures round.positions.now.feed round.positions.now.query l lasts) (sym one)
-    (subst (λ l. AreLastDepartures round.positions.now.feed round.positions.now.query (latest_of lists more) l) (sym other)
-    (subst (λ f. AreLastDepartures f round.positions.now.query (latest_of lists more) (lasts_of lists more)) (sym is.feed)
-    (subst (λ q. AreLastDepartures task.feed q (latest_of lists more) (lasts_of lists more)) (sym is.query)
-    (has round.finals.now is.horizon more))))
-
 -- ---- the positions that a label reaches
 
 -- what was reached leads to each step, but for those behind which nothing may be lacking
-pub marks_of : (task : Searched) (round : Round) (source : Source) (lists : ProspectLists) (more : ℕ) (old new : List Reached) →
-    IsRound task round → IsFair task round.finals.now source.label.now lists →
-    source.label.now.rides + 1 + more ≡ task.query.rides →
-    AddsReached round.positions.now (lasts_of lists more) (stand_of_label source.label.now) source.number IsAny old new →
+pub marks_of : (task : Searched) (round : Round) (source : Source) (latest lasts : CutoffOf) (old new : List Reached) →
+    IsRound task round → IsFairBy task round.finals.now source.label.now latest → AreLastDepartures task.feed task.query latest lasts →
+    AddsReached round.positions.now lasts (stand_of_label source.label.now) source.number IsAny old new →
     AddsMarks task round source old new
-marks_of task round source lists more old new is fair left adds = record {
+marks_of task round source latest lasts old new is fair last adds = record {
   still = adds.still;
-  all = λ b to. by b to (is_early (latest_of lists more) to.2.facts.to.0 to.2.facts.arrival.0) refl;
+  all = λ b to. by b to (is_early latest to.2.facts.to.0 to.2.facts.arrival.0) refl;
   right = adds.right;
 }
   where
     me : Positioned
     me = round.positions.now
 
-    last : AreLastDepartures me.feed me.query (latest_of lists more) (lasts_of lists more)
-    last = subst (λ f. AreLastDepartures f me.query (latest_of lists more) (lasts_of lists more)) (sym is.feed)
-        (subst (λ q. AreLastDepartures task.feed q (latest_of lists more) (lasts_of lists more)) (sym is.query) (fair.lasts more))
+    last_here : AreLastDepartures me.feed me.query latest lasts
+    last_here = subst (λ f. AreLastDepartures f me.query latest lasts) (sym is.feed)
+        (subst (λ q. AreLastDepartures task.feed q latest lasts) (sym is.query) last)
 
     by : (b : LabelFacts) (to : StepsTo task.feed task.query (facts_of source.label.now) b) (early : Bool) →
-        is_early (latest_of lists more) to.2.facts.to.0 to.2.facts.arrival.0 ≡ early →
+        is_early latest to.2.facts.to.0 to.2.facts.arrival.0 ≡ early →
         ((reached : Reached) × Contains new reached × (reached.number ≡ source.number) × StepsAt task me source.label.now reached b)
         ⊎ Lacks task round.finals.now b
     by b to true early =
-        let has = adds.all (latest_of lists more) last to.0 (stand_at_end to.2.facts)
+        let has = adds.all latest last_here to.0 (stand_at_end to.2.facts)
         (step_caught task me source.label.now b is.feed is.query to) early tt in
         inl (has.0, has.1, has.2, (to, has.3))
-    by b to false late = inr (fair.rules more b to left late)
+    by b to false late = inr (fair b to late)
+
+-- departures that are last are so for the positions of the round
+pub lasts_in : (task : Searched) (round : Round) (latest lasts : CutoffOf) → IsRound task round →
+    AreLastDepartures task.feed task.query latest lasts →
+    AreLastDepartures round.positions.now.feed round.positions.now.query latest lasts
+lasts_in task round latest lasts is last =
+    subst (λ f. AreLastDepartures f round.positions.now.query latest lasts) (sym is.feed)
+    (subst (λ q. AreLastDepartures task.feed q latest lasts) (sym is.query) last)
 
 -- ---- the positions that all labels reach
 
@@ -136,28 +127,44 @@ module _ (task : Searched) (round : Round) where
     right = λ reached at. before.right reached (Contains-permutation new old reached (IsPermutation-sym old new moved) at);
   }
 
-  -- the labels that are near, of the first n
-  abbrev pub AreNear : List Bool → Type 0
-  AreNear near =
-      (number : ℕ) (x : Label) → slice_get round.labels.now number ≡ Some x → slice_get near number ≡ Some true →
-      IsNear task round.horizon.now x
+  -- by number the labels of the round have moments until which rides from them may arrive
+  abbrev pub AreUntils : ℤ → List Moment → Type 0
+  AreUntils last untils =
+      (number : ℕ) (x : Label) (until : Moment) → slice_get round.labels.now number ≡ Some x → x.rides ≡ round.count →
+      slice_get untils number ≡ Some until → IsUntilIn task round last x until.0
 
-  pub near_none : AreNear []
-  near_none number x at is = let lt = slice_get_within [] number true is in absurd (omega (arith, lt))
+  pub untils_none : (last : ℤ) → AreUntils last []
+  untils_none last number x until is counts at = let lt = slice_get_within [] number until at in absurd (omega (arith, lt))
 
   -- one label more
-  pub near_more : (near : List Bool) (k : ℕ) (flag : Bool) (y : Label) → length near ≡ k → slice_get round.labels.now k ≡ Some y →
-      (flag ≡ true → IsNear task round.horizon.now y) → AreNear near → AreNear (near ++ flag ∷ [])
-  near_more near k flag y many at own before number x is marked =
-      let lt = slice_get_within (near ++ flag ∷ []) number true marked in
-      let long = length_push near flag in
+  pub untils_more : (untils : List Moment) (old last : ℤ) (k : ℕ) (next : Moment) (y : Label) → length untils ≡ k → old ≤ℤ last →
+      slice_get round.labels.now k ≡ Some y → (y.rides ≡ round.count → IsUntilIn task round last y next.0) → AreUntils old untils →
+      AreUntils last (untils ++ next ∷ [])
+  untils_more untils old last k next y many later at own before number x until is counts has =
+      let lt = slice_get_within (untils ++ next ∷ []) number until has in
+      let long = length_push untils next in
       ⊎_elim
-      (λ (lower : number < k). before number x is (sym (slice_get-push_before near flag number (subst (λ n. number < n) (sym many) lower)) ∙ marked))
+      (λ (lower : number < k).
+      let was = before number x until is counts (sym (slice_get-push_before untils next number (subst (λ n. number < n) (sym many) lower)) ∙ has) in
+      let sooner = was.before in
+      record { is = was.is; before = omega (arith, ints, sooner, later) })
       (λ (upper : k ≤ number).
       let same : number ≡ k = omega (arith, lt, long, many, upper) in
-      subst (IsNear task round.horizon.now) (same_Some _ _ (sym at ∙ ap (slice_get round.labels.now) (sym same) ∙ is))
-      (own (same_Some _ _ (sym (slice_get-push_last near flag number (same ∙ sym many)) ∙ marked))))
+      let is_y : y ≡ x = same_Some _ _ (sym at ∙ ap (slice_get round.labels.now) (sym same) ∙ is) in
+      let is_next : next ≡ until = same_Some _ _ (sym (slice_get-push_last untils next number (same ∙ sym many)) ∙ has) in
+      subst (λ (m : Moment). IsUntilIn task round last x m.0) is_next
+      (subst (λ (z : Label). IsUntilIn task round last z next.0) is_y (own (ap (λ (z : Label). z.rides) is_y ∙ counts))))
       (cases_lt number k)
+
+  -- the moment of a label of the round
+  pub until_at : (marks : Marks) (number : ℕ) (x : Label) → AreMarks task round marks → slice_get round.labels.now number ≡ Some x →
+      x.rides ≡ round.count →
+      (until : Moment) × (slice_get marks.untils.items number ≡ Some until) × IsUntilIn task round marks.last.0 x until.0
+  until_at marks number x are at counts =
+      let within = slice_get_within round.labels.now number x at in
+      let many = are.many in
+      let some = item_at marks.untils.items number (omega (arith, within, many)) in
+      (some.0, some.1, are.untils number x some.0 at counts some.1)
 
   -- ---- the steps by one position after another
 
@@ -182,7 +189,7 @@ module _ (task : Searched) (round : Round) where
 
 -- ---- the rides from a position
 
-module _ (task : Searched) (round : Round) (source : Source) (reached : Reached) (latest : List (Option Moment))
+module _ (task : Searched) (round : Round) (source : Source) (reached : Reached) (latest : CutoffOf)
     (rides : List CaughtRide) (is : IsRound task round) (own : IsSource task.feed task.query source)
     (from : IsReachedFrom round.positions.now (stand_of_label source.label.now) reached)
     (holds : HoldsFrom round.positions.now latest reached rides) where
@@ -224,6 +231,26 @@ module _ (task : Searched) (round : Round) (source : Source) (reached : Reached)
           let lt = slice_get_within rides i x got in
           (i, lt, same_Some _ _ (sym (slice_get-get_or rides i x lt) ∙ got))
 
+  -- one that arrives too late for the label leads to what the search may lack
+  pub by_late : (own_latest : CutoffOf) (k : ℕ) (caught : CaughtRide) (b : LabelFacts) → slice_get rides k ≡ Some caught →
+      int_le reached.earliest.0 caught.facts.departure.0 ≡ true → source.label.now.rides ≡ round.count →
+      IsFairIn task round source.label.now own_latest → is_early own_latest caught.facts.to.0 caught.facts.arrival.0 ≡ false →
+      StepsByFirst task.feed task.query source rides (k + 1) b →
+      StepsByFirst task.feed task.query source rides k b ⊎ Lacks task round.finals.now b
+  by_late own_latest k caught b at since counts fair late steps =
+      let below = steps.1 in
+      ⊎_elim (λ lower. inl (steps.0, lower, steps.2, steps.3, steps.4))
+      (λ upper.
+      let same : steps.0 ≡ k = omega (arith, below, upper) in
+      let by = subst (λ (c : CaughtRide). StepsBy task.feed task.query (facts_of source.label.now) c.ride b)
+      (same_Some _ _ (sym steps.3 ∙ ap (slice_get rides) same ∙ at)) steps.4 in
+      let lt = slice_get_within rides k caught at in
+      let right = right_from caught (k, lt, same_Some _ _ (sym (slice_get-get_or rides k caught lt) ∙ at)) since in
+      let facts_are : caught.facts ≡ by.1.facts = same_Some _ _ (sym right.facts ∙ by.1.rides.is) in
+      inr (fair counts b (caught.ride, by.0, by.1)
+      (subst (λ (f : RideFacts). is_early own_latest f.to.0 f.arrival.0 ≡ false) facts_are late)))
+      (cases_lt steps.0 k)
+
   -- each step by a ride from there is by one of them, or leads to what the search may lack
   pub steps_from : (b : LabelFacts) → source.label.now.rides ≡ round.count → IsFairIn task round source.label.now latest →
       StepsAt task me source.label.now reached b →
@@ -241,4 +268,4 @@ module _ (task : Searched) (round : Round) (source : Source) (reached : Reached)
           let at = slice_get-Contains rides some.0 some.1 in
           let lt = slice_get_within rides at.0 some.0 at.1 in
           inl (at.0, lt, some.0, at.1, (step.0.1, subst (λ (r : Ride). IsLabelStep task.feed task.query (facts_of source.label.now) r step.0.1 b) (sym some.2) step.0.2))
-      by false late = inr (fair b step.0 counts late)
+      by false late = inr (fair counts b step.0 late)

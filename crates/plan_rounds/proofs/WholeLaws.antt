@@ -1,9 +1,10 @@
--- The table of all rounds is exact, and that of a search that is to be whole is sound and closed.
+-- The table of a search is real, and finds whatever is offered but for what was given; that of one that is to be whole is exact,
+-- sound and closed.
 use Rattle.std.proofs.Common.{◌≡◌, sym, ◌∙◌, ap, subst, ℕ, ◌+◌, ◌*◌, ◌<◌, ◌≤◌, ◌⊎◌, inl, inr, ⊎_elim, Bool, true, false, List, length, get_or, All}
 use Rattle.std.specs.Prelude.{◌≢◌, Some, slice_get}
 use Rattle.std.proofs.lemmas.Bool.{both_ways, cases_order}
 use Rattle.std.proofs.lemmas.List.Elements.{All-contains, All-weaker}
-use Rattle.std.proofs.lemmas.List.Folds.{Any-from_list_any}
+use Rattle.std.proofs.lemmas.List.Folds.{Any-from_list_any, list_any-from_Any}
 use Rattle.plain_laws.proofs.Laws.{list_any-map, Contains-slice_get}
 use Rattle.std.proofs.lemmas.Option.{slice_get-map, slice_get_within, get_or_from_slice_get}
 use Rattle.feed_rows.specs.declared.journeys.Query.{Query}
@@ -23,7 +24,8 @@ use Rattle.item_groups.specs.Groups.{groups_below}
 use Rattle.round_laws.specs.Futility.{MayLack}
 use Rattle.round_laws.specs.LabelSteps.{IsLabelEnd}
 use Rattle.round_laws.specs.LinkedTables.{CoversSteps, AreFinals, IsFinal, IsFound}
-use Rattle.round_laws.proofs.AnswerLaws.{exact_entries, ends_exactly}
+use Rattle.round_laws.proofs.AnswerLaws.{are_entries, each_found, ends_exactly, entries_cover, entries_given, exact_entries}
+use Rattle.round_laws.proofs.FutilityLaws.{IsUpward}
 use Rattle.round_laws.proofs.ClosedLaws.{covers_journeys, closed_table}
 use Rattle.round_laws.proofs.TableLaws.{are_real}
 use Rattle.round_table.specs.declared.finals.Final.{Final}
@@ -32,7 +34,7 @@ use Rattle.round_labels.specs.CoverLaws.{covers-holds}
 use Rattle.round_table.specs.Finals.{final_of, finals_of, is_bettered}
 use Rattle.round_labels.specs.Labels.{facts_of, label_of, labels_of, covers}
 use Rattle.plan_rounds.specs.Stores.{ArePruned, AreWhole}
-use Rattle.round_table.specs.Tables.{numbered, table_in, IsExactTable}
+use Rattle.round_table.specs.Tables.{numbered, table_in, FindsBut, IsExactTable, IsRealTable, is_given}
 use Rattle.round_table.proofs.TableLaws.{are_bags, option_map-tells}
 
 -- what is bettered is found
@@ -40,6 +42,12 @@ pub found_of : (finals : List Final) (t : Triple) → is_bettered finals t → I
 found_of finals t h =
     Any-from_list_any (λ final. at_most final.triple t) (finals_of finals)
     (list_any-map (λ final. at_most final.triple t) final_of finals ∙ h)
+
+-- and what is found is bettered
+pub found_bettered : (finals : List Final) (t : Triple) → IsFound (finals_of finals) t → is_bettered finals t
+found_bettered finals t found =
+    sym (list_any-map (λ final. at_most final.triple t) final_of finals)
+    ∙ list_any-from_Any (λ final. at_most final.triple t) (finals_of finals) found
 
 -- what may be lacking may still be where more may
 pub whole_weaker : (feed : FeedRows) (query : Query) (Lacking More : LabelFacts → Type 0) (labels : List Label) →
@@ -112,19 +120,37 @@ module _ (feed : FeedRows) (query : Query) (labels : List Label) (stops limit : 
       final.triple (final.last, ends_there))
       (subst (λ (l : Kept). is_outdone feed query final.triple l.facts ≡ true) (sym x.2) outdone)
 
-  pub exact_table : IsSoundFeed feed → (whole : Bool) →
-      AreWhole feed query (MayLack feed query whole (IsFound (finals_of finals))) labels →
+  pub real_table : (Lacking : LabelFacts → Type 0) → AreWhole feed query Lacking labels →
       AreFinals feed query (labels_of labels) (finals_of finals) → stops ≡ length feed.stops → limit ≡ query.rides →
-      IsExactTable feed query table
-  exact_table sound whole are ends all_stops all_rides = record {
-    real = λ number label is. are_real feed query table number label are.linked is;
-    bags = are_bags labels stops limit
-        (subst (λ (n : ℕ). All (λ x. x.rides ≤ n) labels) (sym all_rides) are.few)
-        (subst (λ (n : ℕ). All (λ x. x.stop.0 < n) labels) (sym all_stops) are.inside) finals;
-    no_excess = no_excess are.apart;
-    pruned = pruned are.pruned ends;
-    exact = ends_exactly feed query whole table sound are.linked are.starts are.closed ends;
-    offers = λ entries is. (exact_entries feed query whole table sound are.linked are.starts are.closed ends entries is).1;
+      IsRealTable feed query table
+  real_table Lacking are ends all_stops all_rides =
+      let entries = entries_given feed query table are.linked ends.right in
+      record {
+        real = λ number label is. are_real feed query table number label are.linked is;
+        bags = are_bags labels stops limit
+            (subst (λ (n : ℕ). All (λ x. x.rides ≤ n) labels) (sym all_rides) are.few)
+            (subst (λ (n : ℕ). All (λ x. x.stop.0 < n) labels) (sym all_stops) are.inside) finals;
+        no_excess = no_excess are.apart;
+        pruned = pruned are.pruned ends;
+        entries = (entries.0, entries.1, are_entries feed query table are.linked ends.right entries.0 entries.1);
+      }
+
+  -- what a search lacks is found by finals, or was given
+  pub finds_all : IsSoundFeed feed → (whole : Bool) (given : List Triple) →
+      AreWhole feed query (MayLack feed query whole (λ t. is_bettered finals t ⊎ is_given given t)) labels →
+      IsUpward (λ t. is_bettered finals t ⊎ is_given given t) →
+      AreFinals feed query (labels_of labels) (finals_of finals) → FindsBut feed query given table
+  finds_all sound whole given are upward ends entries is entry entry_is =
+      ⊎_elim (λ some. inl (entries_cover feed query table are.linked ends.right entries is entry.triple (found_of finals entry.triple some))) inr
+      (each_found feed query whole table sound (λ t. is_bettered finals t ⊎ is_given given t) upward
+      (λ t found. inl (found_bettered finals t found)) are.linked are.starts are.closed ends entry entry_is)
+
+  -- a search that is to be whole is exact
+  pub exact_table : IsSoundFeed feed → AreWhole feed query (MayLack feed query true (IsFound (finals_of finals))) labels →
+      AreFinals feed query (labels_of labels) (finals_of finals) → IsExactTable feed query table
+  exact_table sound are ends = record {
+    exact = ends_exactly feed query true table sound are.linked are.starts are.closed ends;
+    offers = λ entries is. (exact_entries feed query true table sound are.linked are.starts are.closed ends entries is).1;
   }
 
   -- a search that is to be whole covers the partial journeys, and its table is closed

@@ -1,8 +1,8 @@
+pub mod Bounds
 pub mod Gathered
-pub mod Horizons
 pub mod Legs
 pub mod Moves
-pub mod Prospects
+pub mod Planned
 pub mod Scans
 pub mod Searched
 pub mod Sources

@@ -1,5 +1,5 @@
 -- How a round goes on from its labels: by the positions that they reach.
-use Rattle.std.specs.Prelude.{◌≡◌, ◌⊎◌, ℕ, ◌+◌, ◌<◌, ◌^◌, ℤ, Bool, true, false, List, Contains, Option, Some, IfSome, length, slice_get}
+use Rattle.std.specs.Prelude.{◌≡◌, ◌⊎◌, ℕ, ◌+◌, ◌<◌, ◌^◌, List, [], ◌∷◌, ◌++◌, Contains, Some, length, slice_get, ℤ, ◌≤ℤ◌}
 use Rattle.std.specs.List.Sorted.{IsSortedByKey}
 use Rattle.std.specs.Ordering.{nat_cmp, int_cmp, ordering_then}
 use Rattle.transit_base.specs.declared.moments.Moment.{Moment}
@@ -8,39 +8,20 @@ use Rattle.feed_rows.specs.FeedRows.{FeedRows}
 use Rattle.feed_rows.specs.PartialJourneys.{LabelFacts}
 use Rattle.plan_rides.specs.Boarding.{MayRide}
 use Rattle.plan_rides.specs.Departures.{TakesServing}
-use Rattle.plan_rides.specs.InTime.{AreLastDepartures, IsUsualQuery, IsWithinWindow, is_early}
+use Rattle.plan_rides.specs.Cutoffs.{CutoffOf}
+use Rattle.plan_rides.specs.InTime.{IsUsualQuery, IsWithinWindow, deadline}
 use Rattle.plan_rides.specs.Reached.{HoldsFrom, IsReachedFrom, Positioned}
 use Rattle.plan_rides.specs.declared.caught.CaughtRide.{CaughtRide}
 use Rattle.plan_rides.specs.declared.positions.Reached.{Reached}
-use Rattle.round_table.specs.declared.finals.Final.{Final}
 use Rattle.round_labels.specs.declared.label.Label.{Label}
 use Rattle.plan_rounds.specs.declared.scan.Marks.{Marks}
 use Rattle.plan_rounds.specs.declared.scan.Round.{Round}
 use Rattle.plan_rounds.specs.declared.search.Source.{Source}
 use Rattle.round_table.specs.Finals.{HasEnds}
-use Rattle.plan_rounds.specs.Horizons.{HorizonParts, IsFair, IsHorizon, is_beyond}
+use Rattle.plan_rounds.specs.Bounds.{IsFairBy, IsUntil}
 use Rattle.round_labels.specs.Labels.{IsBounded, facts_of, stand_of_label}
-use Rattle.plan_rounds.specs.Prospects.{ProspectLists, latest_of, lasts_of}
 use Rattle.plan_rounds.specs.Searched.{Searched, Lacks}
 use Rattle.plan_rounds.specs.Stores.{Spreads, StepsFromFirst, StepsTo}
-
--- ---- prospects
-
--- there is a horizon, and its final has no more rides than one more from the label makes, and costs no more than can follow
-abbrev pub IsNear : Searched → Option HorizonParts → Label → Type 0
-IsNear task horizon x = (by : HorizonParts) × (horizon ≡ Some by) × (is_beyond task x by ≡ true)
-
--- the prospects are fair to each label within the window, which is near where only such are meant
-abbrev pub AreFairFor : Searched → Option HorizonParts → Bool → ProspectLists → Type 0
-AreFairFor task horizon near lists =
-    (finals : List Final) → IfSome horizon (IsHorizon task finals) → (x : Label) → IsWithinWindow task.query x.arrival.0 →
-    (near ≡ true → IsNear task horizon x) → IsFair task finals x lists
-
--- no ride gets somewhere early enough by them that departs later than the last
-abbrev pub HasLasts : Searched → Option HorizonParts → ProspectLists → Type 0
-HasLasts task horizon lists =
-    (finals : List Final) → IfSome horizon (IsHorizon task finals) → (more : ℕ) →
-    AreLastDepartures task.feed task.query (latest_of lists more) (lasts_of lists more)
 
 -- ---- rounds
 
@@ -57,8 +38,8 @@ abbrev pub AreOrigins : FeedRows → Query → ℕ → List Label → Type 0
 AreOrigins feed query count labels =
     (number : ℕ) (x : Label) → slice_get labels number ≡ Some x → x.rides ≡ count → IsOrigin feed query x
 
--- the round is one of the search: it goes on from labels with so many rides, which are fewer than the query's limit; of them
--- all is found that they end in, and the horizon is by that
+-- the round is one of the search: it goes on from labels with so many rides, which are fewer than the query's limit; and of
+-- them all is found that they end in
 pub record IsRound (task : Searched) (round : Round) : Type 0 where
   pub feed : round.positions.now.feed ≡ task.feed
   pub query : round.positions.now.query ≡ task.query
@@ -66,11 +47,6 @@ pub record IsRound (task : Searched) (round : Round) : Type 0 where
   pub numbers : length round.labels.now < 2 ^ 32
   pub origins : AreOrigins task.feed task.query round.count round.labels.now
   pub ended : HasEnds task.feed task.query round.labels.now round.finals.now
-  pub horizon : IfSome round.horizon.now (IsHorizon task round.finals.now)
-
--- it has this horizon, and goes on from labels with so many rides
-abbrev pub IsRoundBy : Searched → Option HorizonParts → ℕ → Round → Type 0
-IsRoundBy task horizon count round = IsRound task round × (round.horizon.now ≡ horizon) × (round.count ≡ count)
 
 -- ---- positions that are reached
 
@@ -128,31 +104,39 @@ pub record AreReached (task : Searched) (round : Round) (n : ℕ) (list : List R
       StepsAmong task round list b ⊎ Lacks task round.finals.now b
   pub right : (reached : Reached) → Contains list reached → IsMarked round reached
 
--- so it is with the positions; and the labels that are marked as near are, of which there are so many
+-- the moment is one until which rides from the label may arrive, and it isn't later than the last
+pub record IsUntilIn (task : Searched) (round : Round) (last : ℤ) (x : Label) (until : ℤ) : Type 0 where
+  pub is : IsUntil task round.finals.now x until
+  pub before : until ≤ℤ last
+
+-- the marks gain the positions that the source reaches, and behind the moments of the labels before it its own
+pub record AddsLabel (task : Searched) (round : Round) (source : Source) (old new : Marks) : Type 0 where
+  pub reached : AddsMarks task round source old.reached.items new.reached.items
+  pub until : Moment
+  pub is : IsUntil task round.finals.now source.label.now until.0
+  pub untils : new.untils.items ≡ old.untils.items ++ until ∷ []
+  pub before : until.0 ≤ℤ new.last.0
+  pub later : old.last.0 ≤ℤ new.last.0
+  pub last : (new.last ≡ old.last) ⊎ (new.last ≡ until)
+
+-- so it is with the positions; and by number the labels of the round have such moments
 pub record AreMarks (task : Searched) (round : Round) (marks : Marks) : Type 0 where
   pub reached : AreReached task round (length round.labels.now) marks.reached.items
-  pub many : length marks.near.items ≡ length round.labels.now
-  pub near : (number : ℕ) (x : Label) → slice_get round.labels.now number ≡ Some x →
-      slice_get marks.near.items number ≡ Some true → IsNear task round.horizon.now x
+  pub many : length marks.untils.items ≡ length round.labels.now
+  pub untils : (number : ℕ) (x : Label) (until : Moment) → slice_get round.labels.now number ≡ Some x → x.rides ≡ round.count →
+      slice_get marks.untils.items number ≡ Some until → IsUntilIn task round marks.last.0 x until.0
+  pub last : marks.last.0 ≤ℤ deadline task.query
 
--- the search may lack whatever a ride from the label leads to in the round that doesn't arrive early enough by these moments
-abbrev pub IsFairIn : Searched → Round → Label → List (Option Moment) → Type 0
-IsFairIn task round x latest =
-    (b : LabelFacts) (to : StepsTo task.feed task.query (facts_of x) b) → x.rides ≡ round.count →
-    is_early latest to.2.facts.to.0 to.2.facts.arrival.0 ≡ false → Lacks task round.finals.now b
+-- the cutoff is fair to the label, where that is one of the round
+abbrev pub IsFairIn : Searched → Round → Label → CutoffOf → Type 0
+IsFairIn task round x latest = x.rides ≡ round.count → IsFairBy task round.finals.now x latest
 
--- rides serve for the label at the position: among them are those from there that arrive early enough, by moments that are fair
+-- rides serve for the label at the position: among them are those from there that arrive early enough, by a cutoff that is fair
 -- to it
 pub record ServeFor (task : Searched) (round : Round) (x : Label) (reached : Reached) (rides : List CaughtRide) : Type 0 where
-  pub latest : List (Option Moment)
+  pub latest : CutoffOf
   pub fair : IsFairIn task round x latest
   pub holds : HoldsFrom round.positions.now latest reached rides
-
--- the prospects are fair to the labels with so many rides, of which they are near where only such are meant
-abbrev pub AreFairIn : Searched → Round → Bool → List (Option Moment) → Type 0
-AreFairIn task round near latest =
-    (number : ℕ) (x : Label) → slice_get round.labels.now number ≡ Some x → x.rides ≡ round.count →
-    (near ≡ true → IsNear task round.horizon.now x) → IsFairIn task round x latest
 
 -- the labels with one ride more gain those that cover this part, but for what the search may lack
 abbrev pub SpreadsIn : Searched → Round → (LabelFacts → Type 0) → List Label → List Label → Type 0

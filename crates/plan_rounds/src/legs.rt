@@ -3,14 +3,14 @@ ghost use Rattle.std.specs.Prelude.{◌≡◌, [], IfOk, OnOk};
 ghost use Rattle.feed_rows.specs.Legs.{leg_facts};
 ghost use Rattle.leg_kinds.specs.Kinds.{IsOfKind};
 ghost use Rattle.plan_rides.specs.Departures.{Serves};
-ghost use Rattle.plan_rides.specs.InTime.{AreLastDepartures};
+ghost use Rattle.plan_rides.specs.Cutoffs.{AreLastDepartures, cutoff_of};
 ghost use Rattle.plan_rides.specs.Reached.{AreKept, HoldsFrom, none_kept};
 ghost use Rattle.plan_rounds.specs.Legs.{AreKinds, HasKinds, StayKnown};
 ghost use Rattle.plan_rounds.specs.Moves.{HasFares};
 
 use crate::scan::{Cutoffs, Round};
 use crate::search::{Found, Search};
-use plan_rides::{CaughtRide, KeptRides, Reached};
+use plan_rides::{CaughtRide, Cutoff, KeptRides, Reached};
 use std::alloc::{AllocError, Global};
 
 /// The rides from the position that was looked at last, and in the same order the numbers of their legs' kinds.
@@ -45,11 +45,13 @@ impl KeptLegs {
     }
 }
 
-/// Rides from a position, and in the same order the numbers of their legs' kinds.
+/// Rides from a position, and in the same order the numbers of their legs' kinds; with how late they may arrive for a label.
 #[derive(Clone, Copy)]
 pub struct RideLegs<'r> {
     pub(crate) rides: &'r [CaughtRide],
     pub(crate) kinds: &'r [usize],
+    /// How late they may arrive.
+    pub(crate) latest: Cutoff<'r>,
 }
 
 impl<'s, 'l> Search<'s, 'l> {
@@ -94,19 +96,19 @@ impl<'s, 'l> Search<'s, 'l> {
         kept: &mut KeptLegs,
     ) -> Result<(), AllocError>
         requires serves { Serves round.now.positions.now.feed round.now.positions.now.patterns reached.now.stop.0 reached.now.serving }
-        requires lasts { AreLastDepartures round.now.positions.now.feed round.now.positions.now.query cutoffs.latest.now cutoffs.lasts.now }
-        requires kept { AreKept round.now.positions.now cutoffs.latest.now kept.old.rides }
+        requires lasts { AreLastDepartures round.now.positions.now.feed round.now.positions.now.query (cutoff_of cutoffs.latest) (cutoff_of cutoffs.lasts) }
+        requires kept { AreKept round.now.positions.now (cutoff_of cutoffs.latest) kept.old.rides }
         requires kinds { HasKinds self.now.feed found.old.known kept.old }
         requires fares { HasFares self.now found.old.known }
-        ensures kept { OnOk result (AreKept round.now.positions.now cutoffs.entry.latest.now kept.new.rides) }
-        ensures holds { OnOk result (HoldsFrom round.now.positions.now cutoffs.entry.latest.now reached.now kept.new.rides.rides) }
+        ensures kept { OnOk result (AreKept round.now.positions.now (cutoff_of cutoffs.entry.latest) kept.new.rides) }
+        ensures holds { OnOk result (HoldsFrom round.now.positions.now (cutoff_of cutoffs.entry.latest) reached.now kept.new.rides.rides) }
         ensures kinds { OnOk result (HasKinds self.now.feed found.new.known kept.new) }
         ensures fares { HasFares self.now found.new.known }
         ensures still { StayKnown found.old.known found.new.known }
     {
         let anew = round
             .positions
-            .keep(&mut kept.rides, cutoffs.latest, cutoffs.lasts, reached)?;
+            .keep(&mut kept.rides, &cutoffs.latest, &cutoffs.lasts, reached)?;
         if !anew {
             return Ok(());
         }

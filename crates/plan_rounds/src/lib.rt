@@ -4,12 +4,11 @@
 
 mod bounds;
 mod ends;
-mod horizon;
 mod legs;
 mod moves;
 mod plan;
-mod prospects;
 mod scan;
 mod search;
+mod seen;
 
 pub use plan::{round_entries, rounds};

@@ -1,24 +1,30 @@
 //! The exact answer to a query, by rounds.
-ghost use Rattle.std.specs.Prelude.{◌≡◌, IfOk, true};
+ghost use Rattle.std.specs.Prelude.{◌≡◌, [], All, IfOk, OnOk, map, true};
 ghost use Rattle.fare_automaton.specs.Terms.{terms};
 ghost use Rattle.fare_timeframes.specs.BuiltTimeframes.{AreTimeframesOf};
-ghost use Rattle.feed_rows.specs.JourneyEntries.{CoversOffers, IsExactAnswer};
-ghost use Rattle.plan_rides.specs.InTime.{IsUsualQuery, deadline};
+ghost use Rattle.feed_rows.specs.FeedRows.{FeedRows};
+ghost use Rattle.feed_rows.specs.declared.fares.Entry.{Entry};
+ghost use Rattle.feed_rows.specs.declared.journeys.Query.{Query};
+ghost use Rattle.feed_rows.specs.JourneyEntries.{CoversOffers, IsEntry, IsExactAnswer};
+ghost use Rattle.plan_rides.specs.InTime.{IsUsualQuery};
 ghost use Rattle.feed_rows.specs.ClosedTable.{IsClosedTable};
 ghost use Rattle.feed_rows.specs.SoundTable.{IsSoundTable};
 ghost use Rattle.plan_rides.specs.Asked.{asked};
-ghost use Rattle.plan_rounds.specs.Prospects.{AreProspects, no_prospects};
-ghost use Rattle.plan_rounds.specs.Searched.{IsTableOf, searched};
+ghost use Rattle.fare_bounds.specs.FareBounds.{AreFareBounds};
+ghost use Rattle.plan_rides.specs.Spans.{AreSpans, no_spans};
+ghost use Rattle.plan_rounds.specs.Planned.{AddsEntries, CoversAllBy, IsPlanned};
+ghost use Rattle.plan_rounds.specs.Searched.{IsAim, IsTableOf, aim_of, searched};
 ghost use Rattle.round_table.specs.Tables.{CoversAllOffers, table_by};
 
 use crate::bounds::takes_back;
-use crate::prospects::Prospects;
-use crate::search::Search;
+use crate::search::{Aim, Search};
 use fare_automaton::Automaton;
+use fare_bounds::FareBounds;
 use fare_timeframes::Timeframes;
-use feed_rows::{Entry, Feed, Query};
+use feed_rows::{Entry, Feed, Query, Triple};
 use feed_timetable::Timetable;
-use plan_rides::Rides;
+use pareto_front::Front;
+use plan_rides::{Rides, Spans};
 use round_table::RoundTable;
 use std::alloc::{AllocError, Global};
 
@@ -27,6 +33,7 @@ impl<'s, 'l> Search<'s, 'l> {
     fn table(&self, alloc: Global) -> Result<RoundTable, AllocError>
         ensures { IfOk result (λ table. IsTableOf self.now (table_by table)) }
     {
+        let _whole = self.is_whole();
         let limit = self.limit();
         let stops = self.stops();
         let (labels, front) = self.labels()?;
@@ -34,21 +41,21 @@ impl<'s, 'l> Search<'s, 'l> {
     }
 }
 
-/// The prospects of journeys that end in time; none for a search that is to be whole: it tries each ride.
+/// The least seconds to a journey's end; none for a search that is to be whole: it tries each ride.
 ///
 /// # Errors
 /// Want of memory.
-fn first_prospects(alloc: Global, rides: &Rides, whole: bool) -> Result<Prospects, AllocError>
-    ensures are { IfOk result (AreProspects rides.now.feed rides.now.query (deadline rides.now.query)) }
-    ensures none { IfOk result (λ prospects. whole ≡ true → prospects ≡ no_prospects) }
+fn spans_of(alloc: Global, rides: &Rides, whole: bool) -> Result<Spans, AllocError>
+    ensures are { IfOk result (AreSpans rides.now.feed rides.now.query) }
+    ensures none { IfOk result (λ spans. whole ≡ true → spans ≡ no_spans) }
 {
     if whole {
-        return Ok(Prospects::none(alloc));
+        return Ok(Spans::none(alloc));
     }
-    Prospects::of(alloc, rides, rides.deadline())
+    Spans::of(alloc, rides, rides.query().rides)
 }
 
-/// The table of the search by these.
+/// The table of the search by these with this aim.
 ///
 /// # Errors
 /// Want of memory; so counts that there would be 2^32 labels or more.
@@ -58,15 +65,18 @@ fn table_with<'s, 'l>(
     automaton: &'l Automaton<'s>,
     feed: &'l Feed,
     timeframes: &'l Timeframes,
-    prospects: &'l Prospects,
-    whole: bool,
+    spans: &'l Spans,
+    fare_bounds: &'l FareBounds,
+    aim: Aim<'l>,
 ) -> Result<RoundTable, AllocError>
     requires feed { feed.now ≡ rides.now.feed }
     requires timeframes { AreTimeframesOf rides.now.feed timeframes.now }
     requires automaton { automaton.now ≡ terms rides.now.feed rides.now.query.rider }
-    requires prospects { AreProspects rides.now.feed rides.now.query (deadline rides.now.query) prospects.now }
-    requires none { whole ≡ true → prospects.now ≡ no_prospects }
-    ensures { IfOk result (λ table. IsTableOf (searched rides.now whole) (table_by table)) }
+    requires spans { AreSpans rides.now.feed rides.now.query spans.now }
+    requires fare_bounds { AreFareBounds rides.now.feed rides.now.query.rider rides.now.query.rides fare_bounds.now }
+    requires none { aim.whole ≡ true → spans.now ≡ no_spans }
+    requires aim { IsAim (aim_of aim) }
+    ensures { IfOk result (λ table. IsTableOf (searched rides.now (aim_of aim.entry)) (table_by table)) }
 {
     let search = Search {
         alloc,
@@ -74,71 +84,181 @@ fn table_with<'s, 'l>(
         feed,
         timeframes,
         automaton,
-        prospects,
+        spans,
+        fare_bounds,
         takes_back: takes_back(feed),
-        whole,
+        aim,
     };
     search.table(alloc)
 }
 
-/// The table of the rounds over these rides, by what their legs cost: of all labels, or of those alone that matter for the answer.
+/// Entries of the query that are found at once, by a search that may pass over any journey; none for a search that is to be whole.
 ///
 /// # Errors
 /// Want of memory; so counts that there would be 2^32 labels or more.
-fn table_at<'s>(
+fn known_with<'s, 'l>(
     alloc: Global,
-    rides: &Rides<'s>,
-    automaton: &Automaton<'s>,
-    feed: &Feed,
+    rides: &'l Rides<'s>,
+    automaton: &'l Automaton<'s>,
+    feed: &'l Feed,
+    timeframes: &'l Timeframes,
+    spans: &'l Spans,
+    fare_bounds: &'l FareBounds,
     whole: bool,
-) -> Result<RoundTable, AllocError>
+) -> Result<Vec<Entry>, AllocError>
     requires feed { feed.now ≡ rides.now.feed }
+    requires timeframes { AreTimeframesOf rides.now.feed timeframes.now }
     requires automaton { automaton.now ≡ terms rides.now.feed rides.now.query.rider }
-    ensures { IfOk result (λ table. IsTableOf (searched rides.now whole) (table_by table)) }
+    requires spans { AreSpans rides.now.feed rides.now.query spans.now }
+    requires fare_bounds { AreFareBounds rides.now.feed rides.now.query.rider rides.now.query.rides fare_bounds.now }
+    ensures are { IfOk result (λ entries. All (IsEntry rides.now.feed rides.now.query) entries.items) }
+    ensures none { IfOk result (λ entries. whole ≡ true → entries.items ≡ []) }
 {
-    let departure = rides.query().departure;
-    let timeframes = Timeframes::between(alloc, feed, departure, rides.deadline())?;
-    let prospects = first_prospects(alloc, rides, whole)?;
+    if whole {
+        return Ok(Vec::new(alloc));
+    }
+    let aim = Aim {
+        whole: false,
+        loose: true,
+        given: &[],
+    };
     table_with(
         alloc,
         rides,
         automaton,
         feed,
+        timeframes,
+        spans,
+        fare_bounds,
+        aim,
+    )?
+    .entries(alloc)
+}
+
+/// The triples of entries.
+fn triples_of(alloc: Global, entries: &[Entry]) -> Result<Vec<Triple>, AllocError>
+    ensures { IfOk result (λ triples. triples.items ≡ map (λ (entry : Entry). entry.triple) entries.now) }
+{
+    let mut triples = Vec::with_capacity(alloc, entries.len())?;
+    for entry in entries {
+        triples.push(entry.triple)?;
+    }
+    Ok(triples)
+}
+
+/// The table of the search by these, of all labels, or of those alone that matter for the answer beside entries that are found at
+/// once, with these.
+///
+/// # Errors
+/// Want of memory; so counts that there would be 2^32 labels or more.
+fn planned_with<'s>(
+    alloc: Global,
+    rides: &Rides<'s>,
+    automaton: &Automaton<'s>,
+    feed: &Feed,
+    timeframes: &Timeframes,
+    spans: &Spans,
+    fare_bounds: &FareBounds,
+    whole: bool,
+) -> Result<(RoundTable, Vec<Entry>), AllocError>
+    requires feed { feed.now ≡ rides.now.feed }
+    requires timeframes { AreTimeframesOf rides.now.feed timeframes.now }
+    requires automaton { automaton.now ≡ terms rides.now.feed rides.now.query.rider }
+    requires spans { AreSpans rides.now.feed rides.now.query spans.now }
+    requires fare_bounds { AreFareBounds rides.now.feed rides.now.query.rider rides.now.query.rides fare_bounds.now }
+    requires none { whole ≡ true → spans.now ≡ no_spans }
+    ensures { IfOk result (λ planned. IsPlanned rides.now whole planned.0 planned.1.items) }
+{
+    let known = known_with(
+        alloc,
+        rides,
+        automaton,
+        feed,
+        timeframes,
+        spans,
+        fare_bounds,
+        whole,
+    )?;
+    let given = triples_of(alloc, &known)?;
+    let aim = Aim {
+        whole,
+        loose: false,
+        given: &given,
+    };
+    let table = table_with(
+        alloc,
+        rides,
+        automaton,
+        feed,
+        timeframes,
+        spans,
+        fare_bounds,
+        aim,
+    )?;
+    Ok((table, known))
+}
+
+/// The same by the rides, and by what their legs cost.
+///
+/// # Errors
+/// Want of memory; so counts that there would be 2^32 labels or more.
+fn planned_at<'s>(
+    alloc: Global,
+    rides: &Rides<'s>,
+    automaton: &Automaton<'s>,
+    feed: &Feed,
+    whole: bool,
+) -> Result<(RoundTable, Vec<Entry>), AllocError>
+    requires feed { feed.now ≡ rides.now.feed }
+    requires automaton { automaton.now ≡ terms rides.now.feed rides.now.query.rider }
+    ensures { IfOk result (λ planned. IsPlanned rides.now whole planned.0 planned.1.items) }
+{
+    let departure = rides.query().departure;
+    let timeframes = Timeframes::between(alloc, feed, departure, rides.deadline())?;
+    let spans = spans_of(alloc, rides, whole)?;
+    let query = rides.query();
+    let fare_bounds = FareBounds::of(alloc, feed, query.rider, query.rides)?;
+    planned_with(
+        alloc,
+        rides,
+        automaton,
+        feed,
         &timeframes,
-        &prospects,
+        &spans,
+        &fare_bounds,
         whole,
     )
 }
 
-/// The table of the rounds over these rides.
-fn table_over<'s>(
+/// The same by the rides.
+fn planned_over<'s>(
     alloc: Global,
     rides: &Rides<'s>,
     feed: &'s Feed,
     whole: bool,
-) -> Result<RoundTable, AllocError>
+) -> Result<(RoundTable, Vec<Entry>), AllocError>
     requires { feed.now ≡ rides.now.feed }
-    ensures { IfOk result (λ table. IsTableOf (searched rides.now whole) (table_by table)) }
+    ensures { IfOk result (λ planned. IsPlanned rides.now whole planned.0 planned.1.items) }
 {
     match Automaton::compile(alloc, feed, rides.query().rider) {
-        Ok(automaton) => table_at(alloc, rides, &automaton, feed, whole),
+        Ok(automaton) => planned_at(alloc, rides, &automaton, feed, whole),
         Err(AllocError) => Err(AllocError),
     }
 }
 
-/// The table of the query's rounds.
-fn table_of(
+/// The same for the query.
+fn planned_of(
     alloc: Global,
     timetable: &Timetable,
     query: &Query,
     whole: bool,
-) -> Result<RoundTable, AllocError>
+) -> Result<(RoundTable, Vec<Entry>), AllocError>
     requires { IsUsualQuery query.now }
-    ensures { IfOk result (λ table. IsTableOf (searched (asked timetable.now query.now) whole) (table_by table)) }
+    ensures { IfOk result (λ planned. IsPlanned (asked timetable.now query.now) whole planned.0 planned.1.items) }
 {
     let feed = timetable.feed();
     match Rides::of(alloc, timetable, query) {
-        Ok(rides) => table_over(alloc, &rides, feed, whole),
+        Ok(rides) => planned_over(alloc, &rides, feed, whole),
         Err(AllocError) => Err(AllocError),
     }
 }
@@ -155,7 +275,28 @@ pub fn rounds(alloc: Global, timetable: &Timetable, query: &Query) -> Result<Rou
     ensures closed { IfOk result (λ table. IsClosedTable timetable.now query.now (table_by table)) }
     ensures offers { IfOk result (λ table. CoversAllOffers timetable.now query.now (table_by table)) }
 {
-    table_of(alloc, timetable, query, true)
+    let (table, _known) = planned_of(alloc, timetable, query, true)?;
+    Ok(table)
+}
+
+/// Offers entries of a query.
+fn offer_entries(front: &mut Front<Entry>, entries: Vec<Entry>) -> Result<(), AllocError>
+    ensures { OnOk result (AddsEntries entries.items front.old front.new) }
+{
+    for entry in entries {
+        front.offer(entry)?;
+    }
+    Ok(())
+}
+
+/// The best of two lists of entries.
+fn best_of(alloc: Global, known: Vec<Entry>, found: Vec<Entry>) -> Result<Vec<Entry>, AllocError>
+    ensures { (feed : FeedRows) (query : Query) → All (IsEntry feed query) known.items → All (IsEntry feed query) found.items → CoversAllBy feed query known.items found.items → IfOk result (λ entries. IsExactAnswer feed query entries.items × CoversOffers feed query entries.items) }
+{
+    let mut front = Front::empty(alloc);
+    offer_entries(&mut front, known)?;
+    offer_entries(&mut front, found)?;
+    Ok(front.into_items())
 }
 
 /// The exact answer to a query, found by rounds: of the labels, those alone are kept that matter for it.
@@ -171,5 +312,7 @@ pub fn round_entries(
     ensures exact { IfOk result (λ entries. IsExactAnswer timetable.now query.now entries.items) }
     ensures covers { IfOk result (λ entries. CoversOffers timetable.now query.now entries.items) }
 {
-    table_of(alloc, timetable, query, false)?.entries(alloc)
+    let (table, known) = planned_of(alloc, timetable, query, false)?;
+    let found = table.entries(alloc)?;
+    best_of(alloc, known, found)
 }

@@ -1,23 +1,23 @@
 //! How a round goes on from its labels: pattern by pattern, and position by position.
-ghost use Rattle.std.specs.Prelude.{◌≡◌, ◌<◌, true, false, Some, int_le, slice_get, OnOk};
+ghost use Rattle.std.specs.Prelude.{◌≡◌, ◌⊎◌, ◌+◌, ◌≤ℤ◌, ◌++◌, ◌∷◌, [], List, Some, int_le, slice_get, OnOk};
 ghost use Rattle.std.specs.List.Sorted.{IsPermutation};
-ghost use Rattle.plan_rides.specs.InTime.{AreLastDepartures};
+ghost use Rattle.plan_rides.specs.Cutoffs.{AreLastDepartures, cutoff_of, is_early};
+ghost use Rattle.plan_rides.specs.InTime.{IsWithinWindow, deadline};
 ghost use Rattle.plan_rides.specs.Reached.{AreKept, IsReachedFrom};
 ghost use Rattle.round_labels.specs.Labels.{stand_of_label};
-ghost use Rattle.plan_rounds.specs.Legs.{AreKinds, HasKinds, StayKnown};
+ghost use Rattle.round_table.specs.declared.finals.Final.{Final};
+ghost use Rattle.plan_rounds.specs.Bounds.{IsFairBy, IsUntil};
+ghost use Rattle.plan_rounds.specs.Legs.{AreKinds, HasKinds};
 ghost use Rattle.plan_rounds.specs.Moves.{HasFares};
-ghost use Rattle.plan_rounds.specs.declared.scan.Round.{Round};
-ghost use Rattle.plan_rounds.specs.Scans.{AddsMarks, AreFairFor, AreFairIn, AreInOrder, AreMarks, HasLasts, IsFairIn, IsMarked, IsNear, IsRound, IsRoundBy, ServeFor, SpreadsIn, StepsAt, StepsFromPosition};
+ghost use Rattle.plan_rounds.specs.Scans.{AddsLabel, AddsMarks, AreInOrder, AreMarks, IsFairIn, IsMarked, IsRound, ServeFor, SpreadsIn, StepsAt, StepsFromPosition};
 ghost use Rattle.plan_rounds.specs.Sources.{IsSource, SpreadsFrom};
 ghost use Rattle.plan_rounds.specs.Stores.{StepsFrom};
 ghost use Rattle.round_labels.specs.declared.label.Label.{Label};
 
-use crate::horizon::Horizon;
 use crate::legs::{KeptLegs, RideLegs};
-use crate::prospects::Prospects;
 use crate::search::{Found, Room, Search, Source};
 use fare_automaton::KnownOptions;
-use plan_rides::{CaughtRide, Positions, Reached, Traveller};
+use plan_rides::{CaughtRide, Cutoff, Positions, Reached, Traveller, is_early};
 use round_labels::{LabelList, StopBags};
 use round_table::Final;
 use std::alloc::AllocError;
@@ -30,14 +30,14 @@ pub struct Round<'s, 'r> {
     pub(crate) labels: &'r LabelList,
     pub(crate) count: u8,
     pub(crate) finals: &'r [Final],
-    pub(crate) horizon: &'r Option<Horizon>,
 }
 
-/// The positions that the labels of a round reach, by pattern and position, and by number which of the labels are near: those
-/// whose rides are tried by the prospects of the horizon.
+/// The positions that the labels of a round reach, by pattern and position; by number until when rides from each of the labels
+/// may arrive; and the latest of these moments.
 pub struct Marks {
     pub(crate) reached: Vec<Reached>,
-    pub(crate) near: Vec<bool>,
+    pub(crate) untils: Vec<Moment>,
+    pub(crate) last: Moment,
 }
 
 // Written out, so that what holds one needn't look into it to let go of it.
@@ -45,29 +45,34 @@ impl Drop for Marks {
     fn drop(self) {
         let Marks {
             reached: _,
-            near: _,
+            untils: _,
+            last: _,
         } = self;
     }
 }
 
-/// By what the rides of a round are tried: how late they may arrive at each stop, and when the last of them departs from there.
+impl Marks {
+    // Adds until when rides from the next label may arrive.
+    fn push(&mut self, until: Moment) -> Result<(), AllocError>
+        ensures untils { OnOk result (self.new.untils.items ≡ self.old.untils.items ++ until ∷ []) }
+        ensures reached { OnOk result (self.new.reached ≡ self.old.reached) }
+        ensures later { OnOk result (self.old.last.0 ≤ℤ self.new.last.0) }
+        ensures last { OnOk result (until.0 ≤ℤ self.new.last.0) }
+        ensures is { OnOk result ((self.new.last ≡ self.old.last) ⊎ (self.new.last ≡ until)) }
+    {
+        self.untils.push(until)?;
+        if self.last.0 < until.0 {
+            self.last = until;
+        }
+        Ok(())
+    }
+}
+
+/// By what rides are tried: how late they may arrive, and how late they may depart for that.
 #[derive(Clone, Copy)]
 pub struct Cutoffs<'p> {
-    pub(crate) latest: &'p [Option<Moment>],
-    pub(crate) lasts: &'p [Option<Moment>],
-}
-
-/// The rides from the position that was looked at last: those that are tried by the prospects of the horizon, and the others.
-pub struct Kept {
-    pub(crate) soon: KeptLegs,
-    pub(crate) all: KeptLegs,
-}
-
-// Written out, so that what holds one needn't look into it to let go of it.
-impl Drop for Kept {
-    fn drop(self) {
-        let Kept { soon: _, all: _ } = self;
-    }
+    pub(crate) latest: Cutoff<'p>,
+    pub(crate) lasts: Cutoff<'p>,
 }
 
 /// Puts positions in the order of their patterns, of their places there, and of when one gets there: so the rides from a position
@@ -86,81 +91,82 @@ fn departs_since(caught: &CaughtRide, reached: &Reached) -> bool
     reached.earliest.0 <= caught.facts.departure.0
 }
 
-impl<'s, 'l> Search<'s, 'l> {
-    /// Whether rides from the label are tried by the prospects of the horizon.
-    fn is_near(&self, source: &Source, horizon: &Option<Horizon>) -> bool
-        requires { IsSource self.now.feed self.now.query source.now }
-        ensures { result ≡ true → IsNear self.now horizon.now source.now.label.now }
-    {
-        match horizon {
-            Some(near) => self.is_beyond(source, near),
-            None => false,
-        }
-    }
+/// Whether the ride arrives early enough.
+fn arrives_early(caught: &CaughtRide, latest: &Cutoff) -> bool
+    ensures { result ≡ is_early (cutoff_of latest.now) caught.now.facts.to.0 caught.now.facts.arrival.0 }
+{
+    is_early(latest, caught.facts.to, caught.facts.arrival)
+}
 
-    /// The prospects that rides are tried by: those of the horizon from labels that are near, or else those of journeys that
-    /// end in time.
-    fn prospects_for<'p>(&'p self, horizon: &'p Option<Horizon>, near: bool) -> &'p Prospects
-        ensures fair { AreFairFor self.now horizon.now near result.now }
-        ensures lasts { HasLasts self.now horizon.now result.now }
+impl<'s, 'l> Search<'s, 'l> {
+    /// By what rides are tried behind which so many more may follow, where they may arrive until then.
+    fn cutoffs_by(&self, more: usize, until: Moment) -> Cutoffs<'l>
+        requires { until.0 ≤ℤ deadline self.now.query }
+        ensures lasts { AreLastDepartures self.now.feed self.now.query (cutoff_of result.latest) (cutoff_of result.lasts) }
+        ensures fair { (finals : List Final) (x : Label) → IsWithinWindow self.now.query x.arrival.0 → IsUntil self.now finals x until.0 → x.rides + 1 + more ≡ self.now.query.rides → IsFairBy self.now finals x (cutoff_of result.latest) }
     {
         let _feed = self.feed();
-        match horizon {
-            Some(by) => {
-                if near {
-                    &by.prospects
-                } else {
-                    self.prospects()
-                }
-            }
-            None => self.prospects(),
-        }
-    }
-
-    /// By what the rides of a round with this horizon are tried from labels that are near, or from the others.
-    fn cutoffs_for<'p>(&'p self, horizon: &'p Option<Horizon>, count: u8, near: bool) -> Cutoffs<'p>
-        requires { count < self.now.query.rides }
-        ensures lasts { (round : Round) → IsRoundBy self.now horizon.now count round → AreLastDepartures round.positions.now.feed round.positions.now.query result.latest.now result.lasts.now }
-        ensures fair { (round : Round) → IsRoundBy self.now horizon.now count round → AreFairIn self.now round near result.latest.now }
-    {
-        let more = usize::from(self.limit() - count - 1);
-        let prospects = self.prospects_for(horizon, near);
         Cutoffs {
-            latest: prospects.latest(more),
-            lasts: prospects.lasts(more),
+            latest: Cutoff {
+                spans: self.spans.stands(more),
+                until,
+            },
+            lasts: Cutoff {
+                spans: self.spans.boards(more),
+                until,
+            },
         }
     }
 
-    /// Appends the positions that the label reaches.
+    /// Appends the positions that the label reaches, from which rides may arrive until then.
     fn reach(
         &self,
         round: &Round<'s, '_>,
         source: &Source,
-        near: bool,
+        until: Moment,
         reached: &mut Vec<Reached>,
     ) -> Result<(), AllocError>
         requires round { IsRound self.now round.now }
         requires source { IsSource self.now.feed self.now.query source.now }
-        requires near { near ≡ true → IsNear self.now round.now.horizon.now source.now.label.now }
+        requires until { IsUntil self.now round.now.finals.now source.now.label.now until.0 }
         ensures { OnOk result (AddsMarks self.now round.now source.now reached.old.items reached.new.items) }
     {
         let more = usize::from(self.limit() - source.label.rides - 1);
-        let prospects = self.prospects_for(round.horizon, near);
+        let cutoffs = self.cutoffs_by(more, until);
         let who = Traveller {
             standing: source.label.standing(),
             number: source.number,
         };
-        round.positions.reach(prospects.lasts(more), &who, reached)
+        round.positions.reach(&cutoffs.lasts, &who, reached)
     }
 
-    /// Replaces what `marks` holds by the positions that the labels of the last round reach.
+    /// Appends the positions that the label reaches, and until when rides from it may arrive.
+    fn mark_label(
+        &self,
+        round: &Round<'s, '_>,
+        source: &Source,
+        marks: &mut Marks,
+    ) -> Result<(), AllocError>
+        requires round { IsRound self.now round.now }
+        requires source { IsSource self.now.feed self.now.query source.now }
+        ensures { OnOk result (AddsLabel self.now round.now source.now marks.old marks.new) }
+    {
+        let until = self.until(source, round.finals);
+        self.reach(round, source, until, &mut marks.reached)?;
+        marks.push(until)
+    }
+
+    /// Replaces what `marks` holds by the positions that the labels of the last round reach, with the moments until which rides
+    /// from there may arrive.
     pub(crate) fn mark(&self, round: &Round<'s, '_>, marks: &mut Marks) -> Result<(), AllocError>
         requires { IsRound self.now round.now }
         ensures { OnOk result (AreMarks self.now round.now marks.new) }
     {
         let labels = round.labels;
+        let departure = self.departure();
         marks.reached.clear();
-        marks.near.clear();
+        marks.untils.clear();
+        marks.last = departure;
         for number in 0..labels.len() {
             if labels.kept(number).rides == round.count {
                 let label = labels.get(number);
@@ -169,11 +175,9 @@ impl<'s, 'l> Search<'s, 'l> {
                     number: number as u32,
                     label: &label,
                 };
-                let is_near = self.is_near(&source, round.horizon);
-                self.reach(round, &source, is_near, &mut marks.reached)?;
-                marks.near.push(is_near)?;
+                self.mark_label(round, &source, marks)?;
             } else {
-                marks.near.push(false)?;
+                marks.push(departure)?;
             }
         }
         put_in_order(&mut marks.reached);
@@ -197,6 +201,7 @@ impl<'s, 'l> Search<'s, 'l> {
         requires counts { source.now.label.now.rides ≡ round.now.count }
         requires from { IsReachedFrom round.now.positions.now (stand_of_label source.now.label.now) reached.now }
         requires serve { ServeFor self.now round.now source.now.label.now reached.now legs.rides.now }
+        requires own { IsFairIn self.now round.now source.now.label.now (cutoff_of legs.latest) }
         requires kinds { AreKinds self.now.feed known.now legs.rides.now legs.kinds.now }
         requires fares { HasFares self.now known.now }
         ensures { OnOk result (SpreadsFrom self.now round.now.finals.now source.now (StepsAt self.now round.now.positions.now source.now.label.now reached.now) bags.old bags.new) }
@@ -204,34 +209,38 @@ impl<'s, 'l> Search<'s, 'l> {
         for k in 0..legs.rides.len() {
             let caught = &legs.rides[k];
             if departs_since(caught, reached) {
-                let options = known.options(legs.kinds[k]);
-                self.offer_ride(room, bags, source, round.finals, caught, options)?;
+                if arrives_early(caught, &legs.latest) {
+                    let options = known.options(legs.kinds[k]);
+                    self.offer_ride(room, bags, source, round.finals, caught, options)?;
+                }
             }
         }
         Ok(())
     }
 
-    /// Offers what one more ride from the position leads to, from the label that reaches it. `kept` then has the rides from there.
+    /// Offers what one more ride from the position leads to, from the label that reaches it, where that may arrive until then.
+    /// `kept` then has the rides from there that arrive early enough by the cutoffs of the round.
     fn offer_from(
         &self,
         found: &mut Found<'s, 'l>,
         bags: &mut StopBags,
         round: &Round<'s, '_>,
         reached: &Reached,
+        until: Moment,
         cutoffs: Cutoffs,
         kept: &mut KeptLegs,
     ) -> Result<(), AllocError>
         requires round { IsRound self.now round.now }
         requires marked { IsMarked round.now reached.now }
-        requires lasts { AreLastDepartures round.now.positions.now.feed round.now.positions.now.query cutoffs.latest.now cutoffs.lasts.now }
-        requires kept { AreKept round.now.positions.now cutoffs.latest.now kept.old.rides }
+        requires lasts { AreLastDepartures self.now.feed self.now.query (cutoff_of cutoffs.latest) (cutoff_of cutoffs.lasts) }
+        requires kept { AreKept round.now.positions.now (cutoff_of cutoffs.latest) kept.old.rides }
         requires kinds { HasKinds self.now.feed found.old.known kept.old }
-        requires fair { (x : Label) → slice_get round.now.labels.now reached.now.number ≡ Some x → IsFairIn self.now round.now x cutoffs.latest.now }
+        requires fair { (x : Label) → slice_get round.now.labels.now reached.now.number ≡ Some x → IsFairIn self.now round.now x (cutoff_of cutoffs.latest) }
+        requires until { (x : Label) → slice_get round.now.labels.now reached.now.number ≡ Some x → x.rides ≡ round.now.count → IsUntil self.now round.now.finals.now x until.0 }
         requires fares { HasFares self.now found.old.known }
-        ensures kept { OnOk result (AreKept round.now.positions.now cutoffs.entry.latest.now kept.new.rides) }
+        ensures kept { OnOk result (AreKept round.now.positions.now (cutoff_of cutoffs.entry.latest) kept.new.rides) }
         ensures kinds { OnOk result (HasKinds self.now.feed found.new.known kept.new) }
         ensures fares { HasFares self.now found.new.known }
-        ensures still { StayKnown found.old.known found.new.known }
         ensures spreads { OnOk result (SpreadsIn self.now round.now (StepsFromPosition self.now round.now reached.now) bags.old bags.new) }
     {
         self.keep_legs(found, round, reached, cutoffs, kept)?;
@@ -241,9 +250,11 @@ impl<'s, 'l> Search<'s, 'l> {
             number: reached.number,
             label: &label,
         };
+        let more = usize::from(self.limit() - round.count - 1);
         let legs = RideLegs {
             rides: kept.rides.rides(),
             kinds: &kept.kinds,
+            latest: self.cutoffs_by(more, until).latest,
         };
         self.offer_rides(
             &found.known,
@@ -264,7 +275,7 @@ impl<'s, 'l> Search<'s, 'l> {
         bags: &mut StopBags,
         round: &Round<'s, '_>,
         marks: &Marks,
-        kept: &mut Kept,
+        kept: &mut KeptLegs,
     ) -> Result<(), AllocError>
         requires round { IsRound self.now round.now }
         requires marks { AreMarks self.now round.now marks.now }
@@ -272,17 +283,13 @@ impl<'s, 'l> Search<'s, 'l> {
         ensures fares { HasFares self.now found.new.known }
         ensures spreads { OnOk result (SpreadsIn self.now round.now (StepsFrom self.now.feed self.now.query round.now.labels.now round.now.count) bags.old bags.new) }
     {
-        let soon = self.cutoffs_for(round.horizon, round.count, true);
-        let all = self.cutoffs_for(round.horizon, round.count, false);
-        kept.soon.clear();
-        kept.all.clear();
+        let more = usize::from(self.limit() - round.count - 1);
+        let cutoffs = self.cutoffs_by(more, marks.last);
+        kept.clear();
         for k in 0..marks.reached.len() {
             let reached = &marks.reached[k];
-            if marks.near[reached.number as usize] {
-                self.offer_from(found, bags, round, reached, soon, &mut kept.soon)?;
-            } else {
-                self.offer_from(found, bags, round, reached, all, &mut kept.all)?;
-            }
+            let until = marks.untils[reached.number as usize];
+            self.offer_from(found, bags, round, reached, until, cutoffs, kept)?;
         }
         Ok(())
     }

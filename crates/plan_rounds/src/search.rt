@@ -1,5 +1,5 @@
 //! The search: each round goes on by one more ride from the labels of the round before.
-ghost use Rattle.std.specs.Prelude.{◌≡◌, ◌+◌, ◌<◌, ◌≤◌, ◌^◌, ◌++◌, [], true, length, IfOk, IfSome, IsTrue, OnOk, Some};
+ghost use Rattle.std.specs.Prelude.{◌≡◌, ◌+◌, ◌<◌, ◌≤◌, ◌^◌, ◌++◌, [], false, true, length, IfOk, IfSome, IsTrue, OnOk, Some};
 ghost use Rattle.fare_automaton.specs.Options.{ArePicks};
 ghost use Rattle.feed_rows.specs.FareSteps.{move_after};
 ghost use Rattle.feed_rows.specs.Journeys.{stands_for};
@@ -8,40 +8,49 @@ ghost use Rattle.round_laws.specs.LabelSteps.{facts_after, start_facts};
 ghost use Rattle.feed_rows.specs.SoundFeed.{IsSoundFeed};
 ghost use Rattle.feed_rows.specs.StopLinks.{stop_set};
 ghost use Rattle.plan_rides.specs.Asked.{asked};
-ghost use Rattle.plan_rides.specs.InTime.{IsRight, IsUsualQuery, deadline};
+ghost use Rattle.plan_rides.specs.InTime.{IsRight, IsUsualQuery};
 ghost use Rattle.round_labels.specs.Labels.{IsBounded, IsSmall, facts_of, stand_of_label};
 ghost use Rattle.plan_rounds.specs.Gathered.{IsGathered};
-ghost use Rattle.plan_rounds.specs.Horizons.{IsHorizon};
 ghost use Rattle.plan_rounds.specs.Moves.{AreMovesOf, HasFares};
 ghost use Rattle.feed_rows.specs.declared.fares.Triple.{Triple};
 ghost use Rattle.round_table.specs.Finals.{AddsEnds, EndsBelow, HasEnds, is_bettered};
 ghost use Rattle.plan_rounds.specs.Searched.{Lacks, searched};
-ghost use Rattle.plan_rounds.specs.Prospects.{AreProspects, no_prospects};
 ghost use Rattle.plan_rounds.specs.Sources.{AreEnding, IsSource, SpreadsFrom};
 ghost use Rattle.label_bag.specs.Bags.{AreApart};
 ghost use Rattle.round_labels.specs.Labels.{covers};
 ghost use Rattle.round_labels.specs.Bags.{gathered};
 ghost use Rattle.plan_rounds.specs.Stores.{AreStored, AreWhole, IsNever, IsStartOf, Spreads, StepsBy, StepsFrom};
 
-use crate::horizon::Horizon;
 use crate::legs::KeptLegs;
 use crate::moves::is_bettered;
-use crate::prospects::Prospects;
-use crate::scan::{Kept, Marks, Round};
+use crate::scan::{Marks, Round};
+use crate::seen::Seen;
 use fare_automaton::{Automaton, KnownOptions, LegTimes};
+use fare_bounds::FareBounds;
 use fare_timeframes::{Timeframes, blank_leg};
-use feed_rows::{ChangeChoice, Feed, LegChoice, LegFacts, Move, Query, RideFacts};
+use feed_rows::{ChangeChoice, Feed, LegChoice, LegFacts, Move, Query, RideFacts, Triple};
 use feed_timetable::Timetable;
 use pareto_front::Front;
-use plan_rides::{CaughtRide, Rides};
+use plan_rides::{CaughtRide, Rides, Spans};
 use round_labels::{Label, LabelList, StopBags};
 use round_table::Final;
 use std::alloc::{AllocError, Global};
 use std::marker::Model;
 use transit_base::{Moment, StopId};
 
-/// A query over a timetable, with what is computed once for it. Contracts see the feed, the query, and whether the labels are to
-/// cover all partial journeys but those that a final outdoes, or those alone that matter for the answer.
+/// What the labels of a search are to cover. One that is to be whole is not loose, and no triples are given to it.
+#[derive(Clone, Copy)]
+pub struct Aim<'g> {
+    /// All partial journeys but those that a final outdoes, in place of those alone that matter for the answer.
+    pub whole: bool,
+    /// Nothing: any finals will do.
+    pub loose: bool,
+    /// Triples of journeys that are known; whatever one of these is at most needs no label.
+    pub given: &'g [Triple],
+}
+
+/// A query over a timetable, with what is computed once for it. Contracts see the feed, the query, and what the labels are to
+/// cover.
 #[derive(Drop)]
 pub struct Search<'s, 'l> {
     pub(crate) alloc: Global,
@@ -50,27 +59,29 @@ pub struct Search<'s, 'l> {
     pub(crate) timeframes: &'l Timeframes,
     /// The fares for the query's rider.
     pub(crate) automaton: &'l Automaton<'s>,
-    /// Those of journeys that end in time; none where the search is to be whole.
-    pub(crate) prospects: &'l Prospects,
+    /// The least seconds to a journey's end; none where the search is to be whole.
+    pub(crate) spans: &'l Spans,
+    /// How little further rides can cost.
+    pub(crate) fare_bounds: &'l FareBounds,
     /// Whether some change takes back what a leg before it cost.
     pub(crate) takes_back: bool,
-    pub(crate) whole: bool,
+    pub(crate) aim: Aim<'l>,
 }
 
 impl<'s, 'l> Model for Search<'s, 'l> {
     ghost use Rattle.std.specs.Prelude.{◌≡◌, true};
     ghost use Rattle.fare_automaton.specs.Terms.{terms};
     ghost use Rattle.fare_timeframes.specs.BuiltTimeframes.{AreTimeframesOf};
-    ghost use Rattle.plan_rides.specs.InTime.{deadline};
-    ghost use Rattle.plan_rounds.specs.Prospects.{AreProspects, no_prospects};
-    ghost use Rattle.plan_rounds.specs.Searched.{Searched, searched};
+    ghost use Rattle.fare_bounds.specs.FareBounds.{AreFareBounds};
+    ghost use Rattle.plan_rides.specs.Spans.{AreSpans, no_spans};
+    ghost use Rattle.plan_rounds.specs.Searched.{IsAim, Searched, aim_of, searched};
     ghost use Rattle.round_laws.specs.Futility.{some_takes_back};
 
     ghost Value = { Searched };
 
-    ghost view = { λ s. searched s.rides.now s.whole };
+    ghost view = { λ s. searched s.rides.now (aim_of s.aim) };
 
-    ghost invariant = { λ s. AreTimeframesOf s.rides.now.feed s.timeframes.now × (s.automaton.now ≡ terms s.rides.now.feed s.rides.now.query.rider) × (s.takes_back ≡ some_takes_back s.rides.now.feed) × AreProspects s.rides.now.feed s.rides.now.query (deadline s.rides.now.query) s.prospects.now × (s.whole ≡ true → s.prospects.now ≡ no_prospects) × (s.feed.now ≡ s.rides.now.feed) };
+    ghost invariant = { λ s. AreTimeframesOf s.rides.now.feed s.timeframes.now × (s.automaton.now ≡ terms s.rides.now.feed s.rides.now.query.rider) × (s.takes_back ≡ some_takes_back s.rides.now.feed) × AreSpans s.rides.now.feed s.rides.now.query s.spans.now × (s.aim.whole ≡ true → s.spans.now ≡ no_spans) × (s.feed.now ≡ s.rides.now.feed) × IsAim (aim_of s.aim) × AreFareBounds s.rides.now.feed s.rides.now.query.rider s.rides.now.query.rides s.fare_bounds.now };
 }
 
 /// A label with its number among those so far, from which a round goes on.
@@ -81,10 +92,12 @@ pub struct Source<'l> {
     pub(crate) label: &'l Label,
 }
 
-/// What is found of the moves of one ride after another, kept for its memory.
+/// What is found of the moves of one ride after another, kept for its memory, and what labels were seen.
 pub struct Room {
     places: Vec<Option<ChangeChoice>>,
     moves: Vec<Move>,
+    /// What a loose search has come to at each stop.
+    seen: Seen,
 }
 
 // Written out, so that what holds one needn't look into it to let go of it.
@@ -93,6 +106,7 @@ impl Drop for Room {
         let Room {
             places: _,
             moves: _,
+            seen: _,
         } = self;
     }
 }
@@ -130,6 +144,32 @@ impl<'s, 'l> Search<'s, 'l> {
         ensures usual { IsUsualQuery self.now.query }
     {
         self.rides.query().rides
+    }
+
+    /// Whether the search is to be whole: then it isn't loose, and nothing is given to it.
+    pub(crate) fn is_whole(&self) -> bool
+        ensures is { result ≡ self.now.whole }
+        ensures strict { self.now.whole ≡ true → self.now.loose ≡ false }
+        ensures alone { self.now.whole ≡ true → self.now.given ≡ [] }
+    {
+        self.aim.whole
+    }
+
+    /// Nothing that a search has come to yet: at no stop, where it isn't loose.
+    fn none_seen(&self) -> Result<Seen, AllocError> {
+        if self.aim.loose {
+            Seen::none(self.alloc, self.stops())
+        } else {
+            Seen::none(self.alloc, 0)
+        }
+    }
+
+    /// When the query departs.
+    pub(crate) fn departure(&self) -> Moment
+        ensures is { result ≡ self.now.query.departure }
+        ensures usual { IsUsualQuery self.now.query }
+    {
+        self.rides.query().departure
     }
 
     /// The stops at which journeys begin.
@@ -239,7 +279,8 @@ impl<'s, 'l> Search<'s, 'l> {
         self.find_moves(room, source.label, &caught.facts, options)?;
         for k in 0..room.moves.len() {
             if !is_bettered(&room.moves, k) {
-                self.offer_move(bags, source, finals, caught, &room.moves[k])?;
+                let taken = &room.moves[k];
+                self.offer_move(&mut room.seen, bags, source, finals, caught, taken)?;
             }
         }
         Ok(())
@@ -248,6 +289,7 @@ impl<'s, 'l> Search<'s, 'l> {
     /// Offers what the ride leads to from the label by the move.
     fn offer_move(
         &self,
+        seen: &mut Seen,
         bags: &mut StopBags,
         source: &Source,
         finals: &[Final],
@@ -268,28 +310,29 @@ impl<'s, 'l> Search<'s, 'l> {
         if self.is_overtaken(&label, finals) {
             return Ok(());
         }
+        if self.is_useless(&label, finals) {
+            return Ok(());
+        }
+        let passed = self.passes_over(seen, &label)?;
+        if passed {
+            return Ok(());
+        }
         bags.offer(&label)
     }
 
-    /// The prospects of journeys that end by the moment.
-    ///
-    /// # Errors
-    /// Want of memory.
-    pub(crate) fn prospects_by(&self, deadline: Moment) -> Result<Prospects, AllocError>
-        ensures { IfOk result (AreProspects self.now.feed self.now.query deadline.0) }
+    /// Whether a loose search passes over the label, since it has come to its stop as early and as cheaply, in whatever state of
+    /// fares. Another one passes over none.
+    fn passes_over(&self, seen: &mut Seen, label: &Label) -> Result<bool, AllocError>
+        ensures { IfOk result (λ passed. passed ≡ true → self.now.loose ≡ true) }
     {
-        Prospects::of(self.alloc, self.rides, deadline)
+        if !self.aim.loose {
+            return Ok(false);
+        }
+        let admitted = seen.admits(label.stop, label.arrival, label.price())?;
+        Ok(!admitted)
     }
 
-    /// The prospects of journeys that end in time; none where the search is to be whole.
-    pub(crate) fn prospects(&self) -> &'l Prospects
-        ensures are { AreProspects self.now.feed self.now.query (deadline self.now.query) result.now }
-        ensures none { self.now.whole ≡ true → result.now ≡ no_prospects }
-    {
-        self.prospects
-    }
-
-    /// Offers what one more ride leads to from the labels with so many rides, by this horizon. What `marks` and `kept` hold is lost.
+    /// Offers what one more ride leads to from the labels with so many rides. What `marks` and `kept` hold is lost.
     fn spread<'r>(
         &self,
         found: &mut Found<'s, 'l>,
@@ -297,15 +340,13 @@ impl<'s, 'l> Search<'s, 'l> {
         labels: &'r LabelList,
         count: u8,
         finals: &'r [Final],
-        horizon: &'r Option<Horizon>,
         marks: &mut Marks,
-        kept: &mut Kept,
+        kept: &mut KeptLegs,
     ) -> Result<(), AllocError>
         requires few { count < self.now.query.rides }
         requires numbers { length labels.now < 2 ^ 32 }
         requires stored { AreStored self.now.feed self.now.query (count + 1) labels.now bags.old }
         requires ended { HasEnds self.now.feed self.now.query labels.now finals.now }
-        requires horizon { IfSome horizon.now (IsHorizon self.now finals.now) }
         requires fares { HasFares self.now found.old.known }
         ensures fares { HasFares self.now found.new.known }
         ensures spreads { OnOk result (Spreads self.now.feed self.now.query (Lacks self.now finals.now) labels.now (count + 1) (StepsFrom self.now.feed self.now.query labels.now count) bags.old bags.new) }
@@ -317,7 +358,6 @@ impl<'s, 'l> Search<'s, 'l> {
             labels,
             count,
             finals,
-            horizon,
         };
         self.mark(&round, marks)?;
         self.offer_marked(found, bags, &round, marks, kept)
@@ -356,7 +396,7 @@ impl<'s, 'l> Search<'s, 'l> {
         &self,
         found: &mut Found<'s, 'l>,
         marks: &mut Marks,
-        kept: &mut Kept,
+        kept: &mut KeptLegs,
         bags: &mut StopBags,
         labels: &mut LabelList,
         front: &mut Front<Final>,
@@ -367,8 +407,7 @@ impl<'s, 'l> Search<'s, 'l> {
     {
         for count in 0..self.limit() {
             let finals = front.items();
-            let horizon = self.horizon(finals)?;
-            self.spread(found, bags, labels, count, finals, &horizon, marks, kept)?;
+            self.spread(found, bags, labels, count, finals, marks, kept)?;
             self.gather(count + 1, bags, labels, front)?;
         }
         Ok(())
@@ -391,16 +430,15 @@ impl<'s, 'l> Search<'s, 'l> {
             room: Room {
                 places: Vec::new(alloc),
                 moves: Vec::new(alloc),
+                seen: self.none_seen()?,
             },
         };
         let mut marks = Marks {
             reached: Vec::new(alloc),
-            near: Vec::new(alloc),
+            untils: Vec::new(alloc),
+            last: self.departure(),
         };
-        let mut kept = Kept {
-            soon: KeptLegs::none(alloc),
-            all: KeptLegs::none(alloc),
-        };
+        let mut kept = KeptLegs::none(alloc);
         self.spread_by(&mut found, &mut marks, &mut kept, bags, labels, front)
     }
 

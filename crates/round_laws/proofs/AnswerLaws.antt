@@ -57,7 +57,7 @@ module _ (feed : FeedRows) (query : Query) (table : RoundTable) (linked : AreLin
       (All-slice_get (IsFinal feed query table.labels) table.finals i final is right)
 
   -- all finals have entries
-  entries_given : (entries : List Entry) × (entries_of table ≡ Some entries)
+  pub entries_given : (entries : List Entry) × (entries_of table ≡ Some entries)
   entries_given = collect_below_some (length table.finals) entry_at (λ i lt.
       let final = item_at table.finals i lt in
       let e = entry_given i final.0 final.1 in
@@ -80,7 +80,7 @@ module _ (feed : FeedRows) (query : Query) (table : RoundTable) (linked : AreLin
         )
 
     -- so all are entries of the query
-    are_entries : All (IsEntry feed query) entries
+    pub are_entries : All (IsEntry feed query) entries
     are_entries k d lt =
         let final = item_at table.finals k (omega (arith, lt, collected.length_is)) in
         let e = entry_there k final.0 final.1 in
@@ -104,7 +104,7 @@ module _ (feed : FeedRows) (query : Query) (table : RoundTable) (linked : AreLin
         (subst (R (get_or table.finals i d').triple) (same_triple j d d' within) (each i j d' lt within))
 
     -- a triple that some final is at most is covered by the entries
-    entries_cover : (triple : Triple) → Any (λ (final : Final). IsTrue (at_most final.triple triple)) table.finals →
+    pub entries_cover : (triple : Triple) → Any (λ (final : Final). IsTrue (at_most final.triple triple)) table.finals →
         is_covered entries triple ≡ true
     entries_cover triple some =
         let e = entry_there some.0 some.1 (slice_get-get_or table.finals some.0 some.1 some.2 ∙ ap Some some.3) in
@@ -115,31 +115,40 @@ module _ (feed : FeedRows) (query : Query) (table : RoundTable) (linked : AreLin
 pub found_upward : (finals : List Final) → IsUpward (IsFound finals)
 found_upward finals a b below some = (some.0, some.1, some.2, some.3, at_most-trans some.1.triple a b some.4 below)
 
+-- what is found, by finals or else
 module _ (feed : FeedRows) (query : Query) (whole : Bool) (table : RoundTable) (sound : IsSoundFeed feed)
+    (Found : Triple → Type 0) (upward : IsUpward Found) (by_finals : (t : Triple) → IsFound table.finals t → Found t)
     (linked : AreLinked feed query table.labels) (starts : CoversStarts feed query table.labels)
-    (closed : AreClosed feed query (MayLack feed query whole (IsFound table.finals)) table.labels)
+    (closed : AreClosed feed query (MayLack feed query whole Found) table.labels)
     (finals : AreFinals feed query table.labels table.finals) where
   -- an end of facts that are covered is found
   covered_found : (a : LabelFacts) (last : StopId) (triple : Triple) → IsStated a → IsCoveredBy table.labels a →
-      IsLabelEnd feed query a last triple → IsFound table.finals triple
+      IsLabelEnd feed query a last triple → Found triple
   covered_found a last triple stated' some end =
       let c = coverer table.labels a some in
       let stated = linked_stated feed query (take c.number table.labels) c.label (linked c.number c.label c.is) in
       let b = ends_no_worse feed query c.label.facts a last triple stated stated' c.covers end in
       let is_label = Contains-slice_get table.labels c.number c.label c.is in
-      found_upward table.finals b.triple triple b.below (finals.all c.label last b.triple is_label b.end)
+      upward b.triple triple b.below (by_finals b.triple (finals.all c.label last b.triple is_label b.end))
 
-  -- some final is at most each entry of the query
-  each_bettered : (entry : Entry) → IsEntry feed query entry → IsFound table.finals entry.triple
-  each_bettered entry is =
+  -- so is what each entry of the query comes to
+  pub each_found : (entry : Entry) → IsEntry feed query entry → Found entry.triple
+  each_found entry is =
       let n = end_of_entry feed query entry sound is in
       let part = part_of_entry entry in
       ⊎_elim (λ some. covered_found n.a entry.journey.last entry.triple (stated_of_part feed query part n.a n.has) some n.end)
-      (λ lack. lack_futile feed query sound (IsFound table.finals)
-      (found_upward table.finals) whole n.a lack 0 entry.triple
-      (entry.journey.last, n.end))
-      (all_served feed query sound (IsFound table.finals) (found_upward table.finals) whole table.labels linked starts
-      closed part n.a n.has)
+      (λ lack. lack_futile feed query sound Found upward whole n.a lack 0 entry.triple (entry.journey.last, n.end))
+      (all_served feed query sound Found upward whole table.labels linked starts closed part n.a n.has)
+
+module _ (feed : FeedRows) (query : Query) (whole : Bool) (table : RoundTable) (sound : IsSoundFeed feed)
+    (linked : AreLinked feed query table.labels) (starts : CoversStarts feed query table.labels)
+    (closed : AreClosed feed query (MayLack feed query whole (IsFound table.finals)) table.labels)
+    (finals : AreFinals feed query table.labels table.finals) where
+  -- some final is at most each entry of the query
+  each_bettered : (entry : Entry) → IsEntry feed query entry → IsFound table.finals entry.triple
+  each_bettered =
+      each_found feed query whole table sound (IsFound table.finals) (found_upward table.finals) (λ t found. found) linked starts
+      closed finals
 
   -- the entries by which the finals end are the exact answer, and cover whatever is offered
   pub exact_entries : (entries : List Entry) → entries_of table ≡ Some entries →

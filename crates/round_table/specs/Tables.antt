@@ -1,10 +1,13 @@
 -- Tables of labels as the program keeps them, and what they must hold.
-use Rattle.std.specs.Prelude.{◌≡◌, ℕ, ◌+◌, ◌*◌, nat_lt, if◌then◌else◌, List, [], slice_get, unwrap_or, Some}
+use Rattle.std.specs.Prelude.{◌≡◌, ◌⊎◌, ℕ, ◌+◌, ◌*◌, true, nat_lt, if◌then◌else◌, List, [], slice_get, unwrap_or, All, Some}
+use Rattle.std.specs.List.{list_any}
 use Rattle.std.specs.Option.{option_map_or}
 use Rattle.transit_base.specs.declared.numbers.StopId.{StopId}
 use Rattle.feed_rows.specs.declared.journeys.Query.{Query}
 use Rattle.feed_rows.specs.declared.fares.Entry.{Entry}
-use Rattle.feed_rows.specs.JourneyEntries.{CoversOffers}
+use Rattle.feed_rows.specs.declared.fares.Triple.{Triple}
+use Rattle.feed_rows.specs.JourneyEntries.{CoversOffers, IsEntry}
+use Rattle.feed_rows.specs.ParetoTriples.{at_most}
 use Rattle.feed_rows.specs.FeedRows.{FeedRows}
 use Rattle.feed_rows.specs.RoundTables.{RoundTable, entries_of}
 use Rattle.feed_rows.specs.SoundTable.{AreReal, AreBags, IsWithoutExcess, EndsExactly, IsPruned}
@@ -54,12 +57,29 @@ abbrev pub CoversAllOffers : FeedRows → Query → RoundTable → Type 0
 CoversAllOffers feed query table =
     (entries : List Entry) → entries_of table ≡ Some entries → CoversOffers feed query entries
 
--- the labels are real, the bags have them, none is in excess or outdone by a final with fewer rides, and the finals are
--- the exact answer, and cover whatever is offered
-pub record IsExactTable (feed : FeedRows) (query : Query) (table : RoundTable) : Type 0 where
+-- its finals end by entries of the query
+abbrev pub HasEntries : FeedRows → Query → RoundTable → Type 0
+HasEntries feed query table = (entries : List Entry) × (entries_of table ≡ Some entries) × All (IsEntry feed query) entries
+
+-- the labels are real, the bags have them, none is in excess or outdone by a final with fewer rides, and the finals end by entries
+pub record IsRealTable (feed : FeedRows) (query : Query) (table : RoundTable) : Type 0 where
   pub real : AreReal feed query table
   pub bags : AreBags table
   pub no_excess : IsWithoutExcess table
-  pub exact : EndsExactly feed query table
   pub pruned : IsPruned feed query table
+  pub entries : HasEntries feed query table
+
+-- the finals are the exact answer, and cover whatever is offered
+pub record IsExactTable (feed : FeedRows) (query : Query) (table : RoundTable) : Type 0 where
+  pub exact : EndsExactly feed query table
   pub offers : CoversAllOffers feed query table
+
+-- some of these triples is at most this one
+abbrev pub is_given : List Triple → Triple → Type 0
+is_given given triple = list_any (λ other. at_most other triple) given ≡ true
+
+-- of each entry of the query some entry by which a final ends is at most its triple, or one of these triples is
+abbrev pub FindsBut : FeedRows → Query → List Triple → RoundTable → Type 0
+FindsBut feed query given table =
+    (entries : List Entry) → entries_of table ≡ Some entries → (entry : Entry) → IsEntry feed query entry →
+    (list_any (λ found. at_most found.triple entry.triple) entries ≡ true) ⊎ is_given given entry.triple

@@ -4,8 +4,8 @@ use Rattle.transit_base.specs.Limits.{most_time}
 use Rattle.feed_rows.specs.declared.journeys.Call.{Call}
 use Rattle.plain_laws.proofs.Laws.{All-slice_get}
 use Rattle.plan_rides.specs.Departures.{run_with}
+use Rattle.plan_rides.proofs.DepartureLaws.{run_near}
 use Rattle.plan_rides.proofs.FoundLaws.{found_call, found_departure, found_first}
-use Rattle.plan_rides.proofs.LastLaws.{run_near}
 use Rattle.plan_rides.proofs.positions.add_departure.Goals as goal
 
 pub calls_of-calls-requires : goal.calls_of-calls-requires

@@ -1,23 +1,20 @@
 use Rattle.std.proofs.Common.{refl}
-use Rattle.std.proofs.lemmas.Result.{IfOk-weaker}
 use Rattle.plan_rounds.proofs.plan.rounds.Goals as goal
 
 pub returns-clause-sound : goal.returns-clause-sound
 returns-clause-sound c =
-    IfOk-weaker c.table_of.result _ _
-    (λ table is.
-    let exact = is.exact in
+    let is = c.in_ok-table.ensures.exact in
     record {
-      real = exact.real;
-      bags = exact.bags;
-      no_excess = exact.no_excess;
+      real = is.real.real;
+      bags = is.real.bags;
+      no_excess = is.real.no_excess;
       covers = is.covers refl;
-      exact = exact.exact;
-      pruned = exact.pruned;
-    }) c.table_of.ensures
+      exact = (is.exact refl).exact;
+      pruned = is.real.pruned;
+    }
 
 pub returns-clause-closed : goal.returns-clause-closed
-returns-clause-closed c = IfOk-weaker c.table_of.result _ _ (λ table is. is.closed refl) c.table_of.ensures
+returns-clause-closed c = c.in_ok-table.ensures.exact.closed refl
 
 pub returns-clause-offers : goal.returns-clause-offers
-returns-clause-offers c = IfOk-weaker c.table_of.result _ _ (λ table is. is.exact.offers) c.table_of.ensures
+returns-clause-offers c = (c.in_ok-table.ensures.exact.exact refl).offers

@@ -3,11 +3,12 @@ use Rattle.std.specs.Prelude.{All}
 use Rattle.std.proofs.lemmas.List.{get_or-map, length-map}
 use Rattle.std.proofs.lemmas.Option.{slice_get_within}
 use Rattle.plan_patterns.specs.declared.runs.Run.{Run}
+use Rattle.plan_rides.specs.Cutoffs.{cutoff_of}
 use Rattle.plan_rides.specs.Departures.{AreSince, IsBy, IsDeparture, Serves, departure_at}
 use Rattle.plan_rides.specs.Reached.{AddsFound, Positioned}
 use Rattle.plan_rides.proofs.DepartureLaws.{no_boarding, since_of}
 use Rattle.plan_rides.proofs.FoundLaws.{found_among, found_since, found_until}
-use Rattle.plan_rides.proofs.LatestLaws.{late_boardings}
+use Rattle.plan_rides.proofs.CutoffLaws.{late_boardings}
 use Rattle.plan_rides.proofs.positions.Positions.add_rides.Goals as goal
 
 pub runs-runs-requires : goal.runs-runs-requires
@@ -60,7 +61,7 @@ pub loop-k-preserved : goal.loop-k-preserved
 loop-k-preserved c =
     let me = c.args.self.now in
     let reached = c.args.reached.now in
-    let latest = c.args.latest.now in
+    let latest = cutoff_of c.args.latest.now in
     let feed = c.self.inside.timetable.now in
     let boardings = c.boardable-boardings.result.now in
     let k = c.loop-k.k in
@@ -85,7 +86,7 @@ pub returns : goal.returns
 returns c =
     let me = c.args.self.now in
     let reached = c.args.reached.now in
-    let latest = c.args.latest.now in
+    let latest = cutoff_of c.args.latest.now in
     let feed = c.self.inside.timetable.now in
     let boardings = c.boardable-boardings.result.now in
     let runs = c.runs-runs.result.now in
@@ -96,7 +97,7 @@ returns c =
     (subst (λ (m : Positioned). Serves m.feed m.patterns reached.stop.0 reached.serving) (sym c.self.view_is) c.requires.serves)
     c.self.invariant.2.of c.runs-runs.ensures c.boardable-boardings.ensures) in
     found_since me latest reached departures _ _ since
-    (found_until me.feed me.query latest reached.stop.0 reached.earliest.0 c.args.lasts.now departures c.first_late-k-end.result c.loop-k.k _ _
+    (found_until me.feed me.query latest reached.stop.0 reached.earliest.0 (cutoff_of c.args.lasts.now) departures c.first_late-k-end.result c.loop-k.k _ _
     c.requires.lasts since.right
-    (late_boardings feed reached.stop reached.serving.position runs boardings c.args.lasts.now reached.stop.0 c.first_late-k-end.result late.within late.late)
+    (late_boardings feed reached.stop reached.serving.position runs boardings (cutoff_of c.args.lasts.now) reached.stop.0 c.first_late-k-end.result late.within late.late)
     c.loop-k-test.false c.loop-k.invariant)

@@ -1,4 +1,5 @@
 use Rattle.std.proofs.Common.{◌∙◌, ap, subst}
+use Rattle.plan_rides.specs.Cutoffs.{cutoff_of}
 use Rattle.plan_rides.specs.Reached.{AddsFound, IsFromReached, Kept}
 use Rattle.plan_rides.proofs.FoundLaws.{holds_found}
 use Rattle.plan_rides.proofs.positions.Positions.keep.Goals as goal
@@ -9,7 +10,7 @@ returns-then-serve-clause-holds c = c.serve.ensures c.if-serve.true _ _ c.requir
 pub returns-clause-holds : goal.returns-clause-holds
 returns-clause-holds c =
     let me = c.args.self.now in
-    let latest = c.args.latest.now in
+    let latest = cutoff_of c.args.latest.now in
     let reached = c.args.reached.now in
     holds_found me latest reached c.add_rides.new.rides.items
     (subst (λ old. AddsFound me.feed me.query latest reached.stop.0 reached.earliest.0 (IsFromReached me reached) old c.add_rides.new.rides.items)

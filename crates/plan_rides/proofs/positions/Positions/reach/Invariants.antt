@@ -1,8 +1,9 @@
 use Rattle.feed_timetable.specs.Standings.{stand_of}
+use Rattle.plan_rides.specs.Cutoffs.{cutoff_of}
 use Rattle.plan_rides.specs.Reached.{AddsReached}
 use Rattle.plan_rides.specs.Travelling.{BoardsNear}
 use Rattle.plan_rides.proofs.positions.Positions.reach.Given as goal
 
 abbrev pub invariant-loop-k : goal.invariant-loop-k
 invariant-loop-k l =
-    AddsReached l.self l.lasts (stand_of l.who.standing) l.who.number (BoardsNear l.self.feed (stand_of l.who.standing) l.walks l.k) l.fn.reached.items l.reached.items
+    AddsReached l.self (cutoff_of l.lasts) (stand_of l.who.standing) l.who.number (BoardsNear l.self.feed (stand_of l.who.standing) l.walks l.k) l.fn.reached.items l.reached.items

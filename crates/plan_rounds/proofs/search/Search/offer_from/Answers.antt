@@ -1,11 +1,13 @@
-use Rattle.std.proofs.Common.{◌+◌, ◌∙◌, ap, refl, subst, sym}
+use Rattle.std.proofs.Common.{◌+◌, ◌∙◌, ap, arith, refl, subst, sym}
 use Rattle.std.proofs.lemmas.Option.{same_Some, slice_get_within}
 use Rattle.std.proofs.lemmas.Result.{on_ok_weaker}
+use Rattle.plan_rides.specs.Cutoffs.{cutoff_of}
 use Rattle.plan_rides.specs.Reached.{HoldsFrom, IsReachedFrom}
 use Rattle.plan_rounds.specs.Scans.{StepsAt}
 use Rattle.plan_rounds.specs.Searched.{Lacks}
 use Rattle.round_labels.specs.Labels.{stand_of_label}
 use Rattle.round_labels.specs.declared.label.Label.{Label}
+use Rattle.plan_rounds.proofs.ScanLaws.{lasts_in}
 use Rattle.plan_rounds.proofs.SourceLaws.{source_of}
 use Rattle.plan_rounds.proofs.SpreadLaws.{spreads_at, spreads_same}
 use Rattle.plan_rounds.proofs.search.Search.offer_from.Goals as goal
@@ -40,10 +42,31 @@ offer_rides-requires-clause-source c =
 
 pub offer_rides-requires-clause-serve : goal.offer_rides-requires-clause-serve
 offer_rides-requires-clause-serve c = record {
-  latest = c.args.cutoffs.latest.now;
+  latest = cutoff_of c.args.cutoffs.latest;
   fair = c.requires.fair c.get-label.result c.get-label.ensures;
-  holds = subst (HoldsFrom c.args.round.now.positions.now c.args.cutoffs.latest.now c.args.reached.now) (sym c.rides.ensures) c.in_ok-keep_legs.ensures.holds;
+  holds = subst (HoldsFrom c.args.round.now.positions.now (cutoff_of c.args.cutoffs.latest) c.args.reached.now) (sym c.rides.ensures) c.in_ok-keep_legs.ensures.holds;
 }
+
+pub keep_legs-requires-clause-lasts : goal.keep_legs-requires-clause-lasts
+keep_legs-requires-clause-lasts c = lasts_in c.args.self.now c.args.round.now _ _ c.requires.round c.requires.lasts
+
+pub cutoffs_by-requires : goal.cutoffs_by-requires
+cutoffs_by-requires c =
+    let marked = c.requires.marked in
+    (c.requires.until marked.label marked.is marked.counts).within
+
+pub offer_rides-requires-clause-own : goal.offer_rides-requires-clause-own
+offer_rides-requires-clause-own c counts =
+    let me = c.args.self.now in
+    let round = c.args.round.now in
+    let marked = c.requires.marked in
+    let same = same_Some c.get-label.result marked.label (sym c.get-label.ensures ∙ marked.is) in
+    let origin = c.requires.round.origins c.args.reached.now.number _ c.get-label.ensures counts in
+    let from = c.from-more.ensures in
+    let limit = c.limit.ensures.is in
+    let few = c.requires.round.few in
+    c.cutoffs_by.ensures.fair round.finals.now c.get-label.result origin.within (c.requires.until c.get-label.result c.get-label.ensures counts)
+    (omega (arith, from, limit, few, counts))
 
 pub returns-clause-spreads : goal.returns-clause-spreads
 returns-clause-spreads c =

@@ -1,4 +1,4 @@
-use Rattle.std.proofs.Common.{◌≡◌, refl, subst, arith, length, ◌<◌}
+use Rattle.std.proofs.Common.{◌≡◌, ◌∙◌, ap, refl, subst, sym, arith, length, vec_len, slice_index_or, ◌<◌}
 use Rattle.std.specs.Prelude.{Some}
 use Rattle.std.proofs.lemmas.Option.{slice_get_read}
 use Rattle.plain_laws.proofs.Laws.{All-slice_get}
@@ -17,12 +17,24 @@ use Rattle.plan_rounds.proofs.search.Search.offer_ride.Goals.{then-not-is_better
 pub find_moves-requires-clause-bounded : goal.find_moves-requires-clause-bounded
 find_moves-requires-clause-bounded c = c.requires.source.bounded
 
+pub is_bettered-requires : goal.is_bettered-requires
+is_bettered-requires c =
+    let moves = c.find_moves.new.room.moves in
+    subst (λ ms. c.loop-k.k < length ms) (sym (c.deref.ensures.value ∙ ap (λ ms. ms.items) c.loop-k.invariant.moves))
+    (omega (arith, c.loop-k-test.true, c.len-k-end.ensures, moves.ok.0))
+
+pub index-taken-requires : goal.index-taken-requires
+index-taken-requires c =
+    let moves = c.find_moves.new.room.moves in
+    subst (λ ms. c.loop-k.k < vec_len ms) (sym c.loop-k.invariant.moves) (omega (arith, c.loop-k-test.true, c.len-k-end.ensures, moves.ok.0))
+
 pub offer_move-requires-clause-small : goal.offer_move-requires-clause-small
 offer_move-requires-clause-small c =
     let moves = c.find_moves.new.room.moves in
     let lt : c.loop-k.k < length moves.items = omega (arith, c.loop-k-test.true, c.len-k-end.ensures, moves.ok.0) in
-    let at = slice_get_read moves.items (length moves.items) c.loop-k.k c.index.result.now refl lt c.index.ensures in
-    All-slice_get IsSmall moves.items c.loop-k.k c.index.result.now at c.in_ok-find_moves.ensures.small
+    let at = slice_get_read moves.items (length moves.items) c.loop-k.k c.index-taken.result.now refl lt
+    (c.index-taken.ensures ∙ ap (λ ms. slice_index_or ms.items c.loop-k.k c.index-taken.result.now) c.loop-k.invariant.moves) in
+    All-slice_get IsSmall moves.items c.loop-k.k c.index-taken.result.now at c.in_ok-find_moves.ensures.small
 
 pub offer_move-requires-clause-pays : goal.offer_move-requires-clause-pays
 offer_move-requires-clause-pays c =
@@ -31,9 +43,17 @@ offer_move-requires-clause-pays c =
     let label = c.args.source.now.label.now in
     let moves = c.find_moves.new.room.moves in
     let lt : c.loop-k.k < length moves.items = omega (arith, c.loop-k-test.true, c.len-k-end.ensures, moves.ok.0) in
-    let at = slice_get_read moves.items (length moves.items) c.loop-k.k c.index.result.now refl lt c.index.ensures in
+    let at = slice_get_read moves.items (length moves.items) c.loop-k.k c.index-taken.result.now refl lt
+    (c.index-taken.ensures ∙ ap (λ ms. slice_index_or ms.items c.loop-k.k c.index-taken.result.now) c.loop-k.invariant.moves) in
     All-slice_get (λ (m : Move). move_after feed query.rider label.state label.held.0 (leg_facts feed c.args.caught.now.facts) m ≡ Some m)
-    moves.items c.loop-k.k c.index.result.now at c.in_ok-find_moves.ensures.exact.right
+    moves.items c.loop-k.k c.index-taken.result.now at c.in_ok-find_moves.ensures.exact.right
+
+pub loop-k-init : goal.loop-k-init
+loop-k-init c = record {
+  spreads = spreads_none c.args.self.now.feed c.args.self.now.query (Lacks c.args.self.now c.args.finals.now) c.args.source.now.labels.now _ _
+      c.args.bags.now (λ b leads. let below = leads.1 in absurd (omega (arith, below)));
+  moves = refl;
+}
 
 pub loop-k-preserved : goal.loop-k-preserved
 loop-k-preserved c =
@@ -41,15 +61,23 @@ loop-k-preserved c =
     let query = c.args.self.now.query in
     let source = c.args.source.now in
     let moves = c.find_moves.new.room.moves in
+    let was = c.loop-k.invariant in
     let lt : c.loop-k.k < length moves.items = omega (arith, c.loop-k-test.true, c.len-k-end.ensures, moves.ok.0) in
     elim c.if-not-is_bettered.branch [
       | then-not-is_bettered+in_ok-offer_move w ↦
-          let at = slice_get_read moves.items (length moves.items) c.loop-k.k w.index.result.now refl lt w.index.ensures in
-          rw w.bags-is (spreads_more feed query (Lacks c.args.self.now c.args.finals.now) source.labels.now _ _ _ _ _ _ _ c.loop-k.invariant w.in_ok-offer_move.ensures
-          (λ b. leads_more feed query source c.requires.source c.args.caught.now c.requires.right moves.items c.loop-k.k w.index.result.now b at))
+          let at = slice_get_read moves.items (length moves.items) c.loop-k.k w.index-taken.result.now refl lt
+          (w.index-taken.ensures ∙ ap (λ ms. slice_index_or ms.items c.loop-k.k w.index-taken.result.now) was.moves) in
+          record {
+            spreads = rw w.bags-is (spreads_more feed query (Lacks c.args.self.now c.args.finals.now) source.labels.now _ _ _ _ _ _ _ was.spreads w.in_ok-offer_move.ensures
+                (λ b. leads_more feed query source c.requires.source c.args.caught.now c.requires.right moves.items c.loop-k.k w.index-taken.result.now b at));
+            moves = rw w.room-is was.moves;
+          }
       | else-not-is_bettered w ↦
-          rw w.bags-is (leads_without c.args.self.now c.args.finals.now source c.args.caught.now moves.items c.loop-k.k _ _
-          (subst (λ ms. HasBetter ms c.loop-k.k) c.deref.ensures.value (c.is_bettered.ensures.better w.if-not-is_bettered.false)) c.loop-k.invariant)
+          record {
+            spreads = rw w.bags-is (leads_without c.args.self.now c.args.finals.now source c.args.caught.now moves.items c.loop-k.k _ _
+                (subst (λ ms. HasBetter ms c.loop-k.k) (c.deref.ensures.value ∙ ap (λ ms. ms.items) was.moves) (c.is_bettered.ensures.better w.if-not-is_bettered.false)) was.spreads);
+            moves = rw w.room-is was.moves;
+          }
     ]
 
 pub returns-then-is_futile : goal.returns-then-is_futile
@@ -63,6 +91,6 @@ returns c =
     let query = c.args.self.now.query in
     let source = c.args.source.now in
     let moves = c.find_moves.new.room.moves in
-    spreads_same feed query (Lacks c.args.self.now c.args.finals.now) source.labels.now _ _ _ _ _ c.loop-k.invariant
+    spreads_same feed query (Lacks c.args.self.now c.args.finals.now) source.labels.now _ _ _ _ _ c.loop-k.invariant.spreads
     (λ b. leads_by feed query source c.requires.source c.args.caught.now c.requires.right moves.items c.loop-k.k b c.in_ok-find_moves.ensures
     (omega (arith, c.loop-k-test.false, c.len-k-end.ensures, moves.ok.0)))

@@ -13,7 +13,6 @@ mark-requires c =
       numbers = c.requires.numbers;
       origins = origin_is me.feed me.query c.args.count c.args.labels.now c.args.bags.now c.limit-limit.ensures.usual c.requires.few c.requires.stored;
       ended = c.requires.ended;
-      horizon = c.requires.horizon;
     }
 
 pub offer_marked-requires-clause-round : goal.offer_marked-requires-clause-round
@@ -26,5 +25,4 @@ offer_marked-requires-clause-round c =
       numbers = c.requires.numbers;
       origins = origin_is me.feed me.query c.args.count c.args.labels.now c.args.bags.now c.limit-limit.ensures.usual c.requires.few c.requires.stored;
       ended = c.requires.ended;
-      horizon = c.requires.horizon;
     }

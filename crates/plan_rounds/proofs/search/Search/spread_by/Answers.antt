@@ -1,8 +1,8 @@
 use Rattle.std.proofs.Common.{refl, sym, subst, List, ◌+◌, arith}
 use Rattle.round_table.specs.declared.finals.Final.{Final}
-use Rattle.round_table.specs.Finals.{HasEnds, is_bettered}
+use Rattle.round_table.specs.Finals.{HasEnds}
 use Rattle.round_labels.specs.Labels.{labels_of}
-use Rattle.round_laws.proofs.FutilityLaws.{lack_more}
+use Rattle.plan_rounds.proofs.FutileLaws.{lacks_more}
 use Rattle.round_laws.specs.LinkedTables.{CoversStarts}
 use Rattle.plan_rounds.specs.Gathered.{IsGathered}
 use Rattle.plan_rounds.specs.Searched.{Lacks}
@@ -53,7 +53,7 @@ loop-count-preserved c =
         apart = all.apart;
         closed = subst (AreClosedTo feed query (Lacks c.args.self.now c.gather.new.front) (c.loop-count.count + 1)) (sym all.value)
             (closed_weaker feed query old (Lacks c.args.self.now c.gather.new.front) (c.loop-count.count + 1) _
-            (λ b. lack_more feed query c.args.self.now.whole (is_bettered c.loop-count.front) (is_bettered c.gather.new.front) b all.still) closed);
+            (λ b. lacks_more c.args.self.now c.loop-count.front c.gather.new.front all.still b) closed);
         starts = subst (λ ls. CoversStarts feed query (labels_of ls)) (sym all.value) (starts_more feed query labels _ was.starts);
         ended = all.ended;
         numbers = all.numbers;

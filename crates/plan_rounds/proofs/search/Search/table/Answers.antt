@@ -1,42 +1,67 @@
-use Rattle.std.proofs.Common.{sym, subst, arith, length, List, []}
+use Rattle.std.proofs.Common.{◌≡◌, sym, subst, arith, length, List, [], ◌∷◌, true, false, ⊎_elim}
 use Rattle.std.proofs.lemmas.Result.{IfOk-weaker}
-use Rattle.round_table.specs.declared.finals.Final.{Final}
-use Rattle.round_table.specs.Finals.{AddsEnds, EndsBelow, finals_of, is_bettered}
-use Rattle.pareto_front.specs.Fronts.{IsFront}
 use Rattle.feed_rows.specs.ParetoTriples.{is_before}
-use Rattle.plan_rounds.specs.Searched.{IsTableOf, Lacks}
-use Rattle.plan_rounds.specs.Stores.{AreWhole}
+use Rattle.feed_rows.specs.declared.fares.Triple.{Triple}
+use Rattle.pareto_front.specs.Fronts.{IsFront}
 use Rattle.plan_rounds.proofs.FinalSteps.{as_good, are_finals}
-use Rattle.plan_rounds.proofs.WholeLaws.{found_of, whole_weaker, exact_table, covers_all, closed_all}
+use Rattle.plan_rounds.proofs.FutileLaws.{found_up}
+use Rattle.plan_rounds.proofs.WholeLaws.{closed_all, covers_all, exact_table, finds_all, found_of, real_table, whole_weaker}
+use Rattle.plan_rounds.proofs.search.Search.table.Goals as goal
+use Rattle.plan_rounds.specs.Searched.{IsFoundBy, IsTableOf, Lacks, Searched}
+use Rattle.plan_rounds.specs.Stores.{AreWhole}
+use Rattle.round_laws.proofs.FutilityLaws.{lack_more}
 use Rattle.round_laws.specs.Futility.{MayLack}
 use Rattle.round_laws.specs.LinkedTables.{IsFound}
-use Rattle.round_laws.proofs.FutilityLaws.{lack_more}
-use Rattle.plan_rounds.proofs.search.Search.table.Goals as goal
+use Rattle.round_table.specs.Finals.{AddsEnds, EndsBelow, finals_of}
+use Rattle.round_table.specs.Tables.{is_given}
+use Rattle.round_table.specs.declared.finals.Final.{Final}
+
+-- nothing is found by what is given where nothing is
+none_given : (given : List Triple) (t : Triple) → given ≡ [] → is_given given t → ⊥
+none_given [] t none h = absurd (let wrong : false ≡ true = h in cc)
+none_given (x ∷ xs) t none h = absurd (cc)
 
 pub returns : goal.returns
 returns c =
-    let feed = c.args.self.now.feed in
-    let query = c.args.self.now.query in
+    let task = c.args.self.now in
+    let feed = task.feed in
+    let query = task.query in
     let labels = c.in_ok-labels.labels in
     let finals = c.into_items.result.items in
     let all = c.in_ok-labels.ensures in
     let front = c.into_items.ensures in
+    let sound = c.stops-stops.ensures.sound in
     let ends =
     are_finals feed query labels (length labels) finals (omega arith)
     (subst (AddsEnds feed query labels (EndsBelow feed query labels (length labels)) []) (sym front.value) all.ended)
     (subst (IsFront as_good (λ a b. is_before a.triple b.triple)) (sym front.value) front.front) in
-    let are =
-    whole_weaker feed query _ (MayLack feed query c.args.self.now.whole (IsFound (finals_of finals))) labels
-    (λ b. lack_more feed query c.args.self.now.whole (is_bettered finals) (IsFound (finals_of finals)) b (found_of finals))
-    (subst (λ (fs : List Final). AreWhole feed query (Lacks c.args.self.now fs) labels) (sym front.value) all.whole) in
+    let are = subst (λ (fs : List Final). AreWhole feed query (Lacks task fs) labels) (sym front.value) all.whole in
     IfOk-weaker c.of.result _ _
-    (λ table is. subst (IsTableOf c.args.self.now) (sym is) (record {
-      exact = exact_table feed query labels c.stops-stops.result c.limit-limit.result finals c.stops-stops.ensures.sound c.args.self.now.whole are ends
+    (λ table is. subst (IsTableOf task) (sym is) (record {
+      real = real_table feed query labels c.stops-stops.result c.limit-limit.result finals (Lacks task finals) are ends
           c.stops-stops.ensures.is c.limit-limit.ensures.is;
-      covers = λ whole.
-          covers_all feed query labels c.stops-stops.result c.limit-limit.result finals c.stops-stops.ensures.sound
-          (subst (λ w. AreWhole feed query (MayLack feed query w (IsFound (finals_of finals))) labels) whole are);
-      closed = λ whole.
-          closed_all feed query labels c.stops-stops.result c.limit-limit.result finals c.stops-stops.ensures.sound
-          (subst (λ w. AreWhole feed query (MayLack feed query w (IsFound (finals_of finals))) labels) whole are);
+      finds = λ strict.
+          finds_all feed query labels c.stops-stops.result c.limit-limit.result finals sound task.whole task.given
+          (whole_weaker feed query _ (MayLack feed query task.whole (IsFoundBy task finals)) labels (λ b lack. lack strict) are)
+          (found_up task finals) ends;
+      exact = λ whole. exact_table feed query labels c.stops-stops.result c.limit-limit.result finals sound (closed_of whole are) ends;
+      covers = λ whole. covers_all feed query labels c.stops-stops.result c.limit-limit.result finals sound (closed_of whole are);
+      closed = λ whole. closed_all feed query labels c.stops-stops.result c.limit-limit.result finals sound (closed_of whole are);
     })) c.of.ensures
+  where
+    task : Searched
+    task = c.args.self.now
+
+    closed_of : task.whole ≡ true → AreWhole task.feed task.query (Lacks task c.into_items.result.items) c.in_ok-labels.labels →
+        AreWhole task.feed task.query (MayLack task.feed task.query true (IsFound (finals_of c.into_items.result.items))) c.in_ok-labels.labels
+    closed_of whole are =
+        subst (λ w. AreWhole task.feed task.query (MayLack task.feed task.query w (IsFound (finals_of c.into_items.result.items))) c.in_ok-labels.labels) whole
+        (whole_weaker task.feed task.query _ (MayLack task.feed task.query task.whole (IsFound (finals_of c.into_items.result.items))) c.in_ok-labels.labels
+        (λ b lack. lack_more task.feed task.query task.whole (IsFoundBy task c.into_items.result.items) (IsFound (finals_of c.into_items.result.items)) b
+        (λ t. ⊎_elim (found_of c.into_items.result.items t) (λ given. absurd (none_given task.given t (alone whole) given))) (lack (strict whole))) are)
+      where
+        strict : task.whole ≡ true → task.loose ≡ false
+        strict w = c.is_whole-whole.ensures.strict w
+
+        alone : task.whole ≡ true → task.given ≡ []
+        alone w = c.is_whole-whole.ensures.alone w

@@ -1,0 +1,104 @@
+-- Entries of two searches, of which the best answer a query.
+use Rattle.std.proofs.Common.{◌≡◌, refl, sym, ◌∙◌, ap, subst, arith, zero, suc, ◌⊎◌, inl, inr, ⊎_elim, true, List, [], ◌∷◌, ◌++◌}
+use Rattle.std.specs.Prelude.{All, Contains, Some, map}
+use Rattle.std.proofs.lemmas.Option.{same_Some}
+use Rattle.std.proofs.lemmas.List.Elements.{All-append, All-contains, All-nil, All-weaker, All-contains_itself, Contains-append_left, Contains-append_right}
+use Rattle.std.proofs.lemmas.List.Folds.{Any-from_list_any}
+use Rattle.feed_rows.specs.declared.fares.Entry.{Entry}
+use Rattle.feed_rows.specs.declared.journeys.Query.{Query}
+use Rattle.feed_rows.specs.declared.fares.Triple.{Triple}
+use Rattle.feed_rows.specs.FeedRows.{FeedRows}
+use Rattle.feed_rows.specs.JourneyEntries.{CoversOffers, IsEntry, IsExactAnswer}
+use Rattle.feed_rows.specs.ParetoTriples.{at_most, is_before}
+use Rattle.feed_rows.specs.RoundTables.{RoundTable, entries_of}
+use Rattle.feed_laws.proofs.ExactLaws.{covers_offers, exact_of_front, is_covered}
+use Rattle.feed_laws.proofs.ParetoLaws.{at_most-trans}
+use Rattle.pareto_front.specs.Fronts.{CoversAll, IsFront, has_as_good}
+use Rattle.plain_laws.proofs.Laws.{list_any-map}
+use Rattle.round_table.specs.Tables.{FindsBut, HasEntries}
+use Rattle.plan_rounds.specs.Planned.{AddsEntries, CoversAllBy, as_good}
+
+-- what a table finds beside the triples of entries, the entries by which its finals end and these find together
+pub covers_both : (feed : FeedRows) (query : Query) (known found : List Entry) (table : RoundTable) →
+    FindsBut feed query (map (λ (entry : Entry). entry.triple) known) table → entries_of table ≡ Some found → CoversAllBy feed query known found
+covers_both feed query known found table finds is entry e =
+    ⊎_elim inl
+    (λ given. inr (sym (list_any-map (λ (t : Triple). at_most t entry.triple) (λ (x : Entry). x.triple) known) ∙ given))
+    (finds found is entry e)
+
+-- and they are of the query, where its finals end by entries of it
+pub entries_are : (feed : FeedRows) (query : Query) (found : List Entry) (table : RoundTable) → HasEntries feed query table →
+    entries_of table ≡ Some found → All (IsEntry feed query) found
+entries_are feed query found table has is = subst (All (IsEntry feed query)) (same_Some _ _ (sym has.1 ∙ is)) has.2
+
+-- nothing was offered
+pub adds_none : (front : List Entry) → AddsEntries [] front front
+adds_none front = record {
+  still = record { still = λ t h. h };
+  all = All-nil _;
+  from = All-weaker (Contains front) (λ entry. Contains front entry ⊎ Contains [] entry) (λ entry at. inl at) front (All-contains_itself front);
+}
+
+-- one entry more was
+pub adds_more : (entries old mid new : List Entry) (entry : Entry) → AddsEntries entries old mid → has_as_good as_good new entry ≡ true →
+    CoversAll as_good mid new → All (λ x. Contains mid x ⊎ (x ≡ entry)) new → AddsEntries (entries ++ entry ∷ []) old new
+adds_more entries old mid new entry adds covered still from = record {
+  still = record { still = λ t h. still.still t (adds.still.still t h) };
+  all = All-append (λ e. has_as_good as_good new e ≡ true) entries (entry ∷ [])
+      (All-weaker (λ e. has_as_good as_good mid e ≡ true) (λ e. has_as_good as_good new e ≡ true) (λ e h. still.still e h) entries adds.all)
+      one;
+  from = All-weaker (λ x. Contains mid x ⊎ (x ≡ entry)) (λ x. Contains old x ⊎ Contains (entries ++ entry ∷ []) x)
+      (λ x. ⊎_elim
+      (λ before. ⊎_elim inl (λ among. inr (Contains-append_left entries (entry ∷ []) x among))
+      (All-contains (λ e. Contains old e ⊎ Contains entries e) mid x adds.from before))
+      (λ same. inr (Contains-append_right entries (entry ∷ []) x (0, omega arith, sym same)))) new from;
+}
+  where
+    one : All (λ e. has_as_good as_good new e ≡ true) (entry ∷ [])
+    one zero d lt = covered
+    one (suc k) d lt = absurd (omega (arith, lt))
+
+-- a list of what its items are is the list
+pub mapped_itself : {X : Type 0} (xs : List X) → xs ≡ map (λ x. x) xs
+mapped_itself [] = refl
+mapped_itself (x ∷ xs) = ap (λ ys. x ∷ ys) (mapped_itself xs)
+
+module _ (feed : FeedRows) (query : Query) (known found mid new : List Entry) (first : AddsEntries known [] mid)
+    (second : AddsEntries found mid new) (known_are : All (IsEntry feed query) known) (found_are : All (IsEntry feed query) found)
+    (covers : CoversAllBy feed query known found)
+    (front : IsFront (λ (a : Entry) (b : Entry). at_most a.triple b.triple) (λ (a : Entry) (b : Entry). is_before a.triple b.triple) new) where
+  are : All (IsEntry feed query) new
+  are = All-weaker (λ e. Contains mid e ⊎ Contains found e) (IsEntry feed query)
+      (λ e. ⊎_elim
+      (λ before. ⊎_elim (λ none. absurd (nothing e none)) (λ among. All-contains (IsEntry feed query) known e known_are among)
+      (All-contains (λ x. Contains [] x ⊎ Contains known x) mid e first.from before))
+      (λ among. All-contains (IsEntry feed query) found e found_are among)) new second.from
+    where
+      nothing : (e : Entry) → Contains [] e → ⊥
+      nothing e at = let lt = at.1 in omega (arith, lt)
+
+  -- what has something as good as one entry has a triple that is at most whatever that is at most
+  up : (e x : Entry) (list : List Entry) → has_as_good as_good list x ≡ true → at_most x.triple e.triple ≡ true → is_covered list e.triple ≡ true
+  up e x [] some le = some
+  up e x (y ∷ ys) some le =
+      let rest = up e x ys in
+      let step = at_most-trans y.triple x.triple e.triple in
+      grind (arith, some, le, rest, step)
+
+  above : (e : Entry) (list entries : List Entry) → has_as_good as_good entries e ≡ true → All (λ x. has_as_good as_good list x ≡ true) entries →
+      is_covered list e.triple ≡ true
+  above e list entries some each =
+      let better = Any-from_list_any (λ x. at_most x.triple e.triple) entries some in
+      up e better.1 list (All-contains (λ x. has_as_good as_good list x ≡ true) entries better.1 each (better.0, better.2, better.3)) better.4
+
+  -- each entry of the query is covered
+  all : (e : Entry) → IsEntry feed query e → is_covered new e.triple ≡ true
+  all e is =
+      ⊎_elim (λ some. above e new found some second.all) (λ some. second.still.still e (above e mid known some first.all)) (covers e is)
+
+  -- so they answer it exactly
+  pub exact_of_both : IsExactAnswer feed query new × CoversOffers feed query new
+  exact_of_both = (
+    exact_of_front feed query new are (λ i j d lt within. (front i j d lt within).earlier) (λ i j d lt within. (front i j d lt within).dearer) all,
+    covers_offers feed query new all,
+  )
