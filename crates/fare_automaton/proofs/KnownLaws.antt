@@ -1,4 +1,4 @@
--- What can be paid for a leg is decided by all but its moments.
+-- What it is enough to pay for a leg is decided by all but its moments.
 use Rattle.std.proofs.Common.{◌≡◌, refl, sym, ◌∙◌, ap, subst, ℕ, ◌<◌, List, [], ◌∷◌, ◌++◌, length, All, Option, Some, None}
 use Rattle.std.specs.Prelude.{slice_get, option_map, Result, Ok, Err, IfOk, OnOk, OnErr}
 use Rattle.std.specs.declared.alloc.AllocError.{AllocError}
@@ -13,7 +13,7 @@ use Rattle.feed_rows.specs.FareChoices.{is_leg_choice}
 use Rattle.feed_rows.specs.LegRules.{rule_matches, is_top_priority, is_selected_rule}
 use Rattle.plain_laws.proofs.Laws.{All-slice_get, slice_get-push_before, slice_get-push_last}
 use Rattle.leg_kinds.specs.Kinds.{timeless, KindList, kept_for, items_at, IsOfKind}
-use Rattle.fare_automaton.specs.Options.{ArePicks}
+use Rattle.fare_automaton.specs.Fewest.{AreEnough}
 use Rattle.fare_automaton.specs.Terms.{FareTerms}
 use Rattle.fare_automaton.specs.Known.{HasPicks}
 
@@ -24,32 +24,30 @@ unfolding is_leg_choice is_selected_rule rule_matches is_top_priority
 timeless_choice feed rider leg pick = refl
 
 pub with_moments : (feed : FeedRows) (rider : Option RiderId) (leg : LegFacts) (picks : List LegChoice) →
-    ArePicks feed rider (timeless leg) picks → ArePicks feed rider leg picks
+    AreEnough feed rider (timeless leg) picks → AreEnough feed rider leg picks
 with_moments feed rider leg picks are = record {
   right = λ k d lt. sym (timeless_choice feed rider leg _) ∙ are.right k d lt;
-  all = λ pick holds. are.all pick (timeless_choice feed rider leg pick ∙ holds);
-  once = are.once;
+  enough = λ pick holds. are.enough pick (timeless_choice feed rider leg pick ∙ holds);
 }
 
 pub without_moments : (feed : FeedRows) (rider : Option RiderId) (leg : LegFacts) (picks : List LegChoice) →
-    ArePicks feed rider leg picks → ArePicks feed rider (timeless leg) picks
+    AreEnough feed rider leg picks → AreEnough feed rider (timeless leg) picks
 without_moments feed rider leg picks are = record {
   right = λ k d lt. timeless_choice feed rider leg _ ∙ are.right k d lt;
-  all = λ pick holds. are.all pick (sym (timeless_choice feed rider leg pick) ∙ holds);
-  once = are.once;
+  enough = λ pick holds. are.enough pick (sym (timeless_choice feed rider leg pick) ∙ holds);
 }
 
--- what is kept for legs of a kind is what can be paid for each of them
+-- what is kept for legs of a kind is enough for each of them
 pub picks_kept : (terms : FareTerms) (lists : List (KindList LegChoice)) (leg : LegFacts) (number : ℕ) → All (HasPicks terms) lists → IsOfKind lists leg number
-    → ArePicks terms.feed terms.rider leg (items_at lists number)
+    → AreEnough terms.feed terms.rider leg (items_at lists number)
 picks_kept terms lists leg number all kind = by (slice_get lists number) refl kind
   where
     by : (o : Option (KindList LegChoice)) → slice_get lists number ≡ o → option_map (λ (l : KindList LegChoice). l.kind) o ≡ Some (timeless leg)
-        → ArePicks terms.feed terms.rider leg (option_map_or (λ (l : KindList LegChoice). l.items) o [])
+        → AreEnough terms.feed terms.rider leg (option_map_or (λ (l : KindList LegChoice). l.items) o [])
     by None at e = absurd (cc)
     by (Some own) at e =
         with_moments terms.feed terms.rider leg own.items
-        (subst (λ (k : LegFacts). ArePicks terms.feed terms.rider k own.items) (same_Some own.kind (timeless leg) e)
+        (subst (λ (k : LegFacts). AreEnough terms.feed terms.rider k own.items) (same_Some own.kind (timeless leg) e)
         (All-slice_get (HasPicks terms) lists number own at all))
 
 -- a list that is kept last is of its kind
@@ -73,7 +71,7 @@ kind_still lists more own leg number (Ok kept) is same before =
     within (Some o) at e = slice_get_within lists number o at
 kind_still lists more own leg number (Err e) is same before = subst (λ ls. IsOfKind ls leg number) (sym same) before
 
--- and each holds what can be paid
+-- and each holds what is enough
 pub picks_still : (terms : FareTerms) (lists more : List (KindList LegChoice)) (own : KindList LegChoice) (result : Result ℕ AllocError)
     → OnOk result (more ≡ lists ++ own ∷ []) → OnErr result (more ≡ lists) → All (HasPicks terms) lists → HasPicks terms own → All (HasPicks terms) more
 picks_still terms lists more own (Ok number) is same all has = subst (All (HasPicks terms)) (sym is) (All-push (HasPicks terms) lists own all has)

@@ -2,6 +2,7 @@ pub mod JudgeLaws
 pub mod FloorLaws
 pub mod OptionLaws
 pub mod MadeLaws
+pub mod FewestLaws
 pub mod PickedLaws
 pub mod SelectedLaws
 pub mod ReadLaws

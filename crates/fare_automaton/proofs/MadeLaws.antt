@@ -42,7 +42,7 @@ added_made before now made picks i d lt is more =
     ∙ ap (λ (k : ℕ). joined_below k (made_at made picks)) (sym next)
 
 -- the moves are exactly those of this pick, each once
-record AreOf (step : Move → Option Move) (pick : LegChoice) (moves : List Move) : Type 0 where
+pub record AreOf (step : Move → Option Move) (pick : LegChoice) (moves : List Move) : Type 0 where
   pub right : (move : Move) → Contains moves move → (leg_taken move ≡ pick) × (step move ≡ Some move)
   pub all : (move : Move) → step move ≡ Some move → leg_taken move ≡ pick → Contains moves move
   pub once : AllPairs (λ a b. a ≢ b) moves
@@ -53,13 +53,12 @@ record AreAll (step : Move → Option Move) (moves : List Move) : Type 0 where
   pub all : (move : Move) → step move ≡ Some move → Contains moves move
   pub once : AllPairs (λ a b. a ≢ b) moves
 
-module _ (feed : FeedRows) (rider : Option RiderId) (leg : LegFacts) (picks : List LegChoice) (are : ArePicks feed rider leg picks)
-    (step : Move → Option Move) (made : LegChoice → List Move)
-    (each : (pick : LegChoice) → is_leg_choice feed rider leg pick ≡ true → AreOf step pick (made pick))
-    (judged : (move : Move) → step move ≡ Some move → is_leg_choice feed rider leg (leg_taken move) ≡ true) where
+module _ (feed : FeedRows) (rider : Option RiderId) (leg : LegFacts) (picks : List LegChoice)
+    (right : All (λ pick. is_leg_choice feed rider leg pick ≡ true) picks) (step : Move → Option Move) (made : LegChoice → List Move)
+    (each : (pick : LegChoice) → is_leg_choice feed rider leg pick ≡ true → AreOf step pick (made pick)) where
   -- the pick of a number
   at : (i : ℕ) (pick : LegChoice) → slice_get picks i ≡ Some pick → AreOf step pick (made pick)
-  at i pick is = each pick (All-slice_get (λ (p : LegChoice). is_leg_choice feed rider leg p ≡ true) picks i pick is are.right)
+  at i pick is = each pick (All-slice_get (λ (p : LegChoice). is_leg_choice feed rider leg p ≡ true) picks i pick is right)
 
   -- a move of a number
   tells : (i : ℕ) (move : Move) → Contains (made_at made picks i) move →
@@ -73,12 +72,30 @@ module _ (feed : FeedRows) (rider : Option RiderId) (leg : LegFacts) (picks : Li
           let r = (at i pick is).right move c in
           (is ∙ ap Some (sym r.0), r.1)
 
+  -- what is made is right
+  pub right_made : All (λ (m : Move). step m ≡ Some m) (joined_below (length picks) (made_at made picks))
+  right_made = All-from (λ (m : Move). step m ≡ Some m) _ (λ m c.
+      let f = joined_below-tells (length picks) (made_at made picks) m c in
+      (tells f.0 m f.2).1)
+
+  -- and each move of one of the picks is made
+  pub made_in : (pick : LegChoice) → Contains picks pick → (m : Move) → step m ≡ Some m → leg_taken m ≡ pick →
+      Contains (joined_below (length picks) (made_at made picks)) m
+  made_in pick among m is same =
+      let place = slice_get-Contains picks pick among in
+      Contains-joined_below (length picks) (made_at made picks) place.0 m (slice_get_within picks place.0 pick place.1)
+      (subst (λ (xs : List Move). Contains xs m) (sym (made_of made picks place.0 pick place.1)) ((at place.0 pick place.1).all m is same))
+
+module _ (feed : FeedRows) (rider : Option RiderId) (leg : LegFacts) (picks : List LegChoice) (are : ArePicks feed rider leg picks)
+    (step : Move → Option Move) (made : LegChoice → List Move)
+    (each : (pick : LegChoice) → is_leg_choice feed rider leg pick ≡ true → AreOf step pick (made pick))
+    (judged : (move : Move) → step move ≡ Some move → is_leg_choice feed rider leg (leg_taken move) ≡ true) where
   once_at : (i : ℕ) → AllPairs (λ (a b : Move). a ≢ b) (made_at made picks i)
   once_at i = by (slice_get picks i) refl
     where
       by : (o : Option LegChoice) → slice_get picks i ≡ o → AllPairs (λ (a b : Move). a ≢ b) (option_map_or made o [])
       by None is = λ a b d lt lt'. absurd (omega (arith, lt'))
-      by (Some pick) is = (at i pick is).once
+      by (Some pick) is = (at feed rider leg picks are.right step made each i pick is).once
 
   -- two numbers have two picks
   apart : (i j : ℕ) (pick : LegChoice) → i < j → slice_get picks i ≡ Some pick → slice_get picks j ≡ Some pick → ⊥
@@ -90,24 +107,19 @@ module _ (feed : FeedRows) (rider : Option RiderId) (leg : LegFacts) (picks : Li
   -- what is made pick by pick is all that there is
   all_made : AreAll step (joined_below (length picks) (made_at made picks))
   all_made = record {
-    right = All-from (λ (m : Move). step m ≡ Some m) _ (λ m c.
-        let f = joined_below-tells (length picks) (made_at made picks) m c in
-        (tells f.0 m f.2).1);
-    all = λ m is.
-        let place = slice_get-Contains picks (leg_taken m) (are.all (leg_taken m) (judged m is)) in
-        Contains-joined_below (length picks) (made_at made picks) place.0 m (slice_get_within picks place.0 (leg_taken m) place.1)
-        (subst (λ (xs : List Move). Contains xs m) (sym (made_of made picks place.0 (leg_taken m) place.1)) ((at place.0 (leg_taken m) place.1).all m is refl));
+    right = right_made feed rider leg picks are.right step made each;
+    all = λ m is. made_in feed rider leg picks are.right step made each (leg_taken m) (are.all (leg_taken m) (judged m is)) m is refl;
     once = AllPairs-joined_below (λ (a b : Move). a ≢ b) (length picks) (made_at made picks) (λ i lt. once_at i)
         (λ i j x y lt lt' c c' same.
-        let a = tells i x c in
-        let b = tells j y c' in
+        let a = tells feed rider leg picks are.right step made each i x c in
+        let b = tells feed rider leg picks are.right step made each j y c' in
         apart i j (leg_taken x) lt a.0 (b.0 ∙ ap (λ (m : Move). Some (leg_taken m)) (sym same)));
   }
 
 -- ---- a first leg
 
 module _ (feed : FeedRows) (rider : Option RiderId) (leg : LegFacts) where
-  first_of : (pick : LegChoice) → is_leg_choice feed rider leg pick ≡ true → AreOf (move_of_first feed rider leg) pick (first_made feed (times_of leg) pick)
+  pub first_of : (pick : LegChoice) → is_leg_choice feed rider leg pick ≡ true → AreOf (move_of_first feed rider leg) pick (first_made feed (times_of leg) pick)
   first_of pick paid = by (chosen_leg feed leg pick) refl
     where
       only : (m x : Move) → Contains (m ∷ []) x → m ≡ x
@@ -149,11 +161,11 @@ module _ (feed : FeedRows) (rider : Option RiderId) (leg : LegFacts) where
 -- ---- a leg after a state
 
 -- what a bare move takes
-place_of_bare : (pick : LegChoice) (place : Option ChangeChoice) → place_taken (bare pick place) ≡ place
+pub place_of_bare : (pick : LegChoice) (place : Option ChangeChoice) → place_taken (bare pick place) ≡ place
 place_of_bare pick None = refl
 place_of_bare pick (Some c) = refl
 
-whole_bare : (pick : LegChoice) (place : Option ChangeChoice) → is_whole (bare pick place) ≡ true
+pub whole_bare : (pick : LegChoice) (place : Option ChangeChoice) → is_whole (bare pick place) ≡ true
 whole_bare pick None = refl
 whole_bare pick (Some c) = refl
 
@@ -184,7 +196,7 @@ once_map {X} {Y} g back xs same once i j d lt lt' equal =
 
 module _ (feed : FeedRows) (rider : Option RiderId) (state : FareState) (held : ℤ) (leg : LegFacts) where
   -- a whole move takes what a bare one does
-  next_is_bare : (next : FareLeg) (move : Move) → is_whole move ≡ true →
+  pub next_is_bare : (next : FareLeg) (move : Move) → is_whole move ≡ true →
       next_move feed state held next move ≡ next_move feed state held next (bare (leg_taken move) (place_taken move))
   next_is_bare next move whole = by move.xfer move.xfer_product whole
     where
@@ -196,17 +208,17 @@ module _ (feed : FeedRows) (rider : Option RiderId) (state : FareState) (held : 
       by (Some x) row whole = refl
 
   -- a bare move, with what follows
-  abbrev full : FareLeg → LegChoice → Option ChangeChoice → Move
+  abbrev pub full : FareLeg → LegChoice → Option ChangeChoice → Move
   full next pick place = next_move feed state held next (bare pick place)
 
-  full_again : (next : FareLeg) (pick : LegChoice) (place : Option ChangeChoice) → next_move feed state held next (full next pick place) ≡ full next pick place
+  pub full_again : (next : FareLeg) (pick : LegChoice) (place : Option ChangeChoice) → next_move feed state held next (full next pick place) ≡ full next pick place
   full_again next pick None = refl
   full_again next pick (Some c) = refl
 
-  all_true : (a b c : Bool) → a ≡ true → b ≡ true → c ≡ true → true ≡ (a && b && c)
+  pub all_true : (a b c : Bool) → a ≡ true → b ≡ true → c ≡ true → true ≡ (a && b && c)
   all_true a b c e f g = rw (e, f, g) refl
 
-  next_of : (pick : LegChoice) → is_leg_choice feed rider leg pick ≡ true → AreOf (move_of_next feed rider state held leg) pick (next_made feed rider state held (times_of leg) pick)
+  pub next_of : (pick : LegChoice) → is_leg_choice feed rider leg pick ≡ true → AreOf (move_of_next feed rider state held leg) pick (next_made feed rider state held (times_of leg) pick)
   next_of pick paid = by (chosen_leg feed leg pick) refl
     where
       by : (o : Option FareLeg) → chosen_leg feed leg pick ≡ o →

@@ -1,8 +1,8 @@
--- What can be paid for legs, kept by the kind of a leg.
+-- What it is enough to pay for legs, kept by the kind of a leg.
 use Rattle.std.specs.Prelude.{List}
 use Rattle.feed_rows.specs.declared.fares.LegChoice.{LegChoice}
 use Rattle.leg_kinds.specs.Kinds.{KindList}
-use Rattle.fare_automaton.specs.Options.{ArePicks}
+use Rattle.fare_automaton.specs.Fewest.{AreEnough}
 use Rattle.fare_automaton.specs.Terms.{FareTerms}
 
 -- a feed and a rider, and lists of what can be paid
@@ -13,6 +13,6 @@ pub record KnownPicks : Type 0 where
 abbrev pub known_of : FareTerms → List (KindList LegChoice) → KnownPicks
 known_of terms lists = record { terms = terms; lists = lists }
 
--- what is kept is what can be paid for the legs of its kind
+-- what is kept is enough for the legs of its kind
 abbrev pub HasPicks : FareTerms → KindList LegChoice → Type 0
-HasPicks terms kept = ArePicks terms.feed terms.rider kept.kind kept.items
+HasPicks terms kept = AreEnough terms.feed terms.rider kept.kind kept.items

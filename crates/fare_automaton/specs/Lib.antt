@@ -4,3 +4,4 @@ pub mod Options
 pub mod Steps
 pub mod Compiled
 pub mod Known
+pub mod Fewest

@@ -1,8 +1,8 @@
-//! What can be paid for legs, kept by the kind of a leg.
+//! What it is enough to pay for legs, kept by the kind of a leg.
 ghost use Rattle.std.specs.Prelude.{◌≡◌, ℕ, [], IfOk};
 ghost use Rattle.feed_rows.specs.declared.journeys.LegFacts.{LegFacts};
 ghost use Rattle.leg_kinds.specs.Kinds.{IsOfKind};
-ghost use Rattle.fare_automaton.specs.Options.{ArePicks};
+ghost use Rattle.fare_automaton.specs.Fewest.{AreEnough};
 ghost use Rattle.fare_automaton.specs.Known.{known_of};
 
 use crate::automaton::Automaton;
@@ -11,8 +11,8 @@ use leg_kinds::KindTable;
 use std::alloc::{AllocError, Global};
 use std::marker::Model;
 
-/// What can be paid for legs, which is asked once for all legs that differ in their moments at most. Contracts see the feed and
-/// the rider, and the lists that are kept.
+/// What it is enough to pay for legs: of what can be paid the cheapest for each leg group. It is asked once for all legs that differ
+/// in their moments at most. Contracts see the feed and the rider, and the lists that are kept.
 pub struct KnownOptions<'a, 'f> {
     automaton: &'a Automaton<'f>,
     table: KindTable<LegChoice>,
@@ -50,7 +50,7 @@ impl<'a, 'f> KnownOptions<'a, 'f> {
         }
     }
 
-    /// The number under which is kept what can be paid for the leg. It is asked where no leg was that differs from this one in
+    /// The number under which is kept what it is enough to pay for the leg. It is asked where no leg was that differs from this one in
     /// its moments at most. What was kept before stays as it is, after a refusal too.
     ///
     /// # Errors
@@ -63,13 +63,14 @@ impl<'a, 'f> KnownOptions<'a, 'f> {
         if let Some(number) = self.table.find(leg) {
             return Ok(number);
         }
-        let picks = self.automaton.options(alloc, leg)?;
-        self.table.keep(alloc, leg, picks)
+        let options = self.automaton.options(alloc, leg)?;
+        let fewest = self.automaton.fewest(alloc, &options)?;
+        self.table.keep(alloc, leg, fewest)
     }
 
-    /// What is kept under the number, which is what can be paid for each leg of its kind.
+    /// What is kept under the number, which is enough for each leg of its kind.
     pub fn options(&self, number: usize) -> &[LegChoice]
-        ensures { (leg : LegFacts) → IsOfKind self.now.lists leg number → ArePicks self.now.terms.feed self.now.terms.rider leg result.now }
+        ensures { (leg : LegFacts) → IsOfKind self.now.lists leg number → AreEnough self.now.terms.feed self.now.terms.rider leg result.now }
     {
         self.table.list(number)
     }

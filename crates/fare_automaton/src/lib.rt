@@ -7,6 +7,7 @@
 
 mod automaton;
 mod changes;
+mod fewest;
 mod floor;
 mod judge;
 mod known;

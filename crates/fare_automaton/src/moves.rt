@@ -196,7 +196,7 @@ impl<'f> Automaton<'f> {
 
     /// The amount of the row in minor units; 0 where there is no such row.
     #[tactic(auto, unfolding(feed_rows::specs::FareSums::amount_of))]
-    fn amount_of(&self, row: ProductRowId) -> i64
+    pub(crate) fn amount_of(&self, row: ProductRowId) -> i64
         ensures value { result ≡ amount_of self.now.feed row }
         ensures low { IsLow result }
     {

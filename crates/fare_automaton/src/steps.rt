@@ -1,8 +1,9 @@
 //! All moves of a leg.
-ghost use Rattle.std.specs.Prelude.{◌≡◌, ◌≤◌, ◌^◌, ◌++◌, length, map, nat_abs, IfOk, OnOk, IsTrue, Some, None, [], ◌∷◌};
+ghost use Rattle.std.specs.Prelude.{◌≡◌, ◌≤◌, ◌^◌, ◌++◌, length, map, nat_abs, IfOk, OnOk, IsTrue, Some, None, [], ◌∷◌, pos};
 ghost use Rattle.std.specs.Option.{ForSome};
 ghost use Rattle.plain_laws.specs.Plain.{joined_below};
 ghost use Rattle.feed_rows.specs.FareSteps.{next_move};
+ghost use Rattle.fare_automaton.specs.Fewest.{AreEnough, AreEnoughMoves};
 ghost use Rattle.fare_automaton.specs.Steps.{AreStarts, AreSteps};
 ghost use Rattle.fare_automaton.specs.Changes.{leg_of, leg_by, times_of};
 ghost use Rattle.feed_rows.specs.declared.journeys.LegFacts.{LegFacts};
@@ -58,7 +59,8 @@ impl<'f> Automaton<'f> {
         move_list(alloc, &moves)
     }
 
-    /// Replaces what `moves` holds by the moves of a first leg with these moments and options: all that there are, each once.
+    /// Replaces what `moves` holds by the moves of a first leg with these moments and options: all that there are, each once, where
+    /// these are all options, and enough moves, where they are enough.
     ///
     /// # Errors
     /// Want of memory.
@@ -68,7 +70,8 @@ impl<'f> Automaton<'f> {
         options: &[LegChoice],
         moves: &mut Vec<Move>,
     ) -> Result<(), AllocError>
-        ensures { (leg : LegFacts) → times_of leg ≡ times → ArePicks self.now.feed self.now.rider leg options.now → OnOk result (AreStarts self.now.feed self.now.rider leg moves.new.items) }
+        ensures all { (leg : LegFacts) → times_of leg ≡ times → ArePicks self.now.feed self.now.rider leg options.now → OnOk result (AreStarts self.now.feed self.now.rider leg moves.new.items) }
+        ensures enough { (leg : LegFacts) → times_of leg ≡ times → AreEnough self.now.feed self.now.rider leg options.now → OnOk result (AreEnoughMoves self.now.feed self.now.rider None (pos 0) leg moves.new.items) }
     {
         moves.clear();
         for number in 0..options.len() {
@@ -95,8 +98,9 @@ impl<'f> Automaton<'f> {
         }
     }
 
-    /// Replaces what `moves` holds by the moves of a leg with these moments and options after the state, where so much is held:
-    /// all that there are, each once. What `places` holds is lost.
+    /// Replaces what `moves` holds by the moves of a leg with these moments and options after the state, where so much is held: all
+    /// that there are, each once, where these are all options, and enough moves, where they are enough. What `places` holds is
+    /// lost.
     ///
     /// # Errors
     /// Want of memory.
@@ -110,7 +114,8 @@ impl<'f> Automaton<'f> {
         moves: &mut Vec<Move>,
     ) -> Result<(), AllocError>
         requires held { nat_abs held.0 ≤ 10 ^ 16 }
-        ensures { (leg : LegFacts) → times_of leg ≡ times → ArePicks self.now.feed self.now.rider leg options.now → OnOk result (AreSteps self.now.feed self.now.rider state.now held.0 leg moves.new.items) }
+        ensures all { (leg : LegFacts) → times_of leg ≡ times → ArePicks self.now.feed self.now.rider leg options.now → OnOk result (AreSteps self.now.feed self.now.rider state.now held.0 leg moves.new.items) }
+        ensures enough { (leg : LegFacts) → times_of leg ≡ times → AreEnough self.now.feed self.now.rider leg options.now → OnOk result (AreEnoughMoves self.now.feed self.now.rider (Some state.now) held.0 leg moves.new.items) }
     {
         moves.clear();
         let mut known = None;

@@ -1,5 +1,5 @@
 -- What a search needn't look at: whatever it leads to is found already.
-use Rattle.std.proofs.Common.{◌≡◌, subst, ◌≤◌, ◌+◌, sym, List, arith, ℕ, ap, true, ◌∙◌, ◌⊎◌, inl, inr, ⊎_elim, ℤ, ◌+ℤ◌, ◌≤ℤ◌, ◌<◌, refl, Some}
+use Rattle.std.proofs.Common.{◌≡◌, length, subst, ◌≤◌, ◌+◌, sym, List, arith, ℕ, ap, true, ◌∙◌, ◌⊎◌, inl, inr, ⊎_elim, ℤ, ◌+ℤ◌, ◌≤ℤ◌, ◌<◌, refl, Some}
 use Rattle.std.specs.Prelude.{Bool, ◌||◌, [], ◌∷◌, Contains, int_le, slice_get, false}
 use Rattle.std.specs.List.{list_any}
 use Rattle.std.proofs.lemmas.Int.{ints}
@@ -10,10 +10,13 @@ use Rattle.feed_rows.specs.declared.fares.Triple.{Triple}
 use Rattle.feed_rows.specs.declared.journeys.RideFacts.{RideFacts}
 use Rattle.feed_rows.specs.declared.states.Move.{Move}
 use Rattle.feed_rows.specs.FareFloor.{is_outdone}
+use Rattle.feed_rows.specs.FareSteps.{move_after}
 use Rattle.feed_rows.specs.LabelCover.{Covers}
+use Rattle.feed_rows.specs.Legs.{leg_facts}
 use Rattle.feed_rows.specs.ParetoTriples.{at_most}
 use Rattle.feed_rows.specs.PartialJourneys.{LabelFacts}
 use Rattle.feed_rows.specs.SoundFeed.{IsSoundFeed}
+use Rattle.fare_automaton.specs.Fewest.{IsLesserMove}
 use Rattle.feed_laws.proofs.ParetoLaws.{at_most-refl, at_most-trans}
 use Rattle.plain_laws.proofs.Laws.{list_any_tells, int_le-true, slice_get-Contains}
 use Rattle.plan_rides.specs.InTime.{IsRight}
@@ -31,7 +34,7 @@ use Rattle.round_labels.specs.Labels.{facts_of, stand_of_label}
 use Rattle.plan_rounds.specs.Searched.{Searched, IsFoundBy, Lacks, has_ahead, is_overtaken_by}
 use Rattle.plan_rounds.specs.Stores.{IsHeldBelow, IsPrunedBy, StepsBy}
 use Rattle.plan_rounds.specs.declared.search.Source.{Source}
-use Rattle.plan_rounds.specs.Moves.{betters, HasBetter}
+use Rattle.plan_rounds.specs.Moves.{AreMovesOf, betters, HasBetter}
 use Rattle.round_labels.specs.CoverLaws.{same_parts-equal}
 use Rattle.round_labels.specs.Labels.{same_parts}
 use Rattle.plan_rounds.specs.Sources.{SpreadsFrom, LeadsByFirst}
@@ -167,26 +170,45 @@ module _ (task : Searched) (finals : List Final) (x : Label) (caught : CaughtRid
 
 -- ---- moves of one ride
 
--- what betters a move leads to facts that cover where that leads
-better_covers : (a : LabelFacts) (facts : RideFacts) (m n : Move) → betters m n ≡ true → Covers (facts_after a facts m) (facts_after a facts n)
+-- what betters a move is no dearer
+lesser_of : (m n : Move) → betters m n ≡ true → IsLesserMove m n
 unfolding betters
-better_covers a facts m n is =
+lesser_of m n is =
     let both = and_parts _ (same_parts m.state n.state) is in
     let costs = and_parts (int_le m.paid.0 n.paid.0) _ both.0 in
     record {
-      stop = refl;
-      arrival = as_much facts.arrival.0;
-      rides = omega arith;
-      paid = more a.paid m.paid.0 n.paid.0 (int_le-true _ _ costs.0);
-      price = with_held a.paid m.paid.0 n.paid.0 m.held.0 n.held.0 (int_le-true _ _ costs.1);
-      state = ap Some (same_parts-equal m.state n.state both.1);
+      state = same_parts-equal m.state n.state both.1;
+      paid = int_le-true _ _ costs.0;
+      price = int_le-true _ _ costs.1;
     }
+
+-- and what is no dearer leads to facts that cover where that leads
+lesser_covers : (a : LabelFacts) (facts : RideFacts) (m n : Move) → IsLesserMove m n → Covers (facts_after a facts m) (facts_after a facts n)
+lesser_covers a facts m n less = record {
+  stop = refl;
+  arrival = as_much facts.arrival.0;
+  rides = omega arith;
+  paid = more a.paid m.paid.0 n.paid.0 less.paid;
+  price = with_held a.paid m.paid.0 n.paid.0 m.held.0 n.held.0 less.price;
+  state = ap Some less.state;
+}
   where
     more : (p x y : ℤ) → x ≤ℤ y → (p +ℤ x) ≤ℤ (p +ℤ y)
     more p x y le = omega (arith, ints, le)
 
     with_held : (p x y h k : ℤ) → (x +ℤ h) ≤ℤ (y +ℤ k) → (p +ℤ x +ℤ h) ≤ℤ (p +ℤ y +ℤ k)
     with_held p x y h k le = omega (arith, ints, le)
+
+-- so what it leads to is held below or lacking, where that is which the other leads to
+below_lesser : (task : Searched) (finals : List Final) (new : List Label) (from : LabelFacts) (facts : RideFacts) (m n : Move) (b : LabelFacts) →
+    b ≡ facts_after from facts n → IsLesserMove m n →
+    IsHeldBelow new (facts_after from facts m) ⊎ Lacks task finals (facts_after from facts m) → IsHeldBelow new b ⊎ Lacks task finals b
+below_lesser task finals new from facts m n b is less =
+    let a = facts_after from facts m in
+    let covers = subst (Covers a) (sym is) (lesser_covers from facts m n less) in
+    ⊎_elim (λ held. inl (held.0, held.1, covers-trans (facts_of held.0) a b held.2 covers))
+    (λ lack. inr (lacks_below task finals a b (ne_eqb (from.rides + 1) 0 (λ e. omega (arith, e)))
+    (subst IsStated (sym is) (ne_eqb (from.rides + 1) 0 (λ e. omega (arith, e)))) covers lack))
 
 -- a move that is bettered is no loss where those before it were offered
 pub leads_without : (task : Searched) (finals : List Final) (source : Source) (caught : CaughtRide) (moves : List Move) (k : ℕ)
@@ -205,12 +227,8 @@ leads_without task finals source caught moves k old new has spreads = record {
 
     by_better : (b : LabelFacts) → b ≡ facts_after from caught.facts has.other → IsHeldBelow new b ⊎ Lacks task finals b
     by_better b is =
-        let a = facts_after from caught.facts has.better in
-        let covers = subst (Covers a) (sym is) (better_covers from caught.facts has.better has.other has.betters) in
-        ⊎_elim (λ held. inl (held.0, held.1, covers-trans (facts_of held.0) a b held.2 covers))
-        (λ lack. inr (lacks_below task finals a b (ne_eqb (from.rides + 1) 0 (λ e. omega (arith, e)))
-        (subst IsStated (sym is) (ne_eqb (from.rides + 1) 0 (λ e. omega (arith, e)))) covers lack))
-        (spreads.all a (has.earlier, has.before, has.better, has.is, refl))
+        below_lesser task finals new from caught.facts has.better has.other b is (lesser_of has.better has.other has.betters)
+        (spreads.all (facts_after from caught.facts has.better) (has.earlier, has.before, has.better, has.is, refl))
 
     by : (b : LabelFacts) (leads : LeadsByFirst source caught moves (k + 1) b) → (leads.0 < k) ⊎ (k ≤ leads.0) →
         IsHeldBelow new b ⊎ Lacks task finals b
@@ -220,3 +238,25 @@ leads_without task finals source caught moves k old new has spreads = record {
         let same : leads.0 ≡ k = omega (arith, below, le) in
         by_better b (leads.4 ∙ ap (λ (m : Move). facts_after from caught.facts m)
         (same_Some _ _ (sym leads.3 ∙ ap (slice_get moves) same ∙ has.at)))
+
+-- of the moves that there are by a ride enough are offered
+pub spreads_by : (task : Searched) (finals : List Final) (source : Source) (caught : CaughtRide) →
+    IsRight task.feed task.query (stand_of_label source.label.now) caught → (moves : List Move) (n : ℕ) (old new : List Label) →
+    AreMovesOf task.feed task.query source.label.now (leg_facts task.feed caught.facts) moves → length moves ≤ n →
+    SpreadsFrom task finals source (LeadsByFirst source caught moves n) old new →
+    SpreadsFrom task finals source (StepsBy task.feed task.query (facts_of source.label.now) caught.ride) old new
+spreads_by task finals source caught right moves n old new are all spreads = record {
+  still = spreads.still;
+  kept = spreads.kept;
+  right = spreads.right;
+  all = λ b by.
+      let from = facts_of source.label.now in
+      let step = by.1 in
+      let same : step.facts ≡ caught.facts = same_Some _ _ (sym step.rides.is ∙ right.facts) in
+      let less = are.enough.enough by.0
+      (subst (λ (f : RideFacts). move_after task.feed task.query.rider from.state source.label.now.held.0 (leg_facts task.feed f) by.0 ≡ Some by.0) same step.pays) in
+      let at = slice_get-Contains moves less.0 less.1 in
+      let lt = slice_get_within moves at.0 less.0 at.1 in
+      below_lesser task finals new from caught.facts less.0 by.0 b (step.next ∙ ap (λ (f : RideFacts). facts_after from f by.0) same) less.2
+      (spreads.all (facts_after from caught.facts less.0) (at.0, omega (arith, lt, all), less.0, at.1, refl));
+}

@@ -8,23 +8,22 @@ use Rattle.feed_rows.specs.declared.journeys.Query.{Query}
 use Rattle.feed_rows.specs.declared.journeys.RideFacts.{RideFacts}
 use Rattle.feed_rows.specs.declared.states.FareState.{FareState}
 use Rattle.feed_rows.specs.declared.states.Move.{Move}
-use Rattle.feed_rows.specs.FareSteps.{AreMovesAfter}
 use Rattle.feed_rows.specs.FeedRows.{FeedRows}
 use Rattle.feed_rows.specs.Legs.{leg_facts}
 use Rattle.feed_rows.specs.SoundFeed.{IsSoundFeed}
 use Rattle.fare_automaton.specs.Changes.{times_of}
 use Rattle.fare_automaton.specs.Terms.{FareTerms, terms}
-use Rattle.fare_automaton.specs.Steps.{AreStarts, AreSteps}
+use Rattle.fare_automaton.specs.Fewest.{AreEnoughMoves}
 use Rattle.round_labels.specs.declared.label.Label.{Label}
 use Rattle.round_labels.specs.Labels.{IsBounded}
 use Rattle.plan_rounds.specs.Moves.{AreMovesOf, betters}
 use Rattle.plan_rounds.proofs.MoveBounds.{move_small}
 
--- all moves after a label
+-- enough moves after a label
 moves_of : (feed : FeedRows) (query : Query) (label : Label) (leg : LegFacts) (moves : List Move) → IsSoundFeed feed → IsBounded label →
-    AreMovesAfter feed query.rider label.state label.held.0 leg moves → AreMovesOf feed query label leg moves
+    AreEnoughMoves feed query.rider label.state label.held.0 leg moves → AreMovesOf feed query label leg moves
 moves_of feed query label leg moves sound bounded are = record {
-  exact = are;
+  enough = are;
   small = λ k d lt. move_small feed query.rider label.state label.held.0 leg _ sound bounded.held (are.right k d lt);
 }
 
@@ -36,24 +35,24 @@ ride_times feed ride = refl
 -- of a label without rides
 pub moves_of_starts : {E : Type 0} (result : Result (Unit {0}) E) (own : FareTerms) (feed : FeedRows) (query : Query) (label : Label) (leg : LegFacts) (moves : List Move) →
     own ≡ terms feed query.rider → IsSoundFeed feed → IsBounded label → label.state ≡ None →
-    OnOk result (AreStarts own.feed own.rider leg moves) → OnOk result (AreMovesOf feed query label leg moves)
+    OnOk result (AreEnoughMoves own.feed own.rider None (pos 0) leg moves) → OnOk result (AreMovesOf feed query label leg moves)
 moves_of_starts (Err e) own feed query label leg moves same sound bounded none are = are
 moves_of_starts (Ok u) own feed query label leg moves same sound bounded none are =
     moves_of feed query label leg moves sound bounded
-    (subst (λ state. AreMovesAfter feed query.rider state label.held.0 leg moves) (sym none) (record { right = exact.right; all = exact.all; once = exact.once }))
+    (subst (λ state. AreEnoughMoves feed query.rider state label.held.0 leg moves) (sym none) (record { right = enough.right; enough = enough.enough }))
   where
-    exact : AreMovesAfter feed query.rider None (pos 0) leg moves
-    exact = (subst (λ (t : FareTerms). AreStarts t.feed t.rider leg moves) same are).exact
+    enough : AreEnoughMoves feed query.rider None (pos 0) leg moves
+    enough = subst (λ (t : FareTerms). AreEnoughMoves t.feed t.rider None (pos 0) leg moves) same are
 
 -- of a label with a state
 pub moves_of_steps : {E : Type 0} (result : Result (Unit {0}) E) (own : FareTerms) (feed : FeedRows) (query : Query) (label : Label) (state : FareState) (leg : LegFacts) (moves : List Move) →
     own ≡ terms feed query.rider → IsSoundFeed feed → IsBounded label → label.state ≡ Some state →
-    OnOk result (AreSteps own.feed own.rider state label.held.0 leg moves) → OnOk result (AreMovesOf feed query label leg moves)
+    OnOk result (AreEnoughMoves own.feed own.rider (Some state) label.held.0 leg moves) → OnOk result (AreMovesOf feed query label leg moves)
 moves_of_steps (Err e) own feed query label state leg moves same sound bounded some are = are
 moves_of_steps (Ok u) own feed query label state leg moves same sound bounded some are =
     moves_of feed query label leg moves sound bounded
-    (subst (λ s. AreMovesAfter feed query.rider s label.held.0 leg moves) (sym some)
-    (subst (λ (t : FareTerms). AreSteps t.feed t.rider state label.held.0 leg moves) same are).exact)
+    (subst (λ s. AreEnoughMoves feed query.rider s label.held.0 leg moves) (sym some)
+    (subst (λ (t : FareTerms). AreEnoughMoves t.feed t.rider (Some state) label.held.0 leg moves) same are))
 
 -- where the move at k isn't as good as the other, nor is one before it, none before the next is
 pub none_better : (moves : List Move) (number k : ℕ) (a b : Move) → slice_get moves k ≡ Some a → slice_get moves number ≡ Some b →

@@ -3,7 +3,7 @@ use Rattle.std.proofs.Common.{◌≡◌, refl, sym, ◌∙◌, ap, subst, ℕ, �
 use Rattle.std.specs.Prelude.{IsTrue, Some, slice_get, option_map}
 use Rattle.std.proofs.lemmas.Bool.{cases_lt}
 use Rattle.std.proofs.lemmas.Int.{ints}
-use Rattle.std.proofs.lemmas.Option.{same_Some, slice_get-map, slice_get_within}
+use Rattle.std.proofs.lemmas.Option.{same_Some, slice_get-map}
 use Rattle.transit_base.specs.declared.numbers.StopId.{StopId}
 use Rattle.feed_rows.specs.Journeys.{stands_for}
 use Rattle.feed_rows.specs.declared.journeys.LegFacts.{LegFacts}
@@ -17,7 +17,7 @@ use Rattle.feed_rows.specs.JourneyStands.{stand_at_end, way_to}
 use Rattle.feed_rows.specs.Legs.{leg_facts}
 use Rattle.feed_rows.specs.PartialJourneys.{LabelFacts}
 use Rattle.feed_rows.specs.SoundFeed.{IsSoundFeed}
-use Rattle.plain_laws.proofs.Laws.{le-int_le, slice_get-Contains}
+use Rattle.plain_laws.proofs.Laws.{le-int_le}
 use Rattle.plan_rides.specs.InTime.{IsRight, IsWithinWindow}
 use Rattle.plan_rides.specs.declared.caught.CaughtRide.{CaughtRide}
 use Rattle.feed_rows.specs.StopLinks.{stop_set}
@@ -28,7 +28,6 @@ use Rattle.round_laws.specs.LabelSteps.{IsCaughtRide, facts_after, start_facts}
 use Rattle.round_labels.specs.declared.label.Label.{Label}
 use Rattle.plan_rounds.specs.declared.search.Source.{Source}
 use Rattle.round_labels.specs.Labels.{IsBounded, facts_of, label_of, stand_of_label, started, went_on}
-use Rattle.plan_rounds.specs.Moves.{AreMovesOf}
 use Rattle.plan_rounds.specs.Sources.{IsSource, StepsByFirst, LeadsByFirst}
 use Rattle.plan_rounds.specs.Stores.{IsFresh, IsPrunedBy, StepsBy, IsStartOf, IsStartAmong}
 use Rattle.plan_rounds.proofs.StopLaws.{stands_inside}
@@ -109,16 +108,6 @@ module _ (feed : FeedRows) (query : Query) (source : Source) (is : IsSource feed
       (λ upper. let same : leads.0 ≡ k = omega (arith, below, upper) in
       inr (leads.4 ∙ ap (λ (m : Move). facts_after (facts_of from) caught.facts m)
       (same_Some _ _ (sym leads.3 ∙ ap (slice_get moves) same ∙ at)))) (cases_lt leads.0 k)
-
-  -- each step by the ride is by one of its moves
-  pub leads_by : (moves : List Move) (n : ℕ) (b : LabelFacts) → AreMovesOf feed query from leg moves → length moves ≤ n →
-      StepsBy feed query (facts_of from) caught.ride b → LeadsByFirst source caught moves n b
-  leads_by moves n b are all by =
-      let step = by.1 in
-      let same : step.facts ≡ caught.facts = same_Some _ _ (sym step.rides.is ∙ right.facts) in
-      let at = slice_get-Contains moves by.0 (are.exact.all by.0 (subst (λ (f : RideFacts). move_after feed query.rider from.state from.held.0 (leg_facts feed f) by.0 ≡ Some by.0) same step.pays)) in
-      let lt = slice_get_within moves at.0 by.0 at.1 in
-      (at.0, omega (arith, lt, all), by.0, at.1, step.next ∙ ap (λ (f : RideFacts). facts_after (facts_of from) f by.0) same)
 
 -- ---- all rides
 

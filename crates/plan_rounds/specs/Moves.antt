@@ -3,17 +3,17 @@ use Rattle.std.specs.Prelude.{◌≡◌, ℕ, ◌<◌, Bool, ◌&&◌, int_le, �
 use Rattle.feed_rows.specs.declared.journeys.LegFacts.{LegFacts}
 use Rattle.feed_rows.specs.declared.journeys.Query.{Query}
 use Rattle.feed_rows.specs.declared.states.Move.{Move}
-use Rattle.feed_rows.specs.FareSteps.{AreMovesAfter}
 use Rattle.feed_rows.specs.FeedRows.{FeedRows}
+use Rattle.fare_automaton.specs.Fewest.{AreEnoughMoves}
 use Rattle.fare_automaton.specs.Known.{KnownPicks}
 use Rattle.fare_automaton.specs.Terms.{terms}
 use Rattle.round_labels.specs.declared.label.Label.{Label}
 use Rattle.plan_rounds.specs.Searched.{Searched}
 use Rattle.round_labels.specs.Labels.{IsSmall, same_parts}
 
--- all that there are, each once, with amounts that one ride can cost
+-- enough of those that there are, with amounts that one ride can cost
 pub record AreMovesOf (feed : FeedRows) (query : Query) (label : Label) (leg : LegFacts) (moves : List Move) : Type 0 where
-  pub exact : AreMovesAfter feed query.rider label.state label.held.0 leg moves
+  pub enough : AreEnoughMoves feed query.rider label.state label.held.0 leg moves
   pub small : All IsSmall moves
 
 -- what is kept of options is for the rider of what is asked

@@ -1,6 +1,6 @@
 //! The search: each round goes on by one more ride from the labels of the round before.
 ghost use Rattle.std.specs.Prelude.{◌≡◌, ◌+◌, ◌<◌, ◌≤◌, ◌^◌, ◌++◌, [], false, true, length, IfOk, IfSome, IsTrue, OnOk, Some};
-ghost use Rattle.fare_automaton.specs.Options.{ArePicks};
+ghost use Rattle.fare_automaton.specs.Fewest.{AreEnough};
 ghost use Rattle.feed_rows.specs.FareSteps.{move_after};
 ghost use Rattle.feed_rows.specs.Journeys.{stands_for};
 ghost use Rattle.feed_rows.specs.Legs.{leg_facts};
@@ -226,8 +226,8 @@ impl<'s, 'l> Search<'s, 'l> {
         Ok(())
     }
 
-    /// Replaces what is found of moves by those of the leg that is this ride, after the label: all that there are, each once.
-    /// The options are what can be paid for the leg.
+    /// Replaces what is found of moves by enough of those of the leg that is this ride, after the label. The options are enough
+    /// for the leg.
     fn find_moves(
         &self,
         room: &mut Room,
@@ -236,7 +236,7 @@ impl<'s, 'l> Search<'s, 'l> {
         options: &[LegChoice],
     ) -> Result<(), AllocError>
         requires bounded { IsBounded label.now }
-        requires options { ArePicks self.now.feed self.now.query.rider (leg_facts self.now.feed ride.now) options.now }
+        requires options { AreEnough self.now.feed self.now.query.rider (leg_facts self.now.feed ride.now) options.now }
         ensures { OnOk result (AreMovesOf self.now.feed self.now.query label.now (leg_facts self.now.feed ride.now) room.new.moves.items) }
     {
         let _feed = self.feed();
@@ -257,7 +257,7 @@ impl<'s, 'l> Search<'s, 'l> {
         }
     }
 
-    /// Offers what the ride leads to from the label. The options are what can be paid for the leg that it is.
+    /// Offers what the ride leads to from the label. The options are enough for the leg that it is.
     pub(crate) fn offer_ride(
         &self,
         room: &mut Room,
@@ -270,7 +270,7 @@ impl<'s, 'l> Search<'s, 'l> {
         requires source { IsSource self.now.feed self.now.query source.now }
         requires right { IsRight self.now.feed self.now.query (stand_of_label source.now.label.now) caught.now }
         requires ended { HasEnds self.now.feed self.now.query source.now.labels.now finals.now }
-        requires options { ArePicks self.now.feed self.now.query.rider (leg_facts self.now.feed caught.now.facts) options.now }
+        requires options { AreEnough self.now.feed self.now.query.rider (leg_facts self.now.feed caught.now.facts) options.now }
         ensures { OnOk result (SpreadsFrom self.now finals.now source.now (StepsBy self.now.feed self.now.query (facts_of source.now.label.now) caught.now.ride) bags.old bags.new) }
     {
         if self.is_futile(source, finals, caught) {

@@ -4,6 +4,7 @@ use Rattle.plain_laws.specs.Plain.{joined_below}
 use Rattle.fare_automaton.specs.declared.changes.LegTimes.{LegTimes}
 use Rattle.fare_automaton.specs.Options.{first_made, made_at}
 use Rattle.fare_automaton.proofs.MadeLaws.{added_made, starts_are}
+use Rattle.fare_automaton.proofs.FewestLaws.{starts_enough}
 use Rattle.fare_laws.proofs.StartLaws.{start_extends}
 use Rattle.fare_automaton.proofs.automaton.Automaton.start_into.Goals as goal
 
@@ -15,8 +16,8 @@ loop-number-preserved c =
     added_made _ _ (first_made c.args.self.now.feed c.args.times) c.args.options.now c.loop-number.number _ (omega arith)
     c.loop-number.invariant c.in_ok-push_first.ensures
 
-pub returns : goal.returns
-returns c leg same picks =
+pub returns-clause-all : goal.returns-clause-all
+returns-clause-all c leg same picks =
     let feed = c.args.self.now.feed in
     let rider = c.args.self.now.rider in
     let options = c.args.options.now in
@@ -26,3 +27,14 @@ returns c leg same picks =
     (c.loop-number.invariant ∙ ap (λ (n : ℕ). joined_below n (made_at (first_made feed c.args.times) options)) whole
     ∙ ap (λ (times : LegTimes). joined_below (length options) (made_at (first_made feed times) options)) (sym same)) in
     record { exact = are; extends = λ choice pays. start_extends feed rider leg choice moves pays are }
+
+pub returns-clause-enough : goal.returns-clause-enough
+returns-clause-enough c leg same picks =
+    let feed = c.args.self.now.feed in
+    let rider = c.args.self.now.rider in
+    let options = c.args.options.now in
+    let moves = c.loop-number.moves.items in
+    let whole : c.loop-number.number ≡ length options = omega arith in
+    starts_enough feed rider leg options moves picks
+    (c.loop-number.invariant ∙ ap (λ (n : ℕ). joined_below n (made_at (first_made feed c.args.times) options)) whole
+    ∙ ap (λ (times : LegTimes). joined_below (length options) (made_at (first_made feed times) options)) (sym same))

@@ -11,6 +11,6 @@ returns c =
     let rider = c.args.self.now.rider in
     let leg = c.args.leg.now in
     let picks = subst (ArePicks feed rider leg) (sym c.deref.ensures.value) c.in_ok-options.ensures in
-    let are = c.in_ok-step_into.ensures leg (sym c.times_of.ensures) picks in
+    let are = c.in_ok-step_into.ensures.all leg (sym c.times_of.ensures) picks in
     IfOk-weaker c.move_list.result _ _
     (λ list is. subst (AreSteps feed rider c.args.state.now c.args.held.0 leg) (sym (is ∙ c.deref-2.ensures.value)) are) c.move_list.ensures

@@ -5,6 +5,7 @@ use Rattle.plain_laws.specs.Plain.{joined_below}
 use Rattle.fare_automaton.specs.declared.changes.LegTimes.{LegTimes}
 use Rattle.fare_automaton.specs.Options.{next_made, made_at}
 use Rattle.fare_automaton.proofs.MadeLaws.{added_made, steps_are}
+use Rattle.fare_automaton.proofs.FewestLaws.{steps_enough}
 use Rattle.fare_laws.proofs.ExtensionLaws.{step_extends}
 use Rattle.fare_automaton.proofs.automaton.Automaton.step_into.Goals as goal
 
@@ -19,8 +20,8 @@ loop-number-preserved c = record {
   known = c.in_ok-known.ensures.known;
 }
 
-pub returns : goal.returns
-returns c leg same picks =
+pub returns-clause-all : goal.returns-clause-all
+returns-clause-all c leg same picks =
     let feed = c.args.self.now.feed in
     let rider = c.args.self.now.rider in
     let state = c.args.state.now in
@@ -36,3 +37,16 @@ returns c leg same picks =
       extends = λ legs choice pays has_state has_held.
           step_extends feed rider legs choice leg state held moves pays has_state has_held are;
     }
+
+pub returns-clause-enough : goal.returns-clause-enough
+returns-clause-enough c leg same picks =
+    let feed = c.args.self.now.feed in
+    let rider = c.args.self.now.rider in
+    let state = c.args.state.now in
+    let held = c.args.held.0 in
+    let options = c.args.options.now in
+    let moves = c.loop-number.moves.items in
+    let whole : c.loop-number.number ≡ length options = omega arith in
+    steps_enough feed rider state held leg options moves picks
+    (c.loop-number.invariant.moves ∙ ap (λ (n : ℕ). joined_below n (made_at (next_made feed rider state held c.args.times) options)) whole
+    ∙ ap (λ (times : LegTimes). joined_below (length options) (made_at (next_made feed rider state held times) options)) (sym same))

@@ -1,7 +1,7 @@
--- What is kept is what can be paid for each leg of its kind.
+-- What is kept is enough for each leg of its kind.
 use Rattle.std.proofs.Common.{subst, sym}
 use Rattle.leg_kinds.specs.Kinds.{IsOfKind}
-use Rattle.fare_automaton.specs.Options.{ArePicks}
+use Rattle.fare_automaton.specs.Fewest.{AreEnough}
 use Rattle.fare_automaton.specs.Known.{KnownPicks}
 use Rattle.fare_automaton.proofs.KnownLaws.{picks_kept}
 use Rattle.fare_automaton.proofs.known.KnownOptions.options.Goals as goal
@@ -9,7 +9,7 @@ use Rattle.fare_automaton.proofs.known.KnownOptions.options.Goals as goal
 pub returns : goal.returns
 returns c = λ leg kind.
     let terms = c.self.inside.automaton.now in
-    subst (λ (k : KnownPicks). ArePicks k.terms.feed k.terms.rider leg c.list.result.now) c.self.view_is
-    (subst (ArePicks terms.feed terms.rider leg) (sym c.list.ensures)
+    subst (λ (k : KnownPicks). AreEnough k.terms.feed k.terms.rider leg c.list.result.now) c.self.view_is
+    (subst (AreEnough terms.feed terms.rider leg) (sym c.list.ensures)
     (picks_kept terms c.self.inside.table leg c.args.number c.self.invariant
     (subst (λ (k : KnownPicks). IsOfKind k.lists leg c.args.number) (sym c.self.view_is) kind)))

@@ -7,10 +7,10 @@ use Rattle.feed_rows.specs.FareSteps.{move_after}
 use Rattle.feed_rows.specs.Legs.{leg_facts}
 use Rattle.round_labels.specs.Labels.{IsSmall}
 use Rattle.plan_rounds.specs.Searched.{Lacks}
-use Rattle.plan_rounds.proofs.RideSteps.{leads_more, leads_by}
-use Rattle.plan_rounds.proofs.SpreadLaws.{spreads_none, spreads_more, spreads_same}
+use Rattle.plan_rounds.proofs.RideSteps.{leads_more}
+use Rattle.plan_rounds.proofs.SpreadLaws.{spreads_none, spreads_more}
 use Rattle.plan_rounds.specs.Moves.{HasBetter}
-use Rattle.plan_rounds.proofs.FutileLaws.{leads_without}
+use Rattle.plan_rounds.proofs.FutileLaws.{leads_without, spreads_by}
 use Rattle.plan_rounds.proofs.search.Search.offer_ride.Goals as goal
 use Rattle.plan_rounds.proofs.search.Search.offer_ride.Goals.{then-not-is_bettered+in_ok-offer_move, else-not-is_bettered}
 
@@ -46,7 +46,7 @@ offer_move-requires-clause-pays c =
     let at = slice_get_read moves.items (length moves.items) c.loop-k.k c.index-taken.result.now refl lt
     (c.index-taken.ensures ∙ ap (λ ms. slice_index_or ms.items c.loop-k.k c.index-taken.result.now) c.loop-k.invariant.moves) in
     All-slice_get (λ (m : Move). move_after feed query.rider label.state label.held.0 (leg_facts feed c.args.caught.now.facts) m ≡ Some m)
-    moves.items c.loop-k.k c.index-taken.result.now at c.in_ok-find_moves.ensures.exact.right
+    moves.items c.loop-k.k c.index-taken.result.now at c.in_ok-find_moves.ensures.enough.right
 
 pub loop-k-init : goal.loop-k-init
 loop-k-init c = record {
@@ -91,6 +91,5 @@ returns c =
     let query = c.args.self.now.query in
     let source = c.args.source.now in
     let moves = c.find_moves.new.room.moves in
-    spreads_same feed query (Lacks c.args.self.now c.args.finals.now) source.labels.now _ _ _ _ _ c.loop-k.invariant.spreads
-    (λ b. leads_by feed query source c.requires.source c.args.caught.now c.requires.right moves.items c.loop-k.k b c.in_ok-find_moves.ensures
-    (omega (arith, c.loop-k-test.false, c.len-k-end.ensures, moves.ok.0)))
+    spreads_by c.args.self.now c.args.finals.now source c.args.caught.now c.requires.right moves.items c.loop-k.k _ _ c.in_ok-find_moves.ensures
+    (omega (arith, c.loop-k-test.false, c.len-k-end.ensures, moves.ok.0)) c.loop-k.invariant.spreads

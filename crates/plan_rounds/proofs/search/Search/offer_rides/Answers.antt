@@ -3,7 +3,7 @@ use Rattle.std.specs.Prelude.{None}
 use Rattle.std.proofs.lemmas.List.Elements.{Contains-get_or}
 use Rattle.std.proofs.lemmas.Option.{slice_get-get_or}
 use Rattle.feed_rows.specs.Legs.{leg_facts}
-use Rattle.fare_automaton.specs.Options.{ArePicks}
+use Rattle.fare_automaton.specs.Fewest.{AreEnough}
 use Rattle.fare_automaton.specs.Terms.{FareTerms}
 use Rattle.plan_rides.specs.Cutoffs.{cutoff_of}
 use Rattle.plan_rides.specs.declared.caught.CaughtRide.{CaughtRide}
@@ -40,7 +40,7 @@ offer_ride-requires-clause-options c =
     let lt : k < length kinds = omega (arith, many, c.loop-k-test.true) in
     let leg = leg_facts me.feed caught.facts in
     let kind = c.requires.kinds.fit k caught (slice_index_or kinds k 0) (slice_get-get_or rides k none c.loop-k-test.true) (slice_get-get_or kinds k 0 lt) in
-    subst (λ (t : FareTerms). ArePicks t.feed t.rider leg c.options-options.result.now) c.requires.fares (c.options-options.ensures leg kind)
+    subst (λ (t : FareTerms). AreEnough t.feed t.rider leg c.options-options.result.now) c.requires.fares (c.options-options.ensures leg kind)
 
 pub offer_ride-requires-clause-ended : goal.offer_ride-requires-clause-ended
 offer_ride-requires-clause-ended c =
