@@ -5,6 +5,8 @@
 #[cfg(test)]
 mod automata;
 #[cfg(test)]
+mod drawn;
+#[cfg(test)]
 mod feeds;
 #[cfg(test)]
 mod patterns;
