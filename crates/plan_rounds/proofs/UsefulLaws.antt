@@ -1,7 +1,9 @@
 -- What a search for an answer needn't look at: rides that arrive too late, and labels that end no better than what is found.
 use Rattle.std.proofs.Common.{◌≡◌, refl, sym, ap, subst, ℕ, zero, suc, ◌+◌, ◌<◌, ◌≤◌, ◌⊎◌, inl, inr, ⊎_elim, Bool, true, false, List, arith, ℤ, pos, ◌+ℤ◌, ◌-ℤ◌, ◌≤ℤ◌, ◌<ℤ◌}
-use Rattle.std.specs.Prelude.{◌==◌, Option, Some, None, int_le, is_some, slice_get}
+use Rattle.std.specs.Prelude.{◌==◌, Contains, Option, Some, None, int_le, is_some, slice_get}
 use Rattle.std.specs.Int.{int_min}
+use Rattle.std.specs.List.{list_any}
+use Rattle.std.proofs.lemmas.List.Folds.{list_any-from_Any}
 use Rattle.std.proofs.lemmas.Bool.{both_ways}
 use Rattle.std.proofs.lemmas.Int.{ints}
 use Rattle.transit_base.specs.declared.moments.Moment.{Moment}
@@ -20,14 +22,21 @@ use Rattle.plan_rides.specs.InTime.{IsWithinWindow, deadline}
 use Rattle.plan_rides.specs.Spans.{AreSpans, SpanLists, no_spans, stands_of}
 use Rattle.round_labels.specs.declared.label.Label.{Label}
 use Rattle.round_labels.specs.Labels.{facts_of}
-use Rattle.round_laws.specs.Futility.{LeadsBy, IsFutile, MayLack}
+use Rattle.round_laws.specs.Futility.{LeadsBy, IsFutile, MayLack, is_within, least_end}
 use Rattle.round_laws.proofs.BoundLaws.{ahead_passes, ahead_tells}
 use Rattle.round_table.specs.declared.finals.Final.{Final}
-use Rattle.plan_rounds.specs.Bounds.{Costs, CostsMore, HasRides, IsFairBy, IsNoEnd, IsUntil}
+use Rattle.plan_rounds.specs.Bounds.{Costs, CostsMore, HasRides, IsFairBy, IsNoEnd, IsOutdoneAfter, IsUntil}
 use Rattle.plan_rounds.specs.Searched.{IsFoundBy, Lacks, Searched, has_ahead}
 use Rattle.plan_rounds.proofs.FutileLaws.{found_ahead, found_up}
 use Rattle.plan_rounds.proofs.PriceLaws.{leads_above, least_on}
 use Rattle.plan_rounds.proofs.SpanLaws.{leads_early, leads_few, leads_in_time, overdue}
+
+-- (what stands in a list doesn't hang on these)
+abbrev pub no_triple : Triple
+no_triple = record { arrival = record { 0 = pos 0 }; rides = 0; price = record { 0 = pos 0 } }
+
+abbrev pub no_final : Final
+no_final = record { triple = no_triple; label = 0; last = record { 0 = 0 } }
 
 -- what is futile may be lacking, where the search needn't be whole
 lack_of : (task : Searched) (finals : List Final) (b : LabelFacts) → task.whole ≡ false →
@@ -146,6 +155,28 @@ until_later task finals x until later is before within = record {
   within = within;
   later = λ b to n triple leads after. is.later b to n triple leads (omega (arith, ints, before, after));
 }
+
+-- no ride arrives in time after the deadline
+pub outdone_deadline : (task : Searched) (finals : List Final) (x : Label) (after : ℤ) → after ≡ deadline task.query → IsOutdoneAfter task finals x after
+outdone_deadline task finals x after is at late within = absurd (omega (arith, ints, is, late, within))
+
+-- nor is anything new behind a final that is ahead of the label
+pub outdone_sooner : (task : Searched) (finals : List Final) (x : Label) (final : Final) (price : ℤ) (old new : Moment) →
+    IsOutdoneAfter task finals x old.0 → Contains finals final → price ≡ least_end task.feed task.query task.whole (facts_of x) →
+    (new ≡ old) ⊎ ((new ≡ final.triple.arrival) × (final.triple.rides ≤ x.rides + 1) × (final.triple.price.0 ≤ℤ price)) →
+    IsOutdoneAfter task finals x new.0
+outdone_sooner task finals x final price old new was among is (inl same) = subst (λ (m : Moment). IsOutdoneAfter task finals x m.0) (sym same) was
+outdone_sooner task finals x final price old new was among is (inr sooner) = λ at late within.
+    let least = least_end task.feed task.query task.whole (facts_of x) in
+    let test = λ (f : Final). is_within at (x.rides + 1) least f.triple in
+    let before = subst (λ (m : Moment). m.0 <ℤ at) sooner.0 late in
+    let ahead = ahead_passes at (x.rides + 1) least final.triple (record {
+      arrival = omega (arith, ints, before);
+      few = sooner.1;
+      cheap = subst (λ (z : ℤ). final.triple.price.0 ≤ℤ z) is sooner.2;
+    }) in
+    let any : list_any test finals ≡ true = list_any-from_Any test finals (among.0, final, among.1, among.2, ahead) in
+    rw any refl
 
 -- ---- labels that end no better
 

@@ -2,21 +2,19 @@
 ghost use Rattle.std.specs.Prelude.{◌≡◌, ◌⊎◌, ◌||◌, ◌+◌, ◌<◌, ◌≤◌, ◌==◌, false, true, pos, ◌≤ℤ◌, ◌*ℤ◌, ◌*◌, ◌^◌, nat_abs, slice_get};
 ghost use Rattle.feed_rows.specs.FareFloor.{fare_floor};
 ghost use Rattle.feed_rows.specs.PartialJourneys.{LabelFacts};
-ghost use Rattle.plan_rides.specs.InTime.{IsRight, IsWithinWindow};
-ghost use Rattle.plan_rounds.specs.Bounds.{Costs, CostsMore, HasRides, IsNoEnd, IsUntil};
+ghost use Rattle.plan_rides.specs.InTime.{IsWithinWindow};
+ghost use Rattle.plan_rounds.specs.Bounds.{Costs, CostsMore, HasRides, IsNoEnd, IsOutdoneAfter, IsUntil};
 ghost use Rattle.round_laws.specs.Futility.{is_within, least_end, least_price, some_takes_back};
 ghost use Rattle.std.specs.List.{list_any};
 ghost use Rattle.feed_rows.specs.declared.fares.Triple.{Triple};
 ghost use Rattle.round_table.specs.declared.finals.Final.{Final};
-ghost use Rattle.round_labels.specs.Labels.{facts_of, stand_of_label};
+ghost use Rattle.round_labels.specs.Labels.{facts_of};
 ghost use Rattle.plan_rounds.specs.Searched.{Lacks, has_ahead, is_overtaken_by};
 ghost use Rattle.plan_rounds.specs.Sources.{IsSource};
-ghost use Rattle.plan_rounds.specs.Stores.{StepsBy};
 
 use crate::search::{Search, Source};
 use feed_rows::{Feed, Triple};
 use feed_timetable::Standing;
-use plan_rides::CaughtRide;
 use round_labels::Label;
 use round_table::Final;
 use transit_base::{Moment, Money, Secs, StopId};
@@ -145,30 +143,24 @@ impl<'s, 'l> Search<'s, 'l> {
         self.has_ahead(finals, label.arrival, label.rides, self.least_end(label))
     }
 
-    /// Whether a final arrives no later than the ride, with no more rides than it makes of the label, and costs no more than can
-    /// follow from that.
-    fn is_late(&self, label: &Label, finals: &[Final], caught: &CaughtRide) -> bool
-        requires { label.now.rides < 8 }
-        ensures { result ≡ has_ahead self.now finals.now caught.now.facts.arrival.0 (label.now.rides + 1) (least_end self.now.feed self.now.query self.now.whole (facts_of label.now)) }
+    /// After when no ride from the label need arrive, in a search that is to be whole: the first arrival that is found with no more
+    /// rides than one more makes of it and for no more than can follow by the least price of its table; else the latest moment at
+    /// which a journey may end. Another search goes by `until`, which tells more.
+    pub(crate) fn outdone_after(&self, source: &Source, finals: &[Final]) -> Moment
+        requires { IsSource self.now.feed self.now.query source.now }
+        ensures { IsOutdoneAfter self.now finals.now source.now.label.now result.0 }
     {
-        self.has_ahead(
-            finals,
-            caught.facts.arrival,
-            label.rides + 1,
-            self.least_end(label),
-        )
-    }
-
-    /// Whether, for a search that is to be whole, all that the ride leads to from the label is found already: a final arrives no
-    /// later than the ride, with no more rides, and costs no more than can follow. Another search goes by the moment until which
-    /// rides from the label may arrive.
-    pub(crate) fn is_futile(&self, source: &Source, finals: &[Final], caught: &CaughtRide) -> bool
-        requires source { IsSource self.now.feed self.now.query source.now }
-        requires right { IsRight self.now.feed self.now.query (stand_of_label source.now.label.now) caught.now }
-        ensures { result ≡ true → (b : LabelFacts) → StepsBy self.now.feed self.now.query (facts_of source.now.label.now) caught.now.ride b → Lacks self.now finals.now b }
-    {
-        let _feed = self.feed();
-        self.aim.whole && self.is_late(source.label, finals, caught)
+        let mut after = self.rides.deadline();
+        if !self.aim.whole {
+            return after;
+        }
+        let label = source.label;
+        let rides = label.rides + 1;
+        let price = self.least_end(label);
+        for k in 0..finals.len() {
+            after = sooner(after, &finals[k].triple, rides, price);
+        }
+        after
     }
 
     /// How little a journey can cost that goes on from the label by one to so many rides.

@@ -206,12 +206,13 @@ impl<'s, 'l> Search<'s, 'l> {
         requires fares { HasFares self.now known.now }
         ensures { OnOk result (SpreadsFrom self.now round.now.finals.now source.now (StepsAt self.now round.now.positions.now source.now.label.now reached.now) bags.old bags.new) }
     {
+        let after = self.outdone_after(source, round.finals);
         for k in 0..legs.rides.len() {
             let caught = &legs.rides[k];
             if departs_since(caught, reached) {
                 if arrives_early(caught, &legs.latest) {
                     let options = known.options(legs.kinds[k]);
-                    self.offer_ride(room, bags, source, round.finals, caught, options)?;
+                    self.offer_ride(room, bags, source, round.finals, caught, options, after)?;
                 }
             }
         }

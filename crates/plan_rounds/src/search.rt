@@ -1,5 +1,5 @@
 //! The search: each round goes on by one more ride from the labels of the round before.
-ghost use Rattle.std.specs.Prelude.{◌≡◌, ◌+◌, ◌<◌, ◌≤◌, ◌^◌, ◌++◌, [], false, true, length, IfOk, IfSome, IsTrue, OnOk, Some};
+ghost use Rattle.std.specs.Prelude.{◌≡◌, ◌+◌, ◌<◌, ◌<ℤ◌, ◌≤◌, ◌^◌, ◌++◌, [], false, true, length, IfOk, IfSome, IsTrue, OnOk, Some};
 ghost use Rattle.fare_automaton.specs.Fewest.{AreEnough};
 ghost use Rattle.feed_rows.specs.FareSteps.{move_after};
 ghost use Rattle.feed_rows.specs.Journeys.{stands_for};
@@ -10,6 +10,7 @@ ghost use Rattle.feed_rows.specs.StopLinks.{stop_set};
 ghost use Rattle.plan_rides.specs.Asked.{asked};
 ghost use Rattle.plan_rides.specs.InTime.{IsRight, IsUsualQuery};
 ghost use Rattle.round_labels.specs.Labels.{IsBounded, IsSmall, facts_of, stand_of_label};
+ghost use Rattle.plan_rounds.specs.Bounds.{IsOutdoneAfter};
 ghost use Rattle.plan_rounds.specs.Gathered.{IsGathered};
 ghost use Rattle.plan_rounds.specs.Moves.{AreMovesOf, HasFares};
 ghost use Rattle.feed_rows.specs.declared.fares.Triple.{Triple};
@@ -128,6 +129,13 @@ impl<'s, 'l> Drop for Found<'s, 'l> {
             room: _,
         } = self;
     }
+}
+
+/// Whether the ride arrives after the moment.
+fn arrives_after(caught: &CaughtRide, after: Moment) -> bool
+    ensures { result ≡ true → after.0 <ℤ caught.now.facts.arrival.0 }
+{
+    after.0 < caught.facts.arrival.0
 }
 
 impl<'s, 'l> Search<'s, 'l> {
@@ -257,7 +265,8 @@ impl<'s, 'l> Search<'s, 'l> {
         }
     }
 
-    /// Offers what the ride leads to from the label. The options are enough for the leg that it is.
+    /// Offers what the ride leads to from the label, but where it arrives after that moment. The options are enough for the leg that
+    /// it is.
     pub(crate) fn offer_ride(
         &self,
         room: &mut Room,
@@ -266,14 +275,17 @@ impl<'s, 'l> Search<'s, 'l> {
         finals: &[Final],
         caught: &CaughtRide,
         options: &[LegChoice],
+        after: Moment,
     ) -> Result<(), AllocError>
         requires source { IsSource self.now.feed self.now.query source.now }
         requires right { IsRight self.now.feed self.now.query (stand_of_label source.now.label.now) caught.now }
         requires ended { HasEnds self.now.feed self.now.query source.now.labels.now finals.now }
         requires options { AreEnough self.now.feed self.now.query.rider (leg_facts self.now.feed caught.now.facts) options.now }
+        requires after { IsOutdoneAfter self.now finals.now source.now.label.now after.0 }
         ensures { OnOk result (SpreadsFrom self.now finals.now source.now (StepsBy self.now.feed self.now.query (facts_of source.now.label.now) caught.now.ride) bags.old bags.new) }
     {
-        if self.is_futile(source, finals, caught) {
+        let _feed = self.feed();
+        if arrives_after(caught, after) {
             return Ok(());
         }
         self.find_moves(room, source.label, &caught.facts, options)?;

@@ -7,10 +7,10 @@ use Rattle.feed_rows.specs.FareSteps.{move_after}
 use Rattle.feed_rows.specs.Legs.{leg_facts}
 use Rattle.round_labels.specs.Labels.{IsSmall}
 use Rattle.plan_rounds.specs.Searched.{Lacks}
-use Rattle.plan_rounds.proofs.RideSteps.{leads_more}
+use Rattle.plan_rounds.proofs.RideSteps.{leads_more, within_after}
 use Rattle.plan_rounds.proofs.SpreadLaws.{spreads_none, spreads_more}
 use Rattle.plan_rounds.specs.Moves.{HasBetter}
-use Rattle.plan_rounds.proofs.FutileLaws.{leads_without, spreads_by}
+use Rattle.plan_rounds.proofs.FutileLaws.{leads_without, ride_overtaken, spreads_by}
 use Rattle.plan_rounds.proofs.search.Search.offer_ride.Goals as goal
 use Rattle.plan_rounds.proofs.search.Search.offer_ride.Goals.{then-not-is_bettered+in_ok-offer_move, else-not-is_bettered}
 
@@ -80,10 +80,15 @@ loop-k-preserved c =
           }
     ]
 
-pub returns-then-is_futile : goal.returns-then-is_futile
-returns-then-is_futile c =
-    spreads_none c.args.self.now.feed c.args.self.now.query (Lacks c.args.self.now c.args.finals.now) c.args.source.now.labels.now _ _
-    c.args.bags.now (c.is_futile.ensures c.if-is_futile.true)
+pub returns-then-arrives_after : goal.returns-then-arrives_after
+returns-then-arrives_after c =
+    let me = c.args.self.now in
+    let source = c.args.source.now in
+    let caught = c.args.caught.now in
+    let sound = c.feed-feed.ensures.sound in
+    spreads_none me.feed me.query (Lacks me c.args.finals.now) source.labels.now _ _
+    c.args.bags.now (λ b by. ride_overtaken me c.args.finals.now source.label.now caught c.requires.right b by sound
+    (c.requires.after caught.facts.arrival.0 (c.arrives_after.ensures c.if-arrives_after.true) (within_after me.feed me.query source c.requires.source caught c.requires.right sound).until))
 
 pub returns : goal.returns
 returns c =

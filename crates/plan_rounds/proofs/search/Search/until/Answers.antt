@@ -1,4 +1,4 @@
-use Rattle.std.proofs.Common.{ap, subst, sym, ◌∙◌, inl, inr, pos, slice_index_or, List}
+use Rattle.std.proofs.Common.{ap, subst, sym, ◌∙◌, inl, inr, slice_index_or, List}
 use Rattle.std.specs.Int.{w128}
 use Rattle.std.proofs.lemmas.Int.{to_z-of_z}
 use Rattle.std.proofs.lemmas.List.Elements.{Contains-get_or}
@@ -7,17 +7,10 @@ use Rattle.plan_rides.specs.InTime.{deadline}
 use Rattle.plan_rounds.specs.Bounds.{CostsMore}
 use Rattle.plan_rounds.specs.Searched.{Searched}
 use Rattle.plan_rounds.proofs.FutileLaws.{bettered_itself, given_itself}
-use Rattle.plan_rounds.proofs.UsefulLaws.{until_deadline, until_sooner}
+use Rattle.plan_rounds.proofs.UsefulLaws.{no_final, no_triple, until_deadline, until_sooner}
 use Rattle.round_labels.specs.Labels.{facts_of}
 use Rattle.round_table.specs.Tables.{is_given}
-use Rattle.round_table.specs.declared.finals.Final.{Final}
 use Rattle.plan_rounds.proofs.search.Search.until.Goals as goal
-
-abbrev no_triple : Triple
-no_triple = record { arrival = record { 0 = pos 0 }; rides = 0; price = record { 0 = pos 0 } }
-
-abbrev no_final : Final
-no_final = record { triple = no_triple; label = 0; last = record { 0 = 0 } }
 
 pub returns-then-self : goal.returns-then-self
 returns-then-self c =
