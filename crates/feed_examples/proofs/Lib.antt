@@ -15,6 +15,7 @@ pub mod LeastEdges
 pub mod LegEdges
 pub mod GeneratedAnswers
 pub mod GeneratedChecks
+pub mod GeneratedLines
 pub mod GeneratedStopTimes
 pub mod MoveChecks
 pub mod NameChecks
