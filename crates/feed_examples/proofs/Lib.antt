@@ -29,6 +29,7 @@ pub mod UnsoundFeeds
 pub mod WordChecks
 pub mod WorkedEntries
 pub mod WorkedLabels
+pub mod RideTimes
 pub mod RiderMoves
 pub mod SmallTables
 pub mod TableChecks
