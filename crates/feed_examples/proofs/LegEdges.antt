@@ -96,6 +96,17 @@ record LegEdges : Type 0 where
   -- an empty field is not for a stop in an area that the column names, even if another of its areas isn't named
   pub one_listed_area : bus_price (with_areas (in_area 0 0 ∷ in_area 1 0 ∷ [])
       (from_z0 (network_rule 0 1 0) ∷ network_rule 1 0 1 ∷ [])) 1 1 ≡ None
+  -- nor for one that a leg goes to, unless there are priorities, or the stop in the area is not the one where the leg
+  -- ends, or the column names other areas
+  pub empty_to_area :
+      (bus_price (with_areas (in_area 0 2 ∷ []) (to_z0 (network_rule 0 1 0) ∷ network_rule 1 0 1 ∷ [])) 1 1 ≡ None)
+      × (bus_price (record (with_areas (in_area 0 2 ∷ []) (to_z0 (network_rule 0 1 0) ∷ network_rule 1 0 1 ∷ [])) {
+        has_priority = true;
+      }) 1 1 ≡ Some (pos 400))
+      × (bus_price (with_areas (in_area 0 0 ∷ []) (to_z0 (network_rule 0 1 0) ∷ network_rule 1 0 1 ∷ [])) 1 1
+      ≡ Some (pos 400))
+      × (bus_price (with_areas (in_area 0 2 ∷ []) (from_z0 (network_rule 0 1 0) ∷ network_rule 1 0 1 ∷ [])) 1 1
+      ≡ Some (pos 400))
   -- an empty field is for a stop without area, and a filled one isn't
   pub no_area :
       (bus_price (with_areas [] (from_z0 (network_rule 0 1 0) ∷ network_rule 1 0 1 ∷ [])) 1 1 ≡ Some (pos 400))
@@ -120,6 +131,7 @@ leg_edges = record {
   filled_from_area = (refl, refl);
   one_of_two_areas = refl;
   one_listed_area = refl;
+  empty_to_area = (refl, refl, refl, refl);
   no_area = (refl, refl);
   no_network_ranked = refl;
   named_network_ranked = refl;
