@@ -182,6 +182,17 @@ record StateChecks : Type 0 where
       × (first_state (record (bus_to_rail 0) { limit = limit_of 60 1 } ∷ record (bus_to_rail 0) { limit = limit_of 60 3 } ∷ [])
       ≡ Some (state (Some 0) 0 (Some 28800) (Some 29400) true))
       × (first_state (record (transfer_rule 1 0 0 None) { limit = limit_of 60 1 } ∷ []) ≡ Some (state (Some 0) 0 None None true))
+  -- a row whose empty field is for the group reads its clock: where no row names the group in this column, whatever the
+  -- other column names
+  pub empty_from :
+      (first_state (record (any_to_any None) { limit = limit_of 60 1 } ∷ [])
+      ≡ Some (state (Some 0) 0 (Some 28800) None true))
+      × (first_state (record (any_to_any None) { limit = limit_of 60 2 } ∷ [])
+      ≡ Some (state (Some 0) 0 None (Some 29400) true))
+      × (first_state (record (any_to_any None) { limit = limit_of 60 1 } ∷ bus_to_rail 0 ∷ [])
+      ≡ Some (state (Some 0) 0 None None true))
+      × (first_state (record (any_to_any None) { limit = limit_of 60 1 } ∷ transfer_rule 1 0 0 None ∷ [])
+      ≡ Some (state (Some 0) 0 (Some 28800) None true))
   -- T2 is the first of its chain where the change to it isn't arranged, and the first of its run in either case
   pub second :
       (second_state [] None ≡ Some (state (Some 1) 0 None None true))
@@ -227,6 +238,7 @@ unfolding fare_state greatest_count is_clock_read group_matches limit_holds is_c
 state_checks = record {
   no_leg = refl;
   clocks = (refl, refl, refl, refl, refl, refl, refl);
+  empty_from = (refl, refl, refl, refl);
   second = (refl, refl);
   first_of_run = (refl, refl, refl);
   capped = (refl, refl, refl, refl);
