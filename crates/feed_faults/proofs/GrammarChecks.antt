@@ -1,6 +1,7 @@
 -- The grammars of fields at their edges.
 use Rattle.std.proofs.Common.{◌≡◌, ℕ, true, false, List, [], ◌∷◌, None, Some, refl}
 use Rattle.std.specs.Prelude.{codes, map, replicate, ◌++◌, pos, negsuc}
+use Rattle.std.specs.List.{concat}
 use Rattle.transit_base.specs.Dates.{day_number}
 use Rattle.feed_rows.specs.TimeGrammar.{time_value}
 use Rattle.feed_faults.specs.FieldGrammars.{is_id, int_value, count_value, date_value, currency_decimals, amount_value, amount_in}
@@ -17,6 +18,20 @@ ids : AreRead is_id
     ∷ (replicate 255 65, true) ∷ (replicate 256 65, false) ∷ [])
 unfolding grammars_on_literals
 ids = refl
+
+-- other control characters may stand within an id: a vertical tab, a form feed, a unit separator and a zero
+ids_with_controls : AreRead is_id
+    ((65 ∷ 11 ∷ 66 ∷ [], true) ∷ (65 ∷ 12 ∷ 66 ∷ [], true) ∷ (65 ∷ 31 ∷ 66 ∷ [], true) ∷ (65 ∷ 0 ∷ 66 ∷ [], true) ∷ [])
+unfolding grammars_on_literals
+ids_with_controls = refl
+
+-- an id's bytes are counted, and not its characters: 127 characters of two bytes are 254 bytes, and 128 are 256
+abbrev umlauts : ℕ → List ℕ
+umlauts count = concat (replicate count (195 ∷ 188 ∷ []))
+
+ids_of_two_bytes : AreRead is_id ((umlauts 127, true) ∷ (umlauts 127 ++ codes "A", true) ∷ (umlauts 128, false) ∷ [])
+unfolding grammars_on_literals
+ids_of_two_bytes = refl
 
 -- integers from 0 to 4
 small_integers : AreRead (int_value (pos 0) (pos 4))
@@ -79,6 +94,23 @@ currencies : AreRead currency_decimals
     ∷ (codes "EU", None) ∷ (codes "EURO", None) ∷ (codes "E1R", None) ∷ (codes "", None) ∷ [])
 unfolding grammars_on_literals
 currencies = refl
+
+-- every other code has two decimals, also that of forints, whose small coins are gone, and those that are no currency
+currencies_of_two_decimals : AreRead currency_decimals
+    ((codes "HUF", Some 2) ∷ (codes "XXX", Some 2) ∷ (codes "XTS", Some 2) ∷ (codes "TWD", Some 2) ∷ [])
+unfolding grammars_on_literals
+currencies_of_two_decimals = refl
+
+amounts_in_forints : AreRead (amount_in (codes "HUF"))
+    ((codes "250", Some (pos 25000)) ∷ (codes "250.5", Some (pos 25050)) ∷ (codes "250.50", Some (pos 25050))
+    ∷ (codes "250.505", None) ∷ [])
+unfolding grammars_on_literals
+amounts_in_forints = refl
+
+amounts_without_money : AreRead (amount_in (codes "XXX"))
+    ((codes "1", Some (pos 100)) ∷ (codes "1.25", Some (pos 125)) ∷ (codes "1.255", None) ∷ [])
+unfolding grammars_on_literals
+amounts_without_money = refl
 
 -- amounts of two decimals
 amounts_of_two : AreRead (amount_value 2)
