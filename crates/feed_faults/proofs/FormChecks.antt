@@ -60,6 +60,14 @@ headers : Answers base (codes "trips.txt")
 unfolding feeds_on_literals
 headers = refl
 
+-- a listed column that need not be there may not stand twice either
+optional_column_twice : Answers base (codes "stops.txt")
+    ((codes "stop_id,parent_station,parent_station\nA\n", fault kind.DoubledColumn file.Stops 0 column.ParentStation)
+    ∷ (codes "parent_station,parent_station\nA\n", fault kind.DoubledColumn file.Stops 0 column.ParentStation)
+    ∷ (codes "stop_id,stop_name,stop_name\nA\nB\nC\n", None) ∷ [])
+unfolding feeds_on_literals
+optional_column_twice = refl
+
 -- a field past the header, which comes before what is wrong with the columns
 long_rows : Answers base (codes "stops.txt")
     ((codes "stop_id\nA,\nB, ,\nC\n", None)
@@ -80,6 +88,16 @@ ids : Answers base (codes "stops.txt")
     ∷ (codes "stop_id,location_type\nA,00\nB, 0\nC,-0\n", None) ∷ [])
 unfolding feeds_on_literals
 ids = refl
+
+-- bytes that are no blanks stay: a carriage return at the end of a quoted field is a fault, and a vertical tab, which
+-- is none, makes another id of it
+ends_of_ids : Answers base (codes "stops.txt")
+    ((codes "stop_id\nA\nB\n\"C\r\"\n", fault kind.BadText file.Stops 3 column.StopId)
+    ∷ (codes "stop_id\r\nA\r\nB\r\n\"C\"\r\n", None)
+    ∷ (codes "stop_id\nA\nB\nC" ++ 11 ∷ codes "\n", fault kind.UnknownReference file.StopTimes 4 column.StopId)
+    ∷ (codes "stop_id\nA\nB\nC\nx" ++ 11 ∷ codes "y\n", None) ∷ [])
+unfolding feeds_on_literals
+ends_of_ids = refl
 
 -- stop times without a stop: of GTFS-Flex or not, and in which order
 flex_rows : Answers base (codes "stop_times.txt")
