@@ -24,6 +24,23 @@ parents : Answers base (codes "stops.txt")
 unfolding feeds_on_literals
 parents = refl
 
+-- a platform's parent is a station, and neither an entrance, a node nor a boarding area
+parents_of_other_kinds : Answers base (codes "stops.txt")
+    ((
+      codes "stop_id,location_type,parent_station\nA,0,E\nB\nC\nE,2\n",
+      fault kind.BadParent file.Stops 1 column.ParentStation,
+    )
+    ∷ (
+      codes "stop_id,location_type,parent_station\nA\nB,,N\nC\nN,3\n",
+      fault kind.BadParent file.Stops 2 column.ParentStation,
+    )
+    ∷ (
+      codes "stop_id,location_type,parent_station\nA\nB\nC,0,Q\nQ,4\n",
+      fault kind.BadParent file.Stops 3 column.ParentStation,
+    ) ∷ [])
+unfolding feeds_on_literals
+parents_of_other_kinds = refl
+
 -- routes and trips
 routes : Answers base (codes "routes.txt")
     ((codes "route_id,network_id\nR1,bus\nR2,rail\nR1,bus\n", fault kind.DoubledKey file.Routes 3 column.RouteId)
@@ -83,6 +100,15 @@ kinds_of_stops : map (λ text. fault_of (with_file (codes "stops.txt") text base
     ≡ fault kind.WrongStopKind file.StopTimes 1 column.StopId ∷ fault kind.WrongStopKind file.StopTimes 4 column.StopId ∷ fault kind.DoubledKey file.Stops 4 column.StopId ∷ []
 unfolding feeds_on_literals
 kinds_of_stops = refl
+
+-- and at a node and at a boarding area
+other_kinds_of_stops : map (λ text. fault_of (with_file (codes "stops.txt") text base))
+    (codes "stop_id,location_type\nA\nB,3\nC\n" ∷ codes "stop_id,location_type\nA\nB\nC,4\n"
+    ∷ codes "stop_id,location_type\nA,0\nB\nC,00\n" ∷ [])
+    ≡ fault kind.WrongStopKind file.StopTimes 2 column.StopId
+    ∷ fault kind.WrongStopKind file.StopTimes 4 column.StopId ∷ None ∷ []
+unfolding feeds_on_literals
+other_kinds_of_stops = refl
 
 -- frequencies: one start in two spellings; a start that isn't before the end is no fault
 frequencies : Answers base (codes "frequencies.txt")
