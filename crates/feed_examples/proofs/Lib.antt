@@ -1,3 +1,4 @@
+pub mod CallEdges
 pub mod CornerAnswers
 pub mod CornerFares
 pub mod CornerJourneys
