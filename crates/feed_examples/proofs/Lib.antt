@@ -32,6 +32,7 @@ pub mod WorkedEntries
 pub mod WorkedLabels
 pub mod RideTimes
 pub mod RiderMoves
+pub mod ShiftEdges
 pub mod SmallTables
 pub mod TableChecks
 pub mod WorkedRides
