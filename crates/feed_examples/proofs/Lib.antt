@@ -1,4 +1,5 @@
 pub mod CallEdges
+pub mod CarriedStands
 pub mod CornerAnswers
 pub mod CornerFares
 pub mod CornerJourneys
