@@ -27,6 +27,7 @@ pub mod PriceRides
 pub mod PriceWords
 pub mod TextChecks
 pub mod TravelChecks
+pub mod UnsoundCalls
 pub mod UnsoundFeeds
 pub mod WordChecks
 pub mod WorkedEntries
