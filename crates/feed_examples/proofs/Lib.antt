@@ -29,6 +29,7 @@ pub mod TextChecks
 pub mod TravelChecks
 pub mod UnsoundCalls
 pub mod UnsoundFeeds
+pub mod UnsoundKeys
 pub mod WordChecks
 pub mod WorkedEntries
 pub mod WorkedLabels
