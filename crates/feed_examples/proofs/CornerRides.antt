@@ -5,7 +5,7 @@ use Rattle.std.specs.Prelude.{Option, Some, None, pos, negsuc, codes}
 use Rattle.feed_rows.specs.FeedRows.{FeedRows}
 use Rattle.feed_rows.specs.declared.rows.StopTimeRow.{StopTimeRow}
 use Rattle.feed_rows.specs.declared.rows.FrequencyRow.{FrequencyRow}
-use Rattle.feed_rows.specs.ServiceDays.{is_active}
+use Rattle.feed_rows.specs.ServiceDays.{is_added, is_removed, is_active}
 use Rattle.feed_rows.specs.Calls.{call_at, calls_of}
 use Rattle.feed_rows.specs.Shifts.{shifts_of}
 use Rattle.feed_rows.specs.Rides.{is_ride}
@@ -130,3 +130,10 @@ calendar_ends = (refl, refl, refl, refl)
 calendar_exceptions : (is_active daily (record { 0 = 0 }) (pos 3) ≡ false) × (is_active daily (record { 0 = 0 }) (pos 100) ≡ true) × (is_active daily (record { 0 = 0 }) (pos 2) ≡ true) × (is_active daily (record { 0 = 1 }) (pos 2) ≡ false) × (is_active daily (record { 0 = 7 }) (pos 0) ≡ false)
 unfolding is_active
 calendar_exceptions = (refl, refl, refl, refl, refl)
+
+-- each exception is of one type: what adds a day doesn't remove it, and what removes one doesn't add it
+exceptions_by_type : (is_added daily (record { 0 = 0 }) (pos 100) ≡ true)
+    × (is_removed daily (record { 0 = 0 }) (pos 100) ≡ false)
+    × (is_added daily (record { 0 = 0 }) (pos 3) ≡ false) × (is_removed daily (record { 0 = 0 }) (pos 3) ≡ true)
+    × (is_removed daily (record { 0 = 0 }) (pos 2) ≡ false) × (is_removed daily (record { 0 = 1 }) (pos 2) ≡ true)
+exceptions_by_type = (refl, refl, refl, refl, refl, refl)
