@@ -100,3 +100,20 @@ own_station : (access (record station { links = row 4 4 true 0 ∷ [] }) (query 
     × (direct (record station { links = row 4 4 true 0 ∷ [] }) (record { 0 = 1 }) (record { 0 = 3 }) ≡ None)
 unfolding link stop_set
 own_station = (refl, refl, refl, refl, refl, refl, refl, refl)
+
+-- an entrance that names the station, and a platform that names an entrance, as no sound feed has them
+abbrev odd_parents : FeedRows
+odd_parents =
+    record base {
+      stops =
+          record (platform (codes "B")) { parent = Some (record { 0 = 2 }) }
+          ∷ record (platform (codes "E")) { kind = 2; parent = Some (record { 0 = 2 }) }
+          ∷ record (platform (codes "P")) { kind = 1 }
+          ∷ record (platform (codes "D")) { parent = Some (record { 0 = 1 }) } ∷ [];
+    }
+
+-- a station stands for its platforms alone, and an entrance for no stop, though a platform names it
+odd_sets : map (λ n. stop_set odd_parents (record { 0 = n })) (0 ∷ 1 ∷ 2 ∷ 3 ∷ [])
+    ≡ (record { 0 = 0 } ∷ []) ∷ [] ∷ (record { 0 = 0 } ∷ []) ∷ (record { 0 = 3 } ∷ []) ∷ []
+unfolding stop_set
+odd_sets = refl
