@@ -13,11 +13,11 @@ use Rattle.feed_rows.specs.Rides.{is_ride, ride_facts}
 use Rattle.feed_rows.specs.StopLinks.{link}
 use Rattle.feed_rows.specs.FareSums.{transfer_kind, starts_chain, is_charged, amount_of}
 use Rattle.feed_rows.specs.MoneyText.{money_text}
-use Rattle.feed_rows.specs.EntryText.{journey_line, walk_line, ride_line, ride_lines, travel_lines, leg_line, change_line, leg_lines, fare_lines, entry_lines, lines_of_entries}
+use Rattle.feed_rows.specs.EntryText.{journey_line, walk_line, start_text, ride_line, ride_lines, travel_lines, leg_line, change_line, leg_lines, fare_lines, entry_lines, lines_of_entries}
 use Rattle.feed_rows.specs.PriceTexts.{price_text}
 use Rattle.feed_examples.specs.BaseFeed.{base, ticket}
 use Rattle.feed_examples.proofs.WorkedEntries.{ride, leg, change, entry, paid}
-use Rattle.feed_examples.proofs.CornerRides.{late_run}
+use Rattle.feed_examples.proofs.CornerRides.{early_run, late_run}
 use Rattle.feed_examples.proofs.CornerJourneys.{link_row, with_links}
 use Rattle.feed_examples.proofs.CornerFares.{chain, three_legs}
 
@@ -84,3 +84,10 @@ late_lines : travel_lines late_run (entry 1 2 93300 1 (pos 250) (record (ride 2 
     (codes "ride" ++ 9 ∷ codes "T3" ++ 9 ∷ codes "2025-06-02" ++ 9 ∷ codes "25:00:00" ++ 9 ∷ codes "5" ++ 9 ∷ codes "9" ++ 9 ∷ codes "B" ++ 9 ∷ codes "2025-06-03 01:15:00" ++ 9 ∷ codes "C" ++ 9 ∷ codes "2025-06-03 01:55:00" ++ 10 ∷ []) ∷ []
 unfolding journey_line walk_line ride_line ride_lines travel_lines leg_line change_line leg_lines fare_lines entry_lines price_text money_text time_text digits is_ride ride_facts is_active shifts_of calls_of call_at link transfer_kind starts_chain is_charged amount_of
 late_lines = rw (day_is, day_after_is) refl
+
+-- a run that departs before its service day, as no run of a feed does, has no text of its start; one at midnight has
+early_starts :
+    (start_text early_run (record (ride 2 0 1) { shift = negsuc 29100 }) ≡ [])
+    × (start_text early_run (record (ride 2 0 1) { shift = negsuc 29099 }) ≡ codes "00:00:00")
+unfolding time_text calls_of call_at
+early_starts = (refl, refl)

@@ -91,6 +91,11 @@ pub wholes : map (money_text 0) (pos 0 ∷ pos 350 ∷ negsuc 29 ∷ []) ≡ cod
 unfolding money_text digits
 wholes = refl
 
+-- an amount of another number of decimals has no text, not even its sign
+pub other_decimals : (map (money_text 1) (pos 5 ∷ negsuc 4 ∷ []) ≡ [] ∷ [] ∷ []) × (money_text 4 (negsuc 0) ≡ [])
+unfolding money_text
+other_decimals = (refl, refl)
+
 -- a plan from one stop to another, for a rider
 abbrev between : List ℕ → List ℕ → Option (List ℕ) → PlanRequest
 between from to rider = record { from = from; to = to; departure = pos 1_748_851_200; rides = 4; rider = rider; window = 86_400; stats = false }
