@@ -17,7 +17,7 @@ use Rattle.feed_rows.specs.Legs.{stop_areas, holds_at, leg_facts, legs_of}
 use Rattle.feed_rows.specs.LegRules.{network_matches, area_matches, frame_matches, rule_matches, is_top_priority, is_selected_rule}
 use Rattle.feed_rows.specs.TransferRules.{group_matches, limit_holds, is_candidate, suffices, is_least_count, is_selected_transfer, is_arranged, goes_on, run_start, change_at, selected_transfers}
 use Rattle.feed_rows.specs.FareChoices.{is_open, is_leg_choice, is_transfer_choice, is_leg_paid, is_change_paid, is_fare_choice}
-use Rattle.feed_rows.specs.FareSums.{transfer_kind, starts_chain, is_charged, amount_of, leg_charge, change_charge, fare_sum}
+use Rattle.feed_rows.specs.FareSums.{transfer_kind, starts_chain, is_charged, amount_of, leg_amount, leg_charge, change_charge, fare_sum}
 use Rattle.feed_rows.specs.JourneyEntries.{rides_price}
 use Rattle.feed_examples.specs.BaseFeed.{base, platform, trip, call, ticket, transfer_rule}
 use Rattle.feed_examples.proofs.WorkedEntries.{ride, leg, change, free_change, paid, two_rides}
@@ -184,3 +184,12 @@ product_edges = record {
   types_of_equal_counts = (refl, refl);
   no_product_no_row = (refl, refl);
 }
+
+-- rows that the feed lacks and places that a choice lacks cost nothing; no fare choice has such
+absent_amounts :
+    (amount_of base (record { 0 = 9 }) ≡ pos 0)
+    × (leg_amount base (paid (leg 0 0 ∷ []) []) 1 ≡ pos 0)
+    × (change_charge base (paid (leg 0 0 ∷ []) []) 0 ≡ pos 0)
+    × (fare_sum base (paid (leg 0 9 ∷ []) []) ≡ pos 0)
+unfolding transfer_kind starts_chain is_charged amount_of leg_charge change_charge fare_sum
+absent_amounts = (refl, refl, refl, refl)
