@@ -1,13 +1,16 @@
 -- The texts of `gen` and the line of statistics, by examples.
+use Rattle.std.proofs.Common.{ap, true, false, arith}
 use Rattle.std.specs.Prelude.{◌≡◌, refl, ℕ, ◌==◌, if◌then◌else◌, List, [], ◌∷◌, ◌++◌, map, replicate, None, ℤ, pos, negsuc, codes}
 use Rattle.std.specs.Fmt.{digits}
 use Rattle.transit_base.specs.DateTexts.{time_text}
 use Rattle.feed_rows.specs.MoneyText.{money_text}
 use Rattle.feed_rows.specs.CommandTexts.{stats_line}
 use Rattle.feed_rows.specs.FeedRows.{FeedRows}
-use Rattle.feed_rows.specs.GeneratedTexts.{triple_line, gen_line, gen_text}
+use Rattle.feed_rows.specs.GeneratedTexts.{triple_line, gen_line, gen_text, AreMinimalTriples}
+use Rattle.feed_rows.specs.JourneyEntries.{IsMinimal}
 use Rattle.feed_rows.specs.declared.fares.Triple.{Triple}
 use Rattle.feed_examples.specs.BaseFeed.{base, platform, trip, call, on_the_day}
+use Rattle.feed_examples.proofs.WorkedEntries.{morning, entry, with_walk, no_rides}
 use Rattle.feed_examples.proofs.WorkedTexts.{day_is}
 
 -- a text with `|` for each tab, as a line with its line feed
@@ -51,3 +54,22 @@ stats_lines : map stats_line (1 ∷ 4 ∷ 120 ∷ []) ≡ tabbed (codes "stats|1
     ∷ tabbed (codes "stats|120") ∷ []
 unfolding digits
 stats_lines = refl
+
+-- ---- the triples of an answer
+
+-- no list of triples is right that is empty where a triple is minimal, or that has one twice
+no_triples : (t : Triple) → IsMinimal base morning t → AreMinimalTriples base morning [] → ⊥
+no_triples t minimal are = let has = are.complete t minimal in let lt = has.1 in omega (arith, lt)
+
+triple_twice : AreMinimalTriples base morning (triple 32_400 1 (pos 250) ∷ triple 32_400 1 (pos 250) ∷ []) → ⊥
+triple_twice are =
+    let no : false ≡ true = are.in_order 0 1 (triple 0 0 (pos 0)) (omega arith) (omega arith) in
+    absurd (cc)
+
+-- nor one that has a triple which another is at most: a walk of an hour costs nothing and arrives with T3
+triple_outdone : AreMinimalTriples with_walk morning (triple 32_400 1 (pos 250) ∷ []) → ⊥
+triple_outdone are =
+    let passed = entry 0 2 32400 0 (pos 0) [] [] [] in
+    let same = (are.minimal 0 (triple 0 0 (pos 0)) (omega arith)).least passed.triple (passed, no_rides.1, refl) refl in
+    let rides : 0 ≡ 1 = ap (λ (t : Triple). t.rides) same in
+    omega (arith, rides)
