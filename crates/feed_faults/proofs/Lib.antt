@@ -4,6 +4,7 @@ pub mod GrammarChecks
 pub mod ColumnEdges
 pub mod BaseFeed
 pub mod Expected
+pub mod UnreadFields
 pub mod WorkedFaults
 pub mod ExporterForm
 pub mod FormChecks
