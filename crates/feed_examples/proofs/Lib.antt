@@ -41,3 +41,4 @@ pub mod TableChecks
 pub mod WorkedRides
 pub mod WorkedStates
 pub mod WorkedTexts
+pub mod WrongEntries
