@@ -1,6 +1,7 @@
 -- What the definitions make of the names that a plan gives, and of moments and times at their edges, by examples.
 use Rattle.std.specs.Prelude.{◌≡◌, refl, ℕ, Bool, true, false, List, [], ◌∷◌, ◌++◌, map, Option, Some, None, Result, Ok, Err, pos, negsuc, codes}
 use Rattle.transit_base.specs.Moments.{moment_at, civil_day, time_of_day}
+use Rattle.transit_base.specs.Dates.{date_of, date_from_year, date_in_year}
 use Rattle.transit_base.specs.DateTexts.{time_text}
 use Rattle.transit_base.specs.declared.RiderId.{RiderId}
 use Rattle.feed_rows.specs.FeedRows.{FeedRows}
@@ -143,3 +144,16 @@ times : map time_text (0 ∷ 59 ∷ 3_600 ∷ 359_999 ∷ 360_000 ∷ 604_799 �
     ∷ codes "167:59:59" ∷ [] ∷ []
 unfolding time_text
 times = refl
+
+-- days at the ends of months and years: the first of a month, in common years and in a leap year, the last month of
+-- years that are not the last, and the first day of the next
+dates :
+    (date_of (pos 20_240) ≡ record { year = 2025; month = 6; day = 1 })
+    × (date_of (pos 19_783) ≡ record { year = 2024; month = 3; day = 1 })
+    × (date_of (negsuc 25_507) ≡ record { year = 1900; month = 3; day = 1 })
+    × (date_of (pos 20_423) ≡ record { year = 2025; month = 12; day = 1 })
+    × (date_of (pos 20_453) ≡ record { year = 2025; month = 12; day = 31 })
+    × (date_of (pos 10_956) ≡ record { year = 1999; month = 12; day = 31 })
+    × (date_of (pos 10_957) ≡ record { year = 2000; month = 1; day = 1 })
+unfolding date_of date_from_year date_in_year
+dates = (refl, refl, refl, refl, refl, refl, refl)
