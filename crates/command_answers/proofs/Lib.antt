@@ -3,3 +3,5 @@ pub mod WrittenLaws
 pub mod LegLaws
 pub mod NameLaws
 pub mod RideLaws
+pub mod SmallFolder
+pub mod DueChecks
