@@ -5,3 +5,4 @@ pub mod NameLaws
 pub mod RideLaws
 pub mod SmallFolder
 pub mod DueChecks
+pub mod TaskChecks
