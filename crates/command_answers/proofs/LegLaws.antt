@@ -1,5 +1,5 @@
 -- The legs of rides of which it is known where they go.
-use Rattle.std.proofs.Common.{◌≡◌, sym, ◌∙◌, subst, ap, ℕ, zero, suc, ◌+◌, List, [], ◌∷◌, ◌++◌, length, Option, Some, None, arith}
+use Rattle.std.proofs.Common.{◌≡◌, sym, ◌∙◌, ap, ℕ, zero, suc, ◌+◌, List, [], ◌∷◌, ◌++◌, length, Option, Some, None, arith}
 use Rattle.std.specs.Prelude.{slice_get, option_map}
 use Rattle.std.proofs.lemmas.List.{length-map}
 use Rattle.std.proofs.lemmas.Option.{same_Some}
@@ -7,7 +7,6 @@ use Rattle.transit_base.specs.declared.numbers.RiderId.{RiderId}
 use Rattle.feed_rows.specs.FeedRows.{FeedRows}
 use Rattle.feed_rows.specs.Journeys.{facts_at}
 use Rattle.feed_rows.specs.Legs.{leg_facts, legs_of}
-use Rattle.feed_rows.specs.Rides.{ride_facts}
 use Rattle.feed_rows.specs.declared.journeys.LegFacts.{LegFacts}
 use Rattle.feed_rows.specs.declared.journeys.Ride.{Ride}
 use Rattle.plain_laws.specs.Plain.{collect_below}

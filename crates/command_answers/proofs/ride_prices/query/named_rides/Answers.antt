@@ -1,4 +1,4 @@
-use Rattle.std.proofs.Common.{◌≡◌, ◌∙◌, sym, ap, subst, arith}
+use Rattle.std.proofs.Common.{sym}
 use Rattle.plan_words.specs.Rides.{ride_of}
 use Rattle.command_answers.proofs.NameLaws.{one_more_named, first_unnamed}
 use Rattle.command_answers.proofs.ride_prices.query.named_rides.Goals as goal
