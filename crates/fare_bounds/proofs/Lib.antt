@@ -2,5 +2,6 @@ pub mod FirstLaws
 pub mod AmountLaws
 pub mod PayableLaws
 pub mod LevelLaws
+pub mod LimitLaws
 pub mod StepLaws
 pub mod BoundLaws

@@ -1,5 +1,5 @@
 -- Lists of least amounts: the place of each leg group in them, and how low and high they can be.
-use Rattle.std.specs.Prelude.{ℕ, ◌+◌, ◌*◌, ◌==◌, if◌then◌else◌, List, Option, Some, None, get_or, ℤ, pos, neg_ℤ, ◌≤ℤ◌}
+use Rattle.std.specs.Prelude.{ℕ, ◌+◌, ◌*◌, ◌==◌, Bool, if◌then◌else◌, List, Option, Some, None, get_or, ℤ, pos, neg_ℤ, ◌≤ℤ◌}
 use Rattle.std.specs.Int.{int_min}
 use Rattle.transit_base.specs.declared.numbers.LegGroupId.{LegGroupId}
 
@@ -25,6 +25,10 @@ row_place (Some group) = group.0 + 2
 abbrev pub at_place : List ℤ → ℕ → ℤ
 at_place amounts place =
     if place == 0 then amount_at amounts 0 else int_min (amount_at amounts place) (amount_at amounts 1)
+
+-- what the end of a journey adds after a leg of a group, by whether it may be the last leg
+abbrev pub end_by : Bool → ℤ
+end_by last = if last then pos 0 else never
 
 -- so many times the least amount that a product can have
 abbrev pub floor_of : ℕ → ℤ

@@ -1,4 +1,5 @@
 pub mod Amounts
+pub mod Limits
 pub mod Payable
 pub mod Levels
 pub mod FareBounds

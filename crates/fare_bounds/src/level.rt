@@ -25,7 +25,7 @@ impl Drop for Level {
     }
 }
 
-/// What a leg and the rides after it add at least, in minor units.
+/// What a leg and what follows it, further rides or the journey's end, add at least, in minor units.
 #[derive(Clone, Copy)]
 pub struct LegCosts {
     /// Where the change to the leg makes it free.

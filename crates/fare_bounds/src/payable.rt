@@ -1,6 +1,6 @@
 //! What a rider can pay at least for products, for legs and for changes.
-ghost use Rattle.std.specs.Prelude.{◌≡◌, ◌+◌, ◌<◌, ◌≤◌, ◌^◌, nat_abs, IfOk, vec_len, length};
-ghost use Rattle.fare_bounds.specs.Amounts.{AreAmounts, AreBelow, IsAmount};
+ghost use Rattle.std.specs.Prelude.{◌≡◌, ◌+◌, ◌<◌, ◌≤◌, ◌^◌, nat_abs, IfOk, vec_len, length, map};
+ghost use Rattle.fare_bounds.specs.Amounts.{end_by, AreAmounts, AreBelow, IsAmount};
 ghost use Rattle.fare_bounds.specs.Payable.{opens, charge_of, IsProductRowAbove, AreLeastOfProducts, AreLegRulesAbove, AreLeastAmounts};
 
 use crate::amounts::{NEVER, amount_at, lower, place_of};
@@ -9,7 +9,8 @@ use feed_rows::{Feed, ProductRow};
 use std::alloc::{AllocError, Global};
 use transit_base::{ProductId, RiderId};
 
-/// The least amounts of the feed that are open to the rider.
+/// The least amounts of the feed that are open to the rider, where `lasts` tells by the place of a leg group whether a
+/// journey's last leg may be of that group.
 ///
 /// # Errors
 /// Want of memory.
@@ -17,13 +18,30 @@ pub fn least_amounts(
     alloc: Global,
     feed: &Feed,
     rider: Option<RiderId>,
+    lasts: &[bool],
 ) -> Result<LeastAmounts, AllocError>
     ensures least { IfOk result (AreLeastAmounts feed.now rider) }
+    ensures ends { IfOk result (λ amounts. amounts.ends.items ≡ map end_by lasts.now) }
     ensures len { IfOk result (λ amounts. vec_len amounts.legs ≡ length feed.now.group_names + 2) }
 {
     let products = least_of_products(alloc, feed, rider)?;
     let legs = least_of_legs(alloc, feed, &products)?;
-    Ok(LeastAmounts { products, legs })
+    let ends = ends_of(alloc, lasts)?;
+    Ok(LeastAmounts {
+        products,
+        legs,
+        ends,
+    })
+}
+
+/// What the end of a journey adds by the place of the last leg's group, where these tell which legs may be the last.
+fn ends_of(alloc: Global, lasts: &[bool]) -> Result<Vec<i64>, AllocError>
+    ensures { IfOk result (λ ends. ends.items ≡ map end_by lasts.now) }
+{
+    lasts
+        .iter()
+        .map(|last| if *last { 0 } else { NEVER })
+        .collect(alloc)
 }
 
 impl LeastAmounts {

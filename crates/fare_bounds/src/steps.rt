@@ -1,8 +1,8 @@
 //! From what some further rides add at least to what one ride more adds.
 ghost use Rattle.std.specs.Prelude.{◌≡◌, ℕ, ◌+◌, ◌*◌, ◌<◌, ◌≤ℤ◌, IfOk, length, vec_len};
 ghost use Rattle.feed_rows.specs.Codes.{includes_leg_after};
-ghost use Rattle.fare_bounds.specs.Amounts.{floor_of, IsAmount, AreAmounts, amount_at, place_of, row_place};
-ghost use Rattle.fare_bounds.specs.Levels.{costs_by, AreLegCosts, AreLesserCosts, AreCosts, AreCostsTo, IsLevelBelow, IsFilled, added_by, IsChangeAbove, IsNextLevel};
+ghost use Rattle.fare_bounds.specs.Amounts.{floor_of, IsAmount, row_place};
+ghost use Rattle.fare_bounds.specs.Levels.{costs_by, AreLegCosts, AreLesserCosts, AreCosts, AreCostsTo, IsLevelBelow, IsFilled, counts, added_by, IsChangeAbove, IsNextLevel};
 
 use crate::amounts::{NEVER, amount_at, at_place, lower, place_of, row_place};
 use crate::least::LeastAmounts;
@@ -58,49 +58,46 @@ impl Level {
         })
     }
 
-    /// What a leg of the group at the place and the rides after it add, where such legs cost no less than this.
-    fn leg_costs(&self, least: i64, place: usize) -> LegCosts
-        requires rides { self.now.rides < 255 }
-        requires least { IsAmount 1 least }
-        ensures costs { AreLegCosts self.now place least result }
+    /// What a leg of the group at the place and what follows it add.
+    fn leg_costs(&self, amounts: &LeastAmounts, place: usize) -> LegCosts
+        requires { self.now.rides < 255 }
+        ensures costs { AreLegCosts amounts.now self.now place result }
         ensures amounts { AreCosts (2 * self.now.rides + 1) result }
     {
+        let least = amount_at(&amounts.legs, place);
         if least >= NEVER {
             return LegCosts::never();
         }
         let with_held = at_place(&self.with_held, place);
-        costs_by(least, with_held, at_place(&self.without_held, place))
+        let without_held = at_place(&self.without_held, place);
+        let end = amount_at(&amounts.ends, place);
+        costs_by(least, with_held, without_held, end)
     }
 
-    /// The least that a leg and the rides after it add, where legs cost no less than this by the place of their group.
-    fn least_costs(&self, legs: &[i64]) -> LegCosts
-        requires rides { self.now.rides < 255 }
-        requires legs { AreAmounts 1 legs.now }
-        ensures costs { (place : ℕ) → AreLegCosts self.now place (amount_at legs.now place) result }
+    /// The least that a leg and what follows it add.
+    fn least_costs(&self, amounts: &LeastAmounts) -> LegCosts
+        requires { self.now.rides < 255 }
+        ensures costs { (place : ℕ) → AreLegCosts amounts.now self.now place result }
         ensures amounts { AreCosts (2 * self.now.rides + 1) result }
     {
         let mut least = LegCosts::never();
-        for place in 0..legs.len() {
-            least = least.lesser(&self.leg_costs(amount_at(legs, place), place));
+        for place in 0..amounts.legs.len() {
+            least = least.lesser(&self.leg_costs(amounts, place));
         }
         least
     }
 
-    /// What a leg and the rides after it add, where its group is one that the field matches; `least` is that of all
+    /// What a leg and what follows it add, where its group is one that the field matches; `least` is that of all
     /// groups.
-    fn costs_to(&self, to: Option<LegGroupId>, legs: &[i64], least: &LegCosts) -> LegCosts
+    fn costs_to(&self, to: Option<LegGroupId>, amounts: &LeastAmounts, least: &LegCosts) -> LegCosts
         requires rides { self.now.rides < 255 }
-        requires legs { AreAmounts 1 legs.now }
-        requires all { (place : ℕ) → AreLegCosts self.now place (amount_at legs.now place) least.now }
+        requires all { (place : ℕ) → AreLegCosts amounts.now self.now place least.now }
         requires least { AreCosts (2 * self.now.rides + 1) least.now }
-        ensures costs { AreCostsTo self.now to legs.now result }
+        ensures costs { AreCostsTo amounts.now self.now to result }
         ensures amounts { AreCosts (2 * self.now.rides + 1) result }
     {
         match to {
-            Some(_) => {
-                let place = place_of(to);
-                self.leg_costs(amount_at(legs, place), place)
-            }
+            Some(_) => self.leg_costs(amounts, place_of(to)),
             None => *least,
         }
     }
@@ -121,7 +118,8 @@ impl Level {
         }
     }
 
-    /// The level for one ride more.
+    /// The level for one ride more; a late one tells of next rides to which no transfer rule with a limit can arrange a
+    /// change.
     ///
     /// # Errors
     /// Want of memory.
@@ -130,22 +128,32 @@ impl Level {
         alloc: Global,
         feed: &Feed,
         amounts: &LeastAmounts,
+        late: bool,
     ) -> Result<Level, AllocError>
         requires rides { self.now.rides < 255 }
         requires places { vec_len amounts.now.legs ≡ length feed.now.group_names + 2 }
-        ensures { IfOk result (IsNextLevel feed.now amounts.now self.now) }
+        ensures { IfOk result (IsNextLevel feed.now late amounts.now self.now) }
     {
-        let least = self.least_costs(&amounts.legs);
+        let least = self.least_costs(amounts);
         let mut level = Level::filled(alloc, self.rides + 1, amounts.legs.len(), least.apart)?;
         for row in feed.transfer_rules.items() {
-            let costs = self.costs_to(row.to, &amounts.legs, &least);
-            level.take_change(row, added_by(row.kind, amounts.charge(row.product), &costs));
+            if counts(row, late) {
+                let costs = self.costs_to(row.to, amounts, &least);
+                level.take_change(row, added_by(row.kind, amounts.charge(row.product), &costs));
+            }
         }
         Ok(level)
     }
 }
 
-/// What a change of this type adds with the leg and the rides after it, where it costs this and they that.
+/// Whether a level is made by this row: a late one only by rows without limit.
+fn counts(row: &TransferRuleRow, late: bool) -> bool
+    ensures { result ≡ counts late row.now }
+{
+    !late || row.limit.is_none()
+}
+
+/// What a change of this type adds with the leg and what follows it, where it costs this and they that.
 fn added_by(kind: u8, charge: i64, costs: &LegCosts) -> i64
     requires charge { IsAmount 1 charge }
     requires costs { AreCosts 600 costs.now }
@@ -165,17 +173,21 @@ fn includes_leg_after(kind: u8) -> bool
     kind == LEG_BEFORE_AND_CHANGE || kind == CHANGE_ALONE
 }
 
-/// What a leg and the rides after it add, where legs cost no less than this, and by what the rides add.
-fn costs_by(least: i64, with_held: i64, without_held: i64) -> LegCosts
+/// What a leg and what follows it add, where legs cost no less than this, and by what further rides and the end add.
+fn costs_by(least: i64, with_held: i64, without_held: i64, end: i64) -> LegCosts
     requires least { IsAmount 1 least }
     requires with_held { IsAmount 600 with_held }
     requires without_held { IsAmount 600 without_held }
-    ensures { result ≡ costs_by least with_held without_held }
+    requires end { IsAmount 600 end }
+    ensures { result ≡ costs_by least with_held without_held end }
 {
-    let rest = with_held.min(without_held).min(0);
+    let rest = with_held.min(without_held).min(end);
+    let kept = with_held.min(end);
+    let charged = (least + rest).min(NEVER);
+    let apart = (least + kept).min(without_held);
     LegCosts {
         free: rest,
-        charged: least + rest,
-        apart: (least + with_held.min(0)).min(without_held),
+        charged,
+        apart,
     }
 }

@@ -1,6 +1,7 @@
 pub mod FinalSteps
 pub mod FutileLaws
 pub mod KeptLaws
+pub mod LastLaws
 pub mod LegLaws
 pub mod MoveBounds
 pub mod MoveLaws

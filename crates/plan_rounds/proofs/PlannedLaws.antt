@@ -39,6 +39,12 @@ adds_none front = record {
   from = All-weaker (Contains front) (λ entry. Contains front entry ⊎ Contains [] entry) (λ entry at. inl at) front (All-contains_itself front);
 }
 
+-- what is there is of a kind, where all is that was there before or was offered
+pub adds_right : (P : Entry → Type 0) (entries old new : List Entry) → AddsEntries entries old new → All P old → All P entries → All P new
+adds_right P entries old new adds before offered =
+    All-weaker (λ x. Contains old x ⊎ Contains entries x) P
+    (λ x. ⊎_elim (All-contains P old x before) (All-contains P entries x offered)) new adds.from
+
 -- one entry more was
 pub adds_more : (entries old mid new : List Entry) (entry : Entry) → AddsEntries entries old mid → has_as_good as_good new entry ≡ true →
     CoversAll as_good mid new → All (λ x. Contains mid x ⊎ (x ≡ entry)) new → AddsEntries (entries ++ entry ∷ []) old new

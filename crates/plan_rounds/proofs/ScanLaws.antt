@@ -1,12 +1,11 @@
 -- What the positions are that labels reach, and what is offered of the rides from them.
 use Rattle.std.proofs.Common.{◌≡◌, refl, sym, ◌∙◌, ap, subst, ℕ, ◌+◌, ◌<◌, ◌≤◌, ◌⊎◌, inl, inr, ⊎_elim, Bool, true, false, List, [], ◌∷◌, ◌++◌, length, arith, ℤ, ◌≤ℤ◌, ◌<ℤ◌}
-use Rattle.std.specs.Prelude.{Some, slice_get, Contains, IsPermutation, int_le}
-use Rattle.std.proofs.lemmas.Bool.{cases_lt}
+use Rattle.std.specs.Prelude.{Option, Some, None, slice_get, Contains, IsPermutation, int_le}
+use Rattle.std.proofs.lemmas.Bool.{both_ways, cases_lt}
 use Rattle.std.proofs.lemmas.Int.{ints}
 use Rattle.std.proofs.lemmas.List.{length_push}
 use Rattle.std.proofs.lemmas.List.Sorted.{Contains-permutation, IsPermutation-sym}
 use Rattle.std.proofs.lemmas.Option.{same_Some, slice_get_within, slice_get-get_or}
-use Rattle.transit_base.specs.declared.moments.Moment.{Moment}
 use Rattle.feed_rows.specs.declared.journeys.Ride.{Ride}
 use Rattle.feed_rows.specs.declared.journeys.RideFacts.{RideFacts}
 use Rattle.feed_rows.specs.JourneyStands.{Stand, stand_at_end}
@@ -24,9 +23,11 @@ use Rattle.round_labels.specs.declared.label.Label.{Label}
 use Rattle.plan_rounds.specs.declared.scan.Marks.{Marks}
 use Rattle.plan_rounds.specs.declared.scan.Round.{Round}
 use Rattle.plan_rounds.specs.declared.search.Source.{Source}
-use Rattle.plan_rounds.specs.Bounds.{IsFairBy}
+use Rattle.plan_rounds.specs.Bounds.{DepartsSince, IsFairBy}
+use Rattle.plan_rounds.specs.declared.bounds.Until.{Until}
+use Rattle.plan_rounds.proofs.UsefulLaws.{since_none}
 use Rattle.round_labels.specs.Labels.{facts_of, stand_of_label}
-use Rattle.plan_rounds.specs.Scans.{AddsMarks, AreMarks, AreReached, IsFairIn, IsRound, IsUntilIn, StepsAmong, StepsAt, StepsAtFirst, StepsFromPosition}
+use Rattle.plan_rounds.specs.Scans.{AddsMarks, AreMarks, AreReached, IsFairIn, IsLeftOut, IsRound, IsUntilIn, StepsAmong, StepsAt, StepsAtFirst, StepsFromPosition}
 use Rattle.plan_rounds.specs.Searched.{Searched, Lacks}
 use Rattle.plan_rounds.specs.Sources.{IsSource, StepsByFirst}
 use Rattle.plan_rounds.specs.Stores.{StepsBy, StepsTo}
@@ -46,7 +47,7 @@ step_caught task me x b feed query to =
 
 -- what was reached leads to each step, but for those behind which nothing may be lacking
 pub marks_of : (task : Searched) (round : Round) (source : Source) (latest lasts : CutoffOf) (old new : List Reached) →
-    IsRound task round → IsFairBy task round.finals.now source.label.now latest → AreLastDepartures task.feed task.query latest lasts →
+    IsRound task round → IsFairBy task round.finals.now source.label.now None latest → AreLastDepartures task.feed task.query latest lasts →
     AddsReached round.positions.now lasts (stand_of_label source.label.now) source.number IsAny old new →
     AddsMarks task round source old new
 marks_of task round source latest lasts old new is fair last adds = record {
@@ -70,7 +71,7 @@ marks_of task round source latest lasts old new is fair last adds = record {
         let has = adds.all latest last_here to.0 (stand_at_end to.2.facts)
         (step_caught task me source.label.now b is.feed is.query to) early tt in
         inl (has.0, has.1, has.2, (to, has.3))
-    by b to false late = inr (fair b to late)
+    by b to false late = inr (fair b to (since_none to.2.facts) late)
 
 -- departures that are last are so for the positions of the round
 pub lasts_in : (task : Searched) (round : Round) (latest lasts : CutoffOf) → IsRound task round →
@@ -128,17 +129,17 @@ module _ (task : Searched) (round : Round) where
   }
 
   -- by number the labels of the round have moments until which rides from them may arrive
-  abbrev pub AreUntils : ℤ → List Moment → Type 0
+  abbrev pub AreUntils : ℤ → List Until → Type 0
   AreUntils last untils =
-      (number : ℕ) (x : Label) (until : Moment) → slice_get round.labels.now number ≡ Some x → x.rides ≡ round.count →
-      slice_get untils number ≡ Some until → IsUntilIn task round last x until.0
+      (number : ℕ) (x : Label) (until : Until) → slice_get round.labels.now number ≡ Some x → x.rides ≡ round.count →
+      slice_get untils number ≡ Some until → IsUntilIn task round last x until
 
   pub untils_none : (last : ℤ) → AreUntils last []
   untils_none last number x until is counts at = let lt = slice_get_within [] number until at in absurd (omega (arith, lt))
 
   -- one label more
-  pub untils_more : (untils : List Moment) (old last : ℤ) (k : ℕ) (next : Moment) (y : Label) → length untils ≡ k → old ≤ℤ last →
-      slice_get round.labels.now k ≡ Some y → (y.rides ≡ round.count → IsUntilIn task round last y next.0) → AreUntils old untils →
+  pub untils_more : (untils : List Until) (old last : ℤ) (k : ℕ) (next : Until) (y : Label) → length untils ≡ k → old ≤ℤ last →
+      slice_get round.labels.now k ≡ Some y → (y.rides ≡ round.count → IsUntilIn task round last y next) → AreUntils old untils →
       AreUntils last (untils ++ next ∷ [])
   untils_more untils old last k next y many later at own before number x until is counts has =
       let lt = slice_get_within (untils ++ next ∷ []) number until has in
@@ -152,14 +153,14 @@ module _ (task : Searched) (round : Round) where
       let same : number ≡ k = omega (arith, lt, long, many, upper) in
       let is_y : y ≡ x = same_Some _ _ (sym at ∙ ap (slice_get round.labels.now) (sym same) ∙ is) in
       let is_next : next ≡ until = same_Some _ _ (sym (slice_get-push_last untils next number (same ∙ sym many)) ∙ has) in
-      subst (λ (m : Moment). IsUntilIn task round last x m.0) is_next
-      (subst (λ (z : Label). IsUntilIn task round last z next.0) is_y (own (ap (λ (z : Label). z.rides) is_y ∙ counts))))
+      subst (IsUntilIn task round last x) is_next
+      (subst (λ (z : Label). IsUntilIn task round last z next) is_y (own (ap (λ (z : Label). z.rides) is_y ∙ counts))))
       (cases_lt number k)
 
   -- the moment of a label of the round
   pub until_at : (marks : Marks) (number : ℕ) (x : Label) → AreMarks task round marks → slice_get round.labels.now number ≡ Some x →
       x.rides ≡ round.count →
-      (until : Moment) × (slice_get marks.untils.items number ≡ Some until) × IsUntilIn task round marks.last.0 x until.0
+      (until : Until) × (slice_get marks.untils.items number ≡ Some until) × IsUntilIn task round marks.last.0 x until
   until_at marks number x are at counts =
       let within = slice_get_within round.labels.now number x at in
       let many = are.many in
@@ -232,12 +233,13 @@ module _ (task : Searched) (round : Round) (source : Source) (reached : Reached)
           (i, lt, same_Some _ _ (sym (slice_get-get_or rides i x lt) ∙ got))
 
   -- one that arrives too late for the label leads to what the search may lack
-  pub by_late : (own_latest : CutoffOf) (k : ℕ) (caught : CaughtRide) (b : LabelFacts) → slice_get rides k ≡ Some caught →
+  by_late : (since : Option ℤ) (own_latest : CutoffOf) (k : ℕ) (caught : CaughtRide) (b : LabelFacts) → slice_get rides k ≡ Some caught →
       int_le reached.earliest.0 caught.facts.departure.0 ≡ true → source.label.now.rides ≡ round.count →
-      IsFairIn task round source.label.now own_latest → is_early own_latest caught.facts.to.0 caught.facts.arrival.0 ≡ false →
+      IsFairIn task round source.label.now since own_latest → DepartsSince since caught.facts →
+      is_early own_latest caught.facts.to.0 caught.facts.arrival.0 ≡ false →
       StepsByFirst task.feed task.query source rides (k + 1) b →
       StepsByFirst task.feed task.query source rides k b ⊎ Lacks task round.finals.now b
-  by_late own_latest k caught b at since counts fair late steps =
+  by_late moment own_latest k caught b at since counts fair departs late steps =
       let below = steps.1 in
       ⊎_elim (λ lower. inl (steps.0, lower, steps.2, steps.3, steps.4))
       (λ upper.
@@ -247,12 +249,26 @@ module _ (task : Searched) (round : Round) (source : Source) (reached : Reached)
       let lt = slice_get_within rides k caught at in
       let right = right_from caught (k, lt, same_Some _ _ (sym (slice_get-get_or rides k caught lt) ∙ at)) since in
       let facts_are : caught.facts ≡ by.1.facts = same_Some _ _ (sym right.facts ∙ by.1.rides.is) in
-      inr (fair counts b (caught.ride, by.0, by.1)
+      inr (fair counts b (caught.ride, by.0, by.1) (subst (DepartsSince moment) facts_are departs)
       (subst (λ (f : RideFacts). is_early own_latest f.to.0 f.arrival.0 ≡ false) facts_are late)))
       (cases_lt steps.0 k)
 
+  -- so does one that needn't be tried
+  pub by_left_out : (latest_own late_own : CutoffOf) (moment : ℤ) (k : ℕ) (caught : CaughtRide) (b : LabelFacts) →
+      slice_get rides k ≡ Some caught → int_le reached.earliest.0 caught.facts.departure.0 ≡ true → source.label.now.rides ≡ round.count →
+      IsFairIn task round source.label.now None latest_own → IsFairIn task round source.label.now (Some moment) late_own →
+      IsLeftOut task latest_own moment late_own caught.facts → StepsByFirst task.feed task.query source rides (k + 1) b →
+      StepsByFirst task.feed task.query source rides k b ⊎ Lacks task round.finals.now b
+  by_left_out latest_own late_own moment k caught b at since counts fair fair_late (inl late) steps =
+      by_late None latest_own k caught b at since counts fair (since_none caught.facts) late steps
+  by_left_out latest_own late_own moment k caught b at since counts fair fair_late (inr (inl late)) steps =
+      by_late (Some moment) late_own k caught b at since counts fair_late
+      (λ m is. subst (λ (z : ℤ). z <ℤ caught.facts.departure.0) (same_Some _ _ is) late.0) late.1 steps
+  by_left_out latest_own late_own moment k caught b at since counts fair fair_late (inr (inr loose)) steps =
+      inr (λ strict. absurd (both_ways task.loose strict loose))
+
   -- each step by a ride from there is by one of them, or leads to what the search may lack
-  pub steps_from : (b : LabelFacts) → source.label.now.rides ≡ round.count → IsFairIn task round source.label.now latest →
+  pub steps_from : (b : LabelFacts) → source.label.now.rides ≡ round.count → IsFairIn task round source.label.now None latest →
       StepsAt task me source.label.now reached b →
       StepsByFirst task.feed task.query source rides (length rides) b ⊎ Lacks task round.finals.now b
   steps_from b counts fair step = by (is_early latest step.0.2.facts.to.0 step.0.2.facts.arrival.0) refl
@@ -268,4 +284,4 @@ module _ (task : Searched) (round : Round) (source : Source) (reached : Reached)
           let at = slice_get-Contains rides some.0 some.1 in
           let lt = slice_get_within rides at.0 some.0 at.1 in
           inl (at.0, lt, some.0, at.1, (step.0.1, subst (λ (r : Ride). IsLabelStep task.feed task.query (facts_of source.label.now) r step.0.1 b) (sym some.2) step.0.2))
-      by false late = inr (fair counts b step.0 late)
+      by false late = inr (fair counts b step.0 (since_none step.0.2.facts) late)

@@ -1,21 +1,20 @@
 -- What a search for an answer needn't look at: rides that arrive too late, and labels that end no better than what is found.
 use Rattle.std.proofs.Common.{◌≡◌, refl, sym, ap, subst, ℕ, zero, suc, ◌+◌, ◌<◌, ◌≤◌, ◌⊎◌, inl, inr, ⊎_elim, Bool, true, false, List, arith, ℤ, pos, ◌+ℤ◌, ◌-ℤ◌, ◌≤ℤ◌, ◌<ℤ◌}
 use Rattle.std.specs.Prelude.{◌==◌, Contains, Option, Some, None, int_le, is_some, slice_get}
-use Rattle.std.specs.Int.{int_min}
 use Rattle.std.specs.List.{list_any}
 use Rattle.std.proofs.lemmas.List.Folds.{list_any-from_Any}
-use Rattle.std.proofs.lemmas.Bool.{both_ways}
+use Rattle.std.proofs.lemmas.Bool.{both_ways, cases_lt}
 use Rattle.std.proofs.lemmas.Int.{ints}
+use Rattle.std.proofs.lemmas.Option.{none-some}
 use Rattle.transit_base.specs.declared.moments.Moment.{Moment}
 use Rattle.transit_base.specs.declared.moments.Secs.{Secs}
 use Rattle.feed_rows.specs.declared.fares.Triple.{Triple}
 use Rattle.feed_rows.specs.declared.journeys.Query.{Query}
+use Rattle.feed_rows.specs.declared.journeys.RideFacts.{RideFacts}
 use Rattle.feed_rows.specs.FeedRows.{FeedRows}
 use Rattle.feed_rows.specs.LabelCover.{price_so_far}
 use Rattle.feed_rows.specs.PartialJourneys.{LabelFacts}
 use Rattle.feed_rows.specs.SoundFeed.{IsSoundFeed}
-use Rattle.fare_bounds.specs.FareBounds.{AreFareBounds}
-use Rattle.fare_bounds.specs.declared.level.Level.{Level}
 use Rattle.plain_laws.proofs.Laws.{int_le-true}
 use Rattle.plan_rides.specs.Cutoffs.{cutoff_by, is_early, is_span, is_span_any}
 use Rattle.plan_rides.specs.InTime.{IsWithinWindow, deadline}
@@ -25,10 +24,9 @@ use Rattle.round_labels.specs.Labels.{facts_of}
 use Rattle.round_laws.specs.Futility.{LeadsBy, IsFutile, MayLack, is_within, least_end}
 use Rattle.round_laws.proofs.BoundLaws.{ahead_passes, ahead_tells}
 use Rattle.round_table.specs.declared.finals.Final.{Final}
-use Rattle.plan_rounds.specs.Bounds.{Costs, CostsMore, HasRides, IsFairBy, IsNoEnd, IsOutdoneAfter, IsUntil}
+use Rattle.plan_rounds.specs.Bounds.{AreFoundBy, CostsBy, CostsOn, DepartsSince, IsFairBy, IsFoundUntil, IsOutdoneAfter, IsUntil, IsUntilBy, LeadsOn}
 use Rattle.plan_rounds.specs.Searched.{IsFoundBy, Lacks, Searched, has_ahead}
 use Rattle.plan_rounds.proofs.FutileLaws.{found_ahead, found_up}
-use Rattle.plan_rounds.proofs.PriceLaws.{leads_above, least_on}
 use Rattle.plan_rounds.proofs.SpanLaws.{leads_early, leads_few, leads_in_time, overdue}
 
 -- (what stands in a list doesn't hang on these)
@@ -40,8 +38,9 @@ no_final = record { triple = no_triple; label = 0; last = record { 0 = 0 } }
 
 -- what is futile may be lacking, where the search needn't be whole
 lack_of : (task : Searched) (finals : List Final) (b : LabelFacts) → task.whole ≡ false →
-    IsFutile task.feed task.query (IsFoundBy task finals) b → Lacks task finals b
-lack_of task finals b lean futile strict = subst (λ w. MayLack task.feed task.query w (IsFoundBy task finals) b) (sym lean) futile
+    (task.loose ≡ false → IsFutile task.feed task.query (IsFoundBy task finals) b) → Lacks task finals b
+lack_of task finals b lean futile strict =
+    subst (λ w. MayLack task.feed task.query w (IsFoundBy task finals) b) (sym lean) (futile strict)
 
 -- each further ride counts
 pub leads_rides : (feed : FeedRows) (query : Query) (n : ℕ) (a : LabelFacts) (triple : Triple) → LeadsBy feed query n a triple →
@@ -87,18 +86,18 @@ none_of (Some x) none = absurd (let never : true ≡ false = none in cc)
 -- ---- rides that arrive too late
 
 -- the cutoff by such a moment is fair to the label
-pub fair_by : (task : Searched) (lists : SpanLists) (finals : List Final) (x : Label) (until : ℤ) (more : ℕ) → IsSoundFeed task.feed →
+pub fair_by : (task : Searched) (lists : SpanLists) (finals : List Final) (x : Label) (since : Option ℤ) (until : ℤ) (more : ℕ) → IsSoundFeed task.feed →
     AreSpans task.feed task.query lists → (task.whole ≡ true → lists ≡ no_spans) → IsWithinWindow task.query x.arrival.0 →
-    IsUntil task finals x until → x.rides + 1 + more ≡ task.query.rides →
-    IsFairBy task finals x (cutoff_by (stands_of lists more) until)
-fair_by task lists finals x until more sound are none within is left b to late = by task.whole refl
+    IsUntil task finals x since until → x.rides + 1 + more ≡ task.query.rides →
+    IsFairBy task finals x since (cutoff_by (stands_of lists more) until)
+fair_by task lists finals x since until more sound are none within is left b to departs late = by task.whole refl
   where
-    late_leads : (n : ℕ) (triple : Triple) → LeadsBy task.feed task.query n b triple → IsFoundBy task finals triple
-    late_leads n triple leads =
+    late_leads : task.loose ≡ false → (n : ℕ) (triple : Triple) → LeadsBy task.feed task.query n b triple → IsFoundBy task finals triple
+    late_leads strict n triple leads =
         ⊎_elim
         (λ in_time. absurd (overdue task.feed task.query lists until more (facts_of x) b to.0 to.1 (omega (arith, left)) sound are within to.2 late
         n triple in_time leads))
-        (is.later b to n triple leads) (either triple.arrival.0 until)
+        (is.later strict b to departs n triple leads) (either triple.arrival.0 until)
 
     by : (w : Bool) → task.whole ≡ w → Lacks task finals b
     by false lean = lack_of task finals b lean late_leads
@@ -106,54 +105,144 @@ fair_by task lists finals x until more sound are none within is left b to late =
         absurd (both_ways (is_early (cutoff_by (stands_of lists more) until) to.2.facts.to.0 to.2.facts.arrival.0) late
         (never_late more to.2.facts.to.0 until to.2.facts.arrival.0 lists (none whole)))
 
+-- any ride departs so where there is no moment
+pub since_none : (facts : RideFacts) → DepartsSince None facts
+since_none facts moment is = absurd (none-some moment is)
+
 -- the deadline is such a moment
-pub until_deadline : (task : Searched) (finals : List Final) (x : Label) (until : ℤ) → until ≡ deadline task.query → IsUntil task finals x until
-until_deadline task finals x until is = record {
+pub until_deadline : (task : Searched) (finals : List Final) (x : Label) (since : Option ℤ) (until : ℤ) → until ≡ deadline task.query →
+    IsUntil task finals x since until
+until_deadline task finals x since until is = record {
   within = omega (arith, ints, is);
-  later = λ b to n triple leads after.
+  later = λ strict b to departs n triple leads after.
       let in_time = leads_in_time task.feed task.query n b triple leads in
       absurd (omega (arith, ints, is, after, in_time));
 }
 
--- so is an earlier one at which something is found, with no more rides than one more makes of the label, for no more than can follow
-pub until_found : (task : Searched) (finals : List Final) (x : Label) (found : Triple) (price : ℤ) → IsFoundBy task finals found →
-    found.rides ≤ x.rides + 1 → found.price.0 ≤ℤ price → CostsMore task.feed task.query (facts_of x) price →
-    found.arrival.0 ≤ℤ deadline task.query → IsUntil task finals x found.arrival.0
-until_found task finals x found price is few cheap costs within = record {
+-- a later moment of the window serves too
+pub until_later : (task : Searched) (finals : List Final) (x : Label) (since : Option ℤ) (until later : ℤ) →
+    IsUntil task finals x since until → until ≤ℤ later → later ≤ℤ deadline task.query → IsUntil task finals x since later
+until_later task finals x since until later is before within = record {
   within = within;
-  later = λ b to n triple leads after.
-      let rides = leads_rides task.feed task.query n b triple leads in
-      let next = ap (λ (a : LabelFacts). a.rides) to.2.next in
-      let no_less = costs n triple (to.0, to.1, b, to.2, leads) in
-      found_up task finals found triple
-      (ahead_passes triple.arrival.0 triple.rides triple.price.0 found (record {
-        arrival = omega (arith, ints, after);
-        few = omega (arith, few, rides, next);
-        cheap = omega (arith, ints, cheap, no_less);
-      })) is;
+  later = λ strict b to departs n triple leads after. is.later strict b to departs n triple leads (omega (arith, ints, before, after));
 }
 
--- so is the earlier of one and of the arrival of what is found
-pub until_sooner : (task : Searched) (finals : List Final) (x : Label) (found : Triple) (price : ℤ) (old new : Moment) →
-    IsUntil task finals x old.0 → CostsMore task.feed task.query (facts_of x) price → IsFoundBy task finals found → new.0 ≤ℤ old.0 →
-    (new ≡ old) ⊎ ((new ≡ found.arrival) × (found.rides ≤ x.rides + 1) × (found.price.0 ≤ℤ price)) → IsUntil task finals x new.0
-until_sooner task finals x found price old new was costs is before (inl same) =
-    subst (λ (m : Moment). IsUntil task finals x m.0) (sym same) was
-until_sooner task finals x found price old new was costs is before (inr sooner) =
-    let within = was.within in
-    subst (λ (m : Moment). IsUntil task finals x m.0) (sym sooner.0)
-    (until_found task finals x found price is sooner.1 sooner.2 costs
-    (subst (λ (m : Moment). m.0 ≤ℤ deadline task.query) sooner.0 (no_later new.0 old.0 (deadline task.query) before within)))
-  where
-    no_later : (y z w : ℤ) → y ≤ℤ z → z ≤ℤ w → y ≤ℤ w
-    no_later y z w p q = omega (arith, ints, p, q)
+-- and in a loose search an earlier one
+pub until_before : (task : Searched) (finals : List Final) (x : Label) (since : Option ℤ) (old new : Moment) →
+    IsUntil task finals x since old.0 → new.0 ≤ℤ old.0 → (task.loose ≡ false → new ≡ old) → IsUntil task finals x since new.0
+until_before task finals x since old new is before same = record {
+  within = let within = is.within in omega (arith, ints, before, within);
+  later = λ strict b to departs n triple leads after.
+      is.later strict b to departs n triple leads (subst (λ (m : Moment). m.0 <ℤ triple.arrival.0) (same strict) after);
+}
 
--- a later moment of the window serves too
-pub until_later : (task : Searched) (finals : List Final) (x : Label) (until later : ℤ) → IsUntil task finals x until → until ≤ℤ later →
-    later ≤ℤ deadline task.query → IsUntil task finals x later
-until_later task finals x until later is before within = record {
+-- what is so for all rides is so for those that depart later than a moment
+pub until_some : (task : Searched) (finals : List Final) (x : Label) (since : Option ℤ) (until : ℤ) → IsUntil task finals x None until →
+    IsUntil task finals x since until
+until_some task finals x since until is = record {
+  within = is.within;
+  later = λ strict b to departs n triple leads after. is.later strict b to (since_none to.2.facts) n triple leads after;
+}
+
+-- ---- until when journeys of so many further rides may end
+
+-- any moment of the window, where there are none
+pub by_none : (task : Searched) (finals : List Final) (since : Option ℤ) (n : ℕ) (a : LabelFacts) (until : ℤ) →
+    until ≤ℤ deadline task.query → ((triple : Triple) → LeadsOn task.feed task.query since n a triple → ⊥) →
+    IsUntilBy task finals since n a until
+by_none task finals since n a until within none = record { within = within; later = λ triple leads after. absurd (none triple leads) }
+
+-- a journey that goes on by a ride and so many more goes on by one more
+pub leads_more : (feed : FeedRows) (query : Query) (since : Option ℤ) (n : ℕ) (a : LabelFacts) (triple : Triple) →
+    LeadsOn feed query since n a triple → LeadsBy feed query (suc n) a triple
+leads_more feed query since n a triple leads = (leads.0, leads.1, leads.2, leads.3, leads.5)
+
+-- the earlier of a moment and of the arrival of one thing more that is found
+pub found_sooner : (task : Searched) (finals : List Final) (rides : ℕ) (price : ℤ) (until old new : Moment) (found : Triple) →
+    IsFoundUntil task finals rides price until old → IsFoundBy task finals found → new.0 ≤ℤ old.0 →
+    (new ≡ old) ⊎ ((new ≡ found.arrival) × (found.rides ≤ rides) × (found.price.0 ≤ℤ price)) →
+    IsFoundUntil task finals rides price until new
+found_sooner task finals rides price until old new found was is before (inl same) =
+    subst (IsFoundUntil task finals rides price until) (sym same) was
+found_sooner task finals rides price until old new found was is before (inr sooner) = record {
+  before = let earlier = was.before in omega (arith, ints, earlier, before);
+  is = inr (found, is, sooner.0, sooner.1, sooner.2);
+}
+
+-- the first arrival of what is found, with no more rides and for no more than they cost
+pub by_found : (task : Searched) (finals : List Final) (since : Option ℤ) (n rides : ℕ) (a : LabelFacts) (price : ℤ) (until first : Moment) →
+    rides ≡ a.rides + n + 1 → until.0 ≡ deadline task.query → CostsOn task.feed task.query since n a price →
+    IsFoundUntil task finals rides price until first → IsUntilBy task finals since n a first.0
+by_found task finals since n rides a price until first sum last costs is = record {
+  within = let before = is.before in omega (arith, ints, before, last);
+  later = λ triple leads after. ⊎_elim
+      (λ same.
+      let in_time = leads_in_time task.feed task.query (suc n) a triple (leads_more task.feed task.query since n a triple leads) in
+      absurd (never first.0 until.0 triple.arrival.0 (deadline task.query) (ap (λ (m : Moment). m.0) same) last after in_time))
+      (λ some. found_up task finals some.0 triple
+      (ahead_passes triple.arrival.0 triple.rides triple.price.0 some.0 (record {
+        arrival = sooner first.0 some.0.arrival.0 triple.arrival.0 (ap (λ (m : Moment). m.0) some.2) after;
+        few = fewer some.0.rides triple.rides some.3
+            (leads_rides task.feed task.query (suc n) a triple (leads_more task.feed task.query since n a triple leads));
+        cheap = cheaper some.0.price.0 price triple.price.0 some.4 (costs triple leads);
+      })) some.1)
+      is.is;
+}
+  where
+    never : (f u t d : ℤ) → f ≡ u → u ≡ d → f <ℤ t → t ≤ℤ d → ⊥
+    never f u t d same end after in_time = omega (arith, ints, same, end, after, in_time)
+
+    sooner : (f s t : ℤ) → f ≡ s → f <ℤ t → s ≤ℤ t
+    sooner f s t same after = omega (arith, ints, same, after)
+
+    fewer : (m t : ℕ) → m ≤ rides → t ≡ a.rides + suc n → m ≤ t
+    fewer m t p q = omega (arith, p, q, sum)
+
+    cheaper : (y z t : ℤ) → y ≤ℤ z → z ≤ℤ t → y ≤ℤ t
+    cheaper y z t p q = omega (arith, ints, p, q)
+
+by_later : (task : Searched) (finals : List Final) (since : Option ℤ) (n : ℕ) (a : LabelFacts) (until later : ℤ) →
+    IsUntilBy task finals since n a until → until ≤ℤ later → later ≤ℤ deadline task.query → IsUntilBy task finals since n a later
+by_later task finals since n a until later is before within = record {
   within = within;
-  later = λ b to n triple leads after. is.later b to n triple leads (omega (arith, ints, before, after));
+  later = λ triple leads after. is.later triple leads (omega (arith, ints, before, after));
+}
+
+-- the moment is one for each number of rides behind the next below so many
+pub record IsUntilFirst (task : Searched) (finals : List Final) (since : Option ℤ) (n : ℕ) (a : LabelFacts) (until : ℤ) : Type 0 where
+  pub within : until ≤ℤ deadline task.query
+  pub first : (m : ℕ) → m < n → IsUntilBy task finals since m a until
+
+pub until_none : (task : Searched) (finals : List Final) (since : Option ℤ) (a : LabelFacts) (until : ℤ) → until ≤ℤ deadline task.query →
+    IsUntilFirst task finals since 0 a until
+until_none task finals since a until within = record { within = within; first = λ m lt. absurd (omega (arith, lt)) }
+
+pub until_more : (task : Searched) (finals : List Final) (since : Option ℤ) (n : ℕ) (a : LabelFacts) (old by new : Moment) →
+    IsUntilFirst task finals since n a old.0 → IsUntilBy task finals since n a by.0 → old.0 ≤ℤ new.0 → by.0 ≤ℤ new.0 →
+    (new ≡ old) ⊎ (new ≡ by) → IsUntilFirst task finals since (n + 1) a new.0
+until_more task finals since n a old by new was is after_old after_by one = record {
+  within = in_window;
+  first = λ m lt. ⊎_elim (λ less. by_later task finals since m a old.0 new.0 (was.first m less) after_old in_window)
+      (λ same. by_later task finals since m a by.0 new.0
+      (subst (λ (k : ℕ). IsUntilBy task finals since k a by.0) (sym same) is) after_by in_window) (cases_of m lt);
+}
+  where
+    in_window : new.0 ≤ℤ deadline task.query
+    in_window = ⊎_elim (λ same. subst (λ (m : Moment). m.0 ≤ℤ deadline task.query) (sym same) was.within)
+        (λ same. subst (λ (m : Moment). m.0 ≤ℤ deadline task.query) (sym same) is.within) one
+
+    cases_of : (m : ℕ) → m < n + 1 → (m < n) ⊎ (m ≡ n)
+    cases_of m lt = ⊎_elim inl (λ ge. inr (omega (arith, lt, ge))) (cases_lt m n)
+
+-- no more rides follow than the limit allows
+pub until_all : (task : Searched) (finals : List Final) (x : Label) (since : Option ℤ) (n : ℕ) (until : ℤ) →
+    IsUntilFirst task finals since n (facts_of x) until → task.query.rides ≤ x.rides + n → IsUntil task finals x since until
+until_all task finals x since n until are left = record {
+  within = are.within;
+  later = λ strict b to departs m triple leads after.
+      let fits = leads_few task.feed task.query (suc m) (facts_of x) triple (to.0, to.1, b, to.2, leads) in
+      (are.first m (⊎_elim (λ none. absurd (omega (arith, none))) (λ le. omega (arith, le, left)) fits)).later triple
+      (to.0, to.1, b, to.2, departs, leads) after;
 }
 
 -- no ride arrives in time after the deadline
@@ -180,99 +269,62 @@ outdone_sooner task finals x final price old new was among is (inr sooner) = λ 
 
 -- ---- labels that end no better
 
-module _ (feed : FeedRows) (query : Query) (x : Label) where
-  abbrev a : LabelFacts
-  a = facts_of x
+-- what is told of no further rides
+pub costs_here : (feed : FeedRows) (query : Query) (a : LabelFacts) (price : ℤ) → price ≡ price_so_far a → CostsBy feed query 0 a price
+costs_here feed query a price is triple leads = let so = leads.1.price in omega (arith, ints, is, so)
 
-  -- what is told of further rides
-  pub costs_more : (bounds : List Level) (more : ℕ) → AreFareBounds feed query.rider query.rides bounds → more ≤ query.rides →
-      query.rides ≤ x.rides + more → 0 < more → CostsMore feed query a (least_on bounds more a)
-  costs_more bounds more are few left some n triple leads =
-      let fits = leads_few feed query (suc n) a triple leads in
-      leads_above feed query bounds are n more a triple
-      (⊎_elim (λ none. absurd (omega (arith, none))) (λ le. omega (arith, le, left)) fits) few leads
+-- and of some
+pub costs_more : (feed : FeedRows) (query : Query) (n : ℕ) (a : LabelFacts) (price : ℤ) → CostsOn feed query None n a price →
+    CostsBy feed query (suc n) a price
+costs_more feed query n a price costs triple leads =
+    costs triple (leads.0, leads.1, leads.2, leads.3, since_none leads.3.facts, leads.4)
 
-  -- where no journey ends without a further ride there is one at least
-  pub rides_here : HasRides feed query a x.rides
-  rides_here n triple leads = let is = leads_rides feed query n a triple leads in omega (arith, is)
+module _ (task : Searched) (lists : SpanLists) (finals : List Final) (x : Label) (n : ℕ) (sound : IsSoundFeed task.feed)
+    (are : AreSpans task.feed task.query lists) (ridden : (x.rides == 0) ≡ false) (within : IsWithinWindow task.query x.arrival.0) where
+  early : (triple : Triple) → LeadsBy task.feed task.query n (facts_of x) triple →
+      is_early (cutoff_by (stands_of lists n) triple.arrival.0) x.stop.0 x.arrival.0 ≡ true
+  early triple leads = leads_early task.feed task.query lists sound are n (facts_of x) ridden within n (omega arith) triple leads
 
-  pub rides_further : IsNoEnd feed query a → HasRides feed query a (x.rides + 1)
-  rides_further none zero triple leads = absurd (none triple leads)
-  rides_further none (suc n) triple leads = let is = leads_rides feed query (suc n) a triple leads in omega (arith, is)
-
-  -- and so it is with costs
-  here : (triple : Triple) → LeadsBy feed query 0 a triple → triple.price.0 ≡ price_so_far a
-  here triple leads = leads.1.price
-
-  pub costs_here : query.rides ≤ x.rides → Costs feed query a (price_so_far a)
-  costs_here last zero triple leads = let is = here triple leads in omega (arith, ints, is)
-  costs_here last (suc n) triple leads = let few = leads.3.rides.few in absurd (omega (arith, last, few))
-
-  pub costs_further : (price : ℤ) → IsNoEnd feed query a → CostsMore feed query a price → Costs feed query a price
-  costs_further price none more zero triple leads = absurd (none triple leads)
-  costs_further price none more (suc n) triple leads = more n triple leads
-
-  pub costs_lesser : (total further : ℤ) → total ≡ price_so_far a → CostsMore feed query a further → Costs feed query a (int_min total further)
-  costs_lesser total further is more zero triple leads = let so = here triple leads in lower total further triple.price.0 (omega (arith, ints, is, so))
-    where
-      lower : (x y z : ℤ) → x ≤ℤ z → int_min x y ≤ℤ z
-      lower x y z p = grind (arith, ints, p)
-  costs_lesser total further is more (suc n) triple leads = upper total further triple.price.0 (more n triple leads)
-    where
-      upper : (x y z : ℤ) → y ≤ℤ z → int_min x y ≤ℤ z
-      upper x y z p = grind (arith, ints, p)
-
--- where one stands when no journey ends there without a further ride
-pub no_end : (feed : FeedRows) (query : Query) (lists : SpanLists) (x : Label) → IsSoundFeed feed → AreSpans feed query lists →
-    (x.rides == 0) ≡ false → IsWithinWindow query x.arrival.0 → slice_get (stands_of lists 0) x.stop.0 ≡ Some None →
-    IsNoEnd feed query (facts_of x)
-unfolding is_span_any is_span
-no_end feed query lists x sound are ridden within none triple leads =
-    both_ways (is_early (cutoff_by (stands_of lists 0) triple.arrival.0) x.stop.0 x.arrival.0)
-    (rw none refl) (leads_early feed query lists sound are 0 (facts_of x) ridden within 0 (omega arith) triple leads)
-
-module _ (task : Searched) (lists : SpanLists) (finals : List Final) (x : Label) (more : ℕ) (sound : IsSoundFeed task.feed)
-    (are : AreSpans task.feed task.query lists) (ridden : (x.rides == 0) ≡ false) (within : IsWithinWindow task.query x.arrival.0)
-    (left : task.query.rides ≤ x.rides + more) where
-  -- at most as many rides follow
-  few : (n : ℕ) (triple : Triple) → LeadsBy task.feed task.query n (facts_of x) triple → n ≤ more
-  few n triple leads =
-      ⊎_elim (λ none. omega (arith, none)) (λ le. omega (arith, le, left)) (leads_few task.feed task.query n (facts_of x) triple leads)
-
-  early : (n : ℕ) (triple : Triple) → LeadsBy task.feed task.query n (facts_of x) triple →
-      is_early (cutoff_by (stands_of lists more) triple.arrival.0) x.stop.0 x.arrival.0 ≡ true
-  early n triple leads = leads_early task.feed task.query lists sound are more (facts_of x) ridden within n (few n triple leads) triple leads
-
-  -- where no journey ends in time nothing follows
-  pub useless_none : task.whole ≡ false → slice_get (stands_of lists more) x.stop.0 ≡ Some None → Lacks task finals (facts_of x)
+  -- where no journey ends in time there are none
+  pub leads_not : slice_get (stands_of lists n) x.stop.0 ≡ Some None → (triple : Triple) →
+      LeadsBy task.feed task.query n (facts_of x) triple → ⊥
   unfolding is_span_any is_span
-  useless_none lean none =
-      lack_of task finals (facts_of x) lean (λ n triple leads.
-      absurd (both_ways (is_early (cutoff_by (stands_of lists more) triple.arrival.0) x.stop.0 x.arrival.0) (rw none refl) (early n triple leads)))
+  leads_not none triple leads =
+      both_ways (is_early (cutoff_by (stands_of lists n) triple.arrival.0) x.stop.0 x.arrival.0) (rw none refl) (early triple leads)
 
-  -- where something is found as early as any of it, with as few rides and for as little, all of it is found
-  pub useless_ahead : (span : Secs) (rides : ℕ) (price : ℤ) → task.whole ≡ false →
-      slice_get (stands_of lists more) x.stop.0 ≡ Some (Some span) → HasRides task.feed task.query (facts_of x) rides →
-      Costs task.feed task.query (facts_of x) price → has_ahead task finals (x.arrival.0 +ℤ pos span.0) rides price ≡ true →
-      Lacks task finals (facts_of x)
+  -- so all is found
+  pub found_none : slice_get (stands_of lists n) x.stop.0 ≡ Some None → AreFoundBy task finals n (facts_of x)
+  found_none none triple leads = absurd (leads_not none triple leads)
+
+  -- and where something is found as early as any of it, with as few rides and for as little
+  pub found_early : (span : Secs) (rides : ℕ) (price : ℤ) → slice_get (stands_of lists n) x.stop.0 ≡ Some (Some span) →
+      rides ≡ x.rides + n → CostsBy task.feed task.query n (facts_of x) price →
+      has_ahead task finals (x.arrival.0 +ℤ pos span.0) rides price ≡ true → AreFoundBy task finals n (facts_of x)
   unfolding is_span_any is_span
-  useless_ahead span rides price lean at has costs ahead =
-      lack_of task finals (facts_of x) lean (λ n triple leads.
+  found_early span rides price at sum costs ahead triple leads =
       let found = found_ahead task finals (x.arrival.0 +ℤ pos span.0) rides price ahead in
       let tells = ahead_tells (x.arrival.0 +ℤ pos span.0) rides price found.triple found.ahead in
-      let ends : int_le (pos span.0) (triple.arrival.0 -ℤ x.arrival.0) ≡ true = subst (λ o. is_span_any o (triple.arrival.0 -ℤ x.arrival.0) ≡ true) at (early n triple leads) in
+      let ends : int_le (pos span.0) (triple.arrival.0 -ℤ x.arrival.0) ≡ true = subst (λ o. is_span_any o (triple.arrival.0 -ℤ x.arrival.0) ≡ true) at (early triple leads) in
       found_up task finals found.triple triple
       (ahead_passes triple.arrival.0 triple.rides triple.price.0 found.triple (record {
         arrival = later found.triple.arrival.0 x.arrival.0 (pos span.0) triple.arrival.0 tells.arrival (int_le-true _ _ ends);
-        few = fewer found.triple.rides rides triple.rides tells.few (has n triple leads);
-        cheap = cheaper found.triple.price.0 price triple.price.0 tells.cheap (costs n triple leads);
-      })) found.found)
+        few = fewer found.triple.rides triple.rides tells.few (leads_rides task.feed task.query n (facts_of x) triple leads);
+        cheap = cheaper found.triple.price.0 price triple.price.0 tells.cheap (costs triple leads);
+      })) found.found
     where
       later : (y at s t : ℤ) → y ≤ℤ (at +ℤ s) → s ≤ℤ (t -ℤ at) → y ≤ℤ t
       later y at s t p q = omega (arith, ints, p, q)
 
-      fewer : (m n k : ℕ) → m ≤ n → n ≤ k → m ≤ k
-      fewer m n k p q = omega (arith, p, q)
+      fewer : (m t : ℕ) → m ≤ rides → t ≡ x.rides + n → m ≤ t
+      fewer m t p q = omega (arith, p, q, sum)
 
       cheaper : (y z t : ℤ) → y ≤ℤ z → z ≤ℤ t → y ≤ℤ t
       cheaper y z t p q = omega (arith, ints, p, q)
+
+-- where all is found by each number of further rides that the limit allows, the label may be lacking
+pub useless_all : (task : Searched) (finals : List Final) (x : Label) (n : ℕ) → task.whole ≡ false →
+    task.query.rides < x.rides + n → 0 < n → ((m : ℕ) → m < n → AreFoundBy task finals m (facts_of x)) → Lacks task finals (facts_of x)
+useless_all task finals x n lean left some all =
+    lack_of task finals (facts_of x) lean (λ strict m triple leads.
+    all m (⊎_elim (λ none. omega (arith, none, some)) (λ le. omega (arith, le, left))
+    (leads_few task.feed task.query m (facts_of x) triple leads)) triple leads)

@@ -7,3 +7,5 @@ pub mod Scans
 pub mod Searched
 pub mod Sources
 pub mod Stores
+pub mod Lasts
+pub mod Prices

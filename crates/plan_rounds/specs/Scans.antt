@@ -1,14 +1,14 @@
 -- How a round goes on from its labels: by the positions that they reach.
-use Rattle.std.specs.Prelude.{◌≡◌, ◌⊎◌, ℕ, ◌+◌, ◌<◌, ◌^◌, List, [], ◌∷◌, ◌++◌, Contains, Some, length, slice_get, ℤ, ◌≤ℤ◌}
+use Rattle.std.specs.Prelude.{◌≡◌, ◌⊎◌, ℕ, ◌+◌, ◌<◌, ◌^◌, List, [], ◌∷◌, ◌++◌, Contains, Option, Some, None, length, slice_get, false, true, ℤ, ◌≤ℤ◌, ◌<ℤ◌}
 use Rattle.std.specs.List.Sorted.{IsSortedByKey}
 use Rattle.std.specs.Ordering.{nat_cmp, int_cmp, ordering_then}
-use Rattle.transit_base.specs.declared.moments.Moment.{Moment}
 use Rattle.feed_rows.specs.declared.journeys.Query.{Query}
+use Rattle.feed_rows.specs.declared.journeys.RideFacts.{RideFacts}
 use Rattle.feed_rows.specs.FeedRows.{FeedRows}
 use Rattle.feed_rows.specs.PartialJourneys.{LabelFacts}
 use Rattle.plan_rides.specs.Boarding.{MayRide}
 use Rattle.plan_rides.specs.Departures.{TakesServing}
-use Rattle.plan_rides.specs.Cutoffs.{CutoffOf}
+use Rattle.plan_rides.specs.Cutoffs.{CutoffOf, is_early}
 use Rattle.plan_rides.specs.InTime.{IsUsualQuery, IsWithinWindow, deadline}
 use Rattle.plan_rides.specs.Reached.{HoldsFrom, IsReachedFrom, Positioned}
 use Rattle.plan_rides.specs.declared.caught.CaughtRide.{CaughtRide}
@@ -18,7 +18,8 @@ use Rattle.plan_rounds.specs.declared.scan.Marks.{Marks}
 use Rattle.plan_rounds.specs.declared.scan.Round.{Round}
 use Rattle.plan_rounds.specs.declared.search.Source.{Source}
 use Rattle.round_table.specs.Finals.{HasEnds}
-use Rattle.plan_rounds.specs.Bounds.{IsFairBy, IsUntil}
+use Rattle.plan_rounds.specs.Bounds.{AreUntilsOf, IsFairBy}
+use Rattle.plan_rounds.specs.declared.bounds.Until.{Until}
 use Rattle.round_labels.specs.Labels.{IsBounded, facts_of, stand_of_label}
 use Rattle.plan_rounds.specs.Searched.{Searched, Lacks}
 use Rattle.plan_rounds.specs.Stores.{Spreads, StepsFromFirst, StepsTo}
@@ -104,38 +105,45 @@ pub record AreReached (task : Searched) (round : Round) (n : ℕ) (list : List R
       StepsAmong task round list b ⊎ Lacks task round.finals.now b
   pub right : (reached : Reached) → Contains list reached → IsMarked round reached
 
--- the moment is one until which rides from the label may arrive, and it isn't later than the last
-pub record IsUntilIn (task : Searched) (round : Round) (last : ℤ) (x : Label) (until : ℤ) : Type 0 where
-  pub is : IsUntil task round.finals.now x until
-  pub before : until ≤ℤ last
+-- the moments are those until which rides from the label may arrive, and that for all rides isn't later than the last
+pub record IsUntilIn (task : Searched) (round : Round) (last : ℤ) (x : Label) (until : Until) : Type 0 where
+  pub is : AreUntilsOf task round.finals.now x until
+  pub before : until.all.0 ≤ℤ last
 
 -- the marks gain the positions that the source reaches, and behind the moments of the labels before it its own
 pub record AddsLabel (task : Searched) (round : Round) (source : Source) (old new : Marks) : Type 0 where
   pub reached : AddsMarks task round source old.reached.items new.reached.items
-  pub until : Moment
-  pub is : IsUntil task round.finals.now source.label.now until.0
+  pub until : Until
+  pub is : AreUntilsOf task round.finals.now source.label.now until
   pub untils : new.untils.items ≡ old.untils.items ++ until ∷ []
-  pub before : until.0 ≤ℤ new.last.0
+  pub before : until.all.0 ≤ℤ new.last.0
   pub later : old.last.0 ≤ℤ new.last.0
-  pub last : (new.last ≡ old.last) ⊎ (new.last ≡ until)
+  pub last : (new.last ≡ old.last) ⊎ (new.last ≡ until.all)
 
 -- so it is with the positions; and by number the labels of the round have such moments
 pub record AreMarks (task : Searched) (round : Round) (marks : Marks) : Type 0 where
   pub reached : AreReached task round (length round.labels.now) marks.reached.items
   pub many : length marks.untils.items ≡ length round.labels.now
-  pub untils : (number : ℕ) (x : Label) (until : Moment) → slice_get round.labels.now number ≡ Some x → x.rides ≡ round.count →
-      slice_get marks.untils.items number ≡ Some until → IsUntilIn task round marks.last.0 x until.0
+  pub untils : (number : ℕ) (x : Label) (until : Until) → slice_get round.labels.now number ≡ Some x → x.rides ≡ round.count →
+      slice_get marks.untils.items number ≡ Some until → IsUntilIn task round marks.last.0 x until
   pub last : marks.last.0 ≤ℤ deadline task.query
 
--- the cutoff is fair to the label, where that is one of the round
-abbrev pub IsFairIn : Searched → Round → Label → CutoffOf → Type 0
-IsFairIn task round x latest = x.rides ≡ round.count → IsFairBy task round.finals.now x latest
+-- the cutoff is fair to the label for rides that depart so, where that is one of the round
+abbrev pub IsFairIn : Searched → Round → Label → Option ℤ → CutoffOf → Type 0
+IsFairIn task round x since latest = x.rides ≡ round.count → IsFairBy task round.finals.now x since latest
+
+-- a ride needn't be tried from a label: it arrives too late; or it departs later than the moment, and arrives too late for that; or
+-- the search may lack all
+abbrev pub IsLeftOut : Searched → CutoffOf → ℤ → CutoffOf → RideFacts → Type 0
+IsLeftOut task latest since late facts =
+    (is_early latest facts.to.0 facts.arrival.0 ≡ false)
+    ⊎ (((since <ℤ facts.departure.0) × (is_early late facts.to.0 facts.arrival.0 ≡ false)) ⊎ (task.loose ≡ true))
 
 -- rides serve for the label at the position: among them are those from there that arrive early enough, by a cutoff that is fair
 -- to it
 pub record ServeFor (task : Searched) (round : Round) (x : Label) (reached : Reached) (rides : List CaughtRide) : Type 0 where
   pub latest : CutoffOf
-  pub fair : IsFairIn task round x latest
+  pub fair : IsFairIn task round x None latest
   pub holds : HoldsFrom round.positions.now latest reached rides
 
 -- the labels with one ride more gain those that cover this part, but for what the search may lack

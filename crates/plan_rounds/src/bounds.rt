@@ -3,15 +3,17 @@ ghost use Rattle.std.specs.Prelude.{◌≡◌, ◌⊎◌, ◌||◌, ◌+◌, ◌
 ghost use Rattle.feed_rows.specs.FareFloor.{fare_floor};
 ghost use Rattle.feed_rows.specs.PartialJourneys.{LabelFacts};
 ghost use Rattle.plan_rides.specs.InTime.{IsWithinWindow};
-ghost use Rattle.plan_rounds.specs.Bounds.{Costs, CostsMore, HasRides, IsNoEnd, IsOutdoneAfter, IsUntil};
-ghost use Rattle.round_laws.specs.Futility.{is_within, least_end, least_price, some_takes_back};
+ghost use Rattle.plan_rounds.specs.Bounds.{AreFoundBy, AreUntilsOf, CostsBy, IsFoundUntil, IsOutdoneAfter, IsSince, IsUntil, IsUntilBy, since_of};
+ghost use Rattle.plan_rounds.specs.Prices.{AreLeastPrices};
+ghost use Rattle.round_laws.specs.Futility.{LeadsBy, is_within, least_end, least_price, some_takes_back};
 ghost use Rattle.std.specs.List.{list_any};
 ghost use Rattle.feed_rows.specs.declared.fares.Triple.{Triple};
 ghost use Rattle.round_table.specs.declared.finals.Final.{Final};
-ghost use Rattle.round_labels.specs.Labels.{facts_of};
+ghost use Rattle.round_labels.specs.Labels.{IsBounded, facts_of};
 ghost use Rattle.plan_rounds.specs.Searched.{Lacks, has_ahead, is_overtaken_by};
 ghost use Rattle.plan_rounds.specs.Sources.{IsSource};
 
+use crate::prices::{LeastPrices, is_far};
 use crate::search::{Search, Source};
 use feed_rows::{Feed, Triple};
 use feed_timetable::Standing;
@@ -91,6 +93,30 @@ fn sooner(until: Moment, triple: &Triple, rides: u8, price: i128) -> Moment
     }
 }
 
+/// The earlier of both.
+fn earlier(a: Moment, b: Moment) -> Moment
+    ensures { result.0 ≤ℤ a.0 }
+{
+    if b.0 < a.0 { b } else { a }
+}
+
+/// The later of both.
+fn later(a: Moment, b: Moment) -> Moment
+    ensures first { a.0 ≤ℤ result.0 }
+    ensures second { b.0 ≤ℤ result.0 }
+    ensures is { (result ≡ a) ⊎ (result ≡ b) }
+{
+    if a.0 < b.0 { b } else { a }
+}
+
+/// Until when rides from a label may arrive: until the one moment, and until the other where they depart later than this.
+#[derive(Clone, Copy)]
+pub struct Until {
+    pub(crate) all: Moment,
+    pub(crate) since: Moment,
+    pub(crate) late: Moment,
+}
+
 impl<'s, 'l> Search<'s, 'l> {
     /// Whether a final, or a triple that is given, arrives no later than this moment, with no more rides than so many, and costs no
     /// more than this.
@@ -163,108 +189,190 @@ impl<'s, 'l> Search<'s, 'l> {
         after
     }
 
-    /// How little a journey can cost that goes on from the label by one to so many rides.
-    fn least_more(&self, label: &Label, more: u8) -> i128
-        requires few { more ≤ self.now.query.rides }
-        requires some { 0 < more }
-        requires left { self.now.query.rides ≤ label.now.rides + more }
-        ensures { CostsMore self.now.feed self.now.query (facts_of label.now) result }
-    {
-        self.fare_bounds
-            .least_more(more, &label.state, label.paid, label.held)
-    }
-
-    /// Until when rides from the label may arrive: until the first arrival that is found with no more rides than one more makes
-    /// of it and for no more than can follow; else until the latest moment at which a journey may end.
-    pub(crate) fn until(&self, source: &Source, finals: &[Final]) -> Moment
-        requires { IsSource self.now.feed self.now.query source.now }
-        ensures { IsUntil self.now finals.now source.now.label.now result.0 }
-    {
-        let deadline = self.rides.deadline();
-        if self.aim.whole {
-            return deadline;
-        }
-        let label = source.label;
-        let rides = label.rides + 1;
-        let price = self.least_more(label, self.limit() - label.rides);
-        let mut until = deadline;
-        for k in 0..finals.len() {
-            until = sooner(until, &finals[k].triple, rides, price);
-        }
-        for k in 0..self.aim.given.len() {
-            until = sooner(until, &self.aim.given[k], rides, price);
-        }
-        until
-    }
-
-    /// Whether a journey may end at the label without a further ride.
-    fn may_end(&self, label: &Label) -> bool
-        requires ridden { (label.now.rides == 0) ≡ false }
+    /// How little a journey can cost that goes on from the label by so many rides.
+    fn least_cost(&self, label: &Label, further: u8) -> i128
+        requires few { further ≤ self.now.query.rides }
         requires within { IsWithinWindow self.now.query label.now.arrival.0 }
-        ensures { result ≡ false → IsNoEnd self.now.feed self.now.query (facts_of label.now) }
+        ensures { CostsBy self.now.feed self.now.query further (facts_of label.now) result }
     {
+        let _limit = self.limit();
         let _feed = self.feed();
-        match span_at(self.spans.stands(0), label.stop) {
-            Some(span) => span.is_some(),
-            None => true,
-        }
-    }
-
-    /// The least number of rides of a journey that goes on from the label.
-    fn least_rides(&self, label: &Label) -> u8
-        requires few { label.now.rides ≤ 8 }
-        requires ridden { (label.now.rides == 0) ≡ false }
-        requires within { IsWithinWindow self.now.query label.now.arrival.0 }
-        ensures { HasRides self.now.feed self.now.query (facts_of label.now) result }
-    {
-        if self.may_end(label) {
-            label.rides
+        if further == 0 {
+            label.price()
         } else {
-            label.rides + 1
+            self.prices.least_on(label, further - 1, None)
         }
     }
 
-    /// How little a journey can cost that goes on from the label by at most so many rides.
-    fn least_cost(&self, label: &Label, more: u8) -> i128
-        requires few { more ≤ self.now.query.rides }
-        requires left { self.now.query.rides ≤ label.now.rides + more }
-        requires ridden { (label.now.rides == 0) ≡ false }
-        requires within { IsWithinWindow self.now.query label.now.arrival.0 }
-        ensures { Costs self.now.feed self.now.query (facts_of label.now) result }
+    /// Whether the stop is one from which no journey goes on from the label by so many rides.
+    fn is_off(&self, label: &Label, further: u8) -> bool
+        requires { IsWithinWindow self.now.query label.now.arrival.0 }
+        ensures { result ≡ true → (triple : Triple) → LeadsBy self.now.feed self.now.query further (facts_of label.now) triple → ⊥ }
     {
-        if more == 0 {
-            return label.price();
-        }
-        let further = self.least_more(label, more);
-        if self.may_end(label) {
-            label.price().min(further)
-        } else {
-            further
-        }
-    }
-
-    /// Whether, for a search that needn't be whole, all that the label leads to is found already: it ends no earlier, with no
-    /// fewer rides and for no less than something that is found.
-    pub(crate) fn is_useless(&self, label: &Label, finals: &[Final]) -> bool
-        requires few { label.now.rides ≤ self.now.query.rides }
-        requires ridden { (label.now.rides == 0) ≡ false }
-        requires within { IsWithinWindow self.now.query label.now.arrival.0 }
-        ensures { result ≡ true → Lacks self.now finals.now (facts_of label.now) }
-    {
-        if self.aim.whole {
+        if label.rides == 0 {
             return false;
         }
         let _feed = self.feed();
-        let more = self.limit() - label.rides;
-        match span_at(self.spans.stands(usize::from(more)), label.stop) {
+        match span_at(self.spans.stands(usize::from(further)), label.stop) {
+            Some(span) => span.is_none(),
+            None => false,
+        }
+    }
+
+    /// The moment, or the first arrival that is found with no more rides than so many and for no more than this, where that is
+    /// earlier.
+    fn found_by(&self, finals: &[Final], until: Moment, rides: u8, price: i128) -> Moment
+        ensures { IsFoundUntil self.now finals.now rides price until result }
+    {
+        let mut first = until;
+        for k in 0..finals.len() {
+            first = sooner(first, &finals[k].triple, rides, price);
+        }
+        for k in 0..self.aim.given.len() {
+            first = sooner(first, &self.aim.given[k], rides, price);
+        }
+        first
+    }
+
+    /// Until when journeys may end that go on from the label by a ride, which departs later than the moment where there is one and is
+    /// late then, and so many more: until the first arrival that is found with no more rides and for no more than they cost.
+    fn until_by(
+        &self,
+        prices: &LeastPrices,
+        label: &Label,
+        behind: u8,
+        since: Option<Moment>,
+        finals: &[Final],
+    ) -> Moment
+        requires prices { AreLeastPrices self.now.feed self.now.query prices.now }
+        requires few { label.now.rides + behind < self.now.query.rides }
+        requires bounded { IsBounded label.now }
+        requires within { IsWithinWindow self.now.query label.now.arrival.0 }
+        requires since { IsSince self.now.query prices.now.bounds (facts_of label.now) since }
+        ensures { IsUntilBy self.now finals.now (since_of since) behind (facts_of label.now) result.0 }
+    {
+        let _limit = self.limit();
+        let _feed = self.feed();
+        let price = prices.least_on(label, behind, since);
+        if is_far(price) {
+            return self.departure();
+        }
+        if self.is_off(label, behind + 1) {
+            return self.departure();
+        }
+        self.found_by(
+            finals,
+            self.rides.deadline(),
+            label.rides + behind + 1,
+            price,
+        )
+    }
+
+    /// The moment; in a loose search no later than its horizon.
+    fn before_horizon(&self, until: Moment) -> Moment
+        ensures before { result.0 ≤ℤ until.0 }
+        ensures same { self.now.loose ≡ false → result ≡ until }
+    {
+        if !self.aim.loose {
+            return until;
+        }
+        match self.aim.horizon {
+            Some(last) => earlier(until, last),
+            None => until,
+        }
+    }
+
+    /// Until when rides from the label may arrive, which depart later than the moment where there is one and are late then: as late as
+    /// journeys may end that go on by some number of rides.
+    fn until(
+        &self,
+        prices: &LeastPrices,
+        label: &Label,
+        since: Option<Moment>,
+        finals: &[Final],
+    ) -> Moment
+        requires prices { AreLeastPrices self.now.feed self.now.query prices.now }
+        requires few { label.now.rides < self.now.query.rides }
+        requires bounded { IsBounded label.now }
+        requires within { IsWithinWindow self.now.query label.now.arrival.0 }
+        requires since { IsSince self.now.query prices.now.bounds (facts_of label.now) since }
+        ensures { IsUntil self.now finals.now label.now (since_of since) result.0 }
+    {
+        let _usual = self.limit();
+        if self.aim.whole {
+            return self.rides.deadline();
+        }
+        let mut until = self.departure();
+        for behind in 0..self.limit() - label.rides {
+            let by = self.until_by(prices, label, behind, since, finals);
+            until = later(until, by);
+        }
+        self.before_horizon(until)
+    }
+
+    /// Until when rides from the label may arrive.
+    pub(crate) fn untils(&self, source: &Source, finals: &[Final]) -> Until
+        requires { IsSource self.now.feed self.now.query source.now }
+        ensures { AreUntilsOf self.now finals.now source.now.label.now result }
+    {
+        let _usual = self.limit();
+        let prices = self.prices;
+        let label = source.label;
+        let last = self.rides.deadline();
+        let all = self.until(prices, label, None, finals);
+        match prices.late_since(label, self.departure(), last) {
+            Some(since) => Until {
+                all,
+                since,
+                late: self.until(prices, label, Some(since), finals),
+            },
+            None => Until {
+                all,
+                since: last,
+                late: all,
+            },
+        }
+    }
+
+    /// Whether all is found that leads on from the label by so many rides: they end no earlier, with no fewer rides and for no less
+    /// than something that is found.
+    fn are_found(&self, label: &Label, further: u8, finals: &[Final]) -> bool
+        requires few { label.now.rides + further ≤ self.now.query.rides }
+        requires bounded { IsBounded label.now }
+        requires ridden { (label.now.rides == 0) ≡ false }
+        requires within { IsWithinWindow self.now.query label.now.arrival.0 }
+        ensures { result ≡ true → AreFoundBy self.now finals.now further (facts_of label.now) }
+    {
+        let _limit = self.limit();
+        let _feed = self.feed();
+        match span_at(self.spans.stands(usize::from(further)), label.stop) {
             Some(Some(span)) => {
                 let at = label.arrival.plus(span);
-                let rides = self.least_rides(label);
-                let price = self.least_cost(label, more);
-                self.has_ahead(finals, at, rides, price)
+                let price = self.least_cost(label, further);
+                is_far(price) || self.has_ahead(finals, at, label.rides + further, price)
             }
             Some(None) => true,
             None => false,
         }
+    }
+
+    /// Whether, for a search that needn't be whole, all that the label leads to is found already, by whatever number of rides.
+    pub(crate) fn is_useless(&self, label: &Label, finals: &[Final]) -> bool
+        requires few { label.now.rides ≤ self.now.query.rides }
+        requires bounded { IsBounded label.now }
+        requires ridden { (label.now.rides == 0) ≡ false }
+        requires within { IsWithinWindow self.now.query label.now.arrival.0 }
+        ensures { result ≡ true → Lacks self.now finals.now (facts_of label.now) }
+    {
+        let _usual = self.limit();
+        if self.aim.whole {
+            return false;
+        }
+        for further in 0..self.limit() - label.rides + 1 {
+            if !self.are_found(label, further, finals) {
+                return false;
+            }
+        }
+        true
     }
 }

@@ -8,21 +8,29 @@ ghost use Rattle.plan_rides.specs.Reached.{AreKept, HoldsFrom, none_kept};
 ghost use Rattle.plan_rounds.specs.Legs.{AreKinds, HasKinds, StayKnown};
 ghost use Rattle.plan_rounds.specs.Moves.{HasFares};
 
+use crate::repeats::Repeats;
 use crate::scan::{Cutoffs, Round};
 use crate::search::{Found, Search};
 use plan_rides::{CaughtRide, Cutoff, KeptRides, Reached};
 use std::alloc::{AllocError, Global};
+use transit_base::Moment;
 
-/// The rides from the position that was looked at last, and in the same order the numbers of their legs' kinds.
+/// The rides from the position that was looked at last, and in the same order the numbers of their legs' kinds; for a quick search with
+/// those that are like one before.
 pub struct KeptLegs {
     pub(crate) rides: KeptRides,
     pub(crate) kinds: Vec<usize>,
+    pub(crate) repeats: Repeats,
 }
 
 // Written out, so that what holds one needn't look into it to let go of it.
 impl Drop for KeptLegs {
     fn drop(self) {
-        let KeptLegs { rides: _, kinds: _ } = self;
+        let KeptLegs {
+            rides: _,
+            kinds: _,
+            repeats: _,
+        } = self;
     }
 }
 
@@ -32,6 +40,7 @@ impl KeptLegs {
         KeptLegs {
             rides: KeptRides::none(alloc),
             kinds: Vec::new(alloc),
+            repeats: Repeats::none(alloc),
         }
     }
 
@@ -50,8 +59,12 @@ impl KeptLegs {
 pub struct RideLegs<'r> {
     pub(crate) rides: &'r [CaughtRide],
     pub(crate) kinds: &'r [usize],
+    pub(crate) repeats: &'r Repeats,
     /// How late they may arrive.
     pub(crate) latest: Cutoff<'r>,
+    /// The moment past which those that depart are late, and how late these may arrive.
+    pub(crate) since: Moment,
+    pub(crate) late: Cutoff<'r>,
 }
 
 impl<'s, 'l> Search<'s, 'l> {
@@ -112,6 +125,10 @@ impl<'s, 'l> Search<'s, 'l> {
         if !anew {
             return Ok(());
         }
-        self.find_kinds(found, kept.rides.rides(), &mut kept.kinds)
+        self.find_kinds(found, kept.rides.rides(), &mut kept.kinds)?;
+        if self.is_quick() {
+            kept.repeats.find(kept.rides.rides(), &kept.kinds)?;
+        }
+        Ok(())
     }
 }

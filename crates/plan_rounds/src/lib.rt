@@ -4,9 +4,12 @@
 
 mod bounds;
 mod ends;
+mod lasts;
 mod legs;
 mod moves;
 mod plan;
+mod prices;
+mod repeats;
 mod scan;
 mod search;
 mod seen;

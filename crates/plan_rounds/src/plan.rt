@@ -1,7 +1,6 @@
 //! The exact answer to a query, by rounds.
 ghost use Rattle.std.specs.Prelude.{◌≡◌, [], All, IfOk, OnOk, map, true};
 ghost use Rattle.fare_automaton.specs.Terms.{terms};
-ghost use Rattle.fare_timeframes.specs.BuiltTimeframes.{AreTimeframesOf};
 ghost use Rattle.feed_rows.specs.FeedRows.{FeedRows};
 ghost use Rattle.feed_rows.specs.declared.fares.Entry.{Entry};
 ghost use Rattle.feed_rows.specs.declared.journeys.Query.{Query};
@@ -10,13 +9,16 @@ ghost use Rattle.plan_rides.specs.InTime.{IsUsualQuery};
 ghost use Rattle.feed_rows.specs.ClosedTable.{IsClosedTable};
 ghost use Rattle.feed_rows.specs.SoundTable.{IsSoundTable};
 ghost use Rattle.plan_rides.specs.Asked.{asked};
-ghost use Rattle.fare_bounds.specs.FareBounds.{AreFareBounds};
+ghost use Rattle.fare_timeframes.specs.BuiltTimeframes.{AreTimeframesOf};
+ghost use Rattle.plan_rounds.specs.Prices.{AreLeastPrices};
 ghost use Rattle.plan_rides.specs.Spans.{AreSpans, no_spans};
 ghost use Rattle.plan_rounds.specs.Planned.{AddsEntries, CoversAllBy, IsPlanned};
 ghost use Rattle.plan_rounds.specs.Searched.{IsAim, IsTableOf, aim_of, searched};
 ghost use Rattle.round_table.specs.Tables.{CoversAllOffers, table_by};
 
 use crate::bounds::takes_back;
+use crate::lasts::last_groups;
+use crate::prices::LeastPrices;
 use crate::search::{Aim, Search};
 use fare_automaton::Automaton;
 use fare_bounds::FareBounds;
@@ -27,6 +29,7 @@ use pareto_front::Front;
 use plan_rides::{Rides, Spans};
 use round_table::RoundTable;
 use std::alloc::{AllocError, Global};
+use transit_base::Moment;
 
 impl<'s, 'l> Search<'s, 'l> {
     /// The table of all rounds.
@@ -66,14 +69,14 @@ fn table_with<'s, 'l>(
     feed: &'l Feed,
     timeframes: &'l Timeframes,
     spans: &'l Spans,
-    fare_bounds: &'l FareBounds,
+    prices: &'l LeastPrices,
     aim: Aim<'l>,
 ) -> Result<RoundTable, AllocError>
     requires feed { feed.now ≡ rides.now.feed }
     requires timeframes { AreTimeframesOf rides.now.feed timeframes.now }
     requires automaton { automaton.now ≡ terms rides.now.feed rides.now.query.rider }
     requires spans { AreSpans rides.now.feed rides.now.query spans.now }
-    requires fare_bounds { AreFareBounds rides.now.feed rides.now.query.rider rides.now.query.rides fare_bounds.now }
+    requires prices { AreLeastPrices rides.now.feed rides.now.query prices.now }
     requires none { aim.whole ≡ true → spans.now ≡ no_spans }
     requires aim { IsAim (aim_of aim) }
     ensures { IfOk result (λ table. IsTableOf (searched rides.now (aim_of aim.entry)) (table_by table)) }
@@ -85,54 +88,11 @@ fn table_with<'s, 'l>(
         timeframes,
         automaton,
         spans,
-        fare_bounds,
+        prices,
         takes_back: takes_back(feed),
         aim,
     };
     search.table(alloc)
-}
-
-/// Entries of the query that are found at once, by a search that may pass over any journey; none for a search that is to be whole.
-///
-/// # Errors
-/// Want of memory; so counts that there would be 2^32 labels or more.
-fn known_with<'s, 'l>(
-    alloc: Global,
-    rides: &'l Rides<'s>,
-    automaton: &'l Automaton<'s>,
-    feed: &'l Feed,
-    timeframes: &'l Timeframes,
-    spans: &'l Spans,
-    fare_bounds: &'l FareBounds,
-    whole: bool,
-) -> Result<Vec<Entry>, AllocError>
-    requires feed { feed.now ≡ rides.now.feed }
-    requires timeframes { AreTimeframesOf rides.now.feed timeframes.now }
-    requires automaton { automaton.now ≡ terms rides.now.feed rides.now.query.rider }
-    requires spans { AreSpans rides.now.feed rides.now.query spans.now }
-    requires fare_bounds { AreFareBounds rides.now.feed rides.now.query.rider rides.now.query.rides fare_bounds.now }
-    ensures are { IfOk result (λ entries. All (IsEntry rides.now.feed rides.now.query) entries.items) }
-    ensures none { IfOk result (λ entries. whole ≡ true → entries.items ≡ []) }
-{
-    if whole {
-        return Ok(Vec::new(alloc));
-    }
-    let aim = Aim {
-        whole: false,
-        loose: true,
-        given: &[],
-    };
-    table_with(
-        alloc,
-        rides,
-        automaton,
-        feed,
-        timeframes,
-        spans,
-        fare_bounds,
-        aim,
-    )?
-    .entries(alloc)
 }
 
 /// The triples of entries.
@@ -146,8 +106,124 @@ fn triples_of(alloc: Global, entries: &[Entry]) -> Result<Vec<Triple>, AllocErro
     Ok(triples)
 }
 
-/// The table of the search by these, of all labels, or of those alone that matter for the answer beside entries that are found at
-/// once, with these.
+/// Offers entries of a query.
+fn offer_entries(front: &mut Front<Entry>, entries: Vec<Entry>) -> Result<(), AllocError>
+    ensures { OnOk result (AddsEntries entries.items front.old front.new) }
+{
+    for entry in entries {
+        front.offer(entry)?;
+    }
+    Ok(())
+}
+
+/// The best of entries of a query that two searches found.
+fn better_of(alloc: Global, first: Vec<Entry>, second: Vec<Entry>) -> Result<Vec<Entry>, AllocError>
+    ensures { (feed : FeedRows) (query : Query) → All (IsEntry feed query) first.items → All (IsEntry feed query) second.items → IfOk result (λ entries. All (IsEntry feed query) entries.items) }
+{
+    let mut front = Front::empty(alloc);
+    offer_entries(&mut front, first)?;
+    offer_entries(&mut front, second)?;
+    Ok(front.into_items())
+}
+
+/// How late to look for what is cheaper than these: a third longer than the last of them takes; none where there are none.
+fn horizon_of(departure: Moment, found: &[Triple]) -> Option<Moment> {
+    let mut last = found.first()?.arrival;
+    for triple in found {
+        if last.0 < triple.arrival.0 {
+            last = triple.arrival;
+        }
+    }
+    let third = last.0.saturating_sub(departure.0) / 3;
+    Some(Moment(last.0.saturating_add(third)))
+}
+
+/// Entries of the query that are found soon, by a search that may pass over any journey, beside those with these triples: with a
+/// horizon all that end by then.
+///
+/// # Errors
+/// Want of memory; so counts that there would be 2^32 labels or more.
+fn found_soon<'s, 'l>(
+    alloc: Global,
+    rides: &'l Rides<'s>,
+    automaton: &'l Automaton<'s>,
+    feed: &'l Feed,
+    timeframes: &'l Timeframes,
+    spans: &'l Spans,
+    prices: &'l LeastPrices,
+    given: &'l [Triple],
+    horizon: Option<Moment>,
+) -> Result<Vec<Entry>, AllocError>
+    requires feed { feed.now ≡ rides.now.feed }
+    requires timeframes { AreTimeframesOf rides.now.feed timeframes.now }
+    requires automaton { automaton.now ≡ terms rides.now.feed rides.now.query.rider }
+    requires spans { AreSpans rides.now.feed rides.now.query spans.now }
+    requires prices { AreLeastPrices rides.now.feed rides.now.query prices.now }
+    ensures { IfOk result (λ entries. All (IsEntry rides.now.feed rides.now.query) entries.items) }
+{
+    let aim = Aim {
+        whole: false,
+        loose: true,
+        given,
+        horizon,
+    };
+    table_with(
+        alloc, rides, automaton, feed, timeframes, spans, prices, aim,
+    )?
+    .entries(alloc)
+}
+
+/// Entries of the query that are found soon, by searches that may pass over any journey; none for a search that is to be whole. The
+/// first finds some at once; the second what is cheaper and ends little later, so that a cheap journey is known to the search that
+/// looks at all moments.
+///
+/// # Errors
+/// Want of memory; so counts that there would be 2^32 labels or more.
+fn known_with<'s>(
+    alloc: Global,
+    rides: &Rides<'s>,
+    automaton: &Automaton<'s>,
+    feed: &Feed,
+    timeframes: &Timeframes,
+    spans: &Spans,
+    prices: &LeastPrices,
+    whole: bool,
+) -> Result<Vec<Entry>, AllocError>
+    requires feed { feed.now ≡ rides.now.feed }
+    requires timeframes { AreTimeframesOf rides.now.feed timeframes.now }
+    requires automaton { automaton.now ≡ terms rides.now.feed rides.now.query.rider }
+    requires spans { AreSpans rides.now.feed rides.now.query spans.now }
+    requires prices { AreLeastPrices rides.now.feed rides.now.query prices.now }
+    ensures are { IfOk result (λ entries. All (IsEntry rides.now.feed rides.now.query) entries.items) }
+    ensures none { IfOk result (λ entries. whole ≡ true → entries.items ≡ []) }
+{
+    if whole {
+        return Ok(Vec::new(alloc));
+    }
+    let first = found_soon(
+        alloc,
+        rides,
+        automaton,
+        feed,
+        timeframes,
+        spans,
+        prices,
+        &[],
+        None,
+    )?;
+    let given = triples_of(alloc, &first)?;
+    let horizon = horizon_of(rides.query().departure, &given);
+    if horizon.is_none() {
+        return Ok(first);
+    }
+    let second = found_soon(
+        alloc, rides, automaton, feed, timeframes, spans, prices, &given, horizon,
+    )?;
+    better_of(alloc, first, second)
+}
+
+/// The table of the search by these, of all labels, or of those alone that matter for the answer beside entries that are found soon,
+/// with these.
 ///
 /// # Errors
 /// Want of memory; so counts that there would be 2^32 labels or more.
@@ -158,44 +234,51 @@ fn planned_with<'s>(
     feed: &Feed,
     timeframes: &Timeframes,
     spans: &Spans,
-    fare_bounds: &FareBounds,
+    prices: &LeastPrices,
     whole: bool,
 ) -> Result<(RoundTable, Vec<Entry>), AllocError>
     requires feed { feed.now ≡ rides.now.feed }
     requires timeframes { AreTimeframesOf rides.now.feed timeframes.now }
     requires automaton { automaton.now ≡ terms rides.now.feed rides.now.query.rider }
     requires spans { AreSpans rides.now.feed rides.now.query spans.now }
-    requires fare_bounds { AreFareBounds rides.now.feed rides.now.query.rider rides.now.query.rides fare_bounds.now }
+    requires prices { AreLeastPrices rides.now.feed rides.now.query prices.now }
     requires none { whole ≡ true → spans.now ≡ no_spans }
     ensures { IfOk result (λ planned. IsPlanned rides.now whole planned.0 planned.1.items) }
 {
     let known = known_with(
-        alloc,
-        rides,
-        automaton,
-        feed,
-        timeframes,
-        spans,
-        fare_bounds,
-        whole,
+        alloc, rides, automaton, feed, timeframes, spans, prices, whole,
     )?;
     let given = triples_of(alloc, &known)?;
     let aim = Aim {
         whole,
         loose: false,
         given: &given,
+        horizon: None,
     };
     let table = table_with(
-        alloc,
-        rides,
-        automaton,
-        feed,
-        timeframes,
-        spans,
-        fare_bounds,
-        aim,
+        alloc, rides, automaton, feed, timeframes, spans, prices, aim,
     )?;
     Ok((table, known))
+}
+
+/// The least prices of further rides.
+///
+/// # Errors
+/// Want of memory.
+fn prices_of(
+    alloc: Global,
+    rides: &Rides,
+    feed: &Feed,
+    spans: &Spans,
+) -> Result<LeastPrices, AllocError>
+    requires feed { feed.now ≡ rides.now.feed }
+    requires spans { AreSpans rides.now.feed rides.now.query spans.now }
+    ensures { IfOk result (AreLeastPrices rides.now.feed rides.now.query) }
+{
+    let query = rides.query();
+    let lasts = last_groups(alloc, rides, spans)?;
+    let bounds = FareBounds::of(alloc, feed, query.rider, query.rides, &lasts)?;
+    Ok(LeastPrices { bounds, lasts })
 }
 
 /// The same by the rides, and by what their legs cost.
@@ -216,8 +299,7 @@ fn planned_at<'s>(
     let departure = rides.query().departure;
     let timeframes = Timeframes::between(alloc, feed, departure, rides.deadline())?;
     let spans = spans_of(alloc, rides, whole)?;
-    let query = rides.query();
-    let fare_bounds = FareBounds::of(alloc, feed, query.rider, query.rides)?;
+    let prices = prices_of(alloc, rides, feed, &spans)?;
     planned_with(
         alloc,
         rides,
@@ -225,7 +307,7 @@ fn planned_at<'s>(
         feed,
         &timeframes,
         &spans,
-        &fare_bounds,
+        &prices,
         whole,
     )
 }
@@ -277,16 +359,6 @@ pub fn rounds(alloc: Global, timetable: &Timetable, query: &Query) -> Result<Rou
 {
     let (table, _known) = planned_of(alloc, timetable, query, true)?;
     Ok(table)
-}
-
-/// Offers entries of a query.
-fn offer_entries(front: &mut Front<Entry>, entries: Vec<Entry>) -> Result<(), AllocError>
-    ensures { OnOk result (AddsEntries entries.items front.old front.new) }
-{
-    for entry in entries {
-        front.offer(entry)?;
-    }
-    Ok(())
 }
 
 /// The best of two lists of entries.

@@ -1,19 +1,20 @@
 //! How a round goes on from its labels: pattern by pattern, and position by position.
-ghost use Rattle.std.specs.Prelude.{◌≡◌, ◌⊎◌, ◌+◌, ◌≤ℤ◌, ◌++◌, ◌∷◌, [], List, Some, int_le, slice_get, OnOk};
+ghost use Rattle.std.specs.Prelude.{◌≡◌, ◌⊎◌, ◌+◌, ◌≤ℤ◌, ◌<ℤ◌, ◌++◌, ◌∷◌, [], false, true, List, None, Option, Some, int_le, slice_get, OnOk, ℤ};
 ghost use Rattle.std.specs.List.Sorted.{IsPermutation};
 ghost use Rattle.plan_rides.specs.Cutoffs.{AreLastDepartures, cutoff_of, is_early};
 ghost use Rattle.plan_rides.specs.InTime.{IsWithinWindow, deadline};
 ghost use Rattle.plan_rides.specs.Reached.{AreKept, IsReachedFrom};
 ghost use Rattle.round_labels.specs.Labels.{stand_of_label};
 ghost use Rattle.round_table.specs.declared.finals.Final.{Final};
-ghost use Rattle.plan_rounds.specs.Bounds.{IsFairBy, IsUntil};
+ghost use Rattle.plan_rounds.specs.Bounds.{AreUntilsOf, IsFairBy, IsUntil};
 ghost use Rattle.plan_rounds.specs.Legs.{AreKinds, HasKinds};
 ghost use Rattle.plan_rounds.specs.Moves.{HasFares};
-ghost use Rattle.plan_rounds.specs.Scans.{AddsLabel, AddsMarks, AreInOrder, AreMarks, IsFairIn, IsMarked, IsRound, ServeFor, SpreadsIn, StepsAt, StepsFromPosition};
+ghost use Rattle.plan_rounds.specs.Scans.{AddsLabel, AddsMarks, AreInOrder, AreMarks, IsFairIn, IsLeftOut, IsMarked, IsRound, ServeFor, SpreadsIn, StepsAt, StepsFromPosition};
 ghost use Rattle.plan_rounds.specs.Sources.{IsSource, SpreadsFrom};
 ghost use Rattle.plan_rounds.specs.Stores.{StepsFrom};
 ghost use Rattle.round_labels.specs.declared.label.Label.{Label};
 
+use crate::bounds::Until;
 use crate::legs::{KeptLegs, RideLegs};
 use crate::search::{Found, Room, Search, Source};
 use fare_automaton::KnownOptions;
@@ -36,7 +37,7 @@ pub struct Round<'s, 'r> {
 /// may arrive; and the latest of these moments.
 pub struct Marks {
     pub(crate) reached: Vec<Reached>,
-    pub(crate) untils: Vec<Moment>,
+    pub(crate) untils: Vec<Until>,
     pub(crate) last: Moment,
 }
 
@@ -53,16 +54,16 @@ impl Drop for Marks {
 
 impl Marks {
     // Adds until when rides from the next label may arrive.
-    fn push(&mut self, until: Moment) -> Result<(), AllocError>
+    fn push(&mut self, until: Until) -> Result<(), AllocError>
         ensures untils { OnOk result (self.new.untils.items ≡ self.old.untils.items ++ until ∷ []) }
         ensures reached { OnOk result (self.new.reached ≡ self.old.reached) }
         ensures later { OnOk result (self.old.last.0 ≤ℤ self.new.last.0) }
-        ensures last { OnOk result (until.0 ≤ℤ self.new.last.0) }
-        ensures is { OnOk result ((self.new.last ≡ self.old.last) ⊎ (self.new.last ≡ until)) }
+        ensures last { OnOk result (until.all.0 ≤ℤ self.new.last.0) }
+        ensures is { OnOk result ((self.new.last ≡ self.old.last) ⊎ (self.new.last ≡ until.all)) }
     {
         self.untils.push(until)?;
-        if self.last.0 < until.0 {
-            self.last = until;
+        if self.last.0 < until.all.0 {
+            self.last = until.all;
         }
         Ok(())
     }
@@ -98,12 +99,19 @@ fn arrives_early(caught: &CaughtRide, latest: &Cutoff) -> bool
     is_early(latest, caught.facts.to, caught.facts.arrival)
 }
 
+/// Whether the ride departs after the moment.
+fn departs_after(caught: &CaughtRide, since: Moment) -> bool
+    ensures { result ≡ true → since.0 <ℤ caught.now.facts.departure.0 }
+{
+    since.0 < caught.facts.departure.0
+}
+
 impl<'s, 'l> Search<'s, 'l> {
     /// By what rides are tried behind which so many more may follow, where they may arrive until then.
     fn cutoffs_by(&self, more: usize, until: Moment) -> Cutoffs<'l>
         requires { until.0 ≤ℤ deadline self.now.query }
         ensures lasts { AreLastDepartures self.now.feed self.now.query (cutoff_of result.latest) (cutoff_of result.lasts) }
-        ensures fair { (finals : List Final) (x : Label) → IsWithinWindow self.now.query x.arrival.0 → IsUntil self.now finals x until.0 → x.rides + 1 + more ≡ self.now.query.rides → IsFairBy self.now finals x (cutoff_of result.latest) }
+        ensures fair { (finals : List Final) (x : Label) (since : Option ℤ) → IsWithinWindow self.now.query x.arrival.0 → IsUntil self.now finals x since until.0 → x.rides + 1 + more ≡ self.now.query.rides → IsFairBy self.now finals x since (cutoff_of result.latest) }
     {
         let _feed = self.feed();
         Cutoffs {
@@ -128,7 +136,7 @@ impl<'s, 'l> Search<'s, 'l> {
     ) -> Result<(), AllocError>
         requires round { IsRound self.now round.now }
         requires source { IsSource self.now.feed self.now.query source.now }
-        requires until { IsUntil self.now round.now.finals.now source.now.label.now until.0 }
+        requires until { IsUntil self.now round.now.finals.now source.now.label.now None until.0 }
         ensures { OnOk result (AddsMarks self.now round.now source.now reached.old.items reached.new.items) }
     {
         let more = usize::from(self.limit() - source.label.rides - 1);
@@ -151,8 +159,8 @@ impl<'s, 'l> Search<'s, 'l> {
         requires source { IsSource self.now.feed self.now.query source.now }
         ensures { OnOk result (AddsLabel self.now round.now source.now marks.old marks.new) }
     {
-        let until = self.until(source, round.finals);
-        self.reach(round, source, until, &mut marks.reached)?;
+        let until = self.untils(source, round.finals);
+        self.reach(round, source, until.all, &mut marks.reached)?;
         marks.push(until)
     }
 
@@ -167,6 +175,11 @@ impl<'s, 'l> Search<'s, 'l> {
         marks.reached.clear();
         marks.untils.clear();
         marks.last = departure;
+        let none = Until {
+            all: departure,
+            since: departure,
+            late: departure,
+        };
         for number in 0..labels.len() {
             if labels.kept(number).rides == round.count {
                 let label = labels.get(number);
@@ -177,11 +190,30 @@ impl<'s, 'l> Search<'s, 'l> {
                 };
                 self.mark_label(round, &source, marks)?;
             } else {
-                marks.push(departure)?;
+                marks.push(none)?;
             }
         }
         put_in_order(&mut marks.reached);
         Ok(())
+    }
+
+    /// Whether the ride is to be tried from a label that gets to its position: one that arrives too late isn't, nor one that departs
+    /// late and arrives too late for that; nor, in a quick search, one that is like another which departs before it.
+    fn is_tried(&self, legs: &RideLegs, ride: usize, caught: &CaughtRide, reached: &Reached) -> bool
+        ensures { result ≡ false → IsLeftOut self.now (cutoff_of legs.now.latest) legs.now.since.0 (cutoff_of legs.now.late) caught.now.facts }
+    {
+        if !arrives_early(caught, &legs.latest) {
+            return false;
+        }
+        if departs_after(caught, legs.since) {
+            if !arrives_early(caught, &legs.late) {
+                return false;
+            }
+        }
+        if self.is_quick() {
+            return !legs.repeats.has(ride, reached.earliest);
+        }
+        true
     }
 
     /// Offers what the rides lead to from the label that depart no earlier than it gets to the position.
@@ -201,7 +233,8 @@ impl<'s, 'l> Search<'s, 'l> {
         requires counts { source.now.label.now.rides ≡ round.now.count }
         requires from { IsReachedFrom round.now.positions.now (stand_of_label source.now.label.now) reached.now }
         requires serve { ServeFor self.now round.now source.now.label.now reached.now legs.rides.now }
-        requires own { IsFairIn self.now round.now source.now.label.now (cutoff_of legs.latest) }
+        requires own { IsFairIn self.now round.now source.now.label.now None (cutoff_of legs.latest) }
+        requires late { IsFairIn self.now round.now source.now.label.now (Some legs.since.0) (cutoff_of legs.late) }
         requires kinds { AreKinds self.now.feed known.now legs.rides.now legs.kinds.now }
         requires fares { HasFares self.now known.now }
         ensures { OnOk result (SpreadsFrom self.now round.now.finals.now source.now (StepsAt self.now round.now.positions.now source.now.label.now reached.now) bags.old bags.new) }
@@ -210,7 +243,7 @@ impl<'s, 'l> Search<'s, 'l> {
         for k in 0..legs.rides.len() {
             let caught = &legs.rides[k];
             if departs_since(caught, reached) {
-                if arrives_early(caught, &legs.latest) {
+                if self.is_tried(&legs, k, caught, reached) {
                     let options = known.options(legs.kinds[k]);
                     self.offer_ride(room, bags, source, round.finals, caught, options, after)?;
                 }
@@ -227,7 +260,7 @@ impl<'s, 'l> Search<'s, 'l> {
         bags: &mut StopBags,
         round: &Round<'s, '_>,
         reached: &Reached,
-        until: Moment,
+        until: Until,
         cutoffs: Cutoffs,
         kept: &mut KeptLegs,
     ) -> Result<(), AllocError>
@@ -236,8 +269,8 @@ impl<'s, 'l> Search<'s, 'l> {
         requires lasts { AreLastDepartures self.now.feed self.now.query (cutoff_of cutoffs.latest) (cutoff_of cutoffs.lasts) }
         requires kept { AreKept round.now.positions.now (cutoff_of cutoffs.latest) kept.old.rides }
         requires kinds { HasKinds self.now.feed found.old.known kept.old }
-        requires fair { (x : Label) → slice_get round.now.labels.now reached.now.number ≡ Some x → IsFairIn self.now round.now x (cutoff_of cutoffs.latest) }
-        requires until { (x : Label) → slice_get round.now.labels.now reached.now.number ≡ Some x → x.rides ≡ round.now.count → IsUntil self.now round.now.finals.now x until.0 }
+        requires fair { (x : Label) → slice_get round.now.labels.now reached.now.number ≡ Some x → IsFairIn self.now round.now x None (cutoff_of cutoffs.latest) }
+        requires until { (x : Label) → slice_get round.now.labels.now reached.now.number ≡ Some x → x.rides ≡ round.now.count → AreUntilsOf self.now round.now.finals.now x until }
         requires fares { HasFares self.now found.old.known }
         ensures kept { OnOk result (AreKept round.now.positions.now (cutoff_of cutoffs.entry.latest) kept.new.rides) }
         ensures kinds { OnOk result (HasKinds self.now.feed found.new.known kept.new) }
@@ -255,7 +288,10 @@ impl<'s, 'l> Search<'s, 'l> {
         let legs = RideLegs {
             rides: kept.rides.rides(),
             kinds: &kept.kinds,
-            latest: self.cutoffs_by(more, until).latest,
+            repeats: &kept.repeats,
+            latest: self.cutoffs_by(more, until.all).latest,
+            since: until.since,
+            late: self.cutoffs_by(more, until.late).latest,
         };
         self.offer_rides(
             &found.known,

@@ -24,10 +24,10 @@ ghost use Rattle.plan_rounds.specs.Stores.{AreStored, AreWhole, IsNever, IsStart
 
 use crate::legs::KeptLegs;
 use crate::moves::is_bettered;
+use crate::prices::LeastPrices;
 use crate::scan::{Marks, Round};
 use crate::seen::Seen;
 use fare_automaton::{Automaton, KnownOptions, LegTimes};
-use fare_bounds::FareBounds;
 use fare_timeframes::{Timeframes, blank_leg};
 use feed_rows::{ChangeChoice, Feed, LegChoice, LegFacts, Move, Query, RideFacts, Triple};
 use feed_timetable::Timetable;
@@ -48,6 +48,8 @@ pub struct Aim<'g> {
     pub loose: bool,
     /// Triples of journeys that are known; whatever one of these is at most needs no label.
     pub given: &'g [Triple],
+    /// How late a loose search looks, which then tells fare states apart; without it it passes over them, and looks at all moments.
+    pub horizon: Option<Moment>,
 }
 
 /// A query over a timetable, with what is computed once for it. Contracts see the feed, the query, and what the labels are to
@@ -63,7 +65,7 @@ pub struct Search<'s, 'l> {
     /// The least seconds to a journey's end; none where the search is to be whole.
     pub(crate) spans: &'l Spans,
     /// How little further rides can cost.
-    pub(crate) fare_bounds: &'l FareBounds,
+    pub(crate) prices: &'l LeastPrices,
     /// Whether some change takes back what a leg before it cost.
     pub(crate) takes_back: bool,
     pub(crate) aim: Aim<'l>,
@@ -73,7 +75,7 @@ impl<'s, 'l> Model for Search<'s, 'l> {
     ghost use Rattle.std.specs.Prelude.{◌≡◌, true};
     ghost use Rattle.fare_automaton.specs.Terms.{terms};
     ghost use Rattle.fare_timeframes.specs.BuiltTimeframes.{AreTimeframesOf};
-    ghost use Rattle.fare_bounds.specs.FareBounds.{AreFareBounds};
+    ghost use Rattle.plan_rounds.specs.Prices.{AreLeastPrices};
     ghost use Rattle.plan_rides.specs.Spans.{AreSpans, no_spans};
     ghost use Rattle.plan_rounds.specs.Searched.{IsAim, Searched, aim_of, searched};
     ghost use Rattle.round_laws.specs.Futility.{some_takes_back};
@@ -82,7 +84,7 @@ impl<'s, 'l> Model for Search<'s, 'l> {
 
     ghost view = { λ s. searched s.rides.now (aim_of s.aim) };
 
-    ghost invariant = { λ s. AreTimeframesOf s.rides.now.feed s.timeframes.now × (s.automaton.now ≡ terms s.rides.now.feed s.rides.now.query.rider) × (s.takes_back ≡ some_takes_back s.rides.now.feed) × AreSpans s.rides.now.feed s.rides.now.query s.spans.now × (s.aim.whole ≡ true → s.spans.now ≡ no_spans) × (s.feed.now ≡ s.rides.now.feed) × IsAim (aim_of s.aim) × AreFareBounds s.rides.now.feed s.rides.now.query.rider s.rides.now.query.rides s.fare_bounds.now };
+    ghost invariant = { λ s. AreTimeframesOf s.rides.now.feed s.timeframes.now × (s.automaton.now ≡ terms s.rides.now.feed s.rides.now.query.rider) × (s.takes_back ≡ some_takes_back s.rides.now.feed) × AreSpans s.rides.now.feed s.rides.now.query s.spans.now × (s.aim.whole ≡ true → s.spans.now ≡ no_spans) × (s.feed.now ≡ s.rides.now.feed) × IsAim (aim_of s.aim) × AreLeastPrices s.rides.now.feed s.rides.now.query s.prices.now };
 }
 
 /// A label with its number among those so far, from which a round goes on.
@@ -163,9 +165,16 @@ impl<'s, 'l> Search<'s, 'l> {
         self.aim.whole
     }
 
-    /// Nothing that a search has come to yet: at no stop, where it isn't loose.
+    /// Whether the search is loose, and passes over states of fares.
+    pub(crate) fn is_quick(&self) -> bool
+        ensures { result ≡ true → self.now.loose ≡ true }
+    {
+        self.aim.loose && self.aim.horizon.is_none()
+    }
+
+    /// Nothing that a search has come to yet: at no stop, where it isn't a quick one.
     fn none_seen(&self) -> Result<Seen, AllocError> {
-        if self.aim.loose {
+        if self.is_quick() {
             Seen::none(self.alloc, self.stops())
         } else {
             Seen::none(self.alloc, 0)
@@ -319,10 +328,10 @@ impl<'s, 'l> Search<'s, 'l> {
         let label = source
             .label
             .after(source.number, &caught.ride, &caught.facts, taken);
-        if self.is_overtaken(&label, finals) {
+        if self.is_useless(&label, finals) {
             return Ok(());
         }
-        if self.is_useless(&label, finals) {
+        if self.is_overtaken(&label, finals) {
             return Ok(());
         }
         let passed = self.passes_over(seen, &label)?;
@@ -332,12 +341,12 @@ impl<'s, 'l> Search<'s, 'l> {
         bags.offer(&label)
     }
 
-    /// Whether a loose search passes over the label, since it has come to its stop as early and as cheaply, in whatever state of
+    /// Whether a quick search passes over the label, since it has come to its stop as early and as cheaply, in whatever state of
     /// fares. Another one passes over none.
     fn passes_over(&self, seen: &mut Seen, label: &Label) -> Result<bool, AllocError>
         ensures { IfOk result (λ passed. passed ≡ true → self.now.loose ≡ true) }
     {
-        if !self.aim.loose {
+        if !self.is_quick() {
             return Ok(false);
         }
         let admitted = seen.admits(label.stop, label.arrival, label.price())?;

@@ -3,6 +3,7 @@ use Rattle.std.proofs.lemmas.Int.{ints}
 use Rattle.std.proofs.lemmas.List.{length_push}
 use Rattle.transit_base.specs.declared.moments.Moment.{Moment}
 use Rattle.plan_rides.specs.InTime.{deadline}
+use Rattle.plan_rounds.specs.declared.bounds.Until.{Until}
 use Rattle.round_labels.specs.Kept.{whole_by}
 use Rattle.plan_rounds.specs.Scans.{AreReached}
 use Rattle.plan_rounds.proofs.ScanLaws.{AreUntils, label_passed, label_reached, reached_moved, untils_more}
@@ -29,7 +30,7 @@ loop-number-preserved c =
       | then-kept-round+in_ok-mark_label w ↦
           let counts = rides_kept round.labels.now k _ _ w.get-label.ensures c.kept.ensures ∙ w.if-kept-round.true in
           let adds = w.in_ok-mark_label.ensures in
-          let within = adds.is.within in
+          let within = adds.is.all.within in
           let long = length_push untils adds.until in
           let grown = ap length adds.untils in
           record {
@@ -43,15 +44,16 @@ loop-number-preserved c =
           }
       | else-kept-round+in_ok-push w ↦
           let departure = c.departure-departure.result in
+          let none : Until = record { all = departure; since = departure; late = departure } in
           let push = w.in_ok-push.ensures in
-          let long = length_push untils departure in
+          let long = length_push untils none in
           let grown = ap length push.untils in
           record {
             reached = rw w.marks-is (subst (λ (r : _). AreReached me round (k + 1) r.items) (sym push.reached)
                 (label_passed me round k (whole_by c.kept.ensures.taken c.kept.result.now) _ c.kept.ensures.is w.if-kept-round.false was.reached));
             many = rw w.marks-is (omega (arith, long, grown, many));
             untils = rw w.marks-is (subst (AreUntils me round w.push.new.self.last.0) (sym push.untils)
-                (untils_more me round untils _ _ k departure _ was.many push.later c.kept.ensures.is
+                (untils_more me round untils _ _ k none _ was.many push.later c.kept.ensures.is
                 (λ same. absurd (w.if-kept-round.false same)) was.untils));
             last = rw w.marks-is (⊎_elim (λ old. subst (λ (m : Moment). m.0 ≤ℤ deadline me.query) (sym old) last)
                 (λ new. subst (λ (m : Moment). m.0 ≤ℤ deadline me.query) (sym new)

@@ -1,4 +1,5 @@
 use Rattle.std.proofs.Common.{◌+◌, ◌∙◌, ap, arith, refl, subst, sym}
+use Rattle.std.specs.Prelude.{None, Some}
 use Rattle.std.proofs.lemmas.Option.{same_Some, slice_get_within}
 use Rattle.std.proofs.lemmas.Result.{on_ok_weaker}
 use Rattle.plan_rides.specs.Cutoffs.{cutoff_of}
@@ -53,19 +54,33 @@ keep_legs-requires-clause-lasts c = lasts_in c.args.self.now c.args.round.now _ 
 pub cutoffs_by-requires : goal.cutoffs_by-requires
 cutoffs_by-requires c =
     let marked = c.requires.marked in
-    (c.requires.until marked.label marked.is marked.counts).within
+    (c.requires.until marked.label marked.is marked.counts).all.within
+
+pub cutoffs_by-requires-2 : goal.cutoffs_by-requires-2
+cutoffs_by-requires-2 c =
+    let marked = c.requires.marked in
+    (c.requires.until marked.label marked.is marked.counts).late.within
 
 pub offer_rides-requires-clause-own : goal.offer_rides-requires-clause-own
 offer_rides-requires-clause-own c counts =
-    let me = c.args.self.now in
     let round = c.args.round.now in
-    let marked = c.requires.marked in
-    let same = same_Some c.get-label.result marked.label (sym c.get-label.ensures ∙ marked.is) in
     let origin = c.requires.round.origins c.args.reached.now.number _ c.get-label.ensures counts in
     let from = c.from-more.ensures in
     let limit = c.limit.ensures.is in
     let few = c.requires.round.few in
-    c.cutoffs_by.ensures.fair round.finals.now c.get-label.result origin.within (c.requires.until c.get-label.result c.get-label.ensures counts)
+    c.cutoffs_by.ensures.fair round.finals.now c.get-label.result None origin.within
+    (c.requires.until c.get-label.result c.get-label.ensures counts).all
+    (omega (arith, from, limit, few, counts))
+
+pub offer_rides-requires-clause-late : goal.offer_rides-requires-clause-late
+offer_rides-requires-clause-late c counts =
+    let round = c.args.round.now in
+    let origin = c.requires.round.origins c.args.reached.now.number _ c.get-label.ensures counts in
+    let from = c.from-more.ensures in
+    let limit = c.limit.ensures.is in
+    let few = c.requires.round.few in
+    c.cutoffs_by-2.ensures.fair round.finals.now c.get-label.result (Some c.args.until.since.0) origin.within
+    (c.requires.until c.get-label.result c.get-label.ensures counts).late
     (omega (arith, from, limit, few, counts))
 
 pub returns-clause-spreads : goal.returns-clause-spreads

@@ -1,4 +1,5 @@
 use Rattle.std.proofs.Common.{◌+◌, ◌<◌, ◌≤◌, arith, length, refl, subst, sym, ⊎_elim, inl, inr}
+use Rattle.std.specs.Prelude.{None}
 use Rattle.std.proofs.lemmas.List.Elements.{Contains-get_or}
 use Rattle.std.proofs.lemmas.Option.{slice_get_read, slice_get_within}
 use Rattle.plan_rides.specs.Cutoffs.{cutoff_of}
@@ -48,8 +49,8 @@ offer_from-requires-clause-fair c x at counts =
     let from = c.from-more.ensures in
     let limit = c.limit.ensures.is in
     let few = c.requires.round.few in
-    c.cutoffs_by-cutoffs.ensures.fair round.finals.now x (c.requires.round.origins _ x at counts).within
-    (until_later me round.finals.now x until.0.0 c.args.marks.now.last.0 until.2.is until.2.before c.requires.marks.last)
+    c.cutoffs_by-cutoffs.ensures.fair round.finals.now x None (c.requires.round.origins _ x at counts).within
+    (until_later me round.finals.now x None until.0.all.0 c.args.marks.now.last.0 until.2.is.all until.2.before c.requires.marks.last)
     (omega (arith, from, limit, few, counts))
 
 pub offer_from-requires-clause-until : goal.offer_from-requires-clause-until

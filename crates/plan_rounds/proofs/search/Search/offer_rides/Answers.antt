@@ -10,10 +10,10 @@ use Rattle.plan_rides.specs.declared.caught.CaughtRide.{CaughtRide}
 use Rattle.round_table.specs.Finals.{HasEnds}
 use Rattle.plan_rounds.specs.Searched.{Lacks}
 use Rattle.plan_rounds.proofs.RideSteps.{by_first, rides_more}
-use Rattle.plan_rounds.proofs.ScanLaws.{by_late, by_passed, right_from, steps_from}
+use Rattle.plan_rounds.proofs.ScanLaws.{by_left_out, by_passed, right_from, steps_from}
 use Rattle.plan_rounds.proofs.SpreadLaws.{spreads_but, spreads_more, spreads_same}
 use Rattle.plan_rounds.proofs.search.Search.offer_rides.Goals as goal
-use Rattle.plan_rounds.proofs.search.Search.offer_rides.Goals.{then-departs_since+then-arrives_early+in_ok-offer_ride, then-departs_since+else-arrives_early, else-departs_since}
+use Rattle.plan_rounds.proofs.search.Search.offer_rides.Goals.{then-departs_since+then-is_tried+in_ok-offer_ride, then-departs_since+else-is_tried, else-departs_since}
 
 abbrev none : CaughtRide
 none =
@@ -58,15 +58,16 @@ loop-k-preserved c =
     let lack = Lacks me c.args.round.now.finals.now in
     let at = slice_get-get_or rides k none c.loop-k-test.true in
     elim c.if-departs_since.branch [
-      | then-departs_since+then-arrives_early+in_ok-offer_ride w ↦
+      | then-departs_since+then-is_tried+in_ok-offer_ride w ↦
           rw w.bags-is (spreads_more me.feed me.query lack source.labels.now _ _ _ _ _ _ _ was w.in_ok-offer_ride.ensures
           (λ b. rides_more me.feed me.query source rides k (slice_index_or rides k none) b at))
-      | then-departs_since+else-arrives_early w ↦
+      | then-departs_since+else-is_tried w ↦
           rw w.bags-is (spreads_but me.feed me.query lack source.labels.now _ _ _ _ _ was
-          (λ b. by_late me c.args.round.now source c.args.reached.now serve.latest rides c.requires.round c.requires.source
-          c.requires.from serve.holds (cutoff_of c.args.legs.latest) k (slice_index_or rides k none) b at
-          (sym c.departs_since.ensures ∙ w.if-departs_since.true) c.requires.counts c.requires.own
-          (sym w.arrives_early.ensures ∙ w.if-arrives_early.false)))
+          (λ b. by_left_out me c.args.round.now source c.args.reached.now serve.latest rides c.requires.round c.requires.source
+          c.requires.from serve.holds (cutoff_of c.args.legs.latest) (cutoff_of c.args.legs.late) c.args.legs.since.0 k
+          (slice_index_or rides k none) b at
+          (sym c.departs_since.ensures ∙ w.if-departs_since.true) c.requires.counts c.requires.own c.requires.late
+          (w.is_tried.ensures w.if-is_tried.false)))
       | else-departs_since w ↦
           rw w.bags-is (spreads_same me.feed me.query lack source.labels.now _ _ _ _ _ was
           (λ b. by_passed me c.args.round.now source c.args.reached.now serve.latest rides c.requires.round c.requires.source

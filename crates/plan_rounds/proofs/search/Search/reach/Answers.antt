@@ -1,5 +1,5 @@
 use Rattle.std.proofs.Common.{◌≡◌, ◌+◌, subst, arith}
-use Rattle.std.specs.Prelude.{OnOk}
+use Rattle.std.specs.Prelude.{None, OnOk}
 use Rattle.std.proofs.lemmas.Result.{on_ok_weaker}
 use Rattle.plan_rides.specs.Cutoffs.{cutoff_of}
 use Rattle.plan_rides.specs.Reached.{AddsReached, IsAny}
@@ -20,7 +20,7 @@ returns c =
     let few = c.requires.source.few in
     let left : source.label.now.rides + 1 + more ≡ me.query.rides = omega (arith, from, limit, few) in
     let cutoffs = c.cutoffs_by-cutoffs.ensures in
-    let fair = cutoffs.fair round.finals.now source.label.now c.requires.source.within c.requires.until left in
+    let fair = cutoffs.fair round.finals.now source.label.now None c.requires.source.within c.requires.until left in
     let adds =
     subst (λ stand. OnOk c.reach.result (AddsReached round.positions.now (cutoff_of c.cutoffs_by-cutoffs.result.lasts) stand source.number IsAny c.args.reached.now.items c.reach.new.reached.items))
     c.standing.ensures c.reach.ensures in

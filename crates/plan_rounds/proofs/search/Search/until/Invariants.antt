@@ -1,8 +1,7 @@
-use Rattle.plan_rounds.specs.Bounds.{IsUntil}
+use Rattle.round_labels.specs.Labels.{facts_of}
+use Rattle.plan_rounds.proofs.UsefulLaws.{IsUntilFirst}
+use Rattle.plan_rounds.specs.Bounds.{since_of}
 use Rattle.plan_rounds.proofs.search.Search.until.Given as goal
 
-abbrev pub invariant-loop-k : goal.invariant-loop-k
-invariant-loop-k l = IsUntil l.self l.finals l.source.label.now l.until.0
-
-abbrev pub invariant-loop-k-2 : goal.invariant-loop-k-2
-invariant-loop-k-2 l = IsUntil l.self l.finals l.source.label.now l.until.0
+abbrev pub invariant-loop-behind : goal.invariant-loop-behind
+invariant-loop-behind l = IsUntilFirst l.self l.finals (since_of l.since) l.behind (facts_of l.label) l.until.0

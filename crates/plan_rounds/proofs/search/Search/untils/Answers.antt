@@ -1,0 +1,10 @@
+use Rattle.std.specs.Prelude.{Some}
+use Rattle.plan_rounds.proofs.UsefulLaws.{until_some}
+use Rattle.plan_rounds.proofs.search.Search.untils.Goals as goal
+
+pub returns-in-None : goal.returns-in-None
+returns-in-None c = record {
+  all = c.until-all.ensures;
+  late = until_some c.args.self.now c.args.finals.now c.args.source.now.label.now (Some c.deadline-last.result.0) c.until-all.result.0
+      c.until-all.ensures;
+}
