@@ -16,6 +16,36 @@ use std::marker::Model;
 pub struct KnownOptions<'a, 'f> {
     automaton: &'a Automaton<'f>,
     table: KindTable<LegChoice>,
+    guess: Guess,
+}
+
+/// What kind a leg may be: that of the leg before it, or the one that came last behind that.
+#[derive(Drop)]
+struct Guess {
+    last: usize,
+    next: Vec<usize>,
+}
+
+impl Guess {
+    /// The kind that came last behind the last leg's.
+    fn next(&self) -> usize {
+        match self.next.get(self.last) {
+            Some(number) => *number,
+            None => self.last,
+        }
+    }
+
+    /// Takes note of the kind of a leg, of which each new one has the next number.
+    fn note(&mut self, number: usize) -> Result<(), AllocError> {
+        if number >= self.next.len() {
+            self.next.push(number)?;
+        }
+        if let Some(next) = self.next.get_mut(self.last) {
+            *next = number;
+        }
+        self.last = number;
+        Ok(())
+    }
 }
 
 // Written out, so that what holds one needn't look into it to let go of it.
@@ -24,6 +54,7 @@ impl<'a, 'f> Drop for KnownOptions<'a, 'f> {
         let KnownOptions {
             automaton: _,
             table: _,
+            guess: _,
         } = self;
     }
 }
@@ -47,6 +78,10 @@ impl<'a, 'f> KnownOptions<'a, 'f> {
         KnownOptions {
             automaton,
             table: KindTable::empty(alloc),
+            guess: Guess {
+                last: 0,
+                next: Vec::new(alloc),
+            },
         }
     }
 
@@ -56,6 +91,29 @@ impl<'a, 'f> KnownOptions<'a, 'f> {
     /// # Errors
     /// Want of memory.
     pub fn know(&mut self, alloc: Global, leg: &LegFacts) -> Result<usize, AllocError>
+        ensures known { IfOk result (IsOfKind self.new.lists leg.now) }
+        ensures terms { self.new.terms ≡ self.old.terms }
+        ensures still { (other : LegFacts) (number : ℕ) → IsOfKind self.old.lists other number → IsOfKind self.new.lists other number }
+    {
+        let last = self.guess.last;
+        if self.table.is_kept_for(last, leg) {
+            return Ok(last);
+        }
+        let next = self.guess.next();
+        if self.table.is_kept_for(next, leg) {
+            self.guess.last = next;
+            return Ok(next);
+        }
+        let number = self.sought(alloc, leg)?;
+        self.guess.note(number)?;
+        Ok(number)
+    }
+
+    /// The same, by all that is kept.
+    ///
+    /// # Errors
+    /// Want of memory.
+    fn sought(&mut self, alloc: Global, leg: &LegFacts) -> Result<usize, AllocError>
         ensures known { IfOk result (IsOfKind self.new.lists leg.now) }
         ensures terms { self.new.terms ≡ self.old.terms }
         ensures still { (other : LegFacts) (number : ℕ) → IsOfKind self.old.lists other number → IsOfKind self.new.lists other number }

@@ -136,6 +136,13 @@ impl<T: Drop> KindTable<T> {
         self.table.number_at(place, leg)
     }
 
+    /// Whether the list under the number is kept for a leg that differs from this one in its moments at most.
+    pub fn is_kept_for(&self, number: usize, leg: &LegFacts) -> bool
+        ensures { result ≡ true → IsOfKind self.now leg.now number }
+    {
+        self.table.is_for(number, leg)
+    }
+
     /// Keeps the list for all legs that differ from this one in their moments at most, and gives its number. After a refusal all
     /// is as before.
     ///

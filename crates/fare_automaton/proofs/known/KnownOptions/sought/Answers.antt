@@ -5,7 +5,7 @@ use Rattle.fare_automaton.specs.Fewest.{AreFewer}
 use Rattle.fare_automaton.specs.Known.{KnownPicks}
 use Rattle.fare_automaton.proofs.FewestLaws.{enough_of}
 use Rattle.fare_automaton.proofs.KnownLaws.{without_moments, picks_still, kind_last, kind_still}
-use Rattle.fare_automaton.proofs.known.KnownOptions.know.Goals as goal
+use Rattle.fare_automaton.proofs.known.KnownOptions.sought.Goals as goal
 
 pub returns-in-Some-clause-known : goal.returns-in-Some-clause-known
 returns-in-Some-clause-known c =
