@@ -138,6 +138,14 @@ fn horizon_of(departure: Moment, found: &[Triple]) -> Option<Moment> {
     Some(Moment(last.0.saturating_add(third)))
 }
 
+/// How many stop times a small feed has at most.
+const SMALL_FEED: usize = 1 << 15;
+
+/// Whether the feed is so small that a second quick search would take as long as the one that looks at all moments.
+fn is_small(feed: &Feed) -> bool {
+    feed.stop_times.items().len() <= SMALL_FEED
+}
+
 /// Entries of the query that are found soon, by a search that may pass over any journey, beside those with these triples: with a
 /// horizon all that end by then.
 ///
@@ -174,8 +182,8 @@ fn found_soon<'s, 'l>(
 }
 
 /// Entries of the query that are found soon, by searches that may pass over any journey; none for a search that is to be whole. The
-/// first finds some at once; the second what is cheaper and ends little later, so that a cheap journey is known to the search that
-/// looks at all moments.
+/// first finds some at once; the second, over a feed that isn't small, what is cheaper and ends little later, so that a cheap journey
+/// is known to the search that looks at all moments.
 ///
 /// # Errors
 /// Want of memory; so counts that there would be 2^32 labels or more.
@@ -213,7 +221,7 @@ fn known_with<'s>(
     )?;
     let given = triples_of(alloc, &first)?;
     let horizon = horizon_of(rides.query().departure, &given);
-    if horizon.is_none() {
+    if horizon.is_none() || is_small(feed) {
         return Ok(first);
     }
     let second = found_soon(
