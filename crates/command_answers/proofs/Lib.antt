@@ -6,3 +6,4 @@ pub mod RideLaws
 pub mod SmallFolder
 pub mod DueChecks
 pub mod TaskChecks
+pub mod TextLaws
