@@ -35,35 +35,45 @@ impl<'f> Automaton<'f> {
     }
 
     /// Whether the leg selects the rule, and the row is an open row of its product.
-    pub(crate) fn is_leg_choice(&self, leg: &LegFacts, taken: &Move) -> bool
-        ensures { result ≡ is_leg_choice self.now.feed self.now.rider leg.now (leg_taken taken.now) }
+    pub(crate) fn is_leg_choice(
+        &self,
+        rider: Option<RiderId>,
+        leg: &LegFacts,
+        taken: &Move,
+    ) -> bool
+        ensures { result ≡ is_leg_choice self.now.feed rider leg.now (leg_taken taken.now) }
     {
         match self.leg_row(taken.rule) {
             Some(own) => {
                 self.leg_rules.selects(leg, taken.rule)
-                    && self.is_open_row(own.product, taken.product)
+                    && self.is_open_row(rider, own.product, taken.product)
             }
             None => false,
         }
     }
 
     /// Whether the row is an open row of the product.
-    pub(crate) fn is_open_row(&self, product: ProductId, row: ProductRowId) -> bool
-        ensures { result ≡ at_and self.now.feed.products row.0 (is_open product self.now.rider) }
+    fn is_open_row(&self, rider: Option<RiderId>, product: ProductId, row: ProductRowId) -> bool
+        ensures { result ≡ at_and self.now.feed.products row.0 (is_open product rider) }
     {
         match self.product_row(row) {
-            Some(priced) => is_open(product, self.rider, priced),
+            Some(priced) => is_open(product, rider, priced),
             None => false,
         }
     }
 
     /// Whether the row is an open row of the product, or both are missing.
     #[tactic(auto)]
-    fn is_change_product(&self, product: Option<ProductId>, row: Option<ProductRowId>) -> bool
-        ensures { result ≡ is_change_product self.now.feed self.now.rider product row }
+    fn is_change_product(
+        &self,
+        rider: Option<RiderId>,
+        product: Option<ProductId>,
+        row: Option<ProductRowId>,
+    ) -> bool
+        ensures { result ≡ is_change_product self.now.feed rider product row }
     {
         match (product, row) {
-            (Some(named), Some(chosen)) => self.is_open_row(named, chosen),
+            (Some(named), Some(chosen)) => self.is_open_row(rider, named, chosen),
             (None, None) => true,
             _ => false,
         }
@@ -71,23 +81,34 @@ impl<'f> Automaton<'f> {
 
     /// Whether the row is selected for the change, with the right row of its product.
     #[tactic(auto, unfolding(feed_rows::specs::FareSteps::is_row_after))]
-    fn is_row_after(&self, change: &Change, pick: &ChangeChoice) -> bool
-        ensures { result ≡ is_row_after self.now.feed self.now.rider (asked_of change.now) pick.now }
+    fn is_row_after(
+        &self,
+        rider: Option<RiderId>,
+        change: &Change,
+        pick: &ChangeChoice,
+    ) -> bool
+        ensures { result ≡ is_row_after self.now.feed rider (asked_of change.now) pick.now }
     {
         match self.transfer_row(pick.rule) {
             Some(row) => {
-                self.selects(change, row) && self.is_change_product(row.product, pick.product)
+                self.selects(change, row)
+                    && self.is_change_product(rider, row.product, pick.product)
             }
             None => false,
         }
     }
 
     /// Whether the place of the change is empty where the change isn't arranged, and else has a choice for it.
-    pub(crate) fn is_place_after(&self, change: Option<Change>, place: Option<ChangeChoice>) -> bool
-        ensures { result ≡ is_place_after self.now.feed self.now.rider (option_map asked_of change) place }
+    pub(crate) fn is_place_after(
+        &self,
+        rider: Option<RiderId>,
+        change: Option<Change>,
+        place: Option<ChangeChoice>,
+    ) -> bool
+        ensures { result ≡ is_place_after self.now.feed rider (option_map asked_of change) place }
     {
         match (change, place) {
-            (Some(asked), Some(pick)) => self.is_row_after(&asked, &pick),
+            (Some(asked), Some(pick)) => self.is_row_after(rider, &asked, &pick),
             (Some(asked), None) => !self.is_arranged(&asked),
             (None, Some(_)) => false,
             (None, None) => true,

@@ -85,6 +85,13 @@ impl<'a, 'f> KnownOptions<'a, 'f> {
         }
     }
 
+    /// Whose options are kept.
+    pub fn automaton(&self) -> &'a Automaton<'f>
+        ensures { result.now ≡ self.now.terms }
+    {
+        self.automaton
+    }
+
     /// The number under which is kept what it is enough to pay for the leg. It is asked where no leg was that differs from this one in
     /// its moments at most. What was kept before stays as it is, after a refusal too.
     ///

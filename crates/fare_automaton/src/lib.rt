@@ -21,4 +21,6 @@ mod steps;
 
 pub use automaton::Automaton;
 pub use changes::LegTimes;
+pub use judge::{leg_taken, place_taken};
 pub use known::KnownOptions;
+pub use steps::{bare, times_of};

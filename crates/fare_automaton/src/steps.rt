@@ -215,7 +215,7 @@ impl<'f> Automaton<'f> {
 }
 
 /// The moments of the leg.
-fn times_of(leg: &LegFacts) -> LegTimes
+pub fn times_of(leg: &LegFacts) -> LegTimes
     ensures { result ≡ times_of leg.now }
 {
     LegTimes {
@@ -246,7 +246,7 @@ fn move_list(alloc: Global, moves: &[Move]) -> Result<Moves, AllocError>
 }
 
 /// A move that takes these rows, before it says what follows.
-fn bare(pick: &LegChoice, place: Option<ChangeChoice>) -> Move
+pub fn bare(pick: &LegChoice, place: Option<ChangeChoice>) -> Move
     ensures { result ≡ bare pick.now place }
 {
     let (xfer, xfer_product) = match place {

@@ -1,11 +1,9 @@
--- Whether the row is open to the rider of the automaton.
+-- Whether the row is open to the rider.
 use Rattle.std.proofs.Common.{◌∙◌, ap}
 use Rattle.feed_rows.specs.FareChoices.{is_open}
 use Rattle.plain_laws.specs.Plain.{filled_and}
-use Rattle.fare_automaton.specs.Terms.{FareTerms}
 use Rattle.fare_automaton.proofs.automaton.Automaton.is_open_row.Goals as goal
 
 pub returns-in-Some : goal.returns-in-Some
 returns-in-Some c =
-    c.is_open.ensures ∙ ap (λ (t : FareTerms). is_open c.args.product t.rider c.in-Some.priced.now) c.self.view_is
-    ∙ ap (λ o. filled_and o (is_open c.args.product c.args.self.now.rider)) c.in-Some.ensures.value
+    c.is_open.ensures ∙ ap (λ o. filled_and o (is_open c.args.product c.args.rider)) c.in-Some.ensures.value
