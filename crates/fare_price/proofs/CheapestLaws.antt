@@ -5,23 +5,17 @@ use Rattle.std.proofs.lemmas.Int.{ints}
 use Rattle.std.proofs.lemmas.List.{take_all}
 use Rattle.std.proofs.lemmas.List.Elements.{All-weaker, All-push}
 use Rattle.plain_laws.proofs.Laws.{no_item, Contains-slice_get, int_le-true}
-use Rattle.feed_rows.specs.FareStands.{stand_price}
 use Rattle.fare_price.specs.declared.ways.Way.{Way}
-use Rattle.fare_price.specs.Stands.{stand_of}
-use Rattle.fare_price.specs.Ways.{cheaper}
+use Rattle.fare_price.specs.Ways.{cost, cheaper}
 use Rattle.fare_price.proofs.GatherLaws.{take_next}
-
-cost : Way → ℤ
-cost way = stand_price (stand_of way.stand)
 
 abbrev pub IsCheapest : List Way → List Way → Way → Type 0
 IsCheapest ways first way = Contains ways way
-    × All (λ (w : Way). stand_price (stand_of way.stand) ≤ℤ stand_price (stand_of w.stand)) first
+    × All (λ (w : Way). cost way ≤ℤ cost w) first
 
 -- the cheapest of those so far, and one more
 pub cheaper_more : (ways : List Way) (i : ℕ) (least : Option Way) (way : Way) → slice_get ways i ≡ Some way →
     MatchOption least (i ≡ 0) (IsCheapest ways (take i ways)) → IsCheapest ways (take (i + 1) ways) (cheaper least way)
-unfolding cost
 cheaper_more ways i least way is before = by least before
   where
     here : Contains ways way

@@ -1,75 +1,256 @@
 -- What a search keeps true from leg to leg, and that the cheapest of its ways is the least price.
-use Rattle.std.proofs.Common.{◌≡◌, refl, sym, ◌∙◌, ap, subst, ℕ, zero, suc, ◌+◌, ◌-◌, ◌<◌, ◌≤◌, ◌⊎◌, ⊎_elim, Bool, true, false, ◌&&◌, List, [], ◌∷◌, ◌++◌, length, map, take, length-take-le, All, Contains, arith}
-use Rattle.std.specs.Prelude.{Option, Some, None, ℤ, pos, ◌+ℤ◌, ◌≤ℤ◌, slice_get, option_map, option_and_then}
-use Rattle.std.specs.Option.{is_some, option_map_or}
+use Rattle.std.proofs.Common.{◌≡◌, refl, sym, ◌∙◌, ap, subst, ℕ, zero, suc, ◌+◌, ◌-◌, ◌*◌, ◌^◌, ◌<◌, ◌≤◌, ◌⊎◌, inl, inr, ⊎_elim, Bool, true, false, ◌||◌, List, [], ◌∷◌, ◌++◌, length, map, take, All, Contains, arith}
+use Rattle.std.specs.Prelude.{Option, Some, None, is_none, ℤ, pos, ◌+ℤ◌, ◌≤ℤ◌, nat_abs, slice_get, if◌then◌else◌}
+use Rattle.std.specs.Option.{option_map_or}
 use Rattle.std.proofs.lemmas.Int.{ints}
-use Rattle.std.proofs.lemmas.Bool.{and_parts, and_from}
 use Rattle.std.proofs.lemmas.Option.{same_Some, slice_get_within, cond_some}
 use Rattle.std.proofs.lemmas.List.Elements.{All-contains}
+use Rattle.transit_base.specs.declared.numbers.ProductRowId.{ProductRowId}
 use Rattle.transit_base.specs.declared.numbers.RiderId.{RiderId}
-use Rattle.transit_base.specs.declared.numbers.RuleId.{RuleId}
-use Rattle.feed_rows.specs.declared.fares.LegChoice.{LegChoice}
 use Rattle.feed_rows.specs.declared.fares.ChangeChoice.{ChangeChoice}
-use Rattle.feed_rows.specs.declared.fares.TransferFacts.{TransferFacts}
 use Rattle.feed_rows.specs.declared.fares.Choice.{Choice}
 use Rattle.feed_rows.specs.declared.journeys.LegFacts.{LegFacts}
+use Rattle.feed_rows.specs.declared.rows.ProductRow.{ProductRow}
+use Rattle.feed_rows.specs.declared.states.FareState.{FareState}
+use Rattle.feed_rows.specs.declared.states.Move.{Move}
 use Rattle.feed_rows.specs.FeedRows.{FeedRows}
 use Rattle.feed_rows.specs.SoundFeed.{IsSoundFeed}
-use Rattle.plain_laws.specs.Plain.{when}
-use Rattle.feed_rows.specs.TransferRules.{FareLeg}
-use Rattle.feed_rows.specs.FareChoices.{chosen_leg, is_leg_choice, is_change_choice, is_fare_choice}
+use Rattle.feed_rows.specs.FareChoices.{chosen_leg, is_fare_choice}
+use Rattle.feed_rows.specs.FareExtensions.{extended, Extends}
+use Rattle.feed_rows.specs.FareStands.{next_paid, place_kind, place_charge, frees_first, frees_next}
+use Rattle.feed_rows.specs.FareStates.{held_amount, paid_amount, fare_state}
+use Rattle.feed_rows.specs.FareSteps.{leg_taken, place_taken, next_move, move_of_first, move_of_next, move_after}
 use Rattle.feed_rows.specs.FareSums.{amount_of, fare_sum}
-use Rattle.feed_rows.specs.FareStands.{Run, fresh_run, change_to, FareStand, stand_price, stand_of_first, stand_of_next, first_fare_stand, next_fare_stand, IsStandOf}
 use Rattle.feed_rows.specs.LeastPrices.{IsLeastPriceOfLegs, AreUncoveredLegs}
-use Rattle.plain_laws.proofs.Laws.{slice_get-append_left, Contains-slice_get, slice_get-Contains, Contains-map, map-tells, Contains-flat_map, flat_map-tells, Contains-joined_below, joined_below-tells, list_any_tells, All-from}
-use Rattle.feed_laws.proofs.SumLaws.{IsPushed}
-use Rattle.feed_laws.proofs.StandLaws.{choice_of_one, first_fare_stand-paid, first_fare_stand-of, next_fare_stand-of, places_of_paid, one_of_paid, IsStandOf-one, stand_of_paid, step_of_paid, paid_of_step}
+use Rattle.plain_laws.specs.Plain.{when}
+use Rattle.plain_laws.proofs.Laws.{All-slice_get, chain_gives, slice_get-append_left, Contains-slice_get, slice_get-Contains, Contains-map, map-tells, list_any_tells, list_any-place, All-from}
+use Rattle.feed_laws.proofs.StandLaws.{places_of_paid, next_paid-covers}
+use Rattle.fare_laws.proofs.ExtensionLaws.{next_paid-from, all_true}
+use Rattle.fare_laws.proofs.LongerLaws.{IsMoveAfter, extends_by, made_by}
+use Rattle.fare_laws.proofs.MoveLaws.{next_tells, next_when}
+use Rattle.fare_laws.proofs.StartLaws.{none_paid as no_leg_paid}
 use Rattle.label_bag.specs.Bags.{covers, Gathers}
-use Rattle.fare_price.specs.declared.offers.LegOffer.{LegOffer}
-use Rattle.fare_price.specs.declared.offers.ChangeOffer.{ChangeOffer}
-use Rattle.fare_price.specs.declared.stands.Stand.{Stand}
+use Rattle.fare_automaton.specs.Fewest.{AreEnoughMoves}
 use Rattle.fare_price.specs.declared.ways.Way.{Way}
-use Rattle.fare_price.specs.Stands.{leg_of, stand_of, next_stand, IsBelow, IsLow, IsBounded}
-use Rattle.fare_price.specs.Offers.{grouped, leg_offers, change_offers}
-use Rattle.fare_price.specs.WayLaws.{is_below-tells, below_trans}
-use Rattle.fare_price.specs.Ways.{is_as_good, first_way, next_way, ways_by, ways_from, ways_at, next_ways, first_ways, pushed, no_choice, choice_of, IsTraced, IsReal, HasBelow, AreWaysOf}
+use Rattle.fare_price.specs.Ways.{cost, is_as_good, IsBelow, way_by, IsSmall, IsBounded, IsMadeAfter, AddsWays, AreFirstWays, IsAfterOne, AreNextWays, no_choice, choice_of, IsTraced, IsStateOf, IsReal, HasNoDearer, AreWaysOf}
+use Rattle.fare_price.specs.WayLaws.{is_as_good-tells, is_as_good-from, below_trans}
 use Rattle.fare_price.proofs.GatherLaws.{take_next}
-use Rattle.fare_price.proofs.StepLaws.{below_next, next_stand-is, bounded_next, bounded_first, bounded_more}
-use Rattle.fare_price.proofs.OfferLaws.{IsLegOffer, leg_offers-right, leg_offers-cheapest, IsChangeOffer, change_offers-right, change_offers-cheapest, low_amount, low_charge}
 
--- ---- what gathers
+-- ---- what covers
 
--- a way below what was offered
-covered : (labels new : List Way) (way : Way) → Gathers is_as_good [] labels new → Contains labels way →
-    HasBelow new (stand_of way.stand)
-covered labels new way gathers at =
-    let here = All-contains (λ x. covers is_as_good new x ≡ true) labels way gathers.each at in
-    let found = list_any_tells (λ m. is_as_good m way) new here in
-    record { way = found.0; is_in = found.1; below = is_below-tells (stand_of found.0.stand) (stand_of way.stand) found.2 }
+-- a member that is as good
+record HasBelow (ways : List Way) (way : Way) : Type 0 where
+  pub member : Way
+  pub is_in : Contains ways member
+  pub below : IsBelow member way
 
--- each way was offered
-offered : (labels new : List Way) (way : Way) → Gathers is_as_good [] labels new → Contains new way →
-    Contains labels way
-offered labels new way gathers at = ⊎_elim
-    (λ (none : Contains [] way). let lt = none.1 in absurd (omega arith))
-    (λ (one : Contains labels way). one)
-    (All-contains (λ x. Contains [] x ⊎ Contains labels x) new way gathers.from at)
+has_below : (ways : List Way) (way : Way) → covers is_as_good ways way ≡ true → HasBelow ways way
+has_below ways way covered =
+    let found = list_any_tells (λ m. is_as_good m way) ways covered in
+    record { member = found.0; is_in = found.1; below = is_as_good-tells found.0 way found.2 }
 
--- what is above a stand that has a way below it has one too
-above : (ways : List Way) (s t : FareStand) → HasBelow ways s → IsBelow s t → HasBelow ways t
-above ways s t has below =
-    record { way = has.way; is_in = has.is_in; below = below_trans (stand_of has.way.stand) s t has.below below }
+covered_by : (ways : List Way) (member way : Way) → Contains ways member → IsBelow member way → covers is_as_good ways way ≡ true
+covered_by ways member way is_in below =
+    let at = slice_get-Contains ways member is_in in
+    list_any-place (λ m. is_as_good m way) ways at.0 member at.1 (is_as_good-from member way below)
+
+-- what covers a way covers what that is as good as
+covers_above : (ways : List Way) (a b : Way) → covers is_as_good ways a ≡ true → IsBelow a b → covers is_as_good ways b ≡ true
+covers_above ways a b covered below =
+    let has = has_below ways a covered in
+    covered_by ways has.member b has.is_in (below_trans has.member a b has.below below)
+
+-- ---- moves
+
+-- an amount of a sound feed
+low_amount : (feed : FeedRows) → IsSoundFeed feed → (row : ProductRowId) → nat_abs (amount_of feed row) ≤ 10 ^ 12
+unfolding amount_of
+low_amount feed sound row = by (slice_get feed.products row.0) refl
+  where
+    by : (o : Option ProductRow) → slice_get feed.products row.0 ≡ o → nat_abs (option_map_or (λ r. r.amount.0) o (pos 0)) ≤ 10 ^ 12
+    by None is = omega arith
+    by (Some r) is = All-slice_get (λ (r : ProductRow). nat_abs r.amount.0 ≤ 10 ^ 12) feed.products row.0 r is sound.products.amounts
+
+low_charge : (feed : FeedRows) → IsSoundFeed feed → (place : Option ChangeChoice) → nat_abs (place_charge feed place) ≤ 10 ^ 12
+low_charge feed sound None = omega arith
+low_charge feed sound (Some pick) = by pick.product
+  where
+    by : (o : Option ProductRowId) → nat_abs (option_map_or (amount_of feed) o (pos 0)) ≤ 10 ^ 12
+    by None = omega arith
+    by (Some row) = low_amount feed sound row
+
+paid_small : (b c : Bool) (held charge amount : ℤ) → nat_abs held ≤ 10 ^ 12 → nat_abs charge ≤ 10 ^ 12 → nat_abs amount ≤ 10 ^ 12 →
+    nat_abs (pos 0 +ℤ (if b then pos 0 else held) +ℤ charge +ℤ (if c then pos 0 else amount)) ≤ 3 * 10 ^ 12
+paid_small true true held charge amount h x a = omega (arith, ints, h, x, a)
+paid_small true false held charge amount h x a = omega (arith, ints, h, x, a)
+paid_small false true held charge amount h x a = omega (arith, ints, h, x, a)
+paid_small false false held charge amount h x a = omega (arith, ints, h, x, a)
+
+held_small : (b : Bool) (amount : ℤ) → nat_abs amount ≤ 10 ^ 12 → nat_abs (if b then amount else pos 0) ≤ 10 ^ 12
+held_small true amount low = low
+held_small false amount low = omega arith
+
+-- a move that there is adds no more than one leg can cost
+pub move_small : (feed : FeedRows) (rider : Option RiderId) (state : Option FareState) (held : ℤ) (leg : LegFacts) (move : Move) →
+    IsSoundFeed feed → nat_abs held ≤ 10 ^ 12 → move_after feed rider state held leg move ≡ Some move → IsSmall move
+unfolding move_of_first move_of_next
+move_small feed rider None held leg move sound low is =
+    let first = chain_gives _ (chosen_leg feed leg (leg_taken move)) move is in
+    let made = (cond_some _ _ _ first.gives).1 in
+    record {
+      paid = subst (λ (m : Move). nat_abs m.paid.0 ≤ 3 * 10 ^ 12) made (omega arith);
+      held = subst (λ (m : Move). nat_abs m.held.0 ≤ 10 ^ 12) made (low_amount feed sound move.product);
+    }
+move_small feed rider (Some state) held leg move sound low is =
+    let next = chain_gives _ (chosen_leg feed leg (leg_taken move)) move is in
+    let made = (cond_some _ _ _ next.gives).1 in
+    let kind = place_kind feed (place_taken move) in
+    record {
+      paid = subst (λ (m : Move). nat_abs m.paid.0 ≤ 3 * 10 ^ 12) made
+          (paid_small (frees_first kind) (is_none kind || frees_next kind) held (place_charge feed (place_taken move)) (amount_of feed move.product)
+          low (low_charge feed sound (place_taken move)) (low_amount feed sound move.product));
+      held = subst (λ (m : Move). nat_abs m.held.0 ≤ 10 ^ 12) made
+          (held_small (is_none kind) (amount_of feed move.product) (low_amount feed sound move.product));
+    }
+
+pub moves_small : (feed : FeedRows) (rider : Option RiderId) (state : Option FareState) (held : ℤ) (leg : LegFacts) (moves : List Move) →
+    IsSoundFeed feed → nat_abs held ≤ 10 ^ 12 → AreEnoughMoves feed rider state held leg moves → All IsSmall moves
+moves_small feed rider state held leg moves sound low enough =
+    All-from IsSmall moves (λ move at.
+    move_small feed rider state held leg move sound low
+    (All-contains (λ m. move_after feed rider state held leg m ≡ Some m) moves move enough.right at))
+
+-- a move that leads on from less that was paid, and from no greater price, to the same state
+record LeadsToo (feed : FeedRows) (rider : Option RiderId) (state : FareState) (paid held paid' : ℤ)
+    (leg : LegFacts) (move' : Move) : Type 0 where
+  pub move : Move
+  pub is : move_after feed rider (Some state) held leg move ≡ Some move
+  pub state_is : move.state ≡ move'.state
+  pub held_is : move.held.0 ≡ move'.held.0
+  pub paid_less : (paid +ℤ move.paid.0) ≤ℤ (paid' +ℤ move'.paid.0)
+
+less_by_parts : (x x' p p' q q' : ℤ) → x ≡ p +ℤ q → x' ≡ p' +ℤ q' → x ≤ℤ x' → (p +ℤ q) ≤ℤ (p' +ℤ q')
+less_by_parts x x' p p' q q' e e' le = omega (arith, ints, e, e', le)
+
+leads_too : (feed : FeedRows) (rider : Option RiderId) (state : FareState) (paid held paid' held' : ℤ)
+    (leg : LegFacts) (move' : Move) → paid ≤ℤ paid' → (paid +ℤ held) ≤ℤ (paid' +ℤ held') →
+    move_after feed rider (Some state) held' leg move' ≡ Some move' → LeadsToo feed rider state paid held paid' leg move'
+leads_too feed rider state paid held paid' held' leg move' le le' is =
+    let m = next_tells feed rider state held' leg move' is in
+    let kind = place_kind feed (place_taken move') in
+    let amount = amount_of feed move'.product in
+    let charge = place_charge feed (place_taken move') in
+    record {
+      move = next_move feed state held m.next move';
+      is =
+          sym (next_when feed rider leg (next_move feed state held m.next move') state held m.next true m.chosen
+          (all_true _ _ _ m.paid_leg m.right_place m.whole));
+      state_is = ap (λ (q : Move). q.state) m.follows;
+      held_is = ap (λ (q : Move). q.held.0) m.follows;
+      paid_less =
+          less_by_parts _ _ paid paid' (next_paid (pos 0) held kind amount charge) move'.paid.0
+          (next_paid-from paid held amount charge kind)
+          (next_paid-from paid' held' amount charge kind ∙ ap (λ (q : Move). paid' +ℤ q.paid.0) m.follows)
+          (next_paid-covers paid paid' held held' kind amount charge le le').0;
+    }
+
+-- ---- ways that are added
+
+-- enough moves that were offered add the ways by all moves
+pub adds_by_moves : (feed : FeedRows) (rider : Option RiderId) (leg : LegFacts) (state : Option FareState) (held paid : ℤ)
+    (number : ℕ) (moves : List Move) (old new : List Way) → AreEnoughMoves feed rider state held leg moves →
+    Gathers is_as_good old (map (way_by paid number) moves) new → AddsWays feed rider leg state held paid number old new
+adds_by_moves feed rider leg state held paid number moves old new enough gathers = record {
+  still = gathers.still;
+  each = λ move is.
+      let lesser = enough.enough move is in
+      covers_above new (way_by paid number lesser.0) (way_by paid number move)
+      (All-contains (λ x. covers is_as_good new x ≡ true) (map (way_by paid number) moves) (way_by paid number lesser.0) gathers.each
+      (Contains-map (way_by paid number) moves lesser.0 lesser.1))
+      (record {
+        state = lesser.2.state;
+        paid = added paid lesser.0.paid.0 move.paid.0 lesser.2.paid;
+        cost = added_both paid lesser.0.paid.0 lesser.0.held.0 move.paid.0 move.held.0 lesser.2.price;
+      });
+  from = λ way at. by way (All-contains (λ x. Contains old x ⊎ Contains (map (way_by paid number) moves) x) new way gathers.from at);
+}
+  where
+    added : (p x y : ℤ) → x ≤ℤ y → (p +ℤ x) ≤ℤ (p +ℤ y)
+    added p x y le = omega (arith, ints, le)
+
+    added_both : (p x h y k : ℤ) → (x +ℤ h) ≤ℤ (y +ℤ k) → ((p +ℤ x) +ℤ h) ≤ℤ ((p +ℤ y) +ℤ k)
+    added_both p x h y k le = omega (arith, ints, le)
+
+    made : (way : Way) → Contains (map (way_by paid number) moves) way → IsMadeAfter feed rider leg state held paid number way
+    made way at =
+        let found = map-tells (way_by paid number) moves way at in
+        subst (IsMadeAfter feed rider leg state held paid number) found.2
+        (record {
+          is = All-contains (λ m. move_after feed rider state held leg m ≡ Some m) moves found.0 enough.right found.1;
+          same = refl;
+        })
+
+    by : (way : Way) → Contains old way ⊎ Contains (map (way_by paid number) moves) way →
+        Contains old way ⊎ IsMadeAfter feed rider leg state held paid number way
+    by way (inl was) = inl was
+    by way (inr one) = inr (made way one)
+
+no_member : {A : Type 0} (way : Way) → Contains [] way → A
+no_member way none = let lt = none.1 in absurd (omega arith)
+
+-- after no way
+pub next_none : (feed : FeedRows) (rider : Option RiderId) (leg : LegFacts) (base : ℕ) (ways new : List Way) → new ≡ [] →
+    AreNextWays feed rider leg base ways 0 new
+next_none feed rider leg base ways new none =
+    subst (AreNextWays feed rider leg base ways 0) (sym none)
+    (record {
+      each = λ place last move lt at is. absurd (omega (arith, lt));
+      from = λ way at. no_member way at;
+    })
+
+-- after one way more
+pub next_more : (feed : FeedRows) (rider : Option RiderId) (leg : LegFacts) (base : ℕ) (ways : List Way) (n : ℕ) (last : Way)
+    (old new : List Way) → slice_get ways n ≡ Some last → AreNextWays feed rider leg base ways n old →
+    AddsWays feed rider leg (Some last.step.state) last.step.held.0 last.paid.0 (base + n) old new →
+    AreNextWays feed rider leg base ways (n + 1) new
+next_more feed rider leg base ways n last old new at before adds = record {
+  each = λ place own move lt is moves. each place own move lt is moves (cases place lt);
+  from = λ way is_in. by way (adds.from way is_in);
+}
+  where
+    cases : (place : ℕ) → place < n + 1 → (place < n) ⊎ (place ≡ n)
+    cases place lt = omega_split place n lt
+      where
+        omega_split : (p m : ℕ) → p < m + 1 → (p < m) ⊎ (p ≡ m)
+        omega_split p zero lt = inr (omega (arith, lt))
+        omega_split zero (suc m) lt = inl (omega arith)
+        omega_split (suc p) (suc m) lt = ⊎_elim (λ (l : p < m). inl (omega (arith, l))) (λ (e : p ≡ m). inr (ap suc e)) (omega_split p m (omega (arith, lt)))
+
+    each : (place : ℕ) (own : Way) (move : Move) → place < n + 1 → slice_get ways place ≡ Some own
+        → move_after feed rider (Some own.step.state) own.step.held.0 leg move ≡ Some move
+        → (place < n) ⊎ (place ≡ n)
+        → covers is_as_good new (way_by own.paid.0 (base + place) move) ≡ true
+    each place own move lt is moves (inl less) = adds.still _ (before.each place own move less is moves)
+    each place own move lt is moves (inr same) =
+        let one : own ≡ last = same_Some own last (sym is ∙ ap (slice_get ways) same ∙ at) in
+        subst (λ (p : ℕ). covers is_as_good new (way_by own.paid.0 (base + p) move) ≡ true) (sym same)
+        (subst (λ (w : Way). covers is_as_good new (way_by w.paid.0 (base + n) move) ≡ true) (sym one)
+        (adds.each move (subst (λ (w : Way). move_after feed rider (Some w.step.state) w.step.held.0 leg move ≡ Some move) one moves)))
+
+    by : (way : Way) → Contains old way ⊎ IsMadeAfter feed rider leg (Some last.step.state) last.step.held.0 last.paid.0 (base + n) way →
+        IsAfterOne feed rider leg base ways way
+    by way (inl was) = before.from way was
+    by way (inr made) = record { place = n; last = last; at = at; made = made }
 
 -- ---- steps that are put behind others
 
-slice_get-append_right : {X : Type 0} (xs ys : List X) (i j : ℕ) → i ≡ length xs + j →
-    slice_get (xs ++ ys) i ≡ slice_get ys j
-slice_get-append_right [] ys i j e = let same : i ≡ j = omega arith in ap (slice_get ys) same
-slice_get-append_right (x ∷ xs) ys zero j e = absurd (omega arith)
-slice_get-append_right (x ∷ xs) ys (suc i) j e = slice_get-append_right xs ys i j (omega arith)
+slice_get-append_right : {X : Type 0} (xs ys : List X) (j : ℕ) → slice_get (xs ++ ys) (length xs + j) ≡ slice_get ys j
+slice_get-append_right {X} [] ys j = let same : length {A = X} [] + j ≡ j = omega arith in ap (slice_get ys) same
+slice_get-append_right (x ∷ xs) ys j =
+    let next : length (x ∷ xs) + j ≡ suc (length xs + j) = omega arith in
+    ap (slice_get (x ∷ (xs ++ ys))) next ∙ slice_get-append_right xs ys j
 
-still_there : (steps more : List Way) (i : ℕ) (way : Way) → slice_get steps i ≡ Some way →
-    slice_get (steps ++ more) i ≡ Some way
+still_there : (steps more : List Way) (i : ℕ) (way : Way) → slice_get steps i ≡ Some way → slice_get (steps ++ more) i ≡ Some way
 still_there steps more i way is = slice_get-append_left steps more i (slice_get_within steps i way is) ∙ is
 
 IsTraced-append : (steps more : List Way) (n : ℕ) (way : Way) → IsTraced steps n way → IsTraced (steps ++ more) n way
@@ -81,359 +262,188 @@ IsTraced-append steps more (suc n) way traced = (
 )
 
 choice_of-suc : (steps : List Way) (n : ℕ) (way before : Way) → slice_get steps way.before ≡ Some before →
-    choice_of steps (suc n) way ≡ pushed (choice_of steps n before) way
-choice_of-suc steps n way before is = ap (λ o. pushed (option_map_or (choice_of steps n) o no_choice) way) is
+    choice_of steps (suc n) way ≡ extended (choice_of steps n before) way.step
+choice_of-suc steps n way before is = ap (λ o. extended (option_map_or (choice_of steps n) o no_choice) way.step) is
 
 choice_of-append : (steps more : List Way) (n : ℕ) (way : Way) → IsTraced steps n way →
     choice_of (steps ++ more) n way ≡ choice_of steps n way
 choice_of-append steps more zero way traced = refl
 choice_of-append steps more (suc n) way traced =
     choice_of-suc (steps ++ more) n way traced.0 (still_there steps more way.before traced.0 traced.1)
-    ∙ ap (λ c. pushed c way) (choice_of-append steps more n traced.0 traced.2)
+    ∙ ap (λ c. extended c way.step) (choice_of-append steps more n traced.0 traced.2)
     ∙ sym (choice_of-suc steps n way traced.0 traced.1)
 
--- ---- what steps tell
+-- ---- one leg more than a choice pays
 
--- a first step is a choice for the leg, and leads to where it says
-record IsFirstStep (feed : FeedRows) (rider : Option RiderId) (leg : LegFacts) (pick : LegChoice)
-    (stand : FareStand) : Type 0 where
-  pub first : FareLeg
-  pub seen : chosen_leg feed leg pick ≡ Some first
-  pub choice : is_leg_choice feed rider leg pick ≡ true
-  pub is : stand_of_first feed first pick ≡ stand
+module _ (feed : FeedRows) (rider : Option RiderId) (legs : List LegFacts) (leg : LegFacts) where
+  -- what a way says of its choice, by the move that extends the choice before
+  state_after : (choice : Choice) (paid : ℤ) (number : ℕ) (move : Move) → paid_amount feed choice ≡ paid →
+      Extends feed rider legs choice leg move → IsStateOf feed (legs ++ leg ∷ []) (extended choice move) (way_by paid number move)
+  state_after choice paid number move is extends = record {
+    state = extends.state;
+    paid = extends.paid ∙ ap (λ (z : ℤ). z +ℤ move.paid.0) is;
+    held = extends.held;
+  }
 
-first_step-tells : (feed : FeedRows) (rider : Option RiderId) (leg : LegFacts) (pick : LegChoice) (stand : FareStand) →
-    first_fare_stand feed rider leg pick ≡ Some stand → IsFirstStep feed rider leg pick stand
-unfolding first_fare_stand
-first_step-tells feed rider leg pick stand e = by (chosen_leg feed leg pick) refl e
-  where
-    choose : (first : FareLeg) → chosen_leg feed leg pick ≡ Some first → (b : Bool) → is_leg_choice feed rider leg pick ≡ b →
-        when b (stand_of_first feed first pick) ≡ Some stand → IsFirstStep feed rider leg pick stand
-    choose first seen true choice e =
-        record { first = first; seen = seen; choice = choice; is = same_Some _ _ e }
-    choose first seen false choice e = absurd (cc)
+  -- beside a longer choice stands what covers a way that leads to its state, and has paid no more
+  no_dearer_after : (choice : Choice) (paid : ℤ) (number : ℕ) (move move' : Move) (new : List Way) → Extends feed rider legs choice leg move' →
+      covers is_as_good new (way_by paid number move) ≡ true → move.state ≡ move'.state → move.held.0 ≡ move'.held.0 →
+      (paid +ℤ move.paid.0) ≤ℤ (paid_amount feed choice +ℤ move'.paid.0) →
+      HasNoDearer feed (legs ++ leg ∷ []) new (extended choice move')
+  no_dearer_after choice paid number move move' new extends covered state held less =
+      let has = has_below new (way_by paid number move) covered in
+      record {
+        way = has.member;
+        is_in = has.is_in;
+        state = extends.state ∙ ap Some (sym (has.below.state ∙ state));
+        paid = no_more _ _ _ _ has.below.paid less extends.paid;
+        cost = no_more_held _ _ _ _ _ _ _ has.below.cost less extends.paid extends.held held;
+      }
+    where
+      no_more : (a b c d : ℤ) → a ≤ℤ b → b ≤ℤ c → d ≡ c → a ≤ℤ d
+      no_more a b c d p q e = omega (arith, ints, p, q, e)
 
-    by : (o : Option FareLeg) → chosen_leg feed leg pick ≡ o →
-        option_and_then (λ first. when (is_leg_choice feed rider leg pick) (stand_of_first feed first pick)) o ≡ Some stand →
-        IsFirstStep feed rider leg pick stand
-    by None seen e = absurd (cc)
-    by (Some first) seen e = choose first seen (is_leg_choice feed rider leg pick) refl e
-
--- and so does a later one
-record IsNextStep (feed : FeedRows) (rider : Option RiderId) (stand : FareStand) (leg : LegFacts) (pick : LegChoice)
-    (place : Option ChangeChoice) (after : FareStand) : Type 0 where
-  pub next : FareLeg
-  pub seen : chosen_leg feed leg pick ≡ Some next
-  pub choice : is_leg_choice feed rider leg pick ≡ true
-  pub change : is_change_choice feed rider (change_to stand.run next) place ≡ true
-  pub is : stand_of_next feed stand next pick place ≡ after
-
-next_step-tells : (feed : FeedRows) (rider : Option RiderId) (stand : FareStand) (leg : LegFacts) (pick : LegChoice)
-    (place : Option ChangeChoice) (after : FareStand) →
-    next_fare_stand feed rider stand leg pick place ≡ Some after → IsNextStep feed rider stand leg pick place after
-unfolding next_fare_stand
-next_step-tells feed rider stand leg pick place after e = by (chosen_leg feed leg pick) refl e
-  where
-    choose : (next : FareLeg) → chosen_leg feed leg pick ≡ Some next → (b : Bool) →
-        (is_leg_choice feed rider leg pick && is_change_choice feed rider (change_to stand.run next) place) ≡ b →
-        when b (stand_of_next feed stand next pick place) ≡ Some after →
-        IsNextStep feed rider stand leg pick place after
-    choose next seen true both e =
-        let parts = and_parts (is_leg_choice feed rider leg pick) _ both in
-        record { next = next; seen = seen; choice = parts.0; change = parts.1; is = same_Some _ _ e }
-    choose next seen false both e = absurd (cc)
-
-    by : (o : Option FareLeg) → chosen_leg feed leg pick ≡ o →
-        option_and_then (λ next. when (is_leg_choice feed rider leg pick && is_change_choice feed rider
-        (change_to stand.run next) place) (stand_of_next feed stand next pick place)) o ≡ Some after →
-        IsNextStep feed rider stand leg pick place after
-    by None seen e = absurd (cc)
-    by (Some next) seen e = choose next seen _ refl e
-
--- a rule alone says how changes see the leg
-seen_by_rule : (feed : FeedRows) (leg : LegFacts) (a b : LegChoice) → a.rule ≡ b.rule →
-    chosen_leg feed leg a ≡ chosen_leg feed leg b
-seen_by_rule feed leg a b e =
-    ap (λ (rule : RuleId). option_map
-    (λ row. record { group = row.group; departure = leg.departure; arrival = leg.arrival })
-    (slice_get feed.leg_rules rule.0)) e
+      no_more_held : (a b h c d k l : ℤ) → a ≤ℤ (b +ℤ h) → b ≤ℤ c → d ≡ c → k ≡ l → h ≡ l → a ≤ℤ (d +ℤ k)
+      no_more_held a b h c d k l p q e f g = omega (arith, ints, p, q, e, f, g)
 
 -- ---- the first leg
 
-module _ (feed : FeedRows) (rider : Option RiderId) (leg : LegFacts) (steps : List Way) where
-  first_step : (offer : LegOffer) → IsLegOffer feed rider leg offer →
-      first_fare_stand feed rider leg offer.pick ≡ Some (stand_of (first_way leg offer).stand)
-  unfolding first_fare_stand
-  first_step offer right =
-      ap (λ o. option_and_then (λ first. when (is_leg_choice feed rider leg offer.pick)
-      (stand_of_first feed first offer.pick)) o) right.seen
-      ∙ ap (λ b. when b (stand_of_first feed (leg_of (grouped leg offer)) offer.pick)) right.choice
-      ∙ ap (λ (a : ℤ). Some (held_first a)) right.amount
-    where
-      held_first : ℤ → FareStand
-      held_first a = record { run = fresh_run (leg_of (grouped leg offer)); paid = pos 0; held = a }
+module _ (feed : FeedRows) (rider : Option RiderId) (leg : LegFacts) (steps new : List Way) (sound : IsSoundFeed feed)
+    (first : AreFirstWays feed rider leg new) where
+  none_paid : is_fare_choice feed [] no_choice rider ≡ true
+  unfolding is_fare_choice
+  none_paid = refl
 
-  first_real : IsSoundFeed feed → (offer : LegOffer) → IsLegOffer feed rider leg offer →
-      IsReal feed rider (leg ∷ []) steps 0 (first_way leg offer)
-  first_real sound offer right =
-      let step = first_step offer right in
+  none_is_paid : paid_amount feed no_choice ≡ pos 0
+  unfolding paid_amount held_amount fare_sum
+  none_is_paid = refl
+
+  first_move_of : (move : Move) → move_after feed rider None (pos 0) leg move ≡ Some move → IsMoveAfter feed rider [] no_choice leg move
+  unfolding fare_state held_amount
+  first_move_of move is = is
+
+  first_real : (way : Way) → IsMadeAfter feed rider leg None (pos 0) (pos 0) 0 way → IsReal feed rider (leg ∷ []) steps 0 way
+  first_real way made =
+      let extends = extends_by feed rider [] no_choice leg way.step none_paid (first_move_of way.step made.is) in
+      let small = move_small feed rider None (pos 0) leg way.step sound (omega arith) made.is in
       record {
         traced = tt;
-        paid = first_fare_stand-paid feed rider leg offer.pick ∙ ap is_some step;
-        at = first_fare_stand-of feed rider leg offer.pick (stand_of (first_way leg offer).stand) step;
-        bounded = bounded_first (grouped leg offer) offer.amount
-            (subst IsLow right.amount (low_amount feed sound offer.pick.product));
+        pays = extends.pays;
+        of = subst (IsStateOf feed (leg ∷ []) (extended no_choice way.step)) made.same
+            (state_after feed rider [] leg no_choice (pos 0) 0 way.step none_is_paid extends);
+        bounded = subst (IsBounded 1) made.same (record { paid = alone way.step.paid.0 small.paid; held = small.held });
       }
-
-  first_below : (pick : LegChoice) (stand : FareStand) → IsFirstStep feed rider leg pick stand →
-      (new : List Way) → Gathers is_as_good [] (first_ways feed rider leg) new → HasBelow new stand
-  unfolding first_ways
-  first_below pick stand step new gathers =
-      let cheaper = leg_offers-cheapest feed rider leg pick step.choice in
-      let offer = cheaper.offer in
-      let right = leg_offers-right feed rider leg offer cheaper.is_in in
-      let same : leg_of (grouped leg offer) ≡ step.first =
-      same_Some _ _ (sym right.seen ∙ seen_by_rule feed leg offer.pick pick cheaper.rule ∙ step.seen) in
-      let below : IsBelow (stand_of (first_way leg offer).stand) (stand_of_first feed step.first pick) =
-      record {
-        run = ap fresh_run same;
-        paid = zero_le;
-        price = added offer.amount (amount_of feed pick.product) cheaper.amount;
-      } in
-      above new (stand_of (first_way leg offer).stand) stand
-      (covered (map (first_way leg) (leg_offers feed rider leg)) new (first_way leg offer) gathers
-      (Contains-map (first_way leg) (leg_offers feed rider leg) offer cheaper.is_in))
-      (subst (IsBelow (stand_of (first_way leg offer).stand)) step.is below)
     where
-      zero_le : pos 0 ≤ℤ pos 0
-      zero_le = omega (arith, ints)
+      alone : (p : ℤ) → nat_abs p ≤ 3 * 10 ^ 12 → nat_abs (pos 0 +ℤ p) ≤ 1 * (3 * 10 ^ 12)
+      alone p le = omega (arith, ints, le)
 
-      added : (a b : ℤ) → a ≤ℤ b → (pos 0 +ℤ a) ≤ℤ (pos 0 +ℤ b)
-      added a b le = omega (arith, ints, le)
+  first_complete : (longer : Choice) → is_fare_choice feed (leg ∷ []) longer rider ≡ true → HasNoDearer feed (leg ∷ []) new longer
+  unfolding fare_state held_amount
+  first_complete longer pays =
+      let made = made_by feed rider [] leg longer pays in
+      let none = none_of made.choice made.pays in
+      let start : IsMoveAfter feed rider [] no_choice leg made.move =
+      subst (λ (c : Choice). IsMoveAfter feed rider [] c leg made.move) none made.is in
+      let extends = extends_by feed rider [] no_choice leg made.move none_paid start in
+      subst (HasNoDearer feed (leg ∷ []) new) (ap (λ (c : Choice). extended c made.move) (sym none) ∙ sym made.same)
+      (no_dearer_after feed rider [] leg no_choice (pos 0) 0 made.move made.move new extends (first.each made.move start) refl refl
+      (same_paid _ _ none_is_paid))
+    where
+      same_paid : (p q : ℤ) → p ≡ pos 0 → (pos 0 +ℤ q) ≤ℤ (p +ℤ q)
+      same_paid p q e = omega (arith, ints, e)
 
-  -- the best ways to pay one leg
-  pub first_layer : IsSoundFeed feed → (new : List Way) → Gathers is_as_good [] (first_ways feed rider leg) new →
-      AreWaysOf feed rider (leg ∷ []) steps 0 new
-  unfolding first_ways
-  first_layer sound new gathers = record {
-    real = λ way at.
-        let found = map-tells (first_way leg) (leg_offers feed rider leg) way
-        (offered (map (first_way leg) (leg_offers feed rider leg)) new way gathers at) in
-        subst (IsReal feed rider (leg ∷ []) steps 0) found.2
-        (first_real sound found.0 (leg_offers-right feed rider leg found.0 found.1));
-    complete = λ choice stand paid at.
-        let one = one_of_paid feed rider leg choice paid in
-        of_pick one.0 stand (subst (λ (c : Choice). is_fare_choice feed (leg ∷ []) c rider ≡ true) one.1 paid)
-        (subst (λ (c : Choice). IsStandOf feed (leg ∷ []) c 0 stand) one.1 at);
+      none_of : (choice : Choice) → is_fare_choice feed [] choice rider ≡ true → choice ≡ no_choice
+      none_of choice is = no_leg_paid feed rider choice is
+
+  pub first_layer : AreWaysOf feed rider (leg ∷ []) steps 0 new
+  first_layer = record {
+    real = λ way at. ⊎_elim (λ (none : Contains [] way). no_member way none) (first_real way) (first.from way at);
+    complete = first_complete;
   }
-    where
-      of_pick : (pick : LegChoice) (stand : FareStand) →
-          is_fare_choice feed (leg ∷ []) (choice_of_one pick) rider ≡ true →
-          IsStandOf feed (leg ∷ []) (choice_of_one pick) 0 stand → HasBelow new stand
-      of_pick pick stand paid at = by (first_fare_stand feed rider leg pick) refl
-        where
-          by : (o : Option FareStand) → first_fare_stand feed rider leg pick ≡ o → HasBelow new stand
-          by None is =
-              let bad : true ≡ false = sym paid ∙ first_fare_stand-paid feed rider leg pick ∙ ap is_some is in
-              absurd (cc)
-          by (Some s) is =
-              let same : s ≡ stand = IsStandOf-one feed (leg ∷ []) (choice_of_one pick) 0 s stand
-              (first_fare_stand-of feed rider leg pick s is) at in
-              subst (HasBelow new) same (first_below pick s (first_step-tells feed rider leg pick s is) new gathers)
 
 -- ---- one leg more
 
--- a way is one leg more after another
-record IsOneMore (feed : FeedRows) (rider : Option RiderId) (leg : LegFacts) (base : ℕ) (ways : List Way)
-    (way : Way) : Type 0 where
-  pub number : ℕ
-  pub last : Way
-  pub at : slice_get ways number ≡ Some last
-  pub offer : LegOffer
-  pub offer_in : Contains (leg_offers feed rider leg) offer
-  pub change : ChangeOffer
-  pub change_in : Contains (change_offers feed rider (change_to (stand_of last.stand).run (leg_of (grouped leg offer)))) change
-  pub is : next_way leg last.stand (base + number) offer change ≡ way
-
-next_ways-tell : (feed : FeedRows) (rider : Option RiderId) (leg : LegFacts) (base : ℕ) (ways : List Way) (way : Way) →
-    Contains (next_ways feed rider leg base ways) way → IsOneMore feed rider leg base ways way
-unfolding next_ways ways_from ways_by
-next_ways-tell feed rider leg base ways way at =
-    let found = joined_below-tells (length ways) (ways_at feed rider leg base ways) way at in
-    by found.0 (slice_get ways found.0) refl found.2
-  where
-    by : (j : ℕ) (o : Option Way) → slice_get ways j ≡ o →
-        Contains (option_map_or (λ w. ways_from feed rider leg w.stand (base + j)) o []) way →
-        IsOneMore feed rider leg base ways way
-    by j None is at = let lt = at.1 in absurd (omega arith)
-    by j (Some last) is at =
-        let leg_found = flat_map-tells (ways_by feed rider leg last.stand (base + j)) (leg_offers feed rider leg) way at in
-        let found = map-tells (next_way leg last.stand (base + j) leg_found.0)
-        (change_offers feed rider (change_to (stand_of last.stand).run (leg_of (grouped leg leg_found.0)))) way leg_found.2 in
-        record {
-          number = j;
-          last = last;
-          at = is;
-          offer = leg_found.0;
-          offer_in = leg_found.1;
-          change = found.0;
-          change_in = found.1;
-          is = found.2;
-        }
-
-Contains-next_ways : (feed : FeedRows) (rider : Option RiderId) (leg : LegFacts) (base : ℕ) (ways : List Way)
-    (j : ℕ) (last : Way) (offer : LegOffer) (change : ChangeOffer) →
-    slice_get ways j ≡ Some last → Contains (leg_offers feed rider leg) offer →
-    Contains (change_offers feed rider (change_to (stand_of last.stand).run (leg_of (grouped leg offer)))) change →
-    Contains (next_ways feed rider leg base ways) (next_way leg last.stand (base + j) offer change)
-unfolding next_ways ways_from ways_by
-Contains-next_ways feed rider leg base ways j last offer change is offer_in change_in =
-    let way = next_way leg last.stand (base + j) offer change in
-    let by_offer : Contains (ways_by feed rider leg last.stand (base + j) offer) way =
-    Contains-map (next_way leg last.stand (base + j) offer)
-    (change_offers feed rider (change_to (stand_of last.stand).run (leg_of (grouped leg offer)))) change change_in in
-    let from_way : Contains (ways_from feed rider leg last.stand (base + j)) way =
-    Contains-flat_map (ways_by feed rider leg last.stand (base + j)) (leg_offers feed rider leg) offer way offer_in by_offer in
-    let here : Contains (ways_at feed rider leg base ways j) way = rw is from_way in
-    Contains-joined_below (length ways) (ways_at feed rider leg base ways) j way (slice_get_within ways j last is) here
-
--- the step to it
-next_step : (feed : FeedRows) (rider : Option RiderId) (leg : LegFacts) (stand : Stand) (offer : LegOffer)
-    (change : ChangeOffer) → IsLegOffer feed rider leg offer →
-    IsChangeOffer feed rider (change_to (stand_of stand).run (leg_of (grouped leg offer))) change →
-    next_fare_stand feed rider (stand_of stand) leg offer.pick change.place
-    ≡ Some (stand_of (next_stand stand (grouped leg offer) change.kind offer.amount change.amount))
-unfolding next_fare_stand
-next_step feed rider leg stand offer change right fits =
-    ap (λ o. option_and_then (λ next. when
-    (is_leg_choice feed rider leg offer.pick && is_change_choice feed rider (change_to (stand_of stand).run next) change.place)
-    (stand_of_next feed (stand_of stand) next offer.pick change.place)) o) right.seen
-    ∙ ap (λ b. when b (stand_of_next feed (stand_of stand) (leg_of (grouped leg offer)) offer.pick change.place))
-    (and_from _ _ right.choice fits.choice)
-    ∙ ap Some (sym (next_stand-is feed stand (grouped leg offer) offer.pick change.place change.kind offer.amount
-    change.amount fits.arranged fits.kind right.amount fits.charge))
-
-module _ (feed : FeedRows) (rider : Option RiderId) (legs : List LegFacts) (leg : LegFacts) (steps ways : List Way)
-    (n : ℕ) (sound : IsSoundFeed feed) (long : length legs ≡ suc n)
-    (before : AreWaysOf feed rider legs steps n ways) where
-  real_step : (j : ℕ) (last : Way) (offer : LegOffer) (change : ChangeOffer) → slice_get ways j ≡ Some last →
-      IsLegOffer feed rider leg offer →
-      IsChangeOffer feed rider (change_to (stand_of last.stand).run (leg_of (grouped leg offer))) change →
-      IsReal feed rider (legs ++ leg ∷ []) (steps ++ ways) (suc n) (next_way leg last.stand (length steps + j) offer change)
-  real_step j last offer change is right fits =
-      let way = next_way leg last.stand (length steps + j) offer change in
-      let r = before.real last (Contains-slice_get ways j last is) in
+module _ (feed : FeedRows) (rider : Option RiderId) (legs : List LegFacts) (leg : LegFacts) (steps ways new : List Way) (n : ℕ)
+    (sound : IsSoundFeed feed) (before : AreWaysOf feed rider legs steps n ways)
+    (next : AreNextWays feed rider leg (length steps) ways (length ways) new) where
+  next_real : (way : Way) → IsAfterOne feed rider leg (length steps) ways way → IsReal feed rider (legs ++ leg ∷ []) (steps ++ ways) (suc n) way
+  next_real way after =
+      let last = after.last in
+      let real = before.real last (Contains-slice_get ways after.place last after.at) in
       let choice = choice_of steps n last in
-      let more = pushed choice way in
-      let places = places_of_paid feed rider legs choice r.paid in
-      let picks = places.0 in
-      let changes = places.1 in
-      let pushes : IsPushed choice way.place way.pick more n =
-      record { legs = omega arith; changes = omega arith; more_legs = refl; more_changes = refl } in
-      let step = next_step feed rider leg last.stand offer change right fits in
-      let there : slice_get (steps ++ ways) (length steps + j) ≡ Some last =
-      slice_get-append_right steps ways (length steps + j) j refl ∙ is in
-      let same : choice_of (steps ++ ways) (suc n) way ≡ more =
-      choice_of-suc (steps ++ ways) n way last there
-      ∙ ap (λ c. pushed c way) (choice_of-append steps ways n last r.traced) in
-      let paid : is_fare_choice feed (legs ++ leg ∷ []) more rider ≡ true =
-      paid_of_step feed rider legs leg choice way.place way.pick more n (stand_of last.stand) (stand_of way.stand) long
-      pushes r.paid r.at step in
-      let stands : IsStandOf feed (legs ++ leg ∷ []) more (suc n) (stand_of way.stand) =
-      next_fare_stand-of feed rider legs leg choice way.place way.pick more n (stand_of last.stand) long pushes r.at
-      (stand_of way.stand) step in
+      let is : IsMoveAfter feed rider legs choice leg way.step =
+      subst (λ (s : Option FareState). move_after feed rider s (held_amount feed choice) leg way.step ≡ Some way.step) (sym real.of.state)
+      (subst (λ (h : ℤ). move_after feed rider (Some last.step.state) h leg way.step ≡ Some way.step) (sym real.of.held) after.made.is) in
+      let extends = extends_by feed rider legs choice leg way.step real.pays is in
+      let small = move_small feed rider (Some last.step.state) last.step.held.0 leg way.step sound real.bounded.held after.made.is in
+      let number : way.before ≡ length steps + after.place = sym (ap (λ (w : Way). w.before) after.made.same) in
+      let there : slice_get (steps ++ ways) way.before ≡ Some last =
+      ap (slice_get (steps ++ ways)) number ∙ slice_get-append_right steps ways after.place ∙ after.at in
+      let same : extended choice way.step ≡ choice_of (steps ++ ways) (suc n) way =
+      sym (choice_of-suc (steps ++ ways) n way last there ∙ ap (λ c. extended c way.step) (choice_of-append steps ways n last real.traced)) in
       record {
-        traced = (last, there, IsTraced-append steps ways n last r.traced);
-        paid = subst (λ (c : Choice). is_fare_choice feed (legs ++ leg ∷ []) c rider ≡ true) (sym same) paid;
-        at = subst (λ (c : Choice). IsStandOf feed (legs ++ leg ∷ []) c (suc n) (stand_of way.stand)) (sym same) stands;
-        bounded = bounded_more ((n + 1) + 1) (suc n + 1) way.stand (omega arith)
-            (bounded_next (n + 1) last.stand (grouped leg offer) change.kind offer.amount change.amount r.bounded
-            (subst IsLow right.amount (low_amount feed sound offer.pick.product))
-            (subst IsLow fits.charge (low_charge feed sound change.place)));
+        traced = (last, there, IsTraced-append steps ways n last real.traced);
+        pays = subst (λ (c : Choice). is_fare_choice feed (legs ++ leg ∷ []) c rider ≡ true) same extends.pays;
+        of = subst (λ (c : Choice). IsStateOf feed (legs ++ leg ∷ []) c way) same
+            (subst (IsStateOf feed (legs ++ leg ∷ []) (extended choice way.step)) after.made.same
+            (state_after feed rider legs leg choice last.paid.0 (length steps + after.place) way.step real.of.paid extends));
+        bounded = subst (IsBounded (suc n + 1)) after.made.same
+            (record { paid = more last.paid.0 way.step.paid.0 real.bounded.paid small.paid; held = small.held });
       }
-
-  below_step : (new : List Way) → Gathers is_as_good [] (next_ways feed rider leg (length steps) ways) new →
-      (pick : LegChoice) (place : Option ChangeChoice) (stand after : FareStand) → HasBelow ways stand →
-      IsNextStep feed rider stand leg pick place after → HasBelow new after
-  below_step new gathers pick place stand after has step =
-      let last = has.way in
-      let at = slice_get-Contains ways last has.is_in in
-      let cheaper = leg_offers-cheapest feed rider leg pick step.choice in
-      let offer = cheaper.offer in
-      let right = leg_offers-right feed rider leg offer cheaper.is_in in
-      let same : leg_of (grouped leg offer) ≡ step.next =
-      same_Some _ _ (sym right.seen ∙ seen_by_rule feed leg offer.pick pick cheaper.rule ∙ step.seen) in
-      let change_is : change_to stand.run step.next ≡ change_to (stand_of last.stand).run (leg_of (grouped leg offer)) =
-      same_change stand.run (stand_of last.stand).run step.next (leg_of (grouped leg offer)) (sym has.below.run) (sym same) in
-      let cheap = change_offers-cheapest feed rider (change_to (stand_of last.stand).run (leg_of (grouped leg offer))) place
-      (subst (λ (c : Option TransferFacts). is_change_choice feed rider c place ≡ true) change_is step.change) in
-      let change = cheap.offer in
-      let fits = change_offers-right feed rider (change_to (stand_of last.stand).run (leg_of (grouped leg offer))) change cheap.is_in in
-      let way = next_way leg last.stand (length steps + at.0) offer change in
-      let is : stand_of way.stand ≡ stand_of_next feed (stand_of last.stand) (leg_of (grouped leg offer)) offer.pick change.place =
-      next_stand-is feed last.stand (grouped leg offer) offer.pick change.place change.kind offer.amount change.amount
-      fits.arranged fits.kind right.amount fits.charge in
-      let below : IsBelow (stand_of_next feed (stand_of last.stand) (leg_of (grouped leg offer)) offer.pick change.place)
-      (stand_of_next feed stand (leg_of (grouped leg offer)) pick place) =
-      below_next feed (stand_of last.stand) stand (leg_of (grouped leg offer)) offer.pick pick change.place place has.below
-      (fits.kind ∙ cheap.kind) (along _ _ _ right.amount cheaper.amount) (along _ _ _ fits.charge cheap.amount) in
-      let to_after : stand_of_next feed stand (leg_of (grouped leg offer)) pick place ≡ after =
-      ap (λ (l : FareLeg). stand_of_next feed stand l pick place) same ∙ step.is in
-      above new (stand_of way.stand) after
-      (covered (next_ways feed rider leg (length steps) ways) new way gathers
-      (Contains-next_ways feed rider leg (length steps) ways at.0 last offer change at.1 cheaper.is_in cheap.is_in))
-      (subst (IsBelow (stand_of way.stand)) to_after
-      (subst (λ (s : FareStand). IsBelow s (stand_of_next feed stand (leg_of (grouped leg offer)) pick place)) (sym is) below))
     where
-      along : (a b c : ℤ) → a ≡ b → b ≤ℤ c → a ≤ℤ c
-      along a b c e le = omega (arith, ints, e, le)
+      more : (p q : ℤ) → nat_abs p ≤ (n + 1) * (3 * 10 ^ 12) → nat_abs q ≤ 3 * 10 ^ 12 → nat_abs (p +ℤ q) ≤ (suc n + 1) * (3 * 10 ^ 12)
+      more p q le le' = omega (arith, ints, le, le')
 
-      same_change : (r s : Run) (l m : FareLeg) → r ≡ s → l ≡ m → change_to r l ≡ change_to s m
-      same_change r s l m e f = rw (e, f) refl
+  next_complete : (longer : Choice) → is_fare_choice feed (legs ++ leg ∷ []) longer rider ≡ true →
+      HasNoDearer feed (legs ++ leg ∷ []) new longer
+  next_complete longer pays =
+      let made = made_by feed rider legs leg longer pays in
+      let has = before.complete made.choice made.pays in
+      let way = has.way in
+      let at = slice_get-Contains ways way has.is_in in
+      let extends = extends_by feed rider legs made.choice leg made.move made.pays made.is in
+      let from_state : move_after feed rider (Some way.step.state) (held_amount feed made.choice) leg made.move ≡ Some made.move =
+      subst (λ (s : Option FareState). move_after feed rider s (held_amount feed made.choice) leg made.move ≡ Some made.move) has.state made.is in
+      let too =
+      leads_too feed rider way.step.state way.paid.0 way.step.held.0 (paid_amount feed made.choice) (held_amount feed made.choice) leg made.move
+      has.paid has.cost from_state in
+      subst (HasNoDearer feed (legs ++ leg ∷ []) new) (sym made.same)
+      (no_dearer_after feed rider legs leg made.choice way.paid.0 (length steps + at.0) too.move made.move new extends
+      (next.each at.0 way too.move (slice_get_within ways at.0 way at.1) at.1 too.is) too.state_is too.held_is too.paid_less)
 
-  -- the best ways to pay one leg more
-  pub next_layer : (new : List Way) → Gathers is_as_good [] (next_ways feed rider leg (length steps) ways) new →
-      AreWaysOf feed rider (legs ++ leg ∷ []) (steps ++ ways) (suc n) new
-  next_layer new gathers = record {
-    real = λ way at.
-        let one = next_ways-tell feed rider leg (length steps) ways way
-        (offered (next_ways feed rider leg (length steps) ways) new way gathers at) in
-        subst (IsReal feed rider (legs ++ leg ∷ []) (steps ++ ways) (suc n)) one.is
-        (real_step one.number one.last one.offer one.change one.at
-        (leg_offers-right feed rider leg one.offer one.offer_in)
-        (change_offers-right feed rider (change_to (stand_of one.last.stand).run (leg_of (grouped leg one.offer)))
-        one.change one.change_in));
-    complete = λ choice stand paid at.
-        let from = step_of_paid feed rider legs leg choice n long paid in
-        let same : from.after ≡ stand =
-        IsStandOf-one feed (legs ++ leg ∷ []) choice (suc n) from.after stand from.of at in
-        subst (HasBelow new) same
-        (below_step new gathers from.last.pick from.last.place from.before.stand from.after
-        (before.complete from.last.choice from.before.stand from.paid from.before.of)
-        (next_step-tells feed rider from.before.stand leg from.last.pick from.last.place from.after from.step));
+  pub next_layer : AreWaysOf feed rider (legs ++ leg ∷ []) (steps ++ ways) (suc n) new
+  next_layer = record {
+    real = λ way at. next_real way (next.from way at);
+    complete = next_complete;
   }
 
 -- ---- the least price
 
 module _ (feed : FeedRows) (rider : Option RiderId) (legs : List LegFacts) (steps ways : List Way) (n : ℕ)
-    (long : length legs ≡ suc n) (are : AreWaysOf feed rider legs steps n ways) where
+    (are : AreWaysOf feed rider legs steps n ways) where
+  -- what is paid and what is held are the sum
+  both_parts : (choice : Choice) → (paid_amount feed choice +ℤ held_amount feed choice) ≡ fare_sum feed choice
+  unfolding paid_amount
+  both_parts choice = omega (arith, ints)
+
   -- the cheapest of the ways has the least price
-  pub least_way : (way : Way) → Contains ways way →
-      All (λ (w : Way). stand_price (stand_of way.stand) ≤ℤ stand_price (stand_of w.stand)) ways →
-      IsLeastPriceOfLegs feed legs rider (choice_of steps n way) (stand_price (stand_of way.stand))
+  pub least_way : (way : Way) → Contains ways way → All (λ (w : Way). cost way ≤ℤ cost w) ways →
+      IsLeastPriceOfLegs feed legs rider (choice_of steps n way) (cost way)
   least_way way at cheapest =
       let r = are.real way at in
       record {
-        paid = ap (λ b. when b (fare_sum feed (choice_of steps n way))) r.paid ∙ ap Some (sym r.at.price);
+        paid = ap (λ b. when b (fare_sum feed (choice_of steps n way))) r.pays
+            ∙ ap Some (sym (both_parts (choice_of steps n way)) ∙ sum_of _ _ _ _ r.of.paid r.of.held);
         least = λ other sum is.
             let parts = cond_some (is_fare_choice feed legs other rider) (fare_sum feed other) sum is in
-            let after = stand_of_paid feed rider legs other n long parts.0 in
-            let has = are.complete other after.stand parts.0 after.of in
-            chain _ _ _ _ _
-            (All-contains (λ (w : Way). stand_price (stand_of way.stand) ≤ℤ stand_price (stand_of w.stand)) ways has.way cheapest has.is_in)
-            has.below.price after.of.price parts.1;
+            let has = are.complete other parts.0 in
+            chain _ _ _ _ _ (All-contains (λ (w : Way). cost way ≤ℤ cost w) ways has.way cheapest has.is_in)
+            has.cost (both_parts other) parts.1;
       }
     where
+      sum_of : (p q h k : ℤ) → p ≡ q → h ≡ k → p +ℤ h ≡ q +ℤ k
+      sum_of p q h k e f = rw (e, f) refl
+
       chain : (a b c d e : ℤ) → a ≤ℤ b → b ≤ℤ c → c ≡ d → d ≡ e → a ≤ℤ e
       chain a b c d e p q r s = omega (arith, ints, p, q, r, s)
 
@@ -444,11 +454,8 @@ module _ (feed : FeedRows) (rider : Option RiderId) (legs : List LegFacts) (step
       by : (b : Bool) → is_fare_choice feed legs choice rider ≡ b → when b (fare_sum feed choice) ≡ None
       by false is = refl
       by true is =
-          let after = stand_of_paid feed rider legs choice n long is in
-          let has = are.complete choice after.stand is after.of in
-          let at : Contains [] has.way = subst (λ (ws : List Way). Contains ws has.way) none has.is_in in
-          let lt = at.1 in
-          absurd (omega arith)
+          let has = are.complete choice is in
+          no_member has.way (subst (λ (ws : List Way). Contains ws has.way) none has.is_in)
 
 -- no legs cost nothing
 pub no_legs : (feed : FeedRows) (rider : Option RiderId) → IsLeastPriceOfLegs feed [] rider no_choice (pos 0)
@@ -469,38 +476,27 @@ no_legs feed rider = record {
 
 -- ---- the first legs
 
--- the first layer, from what can be paid for the leg
-pub first_ways_of : (feed : FeedRows) (rider : Option RiderId) (leg : LegFacts) (offers : List LegOffer) (new : List Way) →
-    offers ≡ leg_offers feed rider leg → Gathers is_as_good [] (map (first_way leg) offers) new →
-    Gathers is_as_good [] (first_ways feed rider leg) new
-unfolding first_ways
-first_ways_of feed rider leg offers new is gathers =
-    subst (λ (os : List LegOffer). Gathers is_as_good [] (map (first_way leg) os) new) is gathers
-
 -- the first layer, as the first of all legs
 pub first_layer-take : (feed : FeedRows) (rider : Option RiderId) (legs : List LegFacts) (leg : LegFacts) (steps : List Way)
-    (new : List Way) → IsSoundFeed feed → slice_get legs 0 ≡ Some leg →
-    Gathers is_as_good [] (first_ways feed rider leg) new → AreWaysOf feed rider (take 1 legs) steps 0 new
-first_layer-take feed rider [] leg steps new sound is gathers = absurd (cc)
-first_layer-take feed rider (x ∷ xs) leg steps new sound is gathers =
+    (new : List Way) → IsSoundFeed feed → slice_get legs 0 ≡ Some leg → AreFirstWays feed rider leg new →
+    AreWaysOf feed rider (take 1 legs) steps 0 new
+first_layer-take feed rider [] leg steps new sound is first = absurd (cc)
+first_layer-take feed rider (x ∷ xs) leg steps new sound is first =
     let same : leg ≡ x = same_Some _ _ (sym is) in
     let one : leg ∷ [] ≡ take 1 (x ∷ xs) = ap (λ (y : LegFacts). y ∷ []) same ∙ one_of x xs in
-    subst (λ (ls : List LegFacts). AreWaysOf feed rider ls steps 0 new) one (first_layer feed rider leg steps sound new gathers)
+    subst (λ (ls : List LegFacts). AreWaysOf feed rider ls steps 0 new) one (first_layer feed rider leg steps new sound first)
   where
     one_of : (y : LegFacts) (ys : List LegFacts) → y ∷ [] ≡ take 1 (y ∷ ys)
     one_of y ys = refl
 
 -- and one leg more of them
 pub next_layer-take : (feed : FeedRows) (rider : Option RiderId) (legs : List LegFacts) (leg : LegFacts)
-    (steps ways : List Way) (n base : ℕ) (new more : List Way) → IsSoundFeed feed → slice_get legs (n + 1) ≡ Some leg →
-    base ≡ length steps → AreWaysOf feed rider (take (n + 1) legs) steps n ways →
-    Gathers is_as_good [] (next_ways feed rider leg base ways) new → more ≡ steps ++ ways →
+    (steps ways : List Way) (n : ℕ) (new more : List Way) → IsSoundFeed feed → slice_get legs (n + 1) ≡ Some leg →
+    AreWaysOf feed rider (take (n + 1) legs) steps n ways →
+    AreNextWays feed rider leg (length steps) ways (length ways) new → more ≡ steps ++ ways →
     AreWaysOf feed rider (take ((n + 1) + 1) legs) more (n + 1) new
-next_layer-take feed rider legs leg steps ways n base new more sound is counted before gathers kept =
-    let lt = slice_get_within legs (n + 1) leg is in
-    let long : length (take (n + 1) legs) ≡ suc n = length-take-le (n + 1) legs (omega arith) ∙ omega arith in
-    let step = next_layer feed rider (take (n + 1) legs) leg steps ways n sound long before new
-    (subst (λ (b : ℕ). Gathers is_as_good [] (next_ways feed rider leg b ways) new) counted gathers) in
+next_layer-take feed rider legs leg steps ways n new more sound is before next kept =
+    let step = next_layer feed rider (take (n + 1) legs) leg steps ways new n sound before next in
     let longer : take (n + 1) legs ++ leg ∷ [] ≡ take ((n + 1) + 1) legs = sym (take_next legs (n + 1) leg is) in
     let count : suc n ≡ n + 1 = omega arith in
     subst (λ (ls : List LegFacts). AreWaysOf feed rider ls more (n + 1) new) longer
@@ -508,17 +504,22 @@ next_layer-take feed rider legs leg steps ways n base new more sound is counted 
     (subst (λ (m : ℕ). AreWaysOf feed rider (take (n + 1) legs ++ leg ∷ []) (steps ++ ways) m new) count step))
 
 -- what is bounded over n + 1 legs is bounded over more
+pub bounded_more : (m n : ℕ) (way : Way) → m ≤ n → IsBounded m way → IsBounded n way
+bounded_more m n way le b = record { paid = more (nat_abs way.paid.0) b.paid; held = b.held }
+  where
+    more : (p : ℕ) → p ≤ m * (3 * 10 ^ 12) → p ≤ n * (3 * 10 ^ 12)
+    more p at = omega (arith, at, le)
+
 pub ways_bounded : (feed : FeedRows) (rider : Option RiderId) (legs : List LegFacts) (steps ways : List Way) (n m : ℕ) →
-    AreWaysOf feed rider legs steps n ways → n + 1 ≤ m → All (λ (way : Way). IsBounded m way.stand) ways
+    AreWaysOf feed rider legs steps n ways → n + 1 ≤ m → All (IsBounded m) ways
 ways_bounded feed rider legs steps ways n m are le =
-    All-from (λ (way : Way). IsBounded m way.stand) ways
-    (λ way at. bounded_more (n + 1) m way.stand le (are.real way at).bounded)
+    All-from (IsBounded m) ways (λ way at. bounded_more (n + 1) m way le (are.real way at).bounded)
 
 -- the steps to a way, where there is a change
 pub choice_of-step : (steps : List Way) (n : ℕ) (way : Way) (o : Option Way) → 0 < n → slice_get steps way.before ≡ o →
-    pushed (option_map_or (choice_of steps (n - 1)) o no_choice) way ≡ choice_of steps n way
+    extended (option_map_or (choice_of steps (n - 1)) o no_choice) way.step ≡ choice_of steps n way
 choice_of-step steps zero way o some is = absurd (omega arith)
 choice_of-step steps (suc n) way o some is =
     let before : suc n - 1 ≡ n = omega arith in
-    ap (λ (m : ℕ). pushed (option_map_or (choice_of steps m) o no_choice) way) before
-    ∙ sym (ap (λ p. pushed (option_map_or (choice_of steps n) p no_choice) way) is)
+    ap (λ (m : ℕ). extended (option_map_or (choice_of steps m) o no_choice) way.step) before
+    ∙ sym (ap (λ p. extended (option_map_or (choice_of steps n) p no_choice) way.step) is)

@@ -1,7 +1,5 @@
-pub mod StepLaws
-pub mod OfferLaws
-pub mod LayerLaws
 pub mod GatherLaws
+pub mod LayerLaws
 pub mod CheapestLaws
-pub mod CheckLaws
 pub mod KnownLaws
+pub mod WalkLaws

@@ -1,6 +1,5 @@
 pub mod Prices
-pub mod Stands
-pub mod Offers
-pub mod WayLaws
-pub mod Ways
 pub mod Known
+pub mod Ways
+pub mod WayLaws
+pub mod Walks

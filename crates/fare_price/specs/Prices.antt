@@ -10,11 +10,3 @@ use Rattle.fare_price.specs.declared.Priced.{Priced}
 abbrev pub IsLeastOrNone : FeedRows → List LegFacts → Option RiderId → Option Priced → Type 0
 IsLeastOrNone feed legs rider None = AreUncoveredLegs feed legs rider
 IsLeastOrNone feed legs rider (Some priced) = IsLeastPriceOfLegs feed legs rider priced.choice priced.sum.0
-
--- a feed and a rider
-pub record FareTerms : Type 0 where
-  pub feed : FeedRows
-  pub rider : Option RiderId
-
-abbrev pub terms : FeedRows → Option RiderId → FareTerms
-terms feed rider = record { feed = feed; rider = rider }

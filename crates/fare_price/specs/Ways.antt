@@ -1,80 +1,126 @@
--- Ways to pay legs: what is offered leg by leg, the choices that their steps make, and what a search keeps true of them.
-use Rattle.std.specs.Prelude.{◌≡◌, ℕ, zero, suc, ◌+◌, Bool, true, if◌then◌else◌, List, [], ◌∷◌, ◌++◌, length, map, Option, Some, None, pos, int_le, slice_get, Contains}
-use Rattle.std.specs.List.{flat_map}
+-- Ways to pay legs: the moves that lead to them, the choices that their steps make, and what a search keeps true of them.
+use Rattle.std.specs.Prelude.{◌≡◌, ℕ, zero, suc, ◌+◌, ◌*◌, ◌^◌, ◌<◌, ◌≤◌, ◌⊎◌, Bool, true, false, not, ◌&&◌, ◌==◌, if◌then◌else◌, List, [], Option, Some, None, ℤ, pos, ◌+ℤ◌, ◌≤ℤ◌, int_le, nat_abs, slice_get, Contains}
 use Rattle.std.specs.Option.{option_map_or}
+use Rattle.std.specs.Ordering.{int_eq}
+use Rattle.transit_base.specs.declared.moments.Moment.{Moment}
+use Rattle.transit_base.specs.declared.numbers.LegGroupId.{LegGroupId}
 use Rattle.transit_base.specs.declared.numbers.RiderId.{RiderId}
 use Rattle.feed_rows.specs.declared.fares.Choice.{Choice}
 use Rattle.feed_rows.specs.declared.journeys.LegFacts.{LegFacts}
+use Rattle.feed_rows.specs.declared.states.FareState.{FareState}
+use Rattle.feed_rows.specs.declared.states.Move.{Move}
 use Rattle.feed_rows.specs.FeedRows.{FeedRows}
 use Rattle.feed_rows.specs.FareChoices.{is_fare_choice}
-use Rattle.feed_rows.specs.FareStands.{FareStand, change_to, stand_price, IsStandOf}
-use Rattle.plain_laws.specs.Plain.{joined_below}
-use Rattle.fare_price.specs.declared.offers.LegOffer.{LegOffer}
-use Rattle.fare_price.specs.declared.offers.ChangeOffer.{ChangeOffer}
-use Rattle.fare_price.specs.declared.stands.Stand.{Stand}
+use Rattle.feed_rows.specs.FareExtensions.{extended}
+use Rattle.feed_rows.specs.FareStates.{held_amount, paid_amount, fare_state}
+use Rattle.feed_rows.specs.FareSteps.{move_after}
+use Rattle.label_bag.specs.Bags.{covers}
 use Rattle.fare_price.specs.declared.ways.Way.{Way}
-use Rattle.fare_price.specs.Stands.{leg_of, stand_of, next_stand, is_below, IsBelow, IsBounded}
-use Rattle.fare_price.specs.Offers.{grouped, leg_offers, change_offers}
 
--- the one way leaves changes the same run as the other, has paid no more and costs no more
-abbrev pub is_as_good : Way → Way → Bool
-is_as_good a b = is_below (stand_of a.stand) (stand_of b.stand)
+-- ---- which way is as good as another
 
--- ---- what is offered
+-- both groups are there and equal, or neither is there
+abbrev pub same_group : Option LegGroupId → Option LegGroupId → Bool
+same_group None None = true
+same_group None (Some b) = false
+same_group (Some a) None = false
+same_group (Some a) (Some b) = a.0 == b.0
 
--- one leg, paid by an offer
-abbrev pub first_way : LegFacts → LegOffer → Way
-first_way leg offer =
-    record {
-      stand = record { first = grouped leg offer; changes = 0; paid = pos 0; held = offer.amount };
-      pick = offer.pick;
-      place = None;
-      before = 0;
-    }
+-- the same of moments
+abbrev pub same_moment : Option Moment → Option Moment → Bool
+same_moment None None = true
+same_moment None (Some b) = false
+same_moment (Some a) None = false
+same_moment (Some a) (Some b) = int_eq a.0 b.0
 
--- one leg more after way `number`, paid by an offer, and by one for the change to it
-abbrev pub next_way : LegFacts → Stand → ℕ → LegOffer → ChangeOffer → Way
-next_way leg stand number offer change =
-    record {
-      stand = next_stand stand (grouped leg offer) change.kind offer.amount change.amount;
-      pick = offer.pick;
-      place = change.place;
-      before = number;
-    }
+-- both flags are set, or neither is
+abbrev pub same_flag : Bool → Bool → Bool
+same_flag true b = b
+same_flag false b = not b
 
--- the same by each offer for the change
-unfoldable pub ways_by : FeedRows → Option RiderId → LegFacts → Stand → ℕ → LegOffer → List Way
-ways_by feed rider leg stand number offer =
-    map (next_way leg stand number offer)
-    (change_offers feed rider (change_to (stand_of stand).run (leg_of (grouped leg offer))))
+-- each part of the states is the same
+unfoldable pub same_state : FareState → FareState → Bool
+same_state a b =
+    same_group a.group b.group
+    && (a.count == b.count)
+    && same_moment a.departure b.departure
+    && same_moment a.arrival b.arrival
+    && same_flag a.first b.first
 
--- and by each offer for the leg
-unfoldable pub ways_from : FeedRows → Option RiderId → LegFacts → Stand → ℕ → List Way
-ways_from feed rider leg stand number = flat_map (ways_by feed rider leg stand number) (leg_offers feed rider leg)
+-- what the legs cost
+abbrev pub cost : Way → ℤ
+cost way = way.paid.0 +ℤ way.step.held.0
 
--- and after each of these ways, which are numbered on from `base`
-abbrev pub ways_at : FeedRows → Option RiderId → LegFacts → ℕ → List Way → ℕ → List Way
-ways_at feed rider leg base ways j =
-    option_map_or (λ way. ways_from feed rider leg way.stand (base + j)) (slice_get ways j) []
+-- the one leads to the state of the other, has paid no more and costs no more
+pub record IsBelow (a b : Way) : Type 0 where
+  pub state : a.step.state ≡ b.step.state
+  pub paid : a.paid.0 ≤ℤ b.paid.0
+  pub cost : cost a ≤ℤ cost b
 
-unfoldable pub next_ways : FeedRows → Option RiderId → LegFacts → ℕ → List Way → List Way
-next_ways feed rider leg base ways = joined_below (length ways) (ways_at feed rider leg base ways)
+-- the test of that
+unfoldable pub is_as_good : Way → Way → Bool
+is_as_good a b = int_le a.paid.0 b.paid.0 && int_le (cost a) (cost b) && same_state a.step.state b.step.state
 
--- the ways to pay one leg
-unfoldable pub first_ways : FeedRows → Option RiderId → LegFacts → List Way
-first_ways feed rider leg = map (first_way leg) (leg_offers feed rider leg)
+-- ---- what moves lead to
+
+-- the way by the move, where so much was paid for the legs before, in the way of this number
+abbrev pub way_by : ℤ → ℕ → Move → Way
+way_by paid before move = record { paid = record { 0 = paid +ℤ move.paid.0 }; step = move; before = before }
+
+-- the move adds no more than one leg and the change to it can cost
+pub record IsSmall (move : Move) : Type 0 where
+  pub paid : nat_abs move.paid.0 ≤ 3 * 10 ^ 12
+  pub held : nat_abs move.held.0 ≤ 10 ^ 12
+
+-- what was paid for n legs lies within n times that
+pub record IsBounded (n : ℕ) (way : Way) : Type 0 where
+  pub paid : nat_abs way.paid.0 ≤ n * (3 * 10 ^ 12)
+  pub held : nat_abs way.step.held.0 ≤ 10 ^ 12
+
+-- the last move of the way is one for the leg after the state, where so much is held, in the way of this number; and so much
+-- was paid before
+pub record IsMadeAfter (feed : FeedRows) (rider : Option RiderId) (leg : LegFacts) (state : Option FareState) (held paid : ℤ)
+    (number : ℕ) (way : Way) : Type 0 where
+  pub is : move_after feed rider state held leg way.step ≡ Some way.step
+  pub same : way_by paid number way.step ≡ way
+
+-- such ways were added: each is covered
+pub record AddsWays (feed : FeedRows) (rider : Option RiderId) (leg : LegFacts) (state : Option FareState) (held paid : ℤ)
+    (number : ℕ) (old new : List Way) : Type 0 where
+  pub still : (way : Way) → covers is_as_good old way ≡ true → covers is_as_good new way ≡ true
+  pub each : (move : Move) → move_after feed rider state held leg move ≡ Some move → covers is_as_good new (way_by paid number move) ≡ true
+  pub from : (way : Way) → Contains new way → Contains old way ⊎ IsMadeAfter feed rider leg state held paid number way
+
+-- the same after the way of this number
+abbrev pub AddsAfter : FeedRows → Option RiderId → LegFacts → ℕ → Way → List Way → List Way → Type 0
+AddsAfter feed rider leg number last old new =
+    AddsWays feed rider leg (Some last.step.state) last.step.held.0 last.paid.0 number old new
+
+-- the best ways to pay one leg
+abbrev pub AreFirstWays : FeedRows → Option RiderId → LegFacts → List Way → Type 0
+AreFirstWays feed rider leg new = AddsWays feed rider leg None (pos 0) (pos 0) 0 [] new
+
+-- the way is one leg more after one of these ways, which are numbered on from `base`
+pub record IsAfterOne (feed : FeedRows) (rider : Option RiderId) (leg : LegFacts) (base : ℕ) (ways : List Way) (way : Way) : Type 0 where
+  pub place : ℕ
+  pub last : Way
+  pub at : slice_get ways place ≡ Some last
+  pub made : IsMadeAfter feed rider leg (Some last.step.state) last.step.held.0 last.paid.0 (base + place) way
+
+-- the best ways to pay one leg more after the first n of these ways
+pub record AreNextWays (feed : FeedRows) (rider : Option RiderId) (leg : LegFacts) (base : ℕ) (ways : List Way) (n : ℕ)
+    (new : List Way) : Type 0 where
+  pub each : (place : ℕ) (last : Way) (move : Move) → place < n → slice_get ways place ≡ Some last
+      → move_after feed rider (Some last.step.state) last.step.held.0 leg move ≡ Some move
+      → covers is_as_good new (way_by last.paid.0 (base + place) move) ≡ true
+  pub from : (way : Way) → Contains new way → IsAfterOne feed rider leg base ways way
 
 -- the one that costs less: the first, where both cost the same
 abbrev pub cheaper : Option Way → Way → Way
 cheaper None way = way
-cheaper (Some other) way =
-    if int_le (stand_price (stand_of other.stand)) (stand_price (stand_of way.stand)) then other else way
+cheaper (Some other) way = if int_le (cost other) (cost way) then other else way
 
 -- ---- the choice that steps make
-
--- the choice with the last step of the way after it
-abbrev pub pushed : Choice → Way → Choice
-pushed choice way = record { legs = choice.legs ++ way.pick ∷ []; changes = choice.changes ++ way.place ∷ [] }
 
 -- the choice for no leg
 abbrev pub no_choice : Choice
@@ -82,8 +128,8 @@ no_choice = record { legs = []; changes = [] }
 
 -- the choice that the steps to a way make, over n + 1 legs, where `steps` holds the ways to pay fewer
 abbrev pub choice_of : List Way → ℕ → Way → Choice
-choice_of steps zero way = record { legs = way.pick ∷ []; changes = [] }
-choice_of steps (suc n) way = pushed (option_map_or (choice_of steps n) (slice_get steps way.before) no_choice) way
+choice_of steps zero way = extended no_choice way.step
+choice_of steps (suc n) way = extended (option_map_or (choice_of steps n) (slice_get steps way.before) no_choice) way.step
 
 -- the ways to pay fewer legs are there
 abbrev pub IsTraced : List Way → ℕ → Way → Type 0
@@ -92,23 +138,29 @@ IsTraced steps (suc n) way = (before : Way) × (slice_get steps way.before ≡ S
 
 -- ---- what a search keeps true
 
--- the steps to the way make a choice that pays n + 1 legs, and fares stand as the way says
-pub record IsReal (feed : FeedRows) (rider : Option RiderId) (legs : List LegFacts) (steps : List Way) (n : ℕ)
-    (way : Way) : Type 0 where
-  pub traced : IsTraced steps n way
-  pub paid : is_fare_choice feed legs (choice_of steps n way) rider ≡ true
-  pub at : IsStandOf feed legs (choice_of steps n way) n (stand_of way.stand)
-  pub bounded : IsBounded (n + 1) way.stand
+-- fares after the legs that the choice pays are as the way says
+pub record IsStateOf (feed : FeedRows) (legs : List LegFacts) (choice : Choice) (way : Way) : Type 0 where
+  pub state : fare_state feed legs choice ≡ Some way.step.state
+  pub paid : paid_amount feed choice ≡ way.paid.0
+  pub held : held_amount feed choice ≡ way.step.held.0
 
--- some way is below the stand
-pub record HasBelow (ways : List Way) (stand : FareStand) : Type 0 where
+-- the steps to the way make a choice that pays n + 1 legs, and fares are as the way says
+pub record IsReal (feed : FeedRows) (rider : Option RiderId) (legs : List LegFacts) (steps : List Way) (n : ℕ) (way : Way) : Type 0 where
+  pub traced : IsTraced steps n way
+  pub pays : is_fare_choice feed legs (choice_of steps n way) rider ≡ true
+  pub of : IsStateOf feed legs (choice_of steps n way) way
+  pub bounded : IsBounded (n + 1) way
+
+-- some way leads to the state that the choice leads to, has paid no more and costs no more
+pub record HasNoDearer (feed : FeedRows) (legs : List LegFacts) (ways : List Way) (choice : Choice) : Type 0 where
   pub way : Way
   pub is_in : Contains ways way
-  pub below : IsBelow (stand_of way.stand) stand
+  pub state : fare_state feed legs choice ≡ Some way.step.state
+  pub paid : way.paid.0 ≤ℤ paid_amount feed choice
+  pub cost : cost way ≤ℤ (paid_amount feed choice +ℤ held_amount feed choice)
 
--- each way pays n + 1 legs, and each choice that pays them stands above one of the ways
+-- each way pays n + 1 legs, and beside each choice that pays them stands such a way
 pub record AreWaysOf (feed : FeedRows) (rider : Option RiderId) (legs : List LegFacts) (steps : List Way) (n : ℕ)
     (ways : List Way) : Type 0 where
   pub real : (way : Way) → Contains ways way → IsReal feed rider legs steps n way
-  pub complete : (choice : Choice) (stand : FareStand) → is_fare_choice feed legs choice rider ≡ true
-      → IsStandOf feed legs choice n stand → HasBelow ways stand
+  pub complete : (choice : Choice) → is_fare_choice feed legs choice rider ≡ true → HasNoDearer feed legs ways choice

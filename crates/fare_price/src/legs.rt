@@ -1,63 +1,58 @@
-//! Legs, with what can be paid for each at hand.
+//! Legs, with what it is enough to pay for each at hand.
 ghost use Rattle.std.specs.Prelude.{◌≡◌, ◌≤◌, ◌++◌, ◌∷◌, [], List, length, IfOk, OnOk, OnErr};
 ghost use Rattle.feed_rows.specs.declared.journeys.LegFacts.{LegFacts};
 ghost use Rattle.fare_price.specs.Known.{legs_with};
 ghost use Rattle.fare_price.specs.Prices.{IsLeastOrNone};
 
 use crate::Priced;
-use crate::fares::RiderFares;
-use crate::offers::LegOffer;
+use crate::search::price_known;
+use fare_automaton::{Automaton, KnownOptions};
 use feed_rows::LegFacts;
-use leg_kinds::KindTable;
 use std::alloc::{AllocError, Global};
 use std::marker::Model;
 
-/// Legs in order, with the number under which it is kept what can be paid for each. What was once asked is kept while
+/// Legs in order, with the number under which it is kept what it is enough to pay for each. What was once asked is kept while
 /// legs come and go. Contracts see the feed and the rider, and the legs.
-pub struct KnownLegs<'r, 's, 'f> {
-    fares: &'r RiderFares<'s, 'f>,
-    kept: KindTable<LegOffer>,
+pub struct KnownLegs<'r, 'f> {
+    known: KnownOptions<'r, 'f>,
     legs: Vec<LegFacts>,
     numbers: Vec<usize>,
 }
 
 // Written out, so that what holds one needn't look into it to let go of it.
-impl<'r, 's, 'f> Drop for KnownLegs<'r, 's, 'f> {
+impl<'r, 'f> Drop for KnownLegs<'r, 'f> {
     fn drop(self) {
         let KnownLegs {
-            fares: _,
-            kept: _,
+            known: _,
             legs: _,
             numbers: _,
         } = self;
     }
 }
 
-impl<'r, 's, 'f> Model for KnownLegs<'r, 's, 'f> {
-    ghost use Rattle.std.specs.Prelude.{All};
-    ghost use Rattle.fare_price.specs.Known.{FareLegs, legs_with, known_of, HasOffers, AreKept};
+impl<'r, 'f> Model for KnownLegs<'r, 'f> {
+    ghost use Rattle.fare_price.specs.Known.{FareLegs, legs_with, AreKnown};
 
     ghost Value = { FareLegs };
 
-    ghost view = { λ s. legs_with s.fares.now s.legs.items };
+    ghost view = { λ s. legs_with s.known.terms s.legs.items };
 
-    ghost invariant = { λ s. All (HasOffers s.fares.now) s.kept × AreKept (known_of s.fares.now s.kept) s.legs.items s.numbers.items };
+    ghost invariant = { λ s. AreKnown s.known.lists s.legs.items s.numbers.items };
 }
 
-impl<'r, 's, 'f> KnownLegs<'r, 's, 'f> {
+impl<'r, 'f> KnownLegs<'r, 'f> {
     /// No leg.
-    pub fn empty(alloc: Global, fares: &'r RiderFares<'s, 'f>) -> KnownLegs<'r, 's, 'f>
-        ensures { result ≡ legs_with fares.now [] }
+    pub fn empty(alloc: Global, automaton: &'r Automaton<'f>) -> KnownLegs<'r, 'f>
+        ensures { result ≡ legs_with automaton.now [] }
     {
         KnownLegs {
-            fares,
-            kept: KindTable::empty(alloc),
+            known: KnownOptions::of(alloc, automaton),
             legs: Vec::new(alloc),
             numbers: Vec::new(alloc),
         }
     }
 
-    /// Puts the leg behind those that are there. What can be paid for it is asked where no leg was there before that
+    /// Puts the leg behind those that are there. What it is enough to pay for it is asked where no leg was there before that
     /// differs from it in its moments at most.
     ///
     /// # Errors
@@ -65,7 +60,7 @@ impl<'r, 's, 'f> KnownLegs<'r, 's, 'f> {
     pub fn push(&mut self, alloc: Global, leg: LegFacts) -> Result<(), AllocError>
         ensures { OnOk result (self.new ≡ legs_with self.old.terms (self.old.legs ++ leg ∷ [])) }
     {
-        let number = self.fares.know(alloc, &leg, &mut self.kept)?;
+        let number = self.known.know(alloc, &leg)?;
         push_both(&mut self.legs, leg, &mut self.numbers, number)
     }
 
@@ -85,8 +80,7 @@ impl<'r, 's, 'f> KnownLegs<'r, 's, 'f> {
         requires { length self.now.legs ≤ 12 }
         ensures { IfOk result (IsLeastOrNone self.now.terms.feed self.now.legs self.now.terms.rider) }
     {
-        self.fares
-            .price_kept(alloc, &self.legs, &self.numbers, &self.kept)
+        price_known(alloc, &self.known, &self.legs, &self.numbers)
     }
 }
 

@@ -1,21 +1,19 @@
 //! The least price of legs, and the sum of a choice that is given.
 //!
-//! The search goes by legs from left to right. Of two ways to pay the legs so far that leave changes the same run it keeps
-//! the one that has paid no more and costs no more. What can be paid for a leg is asked once for all legs that differ in
-//! their moments at most.
+//! Both go leg by leg, by the moves from fare state to fare state. Of two ways to pay the legs so far that lead to one state the
+//! search keeps the one that has paid no more and costs no more. What it is enough to pay for a leg is asked once for all legs
+//! that differ in their moments at most.
 #![tactic(auto)]
 
 mod checks;
 mod fares;
 mod known;
 mod legs;
-mod offers;
 mod search;
-mod stands;
 mod ways;
 
 pub use checks::verify;
-pub use fares::{Fares, RiderFares};
+pub use fares::Fares;
 use feed_rows::Choice;
 pub use legs::KnownLegs;
 pub use search::price;

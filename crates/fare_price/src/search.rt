@@ -1,29 +1,26 @@
 //! The search for a choice of least price, leg by leg.
-ghost use Rattle.std.specs.Prelude.{◌≡◌, ◌∷◌, [], ◌++◌, ◌<◌, ◌≤◌, ◌≤ℤ◌, ◌^◌, ◌-◌, ◌+◌, map, flat_map, length, All, Contains, MatchOption, IfOk, OnOk};
-ghost use Rattle.feed_rows.specs.FareStands.{stand_price};
-ghost use Rattle.label_bag.specs.Bags.{Gathers};
+ghost use Rattle.std.specs.Prelude.{◌≡◌, [], ◌++◌, ◌<◌, ◌≤◌, ◌≤ℤ◌, ◌^◌, ◌-◌, ◌+◌, length, nat_abs, All, Contains, MatchOption, IfOk, OnOk};
+ghost use Rattle.feed_rows.specs.FareExtensions.{extended};
+ghost use Rattle.feed_rows.specs.SoundFeed.{IsSoundFeed};
+ghost use Rattle.fare_automaton.specs.Fewest.{AreEnough};
+ghost use Rattle.fare_price.specs.Known.{AreKnown};
 ghost use Rattle.fare_price.specs.Prices.{IsLeastOrNone};
-ghost use Rattle.fare_price.specs.Stands.{stand_of, IsLow, IsBounded};
-ghost use Rattle.fare_price.specs.Offers.{leg_offers};
-ghost use Rattle.fare_price.specs.Known.{known_of, AreKept};
-ghost use Rattle.fare_price.specs.Ways.{is_as_good, first_way, next_way, ways_by, ways_from, next_ways, no_choice, pushed, choice_of, cheaper, AreWaysOf};
+ghost use Rattle.fare_price.specs.Ways.{cost, no_choice, choice_of, cheaper, AreFirstWays, AreNextWays, AddsAfter, AreWaysOf, IsBounded};
 
 use crate::Priced;
-use crate::fares::{Fares, RiderFares};
-use crate::known::offers_at;
-use crate::offers::{ChangeOffer, LegOffer};
-use crate::stands::Stand;
+use crate::fares::Fares;
+use crate::known::know_all;
 use crate::ways::{Way, Ways};
-use feed_rows::{ChangeChoices, Choice, LegChoices, LegFacts};
-use leg_kinds::KindTable;
+use fare_automaton::{Automaton, KnownOptions, leg_taken, place_taken, times_of};
+use feed_rows::{ChangeChoice, ChangeChoices, Choice, LegChoice, LegChoices, LegFacts, Move};
 use std::alloc::{AllocError, Global};
-use transit_base::{Money, RiderId, XferId};
+use transit_base::{Money, RiderId};
 
-/// What is found for one change after another, kept for its memory.
+/// What is found for one way after another, kept for its memory.
 #[derive(Drop)]
-pub struct Found {
-    rows: Vec<XferId>,
-    changes: Vec<ChangeOffer>,
+struct Room {
+    places: Vec<Option<ChangeChoice>>,
+    moves: Vec<Move>,
 }
 
 /// A choice of least price for the legs and the rider, and its price; none where no choice pays them.
@@ -39,218 +36,166 @@ pub fn price(
     requires few { length legs.now ≤ 12 }
     ensures { IfOk result (IsLeastOrNone fares.now legs.now rider) }
 {
-    match RiderFares::of(alloc, fares, rider) {
-        Ok(of_rider) => of_rider.price(alloc, legs),
-        Err(AllocError) => Err(AllocError),
-    }
+    let automaton = Automaton::compile(alloc, fares.feed(), rider)?;
+    let mut known = KnownOptions::of(alloc, &automaton);
+    let numbers = know_all(alloc, legs, &mut known)?;
+    price_known(alloc, &known, legs, &numbers)
 }
 
-impl<'s, 'f> RiderFares<'s, 'f> {
-    /// A choice of least price for the legs, and its price; none where no choice pays them.
-    ///
-    /// # Errors
-    /// Want of memory.
-    pub fn price(&self, alloc: Global, legs: &[LegFacts]) -> Result<Option<Priced>, AllocError>
-        requires few { length legs.now ≤ 12 }
-        ensures { IfOk result (IsLeastOrNone self.now.feed legs.now self.now.rider) }
-    {
-        let mut kept = KindTable::empty(alloc);
-        let numbers = self.know_all(alloc, legs, &mut kept)?;
-        self.price_kept(alloc, legs, &numbers, &kept)
-    }
-
-    /// The same, where what can be paid for each leg is kept under its number.
-    ///
-    /// # Errors
-    /// Want of memory.
-    pub fn price_kept(
-        &self,
-        alloc: Global,
-        legs: &[LegFacts],
-        numbers: &[usize],
-        kept: &KindTable<LegOffer>,
-    ) -> Result<Option<Priced>, AllocError>
-        requires few { length legs.now ≤ 12 }
-        requires kept { AreKept (known_of self.now kept.now) legs.now numbers.now }
-        ensures { IfOk result (IsLeastOrNone self.now.feed legs.now self.now.rider) }
-    {
-        if legs.is_empty() {
-            return Ok(Some(Priced {
-                sum: Money(0),
-                choice: no_choice(alloc),
-            }));
-        }
-        let mut steps = Vec::new(alloc);
-        let ways = self.ways(alloc, legs, numbers, kept, &mut steps)?;
-        match cheapest(&ways) {
-            None => Ok(None),
-            Some(way) => Ok(Some(Priced {
-                sum: way.stand.total(),
-                choice: choice_of(alloc, &steps, &way, legs.len() - 1)?,
-            })),
-        }
-    }
-
-    /// Ways to pay the legs, of which one is as good as each other way; those to pay fewer legs are put into `steps`.
-    fn ways(
-        &self,
-        alloc: Global,
-        legs: &[LegFacts],
-        numbers: &[usize],
-        kept: &KindTable<LegOffer>,
-        steps: &mut Vec<Way>,
-    ) -> Result<Ways, AllocError>
-        requires some { 0 < length legs.now }
-        requires few { length legs.now ≤ 12 }
-        requires kept { AreKept (known_of self.now kept.now) legs.now numbers.now }
-        ensures { IfOk result (AreWaysOf self.now.feed self.now.rider legs.now steps.new.items (length legs.now - 1)) }
-    {
-        let _feed = self.feed();
-        let mut ways = first_ways(alloc, &legs[0], offers_at(kept, numbers, 0))?;
-        let mut found = Found {
-            rows: Vec::new(alloc),
-            changes: Vec::new(alloc),
-        };
-        for number in 0..legs.len() - 1 {
-            let offers = offers_at(kept, numbers, number + 1);
-            ways = self.next_ways(alloc, &legs[number + 1], offers, steps, &ways, &mut found)?;
-        }
-        Ok(ways)
-    }
-
-    /// The best ways to pay one leg more, after these ways, which are put behind the steps.
-    fn next_ways(
-        &self,
-        alloc: Global,
-        leg: &LegFacts,
-        offers: &[LegOffer],
-        steps: &mut Vec<Way>,
-        ways: &Ways,
-        found: &mut Found,
-    ) -> Result<Ways, AllocError>
-        requires offers { offers.now ≡ leg_offers self.now.feed self.now.rider leg.now }
-        requires low { All (λ (offer : LegOffer). IsLow offer.amount) offers.now }
-        requires bounded { All (λ (way : Way). IsBounded 11 way.stand) ways.now }
-        ensures kept { OnOk result (steps.new.items ≡ steps.old.items ++ ways.now) }
-        ensures best { IfOk result (Gathers is_as_good [] (next_ways self.now.feed self.now.rider leg.now (length steps.old.items) ways.now)) }
-    {
-        let base = steps.len();
-        keep(steps, ways)?;
-        let mut next = Ways::empty(alloc);
-        for number in 0..ways.len() {
-            let stand = ways.get(number).stand;
-            self.offer_from(&mut next, leg, &stand, base + number, offers, found)?;
-        }
-        Ok(next)
-    }
-
-    /// Offers one leg more after a way with this number.
-    fn offer_from(
-        &self,
-        next: &mut Ways,
-        leg: &LegFacts,
-        stand: &Stand,
-        number: usize,
-        offers: &[LegOffer],
-        found: &mut Found,
-    ) -> Result<(), AllocError>
-        requires bounded { IsBounded 11 stand.now }
-        requires low { All (λ (offer : LegOffer). IsLow offer.amount) offers.now }
-        ensures { OnOk result (Gathers is_as_good next.old (flat_map (ways_by self.now.feed self.now.rider leg.now stand.now number) offers.now) next.new) }
-    {
-        for offer in offers {
-            self.offer_by(next, leg, stand, number, offer, found)?;
-        }
-        Ok(())
-    }
-
-    /// Offers one leg more that is paid by this.
-    fn offer_by(
-        &self,
-        next: &mut Ways,
-        leg: &LegFacts,
-        stand: &Stand,
-        number: usize,
-        offer: &LegOffer,
-        found: &mut Found,
-    ) -> Result<(), AllocError>
-        requires bounded { IsBounded 11 stand.now }
-        requires low { IsLow offer.now.amount }
-        ensures { OnOk result (Gathers is_as_good next.old (ways_by self.now.feed self.now.rider leg.now stand.now number offer.now) next.new) }
-    {
-        let change = stand.change_to(&offer.grouped(leg));
-        self.change_offers_into(change, &mut found.rows, &mut found.changes)?;
-        offer_changes(next, leg, stand, number, offer, &found.changes)
-    }
-}
-
-/// The best ways to pay one leg by one of these.
-fn first_ways(alloc: Global, leg: &LegFacts, offers: &[LegOffer]) -> Result<Ways, AllocError>
-    ensures { IfOk result (Gathers is_as_good [] (map (first_way leg.now) offers.now)) }
+/// The same, where what it is enough to pay for each leg is kept under its number.
+///
+/// # Errors
+/// Want of memory.
+pub fn price_known(
+    alloc: Global,
+    known: &KnownOptions,
+    legs: &[LegFacts],
+    numbers: &[usize],
+) -> Result<Option<Priced>, AllocError>
+    requires few { length legs.now ≤ 12 }
+    requires known { AreKnown known.now.lists legs.now numbers.now }
+    ensures { IfOk result (IsLeastOrNone known.now.terms.feed legs.now known.now.terms.rider) }
 {
-    let mut ways = Ways::empty(alloc);
-    for offer in offers {
-        ways.offer(first_way(leg, offer))?;
+    if legs.is_empty() {
+        return Ok(Some(Priced {
+            sum: Money(0),
+            choice: no_choice(alloc),
+        }));
+    }
+    let mut steps = Vec::new(alloc);
+    let ways = ways_to_pay(alloc, known, legs, numbers, &mut steps)?;
+    match cheapest(&ways) {
+        None => Ok(None),
+        Some(way) => Ok(Some(Priced {
+            sum: total(&way),
+            choice: choice_of(alloc, &steps, &way, legs.len() - 1)?,
+        })),
+    }
+}
+
+/// Ways to pay the legs, of which one is as good as each other way; those to pay fewer legs are put into `steps`.
+fn ways_to_pay(
+    alloc: Global,
+    known: &KnownOptions,
+    legs: &[LegFacts],
+    numbers: &[usize],
+    steps: &mut Vec<Way>,
+) -> Result<Ways, AllocError>
+    requires some { 0 < length legs.now }
+    requires few { length legs.now ≤ 12 }
+    requires known { AreKnown known.now.lists legs.now numbers.now }
+    ensures { IfOk result (AreWaysOf known.now.terms.feed known.now.terms.rider legs.now steps.new.items (length legs.now - 1)) }
+{
+    let automaton = known.automaton();
+    let _feed = automaton.feed();
+    let mut room = Room {
+        places: Vec::new(alloc),
+        moves: Vec::new(alloc),
+    };
+    let mut ways = first_ways(
+        alloc,
+        automaton,
+        &legs[0],
+        known.options(numbers[0]),
+        &mut room,
+    )?;
+    for number in 0..legs.len() - 1 {
+        let options = known.options(numbers[number + 1]);
+        ways = next_ways(
+            alloc,
+            automaton,
+            &legs[number + 1],
+            options,
+            steps,
+            &ways,
+            &mut room,
+        )?;
     }
     Ok(ways)
 }
 
-/// The leg, paid by this.
-fn first_way(leg: &LegFacts, offer: &LegOffer) -> Way
-    ensures { result ≡ first_way leg.now offer.now }
+/// The best ways to pay one leg by one of these.
+fn first_ways(
+    alloc: Global,
+    automaton: &Automaton,
+    leg: &LegFacts,
+    options: &[LegChoice],
+    room: &mut Room,
+) -> Result<Ways, AllocError>
+    requires enough { AreEnough automaton.now.feed automaton.now.rider leg.now options.now }
+    ensures { IfOk result (AreFirstWays automaton.now.feed automaton.now.rider leg.now) }
 {
-    Way {
-        stand: Stand::of_first(offer.grouped(leg), offer.amount),
-        pick: offer.pick,
-        place: None,
-        before: 0,
-    }
+    let _feed = automaton.feed();
+    automaton.start_into(times_of(leg), options, &mut room.moves)?;
+    let mut ways = Ways::empty(alloc);
+    ways.offer_moves(Money(0), 0, &room.moves)?;
+    Ok(ways)
 }
 
-/// Offers the leg with each of these changes to it.
-fn offer_changes(
+/// The best ways to pay one leg more, after these ways, which are put behind the steps.
+fn next_ways(
+    alloc: Global,
+    automaton: &Automaton,
+    leg: &LegFacts,
+    options: &[LegChoice],
+    steps: &mut Vec<Way>,
+    ways: &Ways,
+    room: &mut Room,
+) -> Result<Ways, AllocError>
+    requires enough { AreEnough automaton.now.feed automaton.now.rider leg.now options.now }
+    requires bounded { All (IsBounded 11) ways.now }
+    ensures kept { OnOk result (steps.new.items ≡ steps.old.items ++ ways.now) }
+    ensures next { IfOk result (AreNextWays automaton.now.feed automaton.now.rider leg.now (length steps.old.items) ways.now (length ways.now)) }
+{
+    let base = steps.len();
+    keep(steps, ways)?;
+    let mut next = Ways::empty(alloc);
+    for number in 0..ways.len() {
+        offer_after(
+            &mut next,
+            automaton,
+            leg,
+            options,
+            ways.get(number),
+            base + number,
+            room,
+        )?;
+    }
+    Ok(next)
+}
+
+/// Takes in the ways to pay one leg more after the way of this number.
+fn offer_after(
     next: &mut Ways,
+    automaton: &Automaton,
     leg: &LegFacts,
-    stand: &Stand,
+    options: &[LegChoice],
+    way: &Way,
     number: usize,
-    offer: &LegOffer,
-    changes: &[ChangeOffer],
+    room: &mut Room,
 ) -> Result<(), AllocError>
-    requires bounded { IsBounded 11 stand.now }
-    requires low { IsLow offer.now.amount }
-    requires low_changes { All (λ (change : ChangeOffer). IsLow change.amount) changes.now }
-    ensures { OnOk result (Gathers is_as_good next.old (map (next_way leg.now stand.now number offer.now) changes.now) next.new) }
+    requires enough { AreEnough automaton.now.feed automaton.now.rider leg.now options.now }
+    requires bounded { IsBounded 11 way.now }
+    ensures { OnOk result (AddsAfter automaton.now.feed automaton.now.rider leg.now number way.now next.old next.new) }
 {
-    for change in changes {
-        next.offer(next_way(leg, stand, number, offer, change))?;
-    }
-    Ok(())
+    let _feed = automaton.feed();
+    automaton.step_into(
+        &way.step.state,
+        way.step.held,
+        times_of(leg),
+        options,
+        &mut room.places,
+        &mut room.moves,
+    )?;
+    next.offer_moves(way.paid, number, &room.moves)
 }
 
-/// The leg with this change to it.
-fn next_way(
-    leg: &LegFacts,
-    stand: &Stand,
-    number: usize,
-    offer: &LegOffer,
-    change: &ChangeOffer,
-) -> Way
-    requires bounded { IsBounded 11 stand.now }
-    requires low { IsLow offer.now.amount }
-    requires low_change { IsLow change.now.amount }
-    ensures { result ≡ next_way leg.now stand.now number offer.now change.now }
+/// What the way costs.
+fn total(way: &Way) -> Money
+    requires { IsBounded 12 way.now }
+    ensures { result.0 ≡ cost way.now }
 {
-    Way {
-        stand: stand.next(
-            &offer.grouped(leg),
-            change.kind,
-            offer.amount,
-            change.amount,
-        ),
-        pick: offer.pick,
-        place: change.place,
-        before: number,
-    }
+    Money(way.paid.0 + way.step.held.0)
 }
 
 /// Puts the ways behind the steps.
@@ -265,7 +210,7 @@ fn keep(steps: &mut Vec<Way>, ways: &Ways) -> Result<(), AllocError>
 
 /// A way that costs least; none where there is no way.
 fn cheapest(ways: &Ways) -> Option<Way>
-    ensures { MatchOption result (ways.now ≡ []) (λ way. Contains ways.now way × All (λ (w : Way). stand_price (stand_of way.stand) ≤ℤ stand_price (stand_of w.stand)) ways.now) }
+    ensures { MatchOption result (ways.now ≡ []) (λ way. Contains ways.now way × All (λ (w : Way). cost way ≤ℤ cost w) ways.now) }
 {
     let mut least: Option<Way> = None;
     for number in 0..ways.len() {
@@ -279,7 +224,7 @@ fn cheaper(least: Option<Way>, way: &Way) -> Way
     ensures { result ≡ cheaper least way.now }
 {
     match least {
-        Some(other) if other.stand.price() <= way.stand.price() => other,
+        Some(other) if other.cost() <= way.cost() => other,
         _ => *way,
     }
 }
@@ -294,21 +239,15 @@ fn no_choice(alloc: Global) -> Choice
     }
 }
 
-/// The choice with the last step of the way after it.
-fn with_step(mut choice: Choice, way: &Way) -> Result<Choice, AllocError>
-    ensures { IfOk result (λ more. more ≡ pushed choice way.now) }
+/// The choice with what the move takes.
+fn extended(mut choice: Choice, step: &Move) -> Result<Choice, AllocError>
+    ensures { IfOk result (λ more. more ≡ extended choice step.now) }
 {
-    choice.legs.push(way.pick)?;
-    choice.changes.push(way.place)?;
-    Ok(choice)
-}
-
-/// The choice for one leg.
-fn choice_of_one(alloc: Global, way: &Way) -> Result<Choice, AllocError>
-    ensures { IfOk result (λ choice. choice ≡ choice_of [] 0 way.now) }
-{
-    let mut choice = no_choice(alloc);
-    choice.legs.push(way.pick)?;
+    let place = place_taken(step);
+    if !choice.legs.items().is_empty() || place.is_some() {
+        choice.changes.push(place)?;
+    }
+    choice.legs.push(leg_taken(step))?;
     Ok(choice)
 }
 
@@ -317,10 +256,10 @@ fn choice_of(alloc: Global, steps: &[Way], way: &Way, changes: usize) -> Result<
     ensures { IfOk result (λ choice. choice ≡ choice_of steps.now changes way.now) }
 {
     if changes == 0 {
-        return choice_of_one(alloc, way);
+        return extended(no_choice(alloc), &way.step);
     }
     match steps.get(way.before) {
-        Some(before) => with_step(choice_of(alloc, steps, before, changes - 1)?, way),
-        None => with_step(no_choice(alloc), way),
+        Some(before) => extended(choice_of(alloc, steps, before, changes - 1)?, &way.step),
+        None => extended(no_choice(alloc), &way.step),
     }
 }

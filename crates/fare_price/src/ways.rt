@@ -1,41 +1,96 @@
 //! The ways to pay some legs, of which none is as good as another.
-ghost use Rattle.std.specs.Prelude.{◌≡◌, ◌<◌, ◌≤ℤ◌, [], ◌∷◌, length, slice_get, Some, All, Contains, MatchOption, OnOk};
+ghost use Rattle.std.specs.Prelude.{◌≡◌, ◌<◌, ◌≤◌, ◌^◌, [], ◌∷◌, ◌+ℤ◌, length, map, nat_abs, slice_get, Some, All, OnOk};
 ghost use Rattle.label_bag.specs.Bags.{Gathers};
-ghost use Rattle.feed_rows.specs.FareStands.{stand_price};
-ghost use Rattle.fare_price.specs.Stands.{stand_of, IsBounded};
-ghost use Rattle.fare_price.specs.Ways.{is_as_good, next_way, first_way};
+ghost use Rattle.fare_price.specs.Ways.{cost, is_as_good, same_group, same_moment, same_flag, same_state, way_by, IsSmall};
 
-use crate::offers::{ChangeOffer, LegOffer};
-use crate::stands::Stand;
-use feed_rows::{ChangeChoice, LegChoice, LegFacts};
+use feed_rows::{FareState, Move};
 use label_bag::{Bag, ListBag};
 use label_order::LabelOrder;
 use std::alloc::{AllocError, Global};
 use std::marker::Model;
+use transit_base::{LegGroupId, Moment, Money};
 
-/// A way to pay some legs: where their fares stand, and the last step to there.
+/// A way to pay some legs: what is paid, and the last move.
 #[derive(Clone, Copy)]
 pub struct Way {
-    pub stand: Stand,
-    /// What pays the last leg.
-    pub pick: LegChoice,
-    /// What fills the place of the change to it.
-    pub place: Option<ChangeChoice>,
+    /// What no later change takes back, in minor units.
+    pub paid: Money,
+    pub step: Move,
     /// The number of the way to pay the legs before.
     pub before: usize,
 }
 
-impl LabelOrder for Way {
-    ghost use Rattle.fare_price.specs.Stands.{stand_of, is_below};
-    ghost use Rattle.fare_price.specs.WayLaws.{below_laws};
-
-    ghost at_most = { λ a b. is_below (stand_of a.stand) (stand_of b.stand) };
-
-    fn leq(&self, other: &Self) -> bool {
-        self.stand.is_below(&other.stand)
+impl Way {
+    /// What the legs cost so far.
+    pub fn cost(&self) -> i128
+        ensures { result ≡ cost self.now }
+    {
+        i128::from(self.paid.0) + i128::from(self.step.held.0)
     }
 
-    ghost laws = { below_laws (λ (w : Self). stand_of w.stand) };
+    /// Whether it leads to the state of the other, has paid no more and costs no more.
+    #[tactic(auto, unfolding(crate::specs::Ways::is_as_good))]
+    fn is_as_good(&self, other: &Way) -> bool
+        ensures { result ≡ is_as_good self.now other.now }
+    {
+        self.paid.0 <= other.paid.0
+            && self.cost() <= other.cost()
+            && same_state(&self.step.state, &other.step.state)
+    }
+}
+
+impl LabelOrder for Way {
+    ghost use Rattle.fare_price.specs.Ways.{is_as_good};
+    ghost use Rattle.fare_price.specs.WayLaws.{way_laws};
+
+    ghost at_most = { is_as_good };
+
+    fn leq(&self, other: &Self) -> bool {
+        self.is_as_good(other)
+    }
+
+    ghost laws = { way_laws };
+}
+
+/// Whether each part of the states is the same.
+#[tactic(auto, unfolding(crate::specs::Ways::same_state))]
+fn same_state(a: &FareState, b: &FareState) -> bool
+    ensures { result ≡ same_state a.now b.now }
+{
+    same_group(a.group, b.group)
+        && a.count == b.count
+        && same_moment(a.departure, b.departure)
+        && same_moment(a.arrival, b.arrival)
+        && same_flag(a.first, b.first)
+}
+
+/// Whether both groups are there and equal, or neither is there.
+fn same_group(a: Option<LegGroupId>, b: Option<LegGroupId>) -> bool
+    ensures { result ≡ same_group a b }
+{
+    match (a, b) {
+        (Some(one), Some(other)) => one.0 == other.0,
+        (None, None) => true,
+        _ => false,
+    }
+}
+
+/// Whether both moments are there and equal, or neither is there.
+fn same_moment(a: Option<Moment>, b: Option<Moment>) -> bool
+    ensures { result ≡ same_moment a b }
+{
+    match (a, b) {
+        (Some(one), Some(other)) => one.0 == other.0,
+        (None, None) => true,
+        _ => false,
+    }
+}
+
+/// Whether both flags are set, or neither is.
+fn same_flag(a: bool, b: bool) -> bool
+    ensures { result ≡ same_flag a b }
+{
+    if a { b } else { !b }
 }
 
 /// Ways to pay the same legs. Contracts see a list.
@@ -82,6 +137,26 @@ impl Ways {
         }
     }
 
+    /// Takes in the ways by these moves, where so much was paid for the legs before, in the way of this number.
+    ///
+    /// # Errors
+    /// Want of memory.
+    pub fn offer_moves(
+        &mut self,
+        paid: Money,
+        before: usize,
+        moves: &[Move],
+    ) -> Result<(), AllocError>
+        requires paid { nat_abs paid.0 ≤ 10 ^ 15 }
+        requires moves { All IsSmall moves.now }
+        ensures { OnOk result (Gathers is_as_good self.old (map (way_by paid.0 before) moves.now) self.new) }
+    {
+        for step in moves {
+            self.offer(way_by(paid, before, step))?;
+        }
+        Ok(())
+    }
+
     /// How many ways there are.
     pub fn len(&self) -> usize
         ensures { result ≡ length self.now }
@@ -95,5 +170,18 @@ impl Ways {
         ensures { slice_get self.now number ≡ Some result.now }
     {
         self.bag.member(number)
+    }
+}
+
+/// The way by the move, where so much was paid for the legs before, in the way of this number.
+fn way_by(paid: Money, before: usize, step: &Move) -> Way
+    requires paid { nat_abs paid.0 ≤ 10 ^ 15 }
+    requires small { IsSmall step.now }
+    ensures { result ≡ way_by paid.0 before step.now }
+{
+    Way {
+        paid: Money(paid.0 + step.paid.0),
+        step: *step,
+        before,
     }
 }

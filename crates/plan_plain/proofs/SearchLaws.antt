@@ -29,7 +29,8 @@ use Rattle.feed_rows.specs.StopLinks.{stop_set}
 use Rattle.plain_laws.specs.Plain.{after, when}
 use Rattle.feed_laws.proofs.ExactLaws.{exact_of_front, covers_offers}
 use Rattle.fare_price.specs.declared.Priced.{Priced}
-use Rattle.fare_price.specs.Prices.{IsLeastOrNone, terms}
+use Rattle.fare_automaton.specs.Terms.{terms}
+use Rattle.fare_price.specs.Prices.{IsLeastOrNone}
 use Rattle.feed_laws.proofs.ChoiceLaws.{legs_of-push}
 use Rattle.feed_laws.proofs.JourneyLaws.{taken_of_next, journey_of_after, after_of_journey}
 use Rattle.feed_laws.proofs.LeastPriceLaws.{least_price_of_rides, uncovered_rides}

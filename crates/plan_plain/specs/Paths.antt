@@ -2,7 +2,7 @@
 use Rattle.std.specs.Prelude.{List, [], ◌∷◌, ◌++◌}
 use Rattle.feed_rows.specs.declared.journeys.LegFacts.{LegFacts}
 use Rattle.feed_rows.specs.declared.journeys.Ride.{Ride}
-use Rattle.fare_price.specs.Prices.{FareTerms}
+use Rattle.fare_automaton.specs.Terms.{FareTerms}
 
 -- rides in order, and what fare rules look at in each; and by which rows and for which rider they are priced
 pub record Taken : Type 0 where

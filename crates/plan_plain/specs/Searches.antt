@@ -14,7 +14,7 @@ use Rattle.feed_rows.specs.PriceTexts.{IsLeastPrice, IsUncovered}
 use Rattle.plain_laws.specs.Plain.{after}
 use Rattle.feed_rows.specs.ParetoTriples.{at_most}
 use Rattle.fare_price.specs.declared.Priced.{Priced}
-use Rattle.fare_price.specs.Prices.{terms}
+use Rattle.fare_automaton.specs.Terms.{terms}
 use Rattle.pareto_front.specs.Fronts.{has_as_good, CoversAll}
 use Rattle.plan_rides.specs.Asked.{arrival_in_time}
 use Rattle.plan_rides.specs.Boarding.{IsAmong}

@@ -5,7 +5,8 @@ ghost use Rattle.feed_rows.specs.declared.journeys.LegFacts.{LegFacts};
 ghost use Rattle.feed_rows.specs.declared.journeys.Ride.{Ride};
 ghost use Rattle.plan_plain.specs.Paths.{Taken, no_ride, with_ride};
 
-use fare_price::{KnownLegs, Priced, RiderFares};
+use fare_automaton::Automaton;
+use fare_price::{KnownLegs, Priced};
 use feed_rows::{LegFacts, Ride, RideList};
 use std::alloc::{AllocError, Global};
 use std::marker::Model;
@@ -13,12 +14,12 @@ use std::marker::Model;
 /// The rides that a search has taken, in order, and what fare rules look at in each, with what can be paid for it.
 /// Contracts see it as these two lists, and whose fares are asked.
 #[derive(Drop)]
-pub struct Path<'r, 's, 'f> {
+pub struct Path<'r, 'f> {
     rides: Vec<Ride>,
-    legs: KnownLegs<'r, 's, 'f>,
+    legs: KnownLegs<'r, 'f>,
 }
 
-impl<'r, 's, 'f> Model for Path<'r, 's, 'f> {
+impl<'r, 'f> Model for Path<'r, 'f> {
     ghost use Rattle.plan_plain.specs.Paths.{Taken};
 
     ghost Value = { Taken };
@@ -26,14 +27,14 @@ impl<'r, 's, 'f> Model for Path<'r, 's, 'f> {
     ghost view = { λ s. record { terms = s.legs.terms; rides = s.rides.items; legs = s.legs.legs } };
 }
 
-impl<'r, 's, 'f> Path<'r, 's, 'f> {
+impl<'r, 'f> Path<'r, 'f> {
     /// No ride is taken yet.
-    pub fn empty(alloc: Global, fares: &'r RiderFares<'s, 'f>) -> Path<'r, 's, 'f>
-        ensures { result ≡ no_ride fares.now }
+    pub fn empty(alloc: Global, automaton: &'r Automaton<'f>) -> Path<'r, 'f>
+        ensures { result ≡ no_ride automaton.now }
     {
         Path {
             rides: Vec::new(alloc),
-            legs: KnownLegs::empty(alloc, fares),
+            legs: KnownLegs::empty(alloc, automaton),
         }
     }
 

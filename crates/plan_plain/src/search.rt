@@ -7,7 +7,7 @@ ghost use Rattle.feed_rows.specs.SoundFeed.{IsSoundFeed};
 ghost use Rattle.feed_rows.specs.StopLinks.{stop_set};
 ghost use Rattle.plan_rides.specs.Boarding.{MayRide};
 ghost use Rattle.feed_rows.specs.Legs.{leg_facts, legs_of};
-ghost use Rattle.fare_price.specs.Prices.{terms};
+ghost use Rattle.fare_automaton.specs.Terms.{terms};
 ghost use Rattle.feed_timetable.specs.Standings.{stand_of};
 ghost use Rattle.plan_plain.specs.Paths.{no_ride, with_ride};
 ghost use Rattle.plan_plain.specs.Searches.{AddsEnd, IsCheapest, IsEarliestEnd, HasRides, GoesOn, Gains, StartsAt, IsSearched};
@@ -17,7 +17,8 @@ ghost use Rattle.transit_base.specs.declared.moments.Moment.{Moment};
 ghost use Rattle.transit_base.specs.declared.numbers.StopId.{StopId};
 
 use crate::path::Path;
-use fare_price::{Fares, Priced, RiderFares};
+use fare_automaton::Automaton;
+use fare_price::Priced;
 use fare_timeframes::Timeframes;
 use feed_rows::{Entry, Journey, Query, Triple};
 use feed_timetable::{Standing, Timetable};
@@ -257,12 +258,12 @@ impl<'s> Search<'s> {
     }
 
     // The exact answer to the query, by the fares for its rider.
-    fn entries(&self, alloc: Global, fares: &RiderFares) -> Result<Vec<Entry>, AllocError>
-        requires { fares.now ≡ terms self.now.feed self.now.query.rider }
+    fn entries(&self, alloc: Global, automaton: &Automaton) -> Result<Vec<Entry>, AllocError>
+        requires { automaton.now ≡ terms self.now.feed self.now.query.rider }
         ensures exact { IfOk result (λ entries. IsExactAnswer self.now.feed self.now.query entries.items) }
         ensures covers { IfOk result (λ entries. CoversOffers self.now.feed self.now.query entries.items) }
     {
-        let mut path = Path::empty(alloc, fares);
+        let mut path = Path::empty(alloc, automaton);
         let mut front = Front::empty(alloc);
         match self.offer_all(alloc, &mut path, &mut front) {
             Ok(()) => Ok(front.into_items()),
@@ -284,26 +285,8 @@ pub fn plain_entries(
     ensures exact { IfOk result (λ entries. IsExactAnswer timetable.now query.now entries.items) }
     ensures covers { IfOk result (λ entries. CoversOffers timetable.now query.now entries.items) }
 {
-    match Fares::build(alloc, timetable.feed()) {
-        Ok(fares) => entries_by_fares(timetable, query, alloc, &fares),
-        Err(AllocError) => Err(AllocError),
-    }
-}
-
-// The exact answer to a query, by the fares of its feed.
-fn entries_by_fares<'s>(
-    timetable: &'s Timetable<'s>,
-    query: &'s Query,
-    alloc: Global,
-    fares: &Fares,
-) -> Result<Vec<Entry>, AllocError>
-    requires usual { IsUsualQuery query.now }
-    requires same { fares.now ≡ timetable.now }
-    ensures exact { IfOk result (λ entries. IsExactAnswer timetable.now query.now entries.items) }
-    ensures covers { IfOk result (λ entries. CoversOffers timetable.now query.now entries.items) }
-{
-    match RiderFares::of(alloc, fares, query.rider) {
-        Ok(fares) => entries_for_rider(timetable, query, alloc, &fares),
+    match Automaton::compile(alloc, timetable.feed(), query.rider) {
+        Ok(automaton) => entries_for_rider(timetable, query, alloc, &automaton),
         Err(AllocError) => Err(AllocError),
     }
 }
@@ -313,10 +296,10 @@ fn entries_for_rider<'s>(
     timetable: &'s Timetable<'s>,
     query: &'s Query,
     alloc: Global,
-    fares: &RiderFares,
+    automaton: &Automaton,
 ) -> Result<Vec<Entry>, AllocError>
     requires usual { IsUsualQuery query.now }
-    requires same { fares.now ≡ terms timetable.now query.now.rider }
+    requires same { automaton.now ≡ terms timetable.now query.now.rider }
     ensures exact { IfOk result (λ entries. IsExactAnswer timetable.now query.now entries.items) }
     ensures covers { IfOk result (λ entries. CoversOffers timetable.now query.now entries.items) }
 {
@@ -328,7 +311,7 @@ fn entries_for_rider<'s>(
                 rides: &rides,
                 timeframes: &timeframes,
             };
-            search.entries(alloc, fares)
+            search.entries(alloc, automaton)
         }
         Err(AllocError) => Err(AllocError),
     }

@@ -1,7 +1,8 @@
 use Rattle.std.proofs.Common.{subst, arith}
 use Rattle.std.specs.Prelude.{IfOk}
 use Rattle.std.proofs.lemmas.Result.{IfOk-weaker}
-use Rattle.fare_price.specs.Prices.{FareTerms, IsLeastOrNone}
+use Rattle.fare_automaton.specs.Terms.{FareTerms}
+use Rattle.fare_price.specs.Prices.{IsLeastOrNone}
 use Rattle.plan_plain.proofs.SearchLaws.{cheapest_of_legs, count_of_legs}
 use Rattle.plan_plain.proofs.search.Search.price_of.Goals as goal
 

@@ -1,6 +1,0 @@
-use Rattle.std.proofs.Common.{take, ◌+◌}
-use Rattle.fare_price.specs.Ways.{AreWaysOf}
-use Rattle.fare_price.proofs.fares.RiderFares.ways.Given as goal
-
-abbrev pub invariant-loop-number : goal.invariant-loop-number
-invariant-loop-number l = AreWaysOf l.self.feed l.self.rider (take (l.number + 1) l.legs) l.steps.items l.number l.ways
