@@ -35,12 +35,7 @@ impl<'f> Automaton<'f> {
     }
 
     /// Whether the leg selects the rule, and the row is an open row of its product.
-    pub(crate) fn is_leg_choice(
-        &self,
-        rider: Option<RiderId>,
-        leg: &LegFacts,
-        taken: &Move,
-    ) -> bool
+    pub(crate) fn is_leg_choice(&self, rider: Option<RiderId>, leg: &LegFacts, taken: &Move) -> bool
         ensures { result ≡ is_leg_choice self.now.feed rider leg.now (leg_taken taken.now) }
     {
         match self.leg_row(taken.rule) {
@@ -81,12 +76,7 @@ impl<'f> Automaton<'f> {
 
     /// Whether the row is selected for the change, with the right row of its product.
     #[tactic(auto, unfolding(feed_rows::specs::FareSteps::is_row_after))]
-    fn is_row_after(
-        &self,
-        rider: Option<RiderId>,
-        change: &Change,
-        pick: &ChangeChoice,
-    ) -> bool
+    fn is_row_after(&self, rider: Option<RiderId>, change: &Change, pick: &ChangeChoice) -> bool
         ensures { result ≡ is_row_after self.now.feed rider (asked_of change.now) pick.now }
     {
         match self.transfer_row(pick.rule) {
