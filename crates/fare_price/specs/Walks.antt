@@ -30,7 +30,8 @@ abbrev pub front : Choice → ℕ → Choice
 front choice n = record { legs = take n choice.legs; changes = take (n - 1) choice.changes }
 
 -- the choice pays the first n legs, and fares are so after them
-pub record IsPaidUpTo (feed : FeedRows) (rider : Option RiderId) (legs : List LegFacts) (choice : Choice) (n : ℕ) (walked : Walked) : Type 0 where
+pub record IsPaidUpTo (feed : FeedRows) (rider : Option RiderId) (legs : List LegFacts) (choice : Choice) (n : ℕ)
+    (walked : Walked) : Type 0 where
   pub pays : is_fare_choice feed (take n legs) (front choice n) rider ≡ true
   pub state : fare_state feed (take n legs) (front choice n) ≡ walked.state
   pub paid : paid_amount feed (front choice n) ≡ walked.paid.0

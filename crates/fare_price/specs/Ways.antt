@@ -1,4 +1,5 @@
--- Ways to pay legs: the moves that lead to them, the choices that their steps make, and what a search keeps true of them.
+-- Ways to pay legs: the moves that lead to them, the choices that their steps make, and what a search keeps true of
+-- them.
 use Rattle.std.specs.Prelude.{◌≡◌, ℕ, zero, suc, ◌+◌, ◌*◌, ◌^◌, ◌<◌, ◌≤◌, ◌⊎◌, Bool, true, false, not, ◌&&◌, ◌==◌, if◌then◌else◌, List, [], Option, Some, None, ℤ, pos, ◌+ℤ◌, ◌≤ℤ◌, int_le, nat_abs, slice_get, Contains}
 use Rattle.std.specs.Option.{option_map_or}
 use Rattle.std.specs.Ordering.{int_eq}
@@ -77,16 +78,16 @@ pub record IsBounded (n : ℕ) (way : Way) : Type 0 where
   pub paid : nat_abs way.paid.0 ≤ n * (3 * 10 ^ 12)
   pub held : nat_abs way.step.held.0 ≤ 10 ^ 12
 
--- the last move of the way is one for the leg after the state, where so much is held, in the way of this number; and so much
--- was paid before
-pub record IsMadeAfter (feed : FeedRows) (rider : Option RiderId) (leg : LegFacts) (state : Option FareState) (held paid : ℤ)
-    (number : ℕ) (way : Way) : Type 0 where
+-- the last move of the way is one for the leg after the state, where so much is held, in the way of this number; and
+-- so much was paid before
+pub record IsMadeAfter (feed : FeedRows) (rider : Option RiderId) (leg : LegFacts) (state : Option FareState)
+    (held paid : ℤ) (number : ℕ) (way : Way) : Type 0 where
   pub is : move_after feed rider state held leg way.step ≡ Some way.step
   pub same : way_by paid number way.step ≡ way
 
 -- such ways were added: each is covered
-pub record AddsWays (feed : FeedRows) (rider : Option RiderId) (leg : LegFacts) (state : Option FareState) (held paid : ℤ)
-    (number : ℕ) (old new : List Way) : Type 0 where
+pub record AddsWays (feed : FeedRows) (rider : Option RiderId) (leg : LegFacts) (state : Option FareState)
+    (held paid : ℤ) (number : ℕ) (old new : List Way) : Type 0 where
   pub still : (way : Way) → covers is_as_good old way ≡ true → covers is_as_good new way ≡ true
   pub each : (move : Move) → move_after feed rider state held leg move ≡ Some move → covers is_as_good new (way_by paid number move) ≡ true
   pub from : (way : Way) → Contains new way → Contains old way ⊎ IsMadeAfter feed rider leg state held paid number way
@@ -101,7 +102,8 @@ abbrev pub AreFirstWays : FeedRows → Option RiderId → LegFacts → List Way 
 AreFirstWays feed rider leg new = AddsWays feed rider leg None (pos 0) (pos 0) 0 [] new
 
 -- the way is one leg more after one of these ways, which are numbered on from `base`
-pub record IsAfterOne (feed : FeedRows) (rider : Option RiderId) (leg : LegFacts) (base : ℕ) (ways : List Way) (way : Way) : Type 0 where
+pub record IsAfterOne (feed : FeedRows) (rider : Option RiderId) (leg : LegFacts) (base : ℕ) (ways : List Way)
+    (way : Way) : Type 0 where
   pub place : ℕ
   pub last : Way
   pub at : slice_get ways place ≡ Some last
@@ -145,7 +147,8 @@ pub record IsStateOf (feed : FeedRows) (legs : List LegFacts) (choice : Choice) 
   pub held : held_amount feed choice ≡ way.step.held.0
 
 -- the steps to the way make a choice that pays n + 1 legs, and fares are as the way says
-pub record IsReal (feed : FeedRows) (rider : Option RiderId) (legs : List LegFacts) (steps : List Way) (n : ℕ) (way : Way) : Type 0 where
+pub record IsReal (feed : FeedRows) (rider : Option RiderId) (legs : List LegFacts) (steps : List Way) (n : ℕ)
+    (way : Way) : Type 0 where
   pub traced : IsTraced steps n way
   pub pays : is_fare_choice feed legs (choice_of steps n way) rider ≡ true
   pub of : IsStateOf feed legs (choice_of steps n way) way

@@ -1,8 +1,8 @@
 //! The least price of legs, and the sum of a choice that is given.
 //!
-//! Both go leg by leg, by the moves from fare state to fare state. Of two ways to pay the legs so far that lead to one state the
-//! search keeps the one that has paid no more and costs no more. What it is enough to pay for a leg is asked once for all legs
-//! that differ in their moments at most.
+//! Both go leg by leg, by the moves from fare state to fare state. Of two ways to pay the legs so far that lead to
+//! one state the search keeps the one that has paid no more and costs no more. What it is enough to pay for a leg is
+//! asked once for all legs that differ in their moments at most.
 #![tactic(auto)]
 
 mod checks;
