@@ -3,6 +3,7 @@ pub mod FloorLaws
 pub mod OptionLaws
 pub mod MadeLaws
 pub mod FewestLaws
+pub mod CheapestLaws
 pub mod PickedLaws
 pub mod SelectedLaws
 pub mod ReadLaws

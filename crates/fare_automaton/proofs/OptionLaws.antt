@@ -156,7 +156,7 @@ places_none feed rider = record {
     empty (Some pick) holds = absurd (let no : false ≡ true = holds in cc)
 
 -- a row that is right for a change is selected, and so the change is arranged
-arranged_by : (feed : FeedRows) (rider : Option RiderId) (change : AskedChange) (pick : ChangeChoice) → is_row_after feed rider change pick ≡ true →
+pub arranged_by : (feed : FeedRows) (rider : Option RiderId) (change : AskedChange) (pick : ChangeChoice) → is_row_after feed rider change pick ≡ true →
     is_arranged_after feed change ≡ true
 unfolding is_row_after is_arranged_after
 arranged_by feed rider change pick holds =

@@ -1,13 +1,16 @@
 -- Options of a leg that are enough for a search of the cheapest, and moves that are.
-use Rattle.std.specs.Prelude.{◌≡◌, true, List, All, Contains, Option, Some, ℤ, ◌+ℤ◌, ◌≤ℤ◌, option_map, slice_get}
+use Rattle.std.specs.Prelude.{◌≡◌, true, List, ◌++◌, All, Contains, Option, Some, is_none, ℤ, ◌+ℤ◌, ◌≤ℤ◌, option_map, slice_get}
+use Rattle.std.specs.Option.{is_some}
 use Rattle.transit_base.specs.declared.numbers.LegGroupId.{LegGroupId}
 use Rattle.transit_base.specs.declared.numbers.RiderId.{RiderId}
+use Rattle.feed_rows.specs.declared.fares.ChangeChoice.{ChangeChoice}
 use Rattle.feed_rows.specs.declared.fares.LegChoice.{LegChoice}
 use Rattle.feed_rows.specs.declared.journeys.LegFacts.{LegFacts}
 use Rattle.feed_rows.specs.declared.states.FareState.{FareState}
 use Rattle.feed_rows.specs.declared.states.Move.{Move}
 use Rattle.feed_rows.specs.FeedRows.{FeedRows}
 use Rattle.feed_rows.specs.FareChoices.{is_leg_choice}
+use Rattle.feed_rows.specs.FareStands.{place_kind}
 use Rattle.feed_rows.specs.FareSteps.{move_after}
 use Rattle.feed_rows.specs.FareSums.{amount_of}
 
@@ -46,3 +49,26 @@ pub record AreEnoughMoves (feed : FeedRows) (rider : Option RiderId) (state : Op
   pub right : All (λ move. move_after feed rider state held leg move ≡ Some move) moves
   pub enough : (move : Move) → move_after feed rider state held leg move ≡ Some move →
       (lesser : Move) × Contains moves lesser × IsLesserMove lesser move
+
+-- ---- fewer moves
+
+-- some of the moves is such
+abbrev pub HasLesserMove : List Move → Move → Type 0
+HasLesserMove moves move = (lesser : Move) × Contains moves lesser × IsLesserMove lesser move
+
+-- they are some of the moves, and beside each of the moves stands such a one
+pub record AreFewerMoves (moves fewer : List Move) : Type 0 where
+  pub from : All (Contains moves) fewer
+  pub each : All (HasLesserMove fewer) moves
+
+-- fewer of these moves are added
+pub record AddsFewer (moves before now : List Move) : Type 0 where
+  pub added : List Move
+  pub adds : now ≡ before ++ added
+  pub fewer : AreFewerMoves moves added
+
+-- the places are all for changes that are arranged, or all for such that aren't
+abbrev pub AreAlike : FeedRows → List (Option ChangeChoice) → Type 0
+AreAlike feed places =
+    (a b : Option ChangeChoice) → Contains places a → Contains places b
+    → (is_some a ≡ is_some b) × (is_none (place_kind feed a) ≡ is_none (place_kind feed b))

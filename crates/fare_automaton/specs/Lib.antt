@@ -5,3 +5,4 @@ pub mod Steps
 pub mod Compiled
 pub mod Known
 pub mod Fewest
+pub mod Cheapest

@@ -7,6 +7,7 @@
 
 mod automaton;
 mod changes;
+mod cheapest;
 mod fewest;
 mod floor;
 mod judge;

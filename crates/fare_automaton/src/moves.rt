@@ -197,14 +197,14 @@ impl<'f> Automaton<'f> {
     }
 
     /// The type of the row that fills the place of a change.
-    fn place_kind(&self, place: Option<ChangeChoice>) -> Option<u8>
+    pub(crate) fn place_kind(&self, place: Option<ChangeChoice>) -> Option<u8>
         ensures { result ≡ place_kind self.now.feed place }
     {
         Some(self.transfer_row(place?.rule)?.kind)
     }
 
     /// What the place of a change adds to the sum, in minor units.
-    fn place_charge(&self, place: Option<ChangeChoice>) -> i64
+    pub(crate) fn place_charge(&self, place: Option<ChangeChoice>) -> i64
         ensures value { result ≡ place_charge self.now.feed place }
         ensures low { IsLow result }
     {
@@ -280,7 +280,7 @@ fn held_after(kind: Option<u8>, amount: i64) -> i64
 }
 
 /// What the next leg and the change to it, of this type, add to what was paid.
-fn paid_after(held: i64, kind: Option<u8>, amount: i64, charge: i64) -> i64
+pub fn paid_after(held: i64, kind: Option<u8>, amount: i64, charge: i64) -> i64
     requires held { nat_abs held ≤ 10 ^ 16 }
     requires amount { IsLow amount }
     requires charge { IsLow charge }

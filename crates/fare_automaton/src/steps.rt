@@ -153,7 +153,7 @@ impl<'f> Automaton<'f> {
     }
 
     /// Replaces what `places` holds by the places of the change to the next leg, which it may hold already.
-    fn keep_places(
+    pub(crate) fn keep_places(
         &self,
         state: &FareState,
         times: LegTimes,
@@ -193,7 +193,7 @@ impl<'f> Automaton<'f> {
 
     /// The move of the leg by this place of the change to it. Where the change isn't arranged, what was held is paid, and
     /// the leg is held as a first one is.
-    fn move_by(
+    pub(crate) fn move_by(
         &self,
         state: &FareState,
         held: Money,

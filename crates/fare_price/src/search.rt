@@ -179,7 +179,7 @@ fn offer_after(
     ensures { OnOk result (AddsAfter automaton.now.feed automaton.now.rider leg.now number way.now next.old next.new) }
 {
     let _feed = automaton.feed();
-    automaton.step_into(
+    automaton.cheapest_into(
         &way.step.state,
         way.step.held,
         times_of(leg),
