@@ -263,7 +263,7 @@ impl<'s, 'l> Search<'s, 'l> {
         };
         match &label.state {
             None => self.automaton.start_into(times, options, &mut room.moves),
-            Some(state) => self.automaton.step_into(
+            Some(state) => self.automaton.cheapest_into(
                 state,
                 label.held,
                 times,

@@ -22,6 +22,6 @@ returns-in-Some c =
     let leg = leg_facts feed c.args.ride.now in
     let own = c.self.invariant.1 ∙ ap (λ (a : Searched). terms a.feed a.query.rider) c.self.view_is in
     let picks = subst (λ (t : FareTerms). AreEnough t.feed t.rider leg c.args.options.now) (sym own) c.requires.options in
-    moves_of_steps c.step_into.result c.self.inside.automaton.now feed c.args.self.now.query c.args.label.now c.in-Some.state leg
-    c.step_into.new.moves.items own c.feed-feed.ensures.sound c.requires.bounded c.in-Some.is
-    (c.step_into.ensures.enough leg (ride_times feed c.args.ride.now) picks)
+    moves_of_steps c.cheapest_into.result c.self.inside.automaton.now feed c.args.self.now.query c.args.label.now c.in-Some.state leg
+    c.cheapest_into.new.moves.items own c.feed-feed.ensures.sound c.requires.bounded c.in-Some.is
+    (c.cheapest_into.ensures leg (ride_times feed c.args.ride.now) picks)
