@@ -51,4 +51,4 @@ pub record AreFirstOf (folder : FolderState) (first : List TableOf) : Type 0 whe
 pub record IsBegun (start : FolderState) (first : List TableOf) (now : FolderState) : Type 0 where
   pub are_first : AreFirstOf start first
   pub reads : ReadsTo start 3 now
-  pub holds : now.holds ≡ start.holds
+  pub source : now.source ≡ start.source

@@ -49,7 +49,7 @@ fn open_calls<'a, F: Folder, S: Beginning>(
     folder: &'a mut F,
     ids: &CallIds,
 ) -> (Result<Result<StopTimes, TextError>, ReadError>, &'a mut F)
-    requires is_open { (F.state folder.old).present ≡ true }
+    requires is_open { (F.state folder.old).readable ≡ true }
     requires start { F.state folder.old ≡ S.start }
     requires limit { S.limit ≡ most_bytes }
     requires name { folder.ghost_name ≡ S.name }
@@ -88,7 +88,7 @@ pub fn folder_calls<F: Folder>(
     ensures calls { IfOk result (AreCallsIn (F.state folder.old) ids.now) }
     ensures ok { OnOk result ((start : FolderState) → ReadsTo start 3 (F.state folder.old) → ReadsTo start 4 (F.state folder.new)) }
     ensures err { IfErr result (λ error. (start : FolderState) → ReadsTo start 3 (F.state folder.old) → GivesUpOn error start (F.state folder.new)) }
-    ensures holds { (F.state folder.new).holds ≡ (F.state folder.old).holds }
+    ensures source { (F.state folder.new).source ≡ (F.state folder.old).source }
 {
     match folder.open(FileName::StopTimes.text()) {
         Opened::Failed => return Err(ReadError::ReadFault),

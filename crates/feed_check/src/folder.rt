@@ -66,7 +66,7 @@ fn load_behind<F: Folder>(
     ensures feed { IfOk result (λ feed. (start : FolderState) → IsBegun start first.now (F.state folder.old) → IsFeedOf start feed) }
     ensures ok { OnOk result ((start : FolderState) → IsBegun start first.now (F.state folder.old) → OpensAll start (F.state folder.new)) }
     ensures err { IfErr result (λ error. (start : FolderState) → IsBegun start first.now (F.state folder.old) → GivesUpLoading error start (F.state folder.new)) }
-    ensures holds { (F.state folder.new).holds ≡ (F.state folder.old).holds }
+    ensures source { (F.state folder.new).source ≡ (F.state folder.old).source }
 {
     let Ok(ids) = CallIds::of(alloc, first) else {
         return Err(LoadError::NoMemory);
@@ -89,7 +89,7 @@ pub fn load<F: Folder>(alloc: Global, folder: &mut F) -> Result<Feed, LoadError>
     ensures feed { IfOk result (IsFeedOf (F.state folder.old)) }
     ensures ok { OnOk result (OpensAll (F.state folder.old) (F.state folder.new)) }
     ensures err { IfErr result (λ error. GivesUpLoading error (F.state folder.old) (F.state folder.new)) }
-    ensures holds { (F.state folder.new).holds ≡ (F.state folder.old).holds }
+    ensures source { (F.state folder.new).source ≡ (F.state folder.old).source }
 {
     let mut files = Files::empty();
     read_files(alloc, folder, &mut files, 0, 3)?;

@@ -55,7 +55,7 @@ pub fn read_file<F: Folder>(
     ensures stops_past { IfOk result (λ bytes. WhereTold (F.state folder.old) (λ contents. StopsPast contents (file_text name) limit (F.state folder.new).left bytes)) }
     ensures ok { OnOk result (Stayed (F.state folder.old).faults (F.state folder.new).faults) }
     ensures err { IfErr result (λ error. GivesUp error (F.state folder.old) (F.state folder.new)) }
-    ensures holds { (F.state folder.new).holds ≡ (F.state folder.old).holds }
+    ensures source { (F.state folder.new).source ≡ (F.state folder.old).source }
     ensures opens { Makes (F.state folder.old).opens (file_text name ∷ []) (F.state folder.new).opens }
 {
     match folder.open(name.text()) {
@@ -97,7 +97,7 @@ pub fn read_files<F: Folder>(
     ensures files { OnOk result (AreReadBetween (F.state folder.old) from to files.old files.new) }
     ensures ok { OnOk result ((start : FolderState) → ReadsTo start from (F.state folder.old) → ReadsTo start to (F.state folder.new)) }
     ensures err { IfErr result (λ error. (start : FolderState) → ReadsTo start from (F.state folder.old) → GivesUpOn error start (F.state folder.new)) }
-    ensures holds { (F.state folder.new).holds ≡ (F.state folder.old).holds }
+    ensures source { (F.state folder.new).source ≡ (F.state folder.old).source }
 {
     let names = FileName::all();
     for place in from..to {
