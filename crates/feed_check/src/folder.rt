@@ -12,7 +12,7 @@ use feed_files::{FeedFault, FileName};
 use feed_rows::Feed;
 use feed_tables::{CallIds, ReadTable, read_tables};
 use feed_text::TextError;
-use folder_io::{Files, Folder, ReadError, read_files};
+use folder_io::{FILE_COUNT, Files, Folder, PLACE_BEHIND, ReadError, STOP_TIMES_PLACE, read_files};
 use std::alloc::Global;
 
 /// Why a folder gives no feed.
@@ -72,7 +72,7 @@ fn load_behind<F: Folder>(
         return Err(LoadError::NoMemory);
     };
     let calls = folder_calls(alloc, folder, &ids)?;
-    read_files(alloc, folder, files, 4, 18)?;
+    read_files(alloc, folder, files, PLACE_BEHIND, FILE_COUNT)?;
     match feed_behind(alloc, files, first, &ids, calls) {
         Ok(feed) => Ok(feed),
         Err(error) => Err(LoadError::from(error)),
@@ -92,11 +92,11 @@ pub fn load<F: Folder>(alloc: Global, folder: &mut F) -> Result<Feed, LoadError>
     ensures source { (F.state folder.new).source ≡ (F.state folder.old).source }
 {
     let mut files = Files::empty();
-    read_files(alloc, folder, &mut files, 0, 3)?;
-    match read_tables(alloc, &mut files, &FileName::all()[..3]) {
+    read_files(alloc, folder, &mut files, 0, STOP_TIMES_PLACE)?;
+    match read_tables(alloc, &mut files, &FileName::all()[..STOP_TIMES_PLACE]) {
         Ok(first) => load_behind(alloc, folder, &mut files, &first),
         Err(error) => {
-            read_files(alloc, folder, &mut files, 3, 18)?;
+            read_files(alloc, folder, &mut files, STOP_TIMES_PLACE, FILE_COUNT)?;
             Err(LoadError::from(error))
         }
     }

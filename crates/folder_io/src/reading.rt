@@ -7,7 +7,7 @@ ghost use Rattle.folder_io.specs.KeptFiles.{IsWithin};
 ghost use Rattle.folder_io.specs.FolderCalls.{FolderState, WhereTold};
 ghost use Rattle.folder_io.specs.FileReading.{AreReadBetween, GivesUp, GivesUpOn, IsRead, ReadsTo, StopsPast};
 
-use crate::{ByteText, FileBytes, Files, Folder, Opened, Piece};
+use crate::{ByteText, FILE_COUNT, FileBytes, Files, Folder, Opened, Piece};
 use feed_files::FileName;
 use std::alloc::{AllocError, Global};
 use thiserror::Error;
@@ -93,7 +93,7 @@ pub fn read_files<F: Folder>(
     to: usize,
 ) -> Result<(), ReadError>
     requires order { from ≤ to }
-    requires places { to ≤ 18 }
+    requires places { to ≤ FILE_COUNT }
     ensures files { OnOk result (AreReadBetween (F.state folder.old) from to files.old files.new) }
     ensures ok { OnOk result ((start : FolderState) → ReadsTo start from (F.state folder.old) → ReadsTo start to (F.state folder.new)) }
     ensures err { IfErr result (λ error. (start : FolderState) → ReadsTo start from (F.state folder.old) → GivesUpOn error start (F.state folder.new)) }
