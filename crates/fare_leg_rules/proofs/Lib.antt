@@ -1,4 +1,3 @@
-pub mod MarkLaws
 pub mod PlaceLaws
 pub mod RuleLaws
 pub mod OrderLaws

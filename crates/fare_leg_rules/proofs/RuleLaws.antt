@@ -13,9 +13,10 @@ use Rattle.feed_rows.specs.LegRules.{is_listed_area, network_matches, area_match
 use Rattle.feed_rows.specs.SoundFeed.{IsSoundFeed}
 use Rattle.plain_laws.specs.Plain.{at_and, filled_and}
 use Rattle.fare_leg_rules.specs.declared.LegRules.{LegRules}
-use Rattle.fare_leg_rules.specs.Marks.{is_marked, names as column_names}
-use Rattle.fare_leg_rules.specs.declared.marks.Column.TheVariants.{Network, FromArea, ToArea}
-use Rattle.fare_leg_rules.proofs.MarkLaws.{marked_names}
+use Rattle.fare_leg_rules.specs.Columns.{names as column_names}
+use Rattle.number_marks.specs.Marks.{is_marked}
+use Rattle.fare_leg_rules.specs.declared.columns.Column.TheVariants.{Network, FromArea, ToArea}
+use Rattle.number_marks.proofs.MarkLaws.{marked_names}
 use Rattle.fare_leg_rules.specs.Fits.{network_fits, area_fits, fits, weight, is_chosen}
 use Rattle.fare_leg_rules.specs.declared.places.PlacedRule.{PlacedRule}
 use Rattle.fare_leg_rules.specs.Places.{is_common, passes_at, ArePlaced, AreByNetwork}

@@ -5,7 +5,7 @@ use Rattle.transit_base.specs.declared.numbers.NetworkId.{NetworkId}
 use Rattle.feed_rows.specs.FeedRows.{FeedRows}
 use Rattle.feed_rows.specs.LegRules.{is_listed_network, is_listed_area}
 use Rattle.fare_leg_rules.specs.declared.LegRules.{LegRules}
-use Rattle.fare_leg_rules.specs.Marks.{is_marked}
+use Rattle.number_marks.specs.Marks.{is_marked}
 use Rattle.fare_leg_rules.specs.Places.{is_common, is_of, rules_at, HasRules}
 
 -- the rules are those of this feed

@@ -10,7 +10,7 @@ use Rattle.feed_rows.specs.declared.rows.LegRuleRow.{LegRuleRow}
 use Rattle.feed_rows.specs.LegRules.{frame_matches}
 use Rattle.plain_laws.specs.Plain.{at_and, empty_or, filled_and}
 use Rattle.fare_leg_rules.specs.declared.LegRules.{LegRules}
-use Rattle.fare_leg_rules.specs.Marks.{is_marked}
+use Rattle.number_marks.specs.Marks.{is_marked}
 use Rattle.fare_leg_rules.specs.Places.{rules_at}
 use Rattle.fare_leg_rules.specs.declared.places.PlacedRule.{PlacedRule}
 

@@ -1,4 +1,4 @@
-pub mod Marks
+pub mod Columns
 pub mod Places
 pub mod Fits
 pub mod Orders

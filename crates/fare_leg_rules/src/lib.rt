@@ -7,19 +7,20 @@ ghost use Rattle.std.specs.List.Sorted.{IsNonDecreasingBy};
 ghost use Rattle.feed_rows.specs.FeedRows.{FeedRows};
 ghost use Rattle.feed_rows.specs.LegRules.{frame_matches, selected_rules, is_selected_rule};
 ghost use Rattle.plain_laws.specs.Plain.{at_and};
-ghost use Rattle.fare_leg_rules.specs.Marks.{is_marked};
+ghost use Rattle.number_marks.specs.Marks.{is_marked};
 ghost use Rattle.fare_leg_rules.specs.Fits.{network_fits, area_fits, fits, weight, weight_of, is_within, is_chosen, chosen_among, own_rules, IsTop};
 ghost use Rattle.fare_leg_rules.specs.Orders.{IsPutInOrder};
 ghost use Rattle.fare_leg_rules.specs.Places.{candidates};
 ghost use Rattle.fare_leg_rules.specs.BuiltLegRules.{AreLegRulesOf};
 
-mod marks;
+mod columns;
 mod places;
 
-use crate::marks::{Column, is_marked, marked};
+use crate::columns::Column;
 use crate::places::{PlacedRule, at_place, common_rules, place_of, placed_rules, rules_by_network};
 use feed_rows::{Feed, LegFacts, LegRuleRow, RuleList};
 use item_groups::Groups;
+use number_marks::{is_marked, marked};
 use std::alloc::{AllocError, Global};
 use transit_base::{AreaId, FrameId, NetworkId, RuleId};
 

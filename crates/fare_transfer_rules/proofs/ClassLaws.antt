@@ -20,7 +20,7 @@ use Rattle.item_groups.specs.Groups.{group_of, groups_below}
 use Rattle.plain_laws.proofs.Laws.{same_test, All-slice_get, filter-filter, filter-map, filter_part, picks_below-none, list_any-place}
 use Rattle.item_groups.proofs.GroupLaws.{group_of-append, group_rises, groups_below-at, groups_below-past}
 use Rattle.fare_transfer_rules.specs.declared.groups.ClassedRow.{ClassedRow}
-use Rattle.fare_transfer_rules.specs.Marks.{is_marked}
+use Rattle.number_marks.specs.Marks.{is_marked}
 use Rattle.fare_transfer_rules.specs.Classes.{field_class, class_of, is_of, row_to, member_at, leads_to, rows_at, IsPutByTo, AreByClasses}
 use Rattle.fare_transfer_rules.specs.Fits.{group_fits}
 

@@ -1,4 +1,3 @@
-pub mod MarkLaws
 pub mod ClassLaws
 pub mod CountLaws
 pub mod RowLaws

@@ -17,13 +17,14 @@ use Rattle.plain_laws.proofs.Laws.{same_test, filled_and-true, list_all-at, list
 use Rattle.feed_laws.proofs.SelectionLaws.{is_arranged-suffices}
 use Rattle.fare_transfer_rules.specs.declared.XferRules.{XferRules}
 use Rattle.fare_transfer_rules.specs.declared.groups.ClassedRow.{ClassedRow}
-use Rattle.fare_transfer_rules.specs.declared.marks.Column.TheVariants.{From, To}
-use Rattle.fare_transfer_rules.specs.Marks.{is_marked, names as column_names}
+use Rattle.fare_transfer_rules.specs.declared.columns.Column.TheVariants.{From, To}
+use Rattle.fare_transfer_rules.specs.Columns.{names as column_names}
+use Rattle.number_marks.specs.Marks.{is_marked}
 use Rattle.fare_transfer_rules.specs.Classes.{xfer_of, class_of, is_of, row_to, AreByClasses}
 use Rattle.fare_transfer_rules.specs.Counts.{is_within}
 use Rattle.fare_transfer_rules.specs.Fits.{group_fits, fits, fits_at, not_above, not_above_at, is_chosen, is_chosen_at, chosen_among, rows_for, AreLeast}
 use Rattle.fare_transfer_rules.specs.BuiltTransferRules.{AreXferRulesOf}
-use Rattle.fare_transfer_rules.proofs.MarkLaws.{marked_names}
+use Rattle.number_marks.proofs.MarkLaws.{marked_names}
 use Rattle.fare_transfer_rules.proofs.ClassLaws.{rows_of, class_fits, group_is}
 
 -- what passes a second test of what passes a first one

@@ -9,7 +9,7 @@ use Rattle.feed_rows.specs.TransferRules.{is_listed_group, group_matches}
 use Rattle.fare_transfer_rules.specs.declared.XferRules.{XferRules}
 use Rattle.fare_transfer_rules.specs.declared.groups.ClassedRow.{ClassedRow}
 use Rattle.plain_laws.specs.Plain.{at_and, ids_where}
-use Rattle.fare_transfer_rules.specs.Marks.{is_marked}
+use Rattle.number_marks.specs.Marks.{is_marked}
 use Rattle.fare_transfer_rules.specs.Classes.{row_to, is_of, leads_to, rows_at}
 
 -- the rules are those of this feed

@@ -10,7 +10,7 @@ use Rattle.feed_rows.specs.declared.rows.TransferRuleRow.{TransferRuleRow}
 use Rattle.item_groups.specs.declared.groups.Grouped.{Grouped}
 use Rattle.plain_laws.specs.Plain.{ids_where}
 use Rattle.fare_transfer_rules.specs.declared.groups.ClassedRow.{ClassedRow}
-use Rattle.fare_transfer_rules.specs.Marks.{is_marked}
+use Rattle.number_marks.specs.Marks.{is_marked}
 
 abbrev pub xfer_of : ℕ → XferId
 xfer_of i = record { 0 = i }

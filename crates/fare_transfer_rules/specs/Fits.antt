@@ -9,7 +9,7 @@ use Rattle.feed_rows.specs.TransferRules.{limit_holds, count_le}
 use Rattle.plain_laws.specs.Plain.{at_and, empty_or}
 use Rattle.fare_transfer_rules.specs.declared.XferRules.{XferRules}
 use Rattle.fare_transfer_rules.specs.declared.groups.ClassedRow.{ClassedRow}
-use Rattle.fare_transfer_rules.specs.Marks.{is_marked}
+use Rattle.number_marks.specs.Marks.{is_marked}
 use Rattle.fare_transfer_rules.specs.Classes.{class_of, leads_to, rows_at}
 use Rattle.fare_transfer_rules.specs.Counts.{is_within}
 

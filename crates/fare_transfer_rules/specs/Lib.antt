@@ -1,4 +1,4 @@
-pub mod Marks
+pub mod Columns
 pub mod Classes
 pub mod Counts
 pub mod Fits

@@ -7,9 +7,9 @@ ghost use Rattle.feed_rows.specs.declared.rows.TransferRuleRow.{TransferRuleRow}
 ghost use Rattle.plain_laws.specs.Plain.{list_below};
 ghost use Rattle.fare_transfer_rules.specs.Classes.{field_class, class_of, row_to, member_at, leads_to, IsPutByTo, AreByClasses};
 
-use crate::marks::is_marked;
 use feed_rows::TransferRuleRow;
 use item_groups::{Grouped, Groups};
+use number_marks::is_marked;
 use std::alloc::{AllocError, Global};
 use transit_base::{LegGroupId, XferId};
 

@@ -9,16 +9,17 @@ ghost use Rattle.fare_transfer_rules.specs.BuiltTransferRules.{AreXferRulesOf, A
 ghost use Rattle.fare_transfer_rules.specs.Counts.{is_within};
 ghost use Rattle.fare_transfer_rules.specs.Fits.{group_fits, count_fits, fits, fits_at, not_above_at, is_chosen_at, chosen_among, pair_rows, rows_for, AreLeast};
 
+mod columns;
 mod counts;
 mod groups;
-mod marks;
 
+use crate::columns::Column;
 pub use crate::counts::{is_within, lesser};
 pub use crate::groups::ClassedRow;
 use crate::groups::{class_of, rows_by_from, rows_to};
-use crate::marks::{Column, is_marked, marked};
 use feed_rows::{Feed, Limit, TransferFacts, TransferRuleRow, XferList};
 use item_groups::Groups;
+use number_marks::{is_marked, marked};
 use std::alloc::{AllocError, Global};
 use transit_base::{LegGroupId, Moment, XferId};
 

@@ -1,11 +1,11 @@
 //! Stop times, read record by record.
-ghost use Rattle.std.specs.Prelude.{◌≡◌, ◌<◌, ◌++◌, ◌∷◌, [], List, ℕ, Option, None, Some, length, not, ◌==◌, IfOk, IfErr, OnOk};
+ghost use Rattle.std.specs.Prelude.{◌≡◌, ◌<◌, ◌++◌, ◌∷◌, [], List, ℕ, Option, None, Some, length, not, true, ◌==◌, IfOk, IfErr, OnOk};
 ghost use Rattle.feed_files.specs.declared.names.FileName.TheVariants as file;
 ghost use Rattle.feed_faults.specs.FieldValues.{nat_of};
 ghost use Rattle.feed_faults.specs.FormFaults.{fault_of_field};
 ghost use Rattle.feed_faults.specs.Records.{header};
 ghost use Rattle.feed_faults.specs.RowKeys.{row_of};
-ghost use Rattle.feed_text.specs.Reader.{StandsBehind, last_record};
+ghost use Rattle.feed_text.specs.Reader.{StandsBehind, is_going, last_record};
 ghost use Rattle.feed_text.specs.RowLimits.{row_limit};
 ghost use Rattle.feed_tables.specs.IdRows.{IsBegun};
 ghost use Rattle.feed_tables.specs.ReadCalls.{read_call};
@@ -198,7 +198,8 @@ impl CallRows {
     }
 }
 
-/// The stop times that all records of a text tell, by the ids of trips and stops.
+/// The stop times that all records of a text tell, by the ids of trips and stops. Behind the last record, and behind an error,
+/// nothing is asked of the source any more.
 ///
 /// # Errors
 /// The first fault of the text's table, as a whole, then of the header, then row by row and in a row column by column; a
@@ -208,6 +209,7 @@ pub fn read_stop_times<R: Read>(
     records: &mut Records<R>,
     ids: &CallIds,
 ) -> Result<StopTimes, CallError>
+    requires { is_going records.old ≡ true }
     ensures rows { IfOk result (λ calls. (start : Option (List ℕ)) → StandsBehind R.remaining start [] records.old → AreCallsOf start ids.now calls) }
     ensures why { IfErr result (λ error. (start : Option (List ℕ)) → StandsBehind R.remaining start [] records.old → IsCallError start error) }
 {

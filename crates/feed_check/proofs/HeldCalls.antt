@@ -83,9 +83,9 @@ left_refused (Some bytes) ids fault fits utf8 is =
     record { held = HeldFile.Bytes is.text; told = ap HeldFile.Bytes same ∙ fits_held bytes fits; are = text_refused _ ids fault is (ap is_utf8 same ∙ sym utf8) }
 
 -- what is held of a file that isn't there, and of one that is open
-pub absent_in : (folder : FolderState) (left : Option (List ℕ)) (ids : CallIds) → IfSome folder.holds (λ contents. Finds (contents (file_text file.StopTimes)) left opened.Absent) → AreCallsIn folder ids (Err (text.Fault (file_fault file.StopTimes kind.MissingFile)))
+pub absent_in : (folder : FolderState) (left : Option (List ℕ)) (ids : CallIds) → IfSome folder.source.contents (λ contents. Finds (contents (file_text file.StopTimes)) left opened.Absent) → AreCallsIn folder ids (Err (text.Fault (file_fault file.StopTimes kind.MissingFile)))
 unfolding held
-absent_in folder left ids finds = record { kept = HeldFile.Missing; given = (absent_read folder.holds (file_text file.StopTimes) left most_bytes finds).0; are = refl }
+absent_in folder left ids finds = record { kept = HeldFile.Missing; given = (absent_read folder.source.contents (file_text file.StopTimes) left most_bytes finds).0; are = refl }
 
 left_held : (under left : Option (List ℕ)) (kept : HeldFile) → Finds under left opened.Present → IfSome left (λ bytes. kept ≡ held_within most_bytes (Some bytes)) → kept ≡ held_within most_bytes under
 left_held None left kept finds told = absurd finds
@@ -97,9 +97,9 @@ unfolding held
 given None left kept finds told = tt
 given (Some contents) left kept finds told = left_held (contents (file_text file.StopTimes)) left kept finds told
 
-pub given_in : (folder : FolderState) (left : Option (List ℕ)) (ids : CallIds) (calls : Result StopTimes TextError) → IfSome folder.holds (λ contents. Finds (contents (file_text file.StopTimes)) left opened.Present)
+pub given_in : (folder : FolderState) (left : Option (List ℕ)) (ids : CallIds) (calls : Result StopTimes TextError) → IfSome folder.source.contents (λ contents. Finds (contents (file_text file.StopTimes)) left opened.Present)
     → AreCallsLeft left ids calls → AreCallsIn folder ids calls
-given_in folder left ids calls finds are = record { kept = are.held; given = given folder.holds left are.held finds are.told; are = are.are }
+given_in folder left ids calls finds are = record { kept = are.held; given = given folder.source.contents left are.held finds are.told; are = are.are }
 
 -- memory was wanting
 left_none : (left : Option (List ℕ)) (ids : CallIds) → IfSome left (λ bytes. length bytes ≤ most_bytes) → AreCallsLeft left ids (Err text.NoMemory)

@@ -75,7 +75,7 @@ module _ (folder now : FolderState) (first others : FileName → HeldFile) (read
   pub first_refused : (why : TextError) → IsErrorOf (first_in first_files (form_fault first)) why → GivesUpLoading (refused why) folder now
   first_refused why is =
       let at = others file.StopTimes in
-      let given = gives first at others folder.holds before (behind file.StopTimes (omega arith)) (λ name le. behind name (omega (arith, le))) in
+      let given = gives first at others folder.source.contents before (behind file.StopTimes (omega arith)) (λ name le. behind name (omega (arith, le))) in
       fault_gives folder now (joined first at others) given reads why (first_error (joined first at others) why (rw (first_faults first at others) is))
 
 pub first_of : (folder : FolderState) (before after : List FileBytes) (first : List TableOf) → AreReadBetween folder 0 3 before after → first_in first_files (form_fault (held_in after)) ≡ None → first ≡ map (read_of (held_in after)) first_files → AreFirstOf folder first
@@ -88,8 +88,8 @@ pub record AreLoaded (folder now : FolderState) (first : List TableOf) (ids : Ca
   pub behind : (name : FileName) → 4 ≤ place name → WhereTold folder (λ contents. others name ≡ held contents name)
   pub reads : ReadsTo folder 18 now
 
-pub loaded_so : (folder mid behind now : FolderState) (first : List TableOf) (ids : CallIds) (calls : Result StopTimes TextError) (before after : List FileBytes) → AreFirstOf folder first → ReadsTo folder 3 mid → mid.holds ≡ folder.holds
-    → AreCallsIn mid ids calls → ((start : FolderState) → ReadsTo start 3 mid → ReadsTo start 4 behind) → behind.holds ≡ mid.holds
+pub loaded_so : (folder mid behind now : FolderState) (first : List TableOf) (ids : CallIds) (calls : Result StopTimes TextError) (before after : List FileBytes) → AreFirstOf folder first → ReadsTo folder 3 mid → mid.source ≡ folder.source
+    → AreCallsIn mid ids calls → ((start : FolderState) → ReadsTo start 3 mid → ReadsTo start 4 behind) → behind.source ≡ mid.source
     → AreReadBetween behind 4 18 before after → ((start : FolderState) → ReadsTo start 4 behind → ReadsTo start 18 now) → AreLoaded folder now first ids calls (held_in after)
 loaded_so folder mid behind now first ids calls before after are reads_first holds_first are_calls reads_calls holds_calls are_others reads_others = record {
   before = are;
@@ -103,7 +103,7 @@ module _ (folder now : FolderState) (first : List TableOf) (ids : CallIds) (call
   files = joined loaded.before.files loaded.at.kept others
 
   given : Gives folder files
-  given = gives loaded.before.files loaded.at.kept others folder.holds loaded.before.gives loaded.at.given loaded.behind
+  given = gives loaded.before.files loaded.at.kept others folder.source.contents loaded.before.gives loaded.at.given loaded.behind
 
   none : first_in first_files (form_fault files) ≡ None
   none = first_faults loaded.before.files loaded.at.kept others ∙ loaded.before.sound

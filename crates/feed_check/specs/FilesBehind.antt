@@ -10,6 +10,7 @@ use Rattle.feed_faults.specs.AcceptedFeed.{feed_of}
 use Rattle.feed_faults.specs.FirstFault.{first_fault}
 use Rattle.feed_faults.specs.FormFaults.{form_fault}
 use Rattle.feed_faults.specs.Records.{FileTable}
+use Rattle.folder_io.specs.FilePlaces.{stop_times_place}
 use Rattle.folder_io.specs.FileReading.{ReadsTo}
 use Rattle.folder_io.specs.FolderCalls.{FolderState, WhereTold}
 use Rattle.feed_tables.specs.IdColumns.{call_ids}
@@ -43,12 +44,12 @@ pub record Accepts (first : List TableOf) (ids : CallIds) (calls : Result StopTi
 -- the tables of the folder's files before stop_times.txt, which have no fault by themselves
 pub record AreFirstOf (folder : FolderState) (first : List TableOf) : Type 0 where
   pub files : FileName → HeldFile
-  pub gives : (name : FileName) → place name < 3 → WhereTold folder (λ contents. files name ≡ held contents name)
+  pub gives : (name : FileName) → place name < stop_times_place → WhereTold folder (λ contents. files name ≡ held contents name)
   pub sound : first_in first_files (form_fault files) ≡ None
   pub are : first ≡ map (read_of files) first_files
 
 -- of a folder as it was at the start these files were read and no others
 pub record IsBegun (start : FolderState) (first : List TableOf) (now : FolderState) : Type 0 where
   pub are_first : AreFirstOf start first
-  pub reads : ReadsTo start 3 now
-  pub holds : now.holds ≡ start.holds
+  pub reads : ReadsTo start stop_times_place now
+  pub source : now.source ≡ start.source

@@ -36,7 +36,7 @@ pub record AreCallsIn (folder : FolderState) (ids : CallIds) (calls : Result Sto
 
 -- nothing but bytes of its open file was asked of a folder since then
 pub record IsLeft (start now : FolderState) : Type 0 where
-  pub holds : now.holds ≡ start.holds
+  pub source : now.source ≡ start.source
   pub opens : now.opens ≡ start.opens
 
 -- what is answered where the file was read to its end: that it is no text comes before the faults of its rows

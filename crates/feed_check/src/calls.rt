@@ -4,6 +4,7 @@ ghost use Rattle.feed_files.specs.FaultCounts.{Stayed};
 ghost use Rattle.feed_files.specs.HeldFiles.{most_bytes};
 ghost use Rattle.feed_files.specs.declared.names.FileName.TheVariants as file;
 ghost use Rattle.feed_faults.specs.FaultPlaces.{file_fault};
+ghost use Rattle.folder_io.specs.FilePlaces.{place_behind, stop_times_place};
 ghost use Rattle.folder_io.specs.FolderCalls.{FolderState};
 ghost use Rattle.folder_io.specs.FileReading.{GivesUp, GivesUpOn, ReadsTo};
 ghost use Rattle.feed_check.specs.FolderCalls.{answer_of, AreCallsIn, AreCallsLeft, IsLeft};
@@ -49,7 +50,7 @@ fn open_calls<'a, F: Folder, S: Beginning>(
     folder: &'a mut F,
     ids: &CallIds,
 ) -> (Result<Result<StopTimes, TextError>, ReadError>, &'a mut F)
-    requires is_open { (F.state folder.old).present ≡ true }
+    requires is_open { (F.state folder.old).readable ≡ true }
     requires start { F.state folder.old ≡ S.start }
     requires limit { S.limit ≡ most_bytes }
     requires name { folder.ghost_name ≡ S.name }
@@ -86,9 +87,9 @@ pub fn folder_calls<F: Folder>(
     ids: &CallIds,
 ) -> Result<Result<StopTimes, TextError>, ReadError>
     ensures calls { IfOk result (AreCallsIn (F.state folder.old) ids.now) }
-    ensures ok { OnOk result ((start : FolderState) → ReadsTo start 3 (F.state folder.old) → ReadsTo start 4 (F.state folder.new)) }
-    ensures err { IfErr result (λ error. (start : FolderState) → ReadsTo start 3 (F.state folder.old) → GivesUpOn error start (F.state folder.new)) }
-    ensures holds { (F.state folder.new).holds ≡ (F.state folder.old).holds }
+    ensures ok { OnOk result ((start : FolderState) → ReadsTo start stop_times_place (F.state folder.old) → ReadsTo start place_behind (F.state folder.new)) }
+    ensures err { IfErr result (λ error. (start : FolderState) → ReadsTo start stop_times_place (F.state folder.old) → GivesUpOn error start (F.state folder.new)) }
+    ensures source { (F.state folder.new).source ≡ (F.state folder.old).source }
 {
     match folder.open(FileName::StopTimes.text()) {
         Opened::Failed => return Err(ReadError::ReadFault),

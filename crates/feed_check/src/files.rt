@@ -22,7 +22,7 @@ use feed_relations::first_relation_fault;
 use feed_rows::Feed;
 use feed_tables::{CallIds, CallTable, Ids, ReadTable, Tables, read_tables};
 use feed_text::{Records, TextError, is_text};
-use folder_io::{FileBytes, Files};
+use folder_io::{FileBytes, Files, PLACE_BEHIND, STOP_TIMES_PLACE};
 use std::alloc::Global;
 use std::marker::Brand;
 
@@ -70,7 +70,7 @@ pub(crate) fn feed_behind(
     ensures feed { IfOk result (Accepts first.now ids.now calls (held_in files.old)) }
 {
     let stop_times = calls?;
-    let others = read_tables(alloc, files, &FileName::all()[4..])?;
+    let others = read_tables(alloc, files, &FileName::all()[PLACE_BEHIND..])?;
     related_feed::<Brand>(alloc, first, &others, ids, stop_times)
 }
 
@@ -99,7 +99,7 @@ pub fn check(alloc: Global, files: Files) -> Result<Feed, TextError>
     ensures feed { IfOk result (λ feed. feed ≡ feed_of (held_in files)) }
 {
     let mut files = files;
-    let first = read_tables(alloc, &mut files, &FileName::all()[..3])?;
+    let first = read_tables(alloc, &mut files, &FileName::all()[..STOP_TIMES_PLACE])?;
     let ids = CallIds::of(alloc, &first)?;
     let calls = held_stop_times(alloc, files.get(FileName::StopTimes), &ids);
     files.put(FileName::StopTimes, FileBytes::Absent);

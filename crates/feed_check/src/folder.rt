@@ -12,7 +12,7 @@ use feed_files::{FeedFault, FileName};
 use feed_rows::Feed;
 use feed_tables::{CallIds, ReadTable, read_tables};
 use feed_text::TextError;
-use folder_io::{Files, Folder, ReadError, read_files};
+use folder_io::{FILE_COUNT, Files, Folder, PLACE_BEHIND, ReadError, STOP_TIMES_PLACE, read_files};
 use std::alloc::Global;
 
 /// Why a folder gives no feed.
@@ -66,13 +66,13 @@ fn load_behind<F: Folder>(
     ensures feed { IfOk result (λ feed. (start : FolderState) → IsBegun start first.now (F.state folder.old) → IsFeedOf start feed) }
     ensures ok { OnOk result ((start : FolderState) → IsBegun start first.now (F.state folder.old) → OpensAll start (F.state folder.new)) }
     ensures err { IfErr result (λ error. (start : FolderState) → IsBegun start first.now (F.state folder.old) → GivesUpLoading error start (F.state folder.new)) }
-    ensures holds { (F.state folder.new).holds ≡ (F.state folder.old).holds }
+    ensures source { (F.state folder.new).source ≡ (F.state folder.old).source }
 {
     let Ok(ids) = CallIds::of(alloc, first) else {
         return Err(LoadError::NoMemory);
     };
     let calls = folder_calls(alloc, folder, &ids)?;
-    read_files(alloc, folder, files, 4, 18)?;
+    read_files(alloc, folder, files, PLACE_BEHIND, FILE_COUNT)?;
     match feed_behind(alloc, files, first, &ids, calls) {
         Ok(feed) => Ok(feed),
         Err(error) => Err(LoadError::from(error)),
@@ -89,14 +89,14 @@ pub fn load<F: Folder>(alloc: Global, folder: &mut F) -> Result<Feed, LoadError>
     ensures feed { IfOk result (IsFeedOf (F.state folder.old)) }
     ensures ok { OnOk result (OpensAll (F.state folder.old) (F.state folder.new)) }
     ensures err { IfErr result (λ error. GivesUpLoading error (F.state folder.old) (F.state folder.new)) }
-    ensures holds { (F.state folder.new).holds ≡ (F.state folder.old).holds }
+    ensures source { (F.state folder.new).source ≡ (F.state folder.old).source }
 {
     let mut files = Files::empty();
-    read_files(alloc, folder, &mut files, 0, 3)?;
-    match read_tables(alloc, &mut files, &FileName::all()[..3]) {
+    read_files(alloc, folder, &mut files, 0, STOP_TIMES_PLACE)?;
+    match read_tables(alloc, &mut files, &FileName::all()[..STOP_TIMES_PLACE]) {
         Ok(first) => load_behind(alloc, folder, &mut files, &first),
         Err(error) => {
-            read_files(alloc, folder, &mut files, 3, 18)?;
+            read_files(alloc, folder, &mut files, STOP_TIMES_PLACE, FILE_COUNT)?;
             Err(LoadError::from(error))
         }
     }

@@ -66,7 +66,6 @@ fn put_fares(alloc: Global, files: &mut Files) -> Result<(), AllocError>
 ///
 /// # Errors
 /// Want of memory.
-#[tactic(auto, using(crate::proofs::HeldLaws::within_made), unfolding(crate::specs::MadeFiles::made_files))]
 pub fn gen_files(alloc: Global, seed: u32, lines: u32) -> Result<Files, AllocError>
     requires seed { seed ≤ 65_535 }
     requires lines { lines ≤ 32 }

@@ -13,6 +13,7 @@ ghost use Rattle.feed_tables.specs.RowNumbers.{has_table};
 use crate::rows::ReadTable;
 use feed_files::FileName;
 use feed_text::{Table, nat_of};
+use folder_io::{PLACE_BEHIND, STOP_TIMES_PLACE};
 use std::marker::{Brand, Model, PhantomData};
 
 /// The table of stop_times.txt, of which only rows are kept. Contracts alone know it: a call of a function over a
@@ -73,10 +74,10 @@ impl<'t, C: CallTable> Tables<'t, C> {
         ensures table { result.now.table ≡ table_in self.now file }
     {
         let place = file as usize;
-        if place < 3 {
+        if place < STOP_TIMES_PLACE {
             &self.first[place]
         } else {
-            &self.others[place - 4]
+            &self.others[place - PLACE_BEHIND]
         }
     }
 

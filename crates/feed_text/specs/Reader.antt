@@ -19,6 +19,10 @@ cut_record fields = map cut (read_back fields)
 abbrev pub last_record : {R : Type 0} → Records R → List (List ℕ)
 last_record records = cut_record (fields_of records.row)
 
+-- one more may come: each read so far gave a record
+abbrev pub is_going : {R : Type 0} → Records R → Bool
+is_going records = records.going
+
 -- the records that were read make this table. Where the source told its text as the reading began, they are the first ones
 -- of that text, and those behind them are still to come
 pub record StandsBehind {R : Type 0} (rem : R → Option (List ℕ)) (start : Option (List ℕ)) (table : FileTable) (records : Records R) : Type 0 where

@@ -1,8 +1,8 @@
 //! The records of a text, one after another.
-ghost use Rattle.std.specs.Prelude.{◌≡◌, ◌++◌, ◌∷◌, [], List, ℕ, Option, length, get_or, IfOk, IfErr, OnOk};
+ghost use Rattle.std.specs.Prelude.{◌≡◌, ◌++◌, ◌∷◌, [], List, ℕ, Option, length, get_or, true, false, IfOk, IfErr, OnErr, OnOk};
 ghost use Rattle.feed_faults.specs.Records.{FileTable, cut};
 ghost use Rattle.csv.specs.Reading.{reader_source};
-ghost use Rattle.feed_text.specs.Reader.{StandsBehind, GoesOn, Explains, last_record};
+ghost use Rattle.feed_text.specs.Reader.{StandsBehind, GoesOn, Explains, is_going, last_record};
 
 use csv::{ErrorKind, Reader, ReaderBuilder, StringRecord};
 use std::alloc::{AllocError, Global};
@@ -52,12 +52,14 @@ pub enum RecordError {
 pub struct Records<R> {
     reader: Reader<R>,
     row: StringRecord,
+    going: bool,
 }
 
 impl<R: Read> Records<R> {
     /// Those of all that a source gives.
     pub fn of(alloc: Global, source: R) -> Records<R>
-        ensures { StandsBehind R.remaining (R.remaining source) [] result }
+        ensures begins { StandsBehind R.remaining (R.remaining source) [] result }
+        ensures going { is_going result ≡ true }
     {
         Records {
             reader: ReaderBuilder::new()
@@ -65,19 +67,28 @@ impl<R: Read> Records<R> {
                 .flexible(true)
                 .from_reader(alloc, source),
             row: StringRecord::new(alloc),
+            going: true,
         }
     }
 
-    /// Reads the next record. Answers whether there is one.
+    /// Reads the next record. Answers whether there is one. Behind the last one, and behind an error, nothing is asked of the
+    /// source any more.
     ///
     /// # Errors
     /// The record isn't UTF-8; those of the source; want of memory.
     pub fn next(&mut self) -> Result<bool, RecordError>
+        requires { is_going self.old ≡ true }
+        ensures going { IfOk result (λ found. is_going self.new ≡ found) }
+        ensures over { OnErr result (is_going self.new ≡ false) }
         ensures goes_on { IfOk result (λ found. (start : Option (List ℕ)) (table : FileTable) → StandsBehind R.remaining start table self.old → GoesOn R.remaining start table found self.new) }
         ensures why { IfErr result (λ error. (start : Option (List ℕ)) (table : FileTable) → StandsBehind R.remaining start table self.old → Explains start error) }
     {
+        self.going = false;
         match self.reader.read_record(&mut self.row) {
-            Ok(found) => Ok(found),
+            Ok(found) => {
+                self.going = found;
+                Ok(found)
+            }
             Err(error) => match error.kind() {
                 ErrorKind::Utf8 { .. } => Err(RecordError::NotText),
                 _ => Err(RecordError::Stopped),
@@ -89,7 +100,11 @@ impl<R: Read> Records<R> {
     pub fn into_source(self) -> R
         ensures { result ≡ reader_source self.reader }
     {
-        let Records { reader, row: _ } = self;
+        let Records {
+            reader,
+            row: _,
+            going: _,
+        } = self;
         reader.into_inner()
     }
 

@@ -5,7 +5,7 @@ ghost use Rattle.item_groups.specs.Parts.{parts, Rise};
 ghost use Rattle.feed_files.specs.Names.{all_columns, column_text};
 ghost use Rattle.feed_faults.specs.Records.{table_of_bytes, header, row_count, column_of, field, is_long};
 ghost use Rattle.feed_faults.specs.FormFaults.{is_twice};
-ghost use Rattle.feed_text.specs.Reader.{StandsBehind, last_record};
+ghost use Rattle.feed_text.specs.Reader.{StandsBehind, is_going, last_record};
 ghost use Rattle.feed_text.specs.RowLimits.{row_limit};
 ghost use Rattle.feed_text.specs.DataRows.{one_row};
 
@@ -100,7 +100,8 @@ fn table_of(
     records: &mut Records<&[u8]>,
     max_rows: u32,
 ) -> Result<Option<Table>, AllocError>
-    requires { max_rows ≤ row_limit }
+    requires few { max_rows ≤ row_limit }
+    requires going { is_going records.old ≡ true }
     ensures { IfOk result (λ table. (text : List ℕ) → StandsBehind (λ s. Some s.now) (Some text) [] records.old → table ≡ when (nat_le (row_count (table_of_bytes text)) max_rows) (table_of_bytes text)) }
 {
     let mut fields = Groups::empty(alloc);

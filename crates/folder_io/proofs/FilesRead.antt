@@ -149,7 +149,7 @@ module _ (holds : Option Contents) (from i : ℕ) (before files : List FileBytes
   }
 
 -- all files that were to be read
-module _ (folder : FolderState) (from to : ℕ) (before now : List FileBytes) (so_far : AreReadSoFar folder.holds from to before now) where
+module _ (folder : FolderState) (from to : ℕ) (before now : List FileBytes) (so_far : AreReadSoFar folder.source.contents from to before now) where
   at_place : (files : List FileBytes) (name : FileName) → get_or files (place name) kept.Absent ≡ file_in files name
   at_place files name = sym (unwrap_or-slice_get files (place name) kept.Absent)
 
@@ -163,7 +163,7 @@ module _ (folder : FolderState) (from to : ℕ) (before now : List FileBytes) (s
   pub all_read : AreReadBetween folder from to before now
   all_read = record {
     within = λ name low high. rw (at_place now name) at (so_far.read (place name) low high).within;
-    given = λ name low high. given_at folder.holds name (so_far.read (place name) low high);
+    given = λ name low high. given_at folder.source.contents name (so_far.read (place name) low high);
     others = λ name apart. sym (at_place now name) ∙ so_far.others (place name) apart ∙ at_place before name;
   }
 

@@ -47,7 +47,7 @@ some_or_none zero = inl refl
 some_or_none (suc room) = inr (omega arith)
 
 -- a reading that goes on hasn't come to another end
-goes_on : (room : ℕ) (end : PiecesEnd) → end_within room end ≡ Going → end ≡ Going
+pub goes_on : (room : ℕ) (end : PiecesEnd) → end_within room end ≡ Going → end ≡ Going
 goes_on room end going = by (some_or_none room)
   where
     by : (room ≡ 0) ⊎ (0 < room) → end ≡ Going
@@ -95,37 +95,35 @@ comes_behind room kept left later part rest count going within fits takes =
 
 -- a folder that was asked for bytes and for nothing else
 pub record IsAsked (before now : FolderState) : Type 0 where
-  pub holds : now.holds ≡ before.holds
+  pub source : now.source ≡ before.source
   pub opens : now.opens ≡ before.opens
-  pub present : now.present ≡ before.present
   pub stayed : Stayed before.faults now.faults
 
 -- how a reading stands behind a piece
-ends_behind : (before : PiecesState) (now : FolderState) (start : FolderState) (limit : ℕ) (taken bytes : List ℕ) (count : ℕ) → count ≤ before.room → length (taken ++ bytes) ≡ length taken + count → HasTaken start limit taken before → Stayed start.faults now.faults
+ends_behind : (before : PiecesState) (now : FolderState) (start : FolderState) (limit : ℕ) (taken bytes : List ℕ) (count : ℕ) → count ≤ before.room → length (taken ++ bytes) ≡ length taken + count → HasTaken start limit taken before → Stayed start.faults now.faults → now.readable ≡ true
     → EndsAs start limit (taken ++ bytes) now (end_within (before.room - count) Going)
-ends_behind before now start limit taken bytes count fits size has stays = by (some_or_none (before.room - count))
+ends_behind before now start limit taken bytes count fits size has stays readable = by (some_or_none (before.room - count))
   where
     by : (before.room - count ≡ 0) ⊎ (0 < before.room - count) → EndsAs start limit (taken ++ bytes) now (end_within (before.room - count) Going)
     by (inl none) = rw (end_none (before.room - count) Going none) (stays, omega (arith, has.room))
-    by (inr some) = rw (end_some (before.room - count) Going some) (stays, omega (arith, has.room))
+    by (inr some) = rw (end_some (before.room - count) Going some) (stays, omega (arith, has.room), readable)
 
 -- a piece that the folder gave is taken
 pub takes_behind : (before : PiecesState) (kept : PiecesEnd) (now : FolderState) (text : Utf8State) (part rest : List ℕ) (count : ℕ) → before.end ≡ end_within before.room kept → before.end ≡ Going → count ≤ length part → count ≤ before.room
-    → IsAsked before.folder now → IfSome before.folder.left (λ bytes. Takes bytes now.left part (piece.Got count)) → text ≡ utf8_after before.text (take count (part ++ rest))
+    → IsAsked before.folder now → now.readable ≡ true → IfSome before.folder.left (λ bytes. Takes bytes now.left part (piece.Got count)) → text ≡ utf8_after before.text (take count (part ++ rest))
     → TakesOn before (take count (part ++ rest)) (record { folder = now; room = before.room - count; end = end_within (before.room - count) kept; text = text })
-takes_behind before kept now text part rest count is going within fits asked takes reads = record {
+takes_behind before kept now text part rest count is going within fits asked readable takes reads = record {
   behind = λ start limit taken has.
       let bytes = piece_bytes part rest count within in
       let consumes : Consumes before.folder.left now.left (take count (part ++ rest)) = rw bytes.0 (takes_consumes before.folder.left now.left part count takes) in
       let stood : EndsAs start limit taken before.folder Going = subst (EndsAs start limit taken before.folder) going has.end in
       let size : length (taken ++ take count (part ++ rest)) ≡ length taken + count = length-append taken (take count (part ++ rest)) ∙ ap (λ n. length taken + n) bytes.1 in
       record {
-        holds = asked.holds ∙ has.holds;
+        source = asked.source ∙ has.source;
         opens = asked.opens ∙ has.opens;
-        present = asked.present ∙ has.present;
         bytes = consumes_more start.left before.folder.left now.left taken (take count (part ++ rest)) has.bytes consumes;
         room = omega (arith, size, has.room);
-        end = rw (goes_on before.room kept (sym is ∙ going)) (ends_behind before now start limit taken (take count (part ++ rest)) count fits size has (asked.stayed ∙ stood.0));
+        end = rw (goes_on before.room kept (sym is ∙ going)) (ends_behind before now start limit taken (take count (part ++ rest)) count fits size has (asked.stayed ∙ stood.0) readable);
         text = reads ∙ ap (λ text. utf8_after text (take count (part ++ rest))) has.text ∙ sym (utf8_after-append Whole taken (take count (part ++ rest)));
       };
 }
@@ -153,9 +151,8 @@ takes_last before now part going some asked takes = record {
       let stood : EndsAs start limit taken before.folder Going = subst (EndsAs start limit taken before.folder) going has.end in
       let last = last_consumes start.left before.folder.left now.left taken part has.bytes takes in
       rw append-nil (record {
-        holds = asked.holds ∙ has.holds;
+        source = asked.source ∙ has.source;
         opens = asked.opens ∙ has.opens;
-        present = asked.present ∙ has.present;
         bytes = last.0;
         room = has.room;
         end = rw (end_some before.room Ended some) (asked.stayed ∙ stood.0, stood.1, last.1);
@@ -164,17 +161,16 @@ takes_last before now part going some asked takes = record {
 }
 
 -- nor where it failed
-pub takes_failed : (before : PiecesState) (now : FolderState) (part : List ℕ) → before.end ≡ Going → 0 < before.room → now.holds ≡ before.folder.holds
-    → now.opens ≡ before.folder.opens → now.present ≡ before.folder.present → Rose before.folder.faults now.faults → now.failed ≡ true
+pub takes_failed : (before : PiecesState) (now : FolderState) (part : List ℕ) → before.end ≡ Going → 0 < before.room → now.source ≡ before.folder.source
+    → now.opens ≡ before.folder.opens → Rose before.folder.faults now.faults → now.failed ≡ true
     → IfSome before.folder.left (λ bytes. Takes bytes now.left part piece.Failed)
     → TakesOn before [] (record { folder = now; room = before.room; end = end_within before.room Failed; text = before.text })
-takes_failed before now part going some holds opens present rose failed takes = record {
+takes_failed before now part going some source opens rose failed takes = record {
   behind = λ start limit taken has.
       let stood : EndsAs start limit taken before.folder Going = subst (EndsAs start limit taken before.folder) going has.end in
       rw append-nil (record {
-        holds = holds ∙ has.holds;
+        source = source ∙ has.source;
         opens = opens ∙ has.opens;
-        present = present ∙ has.present;
         bytes = failed_consumes start.left before.folder.left now.left taken part has.bytes takes;
         room = has.room;
         end = rw (end_some before.room Failed some) (subst (λ n. Rose n now.faults) stood.0 rose, stood.1, failed);

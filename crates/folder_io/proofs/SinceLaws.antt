@@ -10,7 +10,7 @@ use Rattle.feed_files.specs.FaultCounts.{Rose}
 use Rattle.folder_io.specs.declared.pieces.PiecesEnd.{PiecesEnd}
 use Rattle.folder_io.specs.declared.pieces.PiecesEnd.TheVariants.{Going, Ended, Failed, TooLarge}
 use Rattle.folder_io.specs.CallLogs.{CallLog}
-use Rattle.folder_io.specs.FolderCalls.{FolderState, Contents}
+use Rattle.folder_io.specs.FolderCalls.{FolderState, FolderSource}
 use Rattle.folder_io.specs.Pieces.{PiecesState, HasTaken, HasTakenSome, TakesOn}
 use Rattle.folder_io.specs.PiecesSince.{StandsAs, IsSince}
 
@@ -19,8 +19,8 @@ pub takes_since : (start : FolderState) (limit : ℕ) (before now : PiecesState)
 takes_since start limit before now bytes takes since = ∥∥₁_elim since ∥∥₁_prop (λ has. ∣ (has.0 ++ bytes, takes.behind start limit has.0 has.1) ∣₁)
 
 -- what a folder tells can be told apart
-contents_set : IsSet (Option Contents)
-contents_set = hlevel props
+source_set : IsSet FolderSource
+source_set = hlevel props
 
 log_set : IsSet CallLog
 log_set = hlevel props
@@ -57,7 +57,8 @@ below_prop (Some bytes) fact each = each bytes
 
 -- how the reading stands
 stands : (start : FolderState) (limit : ℕ) (now : PiecesState) (end : PiecesEnd) → now.end ≡ end → ∥ HasTakenSome start limit now ∥₁ → StandsAs start limit now.folder end
-stands start limit now Going is since = ∥∥₁_elim since (hlevel props) (λ has. (rw is at has.1.end).0)
+stands start limit now Going is since =
+    (∥∥₁_elim since (hlevel props) (λ has. (rw is at has.1.end).0), ∥∥₁_elim since (hlevel props) (λ has. (rw is at has.1.end).2))
 stands start limit now Ended is since =
     (∥∥₁_elim since (hlevel props) (λ has. (rw is at has.1.end).0), ∥∥₁_elim since (below_prop start.left _ (λ bytes. hlevel props)) (λ has. let ends = rw is at has.1.end in ended_size start.left limit has.0 ends.1 ends.2))
 stands start limit now Failed is since =
@@ -67,9 +68,8 @@ stands start limit now TooLarge is since =
 
 pub is_since : (start : FolderState) (limit : ℕ) (now : PiecesState) → ∥ HasTakenSome start limit now ∥₁ → IsSince start limit now.folder now.end
 is_since start limit now since = record {
-  holds = ∥∥₁_elim since (contents_set _ _) (λ has. has.1.holds);
+  source = ∥∥₁_elim since (source_set _ _) (λ has. has.1.source);
   opens = ∥∥₁_elim since (log_set _ _) (λ has. has.1.opens);
-  present = ∥∥₁_elim since (hlevel props) (λ has. has.1.present);
   stands = stands start limit now now.end refl since;
 }
 

@@ -11,14 +11,20 @@ use Rattle.folder_io.specs.CallLogs.{CallLog, untold}
 abbrev pub Contents : Type 0
 Contents = List ℕ → Option (List ℕ)
 
+-- what files come from, which no call changes
+pub record FolderSource : Type 0 where
+  -- the path of the folder, where it is one of the system
+  pub path : Option (List ℕ)
+  -- what it holds, where it tells that
+  pub contents : Option Contents
+
 -- what a folder tells of itself
 pub record FolderState : Type 0 where
-  -- what it holds, where it tells that
-  pub holds : Option Contents
+  pub source : FolderSource
   -- the bytes of the open file that are not read yet, where it tells them
   pub left : Option (List ℕ)
-  -- whether the last open answered Present; a read leaves it as it is
-  pub present : Bool
+  -- whether one may read on: the last call opened a file, or gave bytes of it
+  pub readable : Bool
   -- whether the last open or read answered Failed
   pub failed : Bool
   -- how many calls failed, up to the last number that is counted
@@ -26,13 +32,18 @@ pub record FolderState : Type 0 where
   -- the names that were opened
   pub opens : CallLog
 
+-- what a folder tells of its source that tells nothing
+abbrev pub untold_source : FolderSource
+untold_source = record { path = None; contents = None }
+
 -- what a folder tells that tells nothing and has no file open
 abbrev pub nothing_told : FolderState
-nothing_told = record { holds = None; left = None; present = false; failed = false; faults = 0; opens = untold }
+nothing_told =
+    record { source = untold_source; left = None; readable = false; failed = false; faults = 0; opens = untold }
 
 -- this is so of what a folder holds, where it tells that; of one that doesn't tell, nothing is said
 abbrev pub WhereTold : FolderState → (Contents → Type 0) → Type 0
-WhereTold folder fact = IfSome folder.holds fact
+WhereTold folder fact = IfSome folder.source.contents fact
 
 -- the count before and after a call: it rose where the call failed, and stayed where it didn't
 abbrev pub CountsFault : Bool → ℕ → ℕ → Type 0
@@ -58,6 +69,12 @@ abbrev pub is_failed_read : Piece → Bool
 is_failed_read (piece.Got n) = false
 is_failed_read piece.End = false
 is_failed_read piece.Failed = true
+
+-- whether a read gives bytes
+abbrev pub is_got : Piece → Bool
+is_got (piece.Got n) = true
+is_got piece.End = false
+is_got piece.Failed = false
 
 -- what an open answers of what is held under its name, and what is left to read after it
 abbrev pub Finds : Option (List ℕ) → Option (List ℕ) → Opened → Type 0

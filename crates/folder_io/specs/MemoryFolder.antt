@@ -1,11 +1,11 @@
 -- What a folder in memory holds and has left, what it counted, and which of its calls fail.
-use Rattle.std.specs.Prelude.{ℕ, List, Option, Some, Bool}
+use Rattle.std.specs.Prelude.{ℕ, List, Option, None, Some, Bool}
 use Rattle.folder_io.specs.declared.files.FileBytes.{FileBytes}
 use Rattle.folder_io.specs.declared.memory_folder.MemFolder.{MemFolder}
 use Rattle.folder_io.specs.CallLogs.{CallLog, counted}
 use Rattle.folder_io.specs.FolderCalls.{Contents, FolderState}
 use Rattle.folder_io.specs.MemoryCalls.{FailingCalls}
-use Rattle.folder_io.specs.SureFolder.{sure_files, sure_contents, sure_left, sure_present}
+use Rattle.folder_io.specs.SureFolder.{sure_files, sure_contents, sure_left, sure_readable}
 
 -- the files that it was made of
 abbrev pub memory_files : MemFolder → List FileBytes
@@ -19,9 +19,9 @@ memory_contents folder = sure_contents folder.folder
 abbrev pub memory_left : MemFolder → Option (List ℕ)
 memory_left folder = sure_left folder.folder
 
--- whether a file is open
-abbrev pub memory_present : MemFolder → Bool
-memory_present folder = sure_present folder.folder
+-- whether one may read on
+abbrev pub memory_readable : MemFolder → Bool
+memory_readable folder = sure_readable folder.folder
 
 -- whether the last call failed
 abbrev pub memory_failed : MemFolder → Bool
@@ -47,9 +47,9 @@ memory_opens folder = counted folder.opens
 -- what it tells of itself
 abbrev pub memory_folder_state : MemFolder → FolderState
 memory_folder_state folder = record {
-  holds = Some (memory_contents folder);
+  source = record { path = None; contents = Some (memory_contents folder) };
   left = memory_left folder;
-  present = memory_present folder;
+  readable = memory_readable folder;
   failed = memory_failed folder;
   faults = memory_faults folder;
   opens = memory_opens folder;

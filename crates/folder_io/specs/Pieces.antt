@@ -70,7 +70,7 @@ given (Err error) room = []
 -- taken. A failure is the last call that was made. Where the folder tells what was left of its file, that was all taken by
 -- the end
 abbrev pub EndsAs : FolderState → ℕ → List ℕ → FolderState → PiecesEnd → Type 0
-EndsAs start limit taken now Going = Stayed start.faults now.faults × (length taken ≤ limit)
+EndsAs start limit taken now Going = Stayed start.faults now.faults × (length taken ≤ limit) × (now.readable ≡ true)
 EndsAs start limit taken now Ended = Stayed start.faults now.faults × (length taken ≤ limit) × IfSome start.left (λ bytes. taken ≡ bytes)
 EndsAs start limit taken now Failed = Rose start.faults now.faults × (length taken ≤ limit) × (now.failed ≡ true)
 EndsAs start limit taken now TooLarge = Stayed start.faults now.faults × (length taken ≡ limit + 1)
@@ -78,9 +78,8 @@ EndsAs start limit taken now TooLarge = Stayed start.faults now.faults × (lengt
 -- these bytes were taken since the folder told this, of at most so many and one more: they are those that were left of the
 -- open file first, where the folder tells them, and nothing else was asked of it
 pub record HasTaken (start : FolderState) (limit : ℕ) (taken : List ℕ) (now : PiecesState) : Type 0 where
-  pub holds : now.folder.holds ≡ start.holds
+  pub source : now.folder.source ≡ start.source
   pub opens : now.folder.opens ≡ start.opens
-  pub present : now.folder.present ≡ start.present
   pub bytes : Consumes start.left now.folder.left taken
   pub room : now.room + length taken ≡ limit + 1
   pub end : EndsAs start limit taken now.folder now.end

@@ -25,14 +25,13 @@ module _ {F S : Type 0} {g : FolderOf F} {b : BeginningOf S} where
 -- what a reading's end says of a folder that told this as the reading began and tells that now. Where the folder told what
 -- was left of its file, the file has ended within the limit, or has more bytes than it
 abbrev pub StandsAs : FolderState → ℕ → FolderState → PiecesEnd → Type 0
-StandsAs start limit now Going = Stayed start.faults now.faults
+StandsAs start limit now Going = Stayed start.faults now.faults × (now.readable ≡ true)
 StandsAs start limit now Ended = Stayed start.faults now.faults × IfSome start.left (λ bytes. length bytes ≤ limit)
 StandsAs start limit now Failed = Rose start.faults now.faults × (now.failed ≡ true)
 StandsAs start limit now TooLarge = Stayed start.faults now.faults × IfSome start.left (λ bytes. limit < length bytes)
 
 -- nothing but bytes of its open file was asked of a folder since it told this, and so the reading stands
 pub record IsSince (start : FolderState) (limit : ℕ) (now : FolderState) (end : PiecesEnd) : Type 0 where
-  pub holds : now.holds ≡ start.holds
+  pub source : now.source ≡ start.source
   pub opens : now.opens ≡ start.opens
-  pub present : now.present ≡ start.present
   pub stands : StandsAs start limit now end

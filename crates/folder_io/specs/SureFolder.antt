@@ -1,5 +1,5 @@
 -- What a folder in memory holds and has left.
-use Rattle.std.specs.Prelude.{ℕ, List, drop, Option, Some, Bool, false, option_map, option_and_then, is_some}
+use Rattle.std.specs.Prelude.{ℕ, List, drop, Option, None, Some, Bool, false, option_map, option_and_then}
 use Rattle.folder_io.specs.declared.files.FileBytes.{FileBytes}
 use Rattle.folder_io.specs.declared.sure_folder.SureFolder.{SureFolder}
 use Rattle.folder_io.specs.CallLogs.{untold}
@@ -18,16 +18,16 @@ sure_contents folder = bytes_under folder.files
 abbrev pub sure_left : SureFolder → Option (List ℕ)
 sure_left folder = option_map (drop folder.at) (option_and_then (λ file. bytes_of (file_in folder.files file)) folder.current)
 
--- whether a file is open
-abbrev pub sure_present : SureFolder → Bool
-sure_present folder = is_some folder.current
+-- whether one may read on
+abbrev pub sure_readable : SureFolder → Bool
+sure_readable folder = folder.readable
 
 -- what it tells of itself
 abbrev pub sure_folder_state : SureFolder → FolderState
 sure_folder_state folder = record {
-  holds = Some (sure_contents folder);
+  source = record { path = None; contents = Some (sure_contents folder) };
   left = sure_left folder;
-  present = sure_present folder;
+  readable = sure_readable folder;
   failed = false;
   faults = 0;
   opens = untold;

@@ -1,5 +1,5 @@
 -- The counts of standard output.
-use Rattle.std.specs.Prelude.{ℕ, None, Bool}
+use Rattle.std.specs.Prelude.{ℕ, None, Bool, false}
 use Rattle.folder_io.specs.declared.system_sink.StdSink.{StdSink}
 use Rattle.folder_io.specs.CallLogs.{untold}
 use Rattle.folder_io.specs.SinkCalls.{SinkState}
@@ -20,3 +20,7 @@ output_state sink = record {
   faults = output_faults sink;
   writes = untold;
 }
+
+-- what it tells of itself before the first write
+abbrev pub unwritten_output : SinkState
+unwritten_output = record { written = None; failed = false; faults = 0; writes = untold }

@@ -6,6 +6,15 @@ use feed_files::FileName;
 use std::alloc::{AllocError, Global};
 use std::marker::Model;
 
+/// How many files a feed has.
+pub const FILE_COUNT: usize = 18;
+
+/// The place of stop_times.txt among them, in the order of [`FileName::all`].
+pub const STOP_TIMES_PLACE: usize = 3;
+
+/// The place of the file behind stop_times.txt.
+pub const PLACE_BEHIND: usize = 4;
+
 /// Bytes that are kept. Contracts see them as a list.
 #[derive(Drop)]
 pub struct ByteText {
@@ -62,7 +71,7 @@ pub enum FileBytes {
 /// What is known of each file of a feed. Contracts see it as the list of what is known, in the order of
 /// [`FileName::all`].
 pub struct Files {
-    files: [FileBytes; 18],
+    files: [FileBytes; FILE_COUNT],
 }
 
 // Written out, so that what holds one needn't look into it to let go of it.
@@ -86,7 +95,7 @@ impl Files {
 
     /// No file is there.
     pub fn empty() -> Files
-        ensures { result ≡ replicate 18 FileBytes.Absent }
+        ensures { result ≡ replicate FILE_COUNT FileBytes.Absent }
     {
         Files {
             files: [
@@ -125,9 +134,9 @@ impl Files {
 
     // Replaces what is known of the file at that place.
     pub(crate) fn put_at(&mut self, place: usize, bytes: FileBytes)
-        requires { place < 18 }
+        requires { place < FILE_COUNT }
         ensures value { self.new ≡ slice_set self.old place bytes }
-        ensures size { length self.new ≡ 18 }
+        ensures size { length self.new ≡ FILE_COUNT }
     {
         self.files[place] = bytes;
     }

@@ -31,7 +31,7 @@ pub enum Piece {
 /// Every failure is counted: a call answers Failed only where the count of faults rose, and any other answer leaves the
 /// count as it was. Each open is told too, as far as the object counts them.
 pub trait Folder {
-    ghost use Rattle.folder_io.specs.FolderCalls.{FolderState, WhereTold, CountsFault, is_present, is_failed_open, is_failed_read, Finds, Takes, FitsRoom};
+    ghost use Rattle.folder_io.specs.FolderCalls.{FolderState, WhereTold, CountsFault, is_present, is_got, is_failed_open, is_failed_read, Finds, Takes, FitsRoom};
     ghost use Rattle.folder_io.specs.CallLogs.{Makes};
 
     /// What the folder tells of itself.
@@ -42,20 +42,21 @@ pub trait Folder {
         ensures counts { CountsFault (is_failed_open result) (state self.old).faults (state self.new).faults }
         ensures never_falls { (state self.old).faults ≤ (state self.new).faults }
         ensures failed { (state self.new).failed ≡ is_failed_open result }
-        ensures present { (state self.new).present ≡ is_present result }
-        ensures holds { (state self.new).holds ≡ (state self.old).holds }
+        ensures readable { (state self.new).readable ≡ is_present result }
+        ensures source { (state self.new).source ≡ (state self.old).source }
         ensures finds { WhereTold (state self.old) (λ contents. Finds (contents name.now) (state self.new).left result) }
         ensures opens { Makes (state self.old).opens (name.now ∷ []) (state self.new).opens };
 
-    /// Reads on in the open file, at most as much as the room takes.
+    /// Reads on in the open file, at most as much as the room takes. It is over with an answer other than bytes: then nothing
+    /// is read before a file is opened.
     fn read(&mut self, room: &mut [u8]) -> Piece
-        requires is_open { (state self.old).present ≡ true }
+        requires is_open { (state self.old).readable ≡ true }
         requires some_room { 0 < length room.old }
         ensures counts { CountsFault (is_failed_read result) (state self.old).faults (state self.new).faults }
         ensures never_falls { (state self.old).faults ≤ (state self.new).faults }
         ensures failed { (state self.new).failed ≡ is_failed_read result }
-        ensures present { (state self.new).present ≡ (state self.old).present }
-        ensures holds { (state self.new).holds ≡ (state self.old).holds }
+        ensures readable { (state self.new).readable ≡ is_got result }
+        ensures source { (state self.new).source ≡ (state self.old).source }
         ensures fits { FitsRoom (length room.old) result }
         ensures takes { IfSome (state self.old).left (λ bytes. Takes bytes (state self.new).left room.new result) }
         ensures opens { (state self.new).opens ≡ (state self.old).opens };

@@ -20,7 +20,7 @@ mod system_sink;
 mod utf8;
 
 pub use count_sink::CountSink;
-pub use files::{ByteText, FileBytes, Files};
+pub use files::{ByteText, FILE_COUNT, FileBytes, Files, PLACE_BEHIND, STOP_TIMES_PLACE};
 pub use folder::{Folder, Opened, Piece};
 pub use memory_folder::MemFolder;
 pub use memory_sink::{Cut, MemSink};

@@ -19,7 +19,7 @@ pub struct MemFolder {
 
 impl MemFolder {
     ghost use Rattle.folder_io.specs.KeptFiles.{are_whole};
-    ghost use Rattle.folder_io.specs.MemoryFolder.{memory_files, memory_present, memory_faults, memory_calls};
+    ghost use Rattle.folder_io.specs.MemoryFolder.{memory_files, memory_readable, memory_faults, memory_calls};
 
     /// A folder of these files, none of which is open. The lists name the opens and the reads that fail, each counted from
     /// 1. The count of faults starts with 0.
@@ -35,7 +35,7 @@ impl MemFolder {
         requires { IsTrue (are_whole files) }
         ensures files { IfOk result (λ folder. memory_files folder ≡ files) }
         ensures calls { IfOk result (λ folder. memory_calls folder ≡ record { failing_opens = failing_opens.now; failing_reads = failing_reads.now; opens_made = 0; reads_made = 0 }) }
-        ensures none_open { IfOk result (λ folder. memory_present folder ≡ false) }
+        ensures none_open { IfOk result (λ folder. memory_readable folder ≡ false) }
         ensures no_fault { IfOk result (λ folder. memory_faults folder ≡ 0) }
     {
         Ok(MemFolder {
@@ -58,9 +58,9 @@ fn names(numbers: &[u32], call: u64) -> bool
 
 impl Folder for MemFolder {
     ghost use Rattle.std.specs.Prelude.{◌≡◌, ◌<◌, ◌≤◌, ◌-◌, ◌^◌, ◌∷◌, [], length, true, false, IfSome};
-    ghost use Rattle.folder_io.specs.FolderCalls.{CountsFault, is_present, is_failed_open, is_failed_read, Finds, Takes, FitsRoom};
+    ghost use Rattle.folder_io.specs.FolderCalls.{CountsFault, is_present, is_got, is_failed_open, is_failed_read, Finds, Takes, FitsRoom};
     ghost use Rattle.folder_io.specs.MemoryCalls.{opened_of, open_fails, read_fails, after_open, after_read};
-    ghost use Rattle.folder_io.specs.MemoryFolder.{memory_files, memory_contents, memory_left, memory_present, memory_failed, memory_faults, memory_calls, memory_opens, memory_folder_state};
+    ghost use Rattle.folder_io.specs.MemoryFolder.{memory_files, memory_contents, memory_left, memory_readable, memory_failed, memory_faults, memory_calls, memory_opens, memory_folder_state};
     ghost use Rattle.folder_io.specs.CallLogs.{Makes};
 
     ghost state = { memory_folder_state };
@@ -72,7 +72,7 @@ impl Folder for MemFolder {
         ensures counts { CountsFault (is_failed_open result) (memory_faults self.old) (memory_faults self.new) }
         ensures never_falls { memory_faults self.old ≤ memory_faults self.new }
         ensures failed { memory_failed self.new ≡ is_failed_open result }
-        ensures present { memory_present self.new ≡ is_present result }
+        ensures readable { memory_readable self.new ≡ is_present result }
         ensures files { memory_files self.new ≡ memory_files self.old }
         ensures finds { Finds (memory_contents self.old name.now) (memory_left self.new) result }
         ensures opens { Makes (memory_opens self.old) (name.now ∷ []) (memory_opens self.new) }
@@ -80,7 +80,7 @@ impl Folder for MemFolder {
         self.opens = self.opens.saturating_add(1);
         if names(&self.failing_opens, self.opens) {
             self.faults.fail();
-            self.folder.close();
+            self.folder.stop();
             return Opened::Failed;
         }
         self.faults.pass();
@@ -89,14 +89,14 @@ impl Folder for MemFolder {
 
     /// Failed exactly where the list of reads names the call.
     fn read(&mut self, room: &mut [u8]) -> Piece
-        requires is_open { memory_present self.old ≡ true }
+        requires is_open { memory_readable self.old ≡ true }
         requires some_room { 0 < length room.old }
         ensures fails { is_failed_read result ≡ read_fails (memory_calls self.old) }
         ensures calls { memory_calls self.new ≡ after_read (memory_calls self.old) }
         ensures counts { CountsFault (is_failed_read result) (memory_faults self.old) (memory_faults self.new) }
         ensures never_falls { memory_faults self.old ≤ memory_faults self.new }
         ensures failed { memory_failed self.new ≡ is_failed_read result }
-        ensures present { memory_present self.new ≡ memory_present self.old }
+        ensures readable { memory_readable self.new ≡ is_got result }
         ensures files { memory_files self.new ≡ memory_files self.old }
         ensures fits { FitsRoom (length room.old) result }
         ensures takes { IfSome (memory_left self.old) (λ bytes. Takes bytes (memory_left self.new) room.new result) }
@@ -104,6 +104,7 @@ impl Folder for MemFolder {
         self.reads = self.reads.saturating_add(1);
         if names(&self.failing_reads, self.reads) {
             self.faults.fail();
+            self.folder.stop();
             return Piece::Failed;
         }
         self.faults.pass();

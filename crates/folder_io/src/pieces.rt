@@ -4,6 +4,7 @@ ghost use Rattle.std.specs.Io.{ReadsAtMost};
 ghost use Rattle.std.specs.Io.KnownBytes.{ReadConsumes};
 ghost use Rattle.std.specs.Str.{is_utf8};
 ghost use Rattle.folder_io.specs.FolderCalls.{FolderState};
+ghost use Rattle.folder_io.specs.declared.pieces.PiecesEnd.{PiecesEnd};
 
 use crate::reading::ROOM;
 use crate::utf8::Utf8State;
@@ -35,7 +36,7 @@ pub struct Pieces<'a, F: Folder> {
     // How far it came, but for a file that is too large, which has no room left.
     end: PiecesEnd,
     text: Utf8State,
-    ghost is_open: { (F.state folder.now).present ≡ true },
+    ghost is_open: { end ≡ PiecesEnd.Going → (F.state folder.now).readable ≡ true },
 }
 
 impl<F: Folder> Drop for Pieces<'_, F> {
@@ -59,7 +60,7 @@ impl<'a, F: Folder> Pieces<'a, F> {
 
     /// The rest of the folder's open file, of which at most `limit` bytes and one more are taken.
     pub fn new(folder: &'a mut F, limit: u32) -> Pieces<'a, F>
-        requires { (F.state folder.old).present ≡ true }
+        requires { (F.state folder.old).readable ≡ true }
         ensures begins { HasTaken (F.state folder.old) limit [] (pieces_state result) }
         ensures going { pieces_end result ≡ PiecesEnd.Going }
         ensures bytes { bytes_to_come (pieces_state result) ≡ option_map (take (limit + 1)) (F.state folder.old).left }

@@ -52,7 +52,7 @@ impl<'a, F: Folder, S: Beginning> PiecesSince<'a, F, S> {
 
     /// The rest of the folder's open file, of which at most `limit` bytes and one more are taken.
     pub fn new(folder: &'a mut F, limit: u32) -> PiecesSince<'a, F, S>
-        requires is_open { (F.state folder.old).present ≡ true }
+        requires is_open { (F.state folder.old).readable ≡ true }
         requires start { F.state folder.old ≡ S.start }
         requires limit { limit ≡ S.limit }
         requires name { folder.ghost_name ≡ S.name }

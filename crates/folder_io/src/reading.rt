@@ -7,7 +7,7 @@ ghost use Rattle.folder_io.specs.KeptFiles.{IsWithin};
 ghost use Rattle.folder_io.specs.FolderCalls.{FolderState, WhereTold};
 ghost use Rattle.folder_io.specs.FileReading.{AreReadBetween, GivesUp, GivesUpOn, IsRead, ReadsTo, StopsPast};
 
-use crate::{ByteText, FileBytes, Files, Folder, Opened, Piece};
+use crate::{ByteText, FILE_COUNT, FileBytes, Files, Folder, Opened, Piece};
 use feed_files::FileName;
 use std::alloc::{AllocError, Global};
 use thiserror::Error;
@@ -55,7 +55,7 @@ pub fn read_file<F: Folder>(
     ensures stops_past { IfOk result (λ bytes. WhereTold (F.state folder.old) (λ contents. StopsPast contents (file_text name) limit (F.state folder.new).left bytes)) }
     ensures ok { OnOk result (Stayed (F.state folder.old).faults (F.state folder.new).faults) }
     ensures err { IfErr result (λ error. GivesUp error (F.state folder.old) (F.state folder.new)) }
-    ensures holds { (F.state folder.new).holds ≡ (F.state folder.old).holds }
+    ensures source { (F.state folder.new).source ≡ (F.state folder.old).source }
     ensures opens { Makes (F.state folder.old).opens (file_text name ∷ []) (F.state folder.new).opens }
 {
     match folder.open(name.text()) {
@@ -93,11 +93,11 @@ pub fn read_files<F: Folder>(
     to: usize,
 ) -> Result<(), ReadError>
     requires order { from ≤ to }
-    requires places { to ≤ 18 }
+    requires places { to ≤ FILE_COUNT }
     ensures files { OnOk result (AreReadBetween (F.state folder.old) from to files.old files.new) }
     ensures ok { OnOk result ((start : FolderState) → ReadsTo start from (F.state folder.old) → ReadsTo start to (F.state folder.new)) }
     ensures err { IfErr result (λ error. (start : FolderState) → ReadsTo start from (F.state folder.old) → GivesUpOn error start (F.state folder.new)) }
-    ensures holds { (F.state folder.new).holds ≡ (F.state folder.old).holds }
+    ensures source { (F.state folder.new).source ≡ (F.state folder.old).source }
 {
     let names = FileName::all();
     for place in from..to {

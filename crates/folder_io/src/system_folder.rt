@@ -20,7 +20,7 @@ pub struct DirFolder<R: FileSystem + Clone + Drop> {
 }
 
 impl<R: FileSystem + Clone + Drop> DirFolder<R> {
-    ghost use Rattle.folder_io.specs.SystemFolder.{system_path, system_present, system_faults};
+    ghost use Rattle.folder_io.specs.SystemFolder.{system_folder_state, unread_folder};
 
     /// The folder under that path, which is looked at only when a file is opened. No file is open, and the count of faults
     /// starts with 0.
@@ -28,9 +28,7 @@ impl<R: FileSystem + Clone + Drop> DirFolder<R> {
     /// # Errors
     /// Want of memory.
     pub fn new(rt: R, alloc: Global, path: &str) -> Result<DirFolder<R>, AllocError>
-        ensures path { IfOk result (λ folder. system_path folder ≡ path.now) }
-        ensures none_open { IfOk result (λ folder. system_present folder ≡ false) }
-        ensures no_fault { IfOk result (λ folder. system_faults folder ≡ 0) }
+        ensures { IfOk result (λ folder. system_folder_state folder ≡ unread_folder path.now) }
     {
         Ok(DirFolder {
             rt,
@@ -83,9 +81,13 @@ impl<R: FileSystem + Clone + Drop> Folder for DirFolder<R> {
             return Piece::End;
         };
         match file.read(room) {
-            Ok(0) => Piece::End,
+            Ok(0) => {
+                self.file = None;
+                Piece::End
+            }
             Ok(count) => Piece::Got(count),
             Err(_) => {
+                self.file = None;
                 self.faults.fail();
                 Piece::Failed
             }

@@ -12,11 +12,11 @@ pub struct StdSink<R: Print + Clone + Drop> {
 }
 
 impl<R: Print + Clone + Drop> StdSink<R> {
-    ghost use Rattle.folder_io.specs.SystemSink.{output_faults};
+    ghost use Rattle.folder_io.specs.SystemSink.{output_state, unwritten_output};
 
     /// Standard output, with nothing written yet. The count of faults starts with 0.
     pub fn new(rt: R) -> StdSink<R>
-        ensures { output_faults result ≡ 0 }
+        ensures { output_state result ≡ unwritten_output }
     {
         StdSink {
             rt,

@@ -199,7 +199,7 @@ fn read_since<'a, F: Folder, S: Beginning>(
     folder: &'a mut F,
     limit: u32,
 ) -> (Result<Taken, AllocError>, &'a mut F)
-    requires is_open { (F.state folder.old).present ≡ true }
+    requires is_open { (F.state folder.old).readable ≡ true }
     requires start { F.state folder.old ≡ S.start }
     requires limit { limit ≡ S.limit }
     requires name { folder.ghost_name ≡ S.name }

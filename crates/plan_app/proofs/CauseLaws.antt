@@ -34,7 +34,7 @@ where_read : (asks : Bool) (folder later : FolderState) (fact : (FileName → He
     → ((files : FileName → HeldFile) → MayBeAsked asks folder later files → fact files)
     → WhereRead asks folder later fact
 where_read true folder later fact so =
-    where_told folder.holds (λ contents. ¬ (Rose folder.faults later.faults) → fact (held contents))
+    where_told folder.source.contents (λ contents. ¬ (Rose folder.faults later.faults) → fact (held contents))
     (λ contents told no_read. so (held contents) (λ asked. (no_read, λ other gives. rw told at gives)))
 where_read false folder later fact so = λ files. so files (λ asked. absurd cc)
 

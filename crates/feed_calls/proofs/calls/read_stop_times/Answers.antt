@@ -33,6 +33,7 @@ returns-then-row-eq-MOST_ROWS-clause-why g c = λ start stands.
 pub loop-calls-preserved : goal.loop-calls-preserved
 loop-calls-preserved g c = record {
   few = omega (arith, c.loop-calls.invariant.few, c.if-row-eq-MOST_ROWS.false);
+  going = rw c.if-branch.true at c.in_ok-next-2.ensures.going;
   read = λ start stands.
       let so_far = c.loop-calls.invariant.read start stands in
       let one_more = rw c.if-branch.true at (c.in_ok-next-2.ensures.goes_on start (so_far.0 ∷ so_far.1) so_far.2) in
@@ -56,6 +57,7 @@ returns-in-None-clause-rows g c = λ start stands.
 pub loop-calls-init : goal.loop-calls-init
 loop-calls-init g c = record {
   few = omega arith;
+  going = rw c.if-not-branch.false at c.in_ok-next.ensures.going;
   read = λ start stands.
       let one = rw c.if-not-branch.false at (c.in_ok-next.ensures.goes_on start [] stands) in
       (last_record c.next.new.self, [], one, refl, c.in_ok-calls.ensures c.args.ids.now);

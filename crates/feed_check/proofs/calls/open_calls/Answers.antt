@@ -13,9 +13,9 @@ returns-clause-calls g c =
     let s = g.S.Beginning in
     let start = c.new-pieces.ensures.bytes ∙ ap (λ limit. option_map (take (limit + 1)) s.start.left) c.requires.limit in
     let are : IfOk c.read_stop_times-calls.result (AreCallsOf (read_start s.start.left) c.args.ids.now) =
-    IfOk-weaker c.read_stop_times-calls.result _ _ (λ calls are. rw start at (are _ c.of-records.ensures)) c.read_stop_times-calls.ensures.rows in
+    IfOk-weaker c.read_stop_times-calls.result _ _ (λ calls are. rw start at (are _ c.of-records.ensures.begins)) c.read_stop_times-calls.ensures.rows in
     let why : IfErr c.read_stop_times-calls.result (IsCallError (read_start s.start.left)) =
-    IfErr-weaker c.read_stop_times-calls.result _ _ (λ error is. rw start at (is _ c.of-records.ensures)) c.read_stop_times-calls.ensures.why in
+    IfErr-weaker c.read_stop_times-calls.result _ _ (λ error is. rw start at (is _ c.of-records.ensures.begins)) c.read_stop_times-calls.ensures.why in
     let stands = rw (← c.finish-end.ensures.value, c.requires.limit) at c.release-folder.ensures.since.stands in
     let utf8 : c.finish-end.result ≡ Ended → IfSome s.start.left (λ bytes. c.is_text-is_text.result ≡ is_utf8 bytes) =
     λ ended. c.is_text-is_text.ensures.ended (sym c.finish-end.ensures.value ∙ ended) in

@@ -11,8 +11,8 @@ pub returns : goal.returns
 returns c =
     let text = c.bytes-text.result.now in
     let are : IfOk c.read_stop_times-calls.result (AreCallsOf (Some text) c.args.ids.now) =
-    IfOk-weaker c.read_stop_times-calls.result _ _ (λ calls are. are _ c.of-records.ensures) c.read_stop_times-calls.ensures.rows in
+    IfOk-weaker c.read_stop_times-calls.result _ _ (λ calls are. are _ c.of-records.ensures.begins) c.read_stop_times-calls.ensures.rows in
     let why : IfErr c.read_stop_times-calls.result (IsCallError (Some text)) =
-    IfErr-weaker c.read_stop_times-calls.result _ _ (λ error is. is _ c.of-records.ensures) c.read_stop_times-calls.ensures.why in
+    IfErr-weaker c.read_stop_times-calls.result _ _ (λ error is. is _ c.of-records.ensures.begins) c.read_stop_times-calls.ensures.why in
     let held : held_of c.args.held.now ≡ HeldFile.Bytes text = search rules in
     rw (held, c.answer.ensures) (held_answer text c.args.ids.now c.is_text.result c.read_stop_times-calls.result c.is_text.ensures are why)

@@ -24,7 +24,7 @@ returns-clause-err g c =
     (first_refused (g.F.Folder.state c.args.folder.now) (g.F.Folder.state c.read_files-in-Err.new.folder) (held_in c.read_files.new.files) (held_in c.read_files-in-Err.new.files)
     (others.ok _ (first.ok _ (began _)))
     (λ name lt. first.files.given name (omega arith) lt)
-    (λ name le. rw first.holds at (others.files.given name le (inside name)))
+    (λ name le. rw first.source at (others.files.given name le (inside name)))
     c.in-Err.error (rw c.all.ensures at c.in-Err.ensures.fault))
 
 pub load_behind-requires-clause-begun : goal.load_behind-requires-clause-begun
@@ -33,7 +33,7 @@ load_behind-requires-clause-begun g c = (
   record {
     are_first = rw (← c.deref.ensures.value) at (first_of _ _ _ _ c.in_ok-read_files.ensures.files (rw c.all.ensures at c.in-Ok.ensures.sound) (rw c.all.ensures at c.in-Ok.ensures.tables));
     reads = c.in_ok-read_files.ensures.ok _ (began _);
-    holds = c.in_ok-read_files.ensures.holds;
+    source = c.in_ok-read_files.ensures.source;
   },
 )
 
@@ -42,11 +42,11 @@ returns-in-Ok g c =
     let begun : IsBegun (g.F.Folder.state c.args.folder.now) c.deref.result.now (g.F.Folder.state c.read_files.new.folder) = record {
       are_first = rw (← c.deref.ensures.value) at (first_of _ _ _ _ c.in_ok-read_files.ensures.files (rw c.all.ensures at c.in-Ok.ensures.sound) (rw c.all.ensures at c.in-Ok.ensures.tables));
       reads = c.in_ok-read_files.ensures.ok _ (began _);
-      holds = c.in_ok-read_files.ensures.holds;
+      source = c.in_ok-read_files.ensures.source;
     } in
     record {
       feed = IfOk-weaker c.load_behind.result _ _ (λ feed is. is _ begun) c.load_behind.ensures.feed;
       ok = on_ok_weaker c.load_behind.result (λ opens. opens _ begun) c.load_behind.ensures.ok;
       err = IfErr-weaker c.load_behind.result _ _ (λ why gives. gives _ begun) c.load_behind.ensures.err;
-      holds = c.load_behind.ensures.holds ∙ c.in_ok-read_files.ensures.holds;
+      source = c.load_behind.ensures.source ∙ c.in_ok-read_files.ensures.source;
     }

@@ -18,17 +18,17 @@ returns-in_err-read_files-clause-err g c =
 pub feed_behind-requires-clause-read : goal.feed_behind-requires-clause-read
 feed_behind-requires-clause-read g c =
     let begun = c.requires.begun.1 in
-    let loaded = loaded_so _ _ _ _ _ _ _ _ _ begun.are_first begun.reads begun.holds c.in_ok-calls.ensures.calls c.in_ok-calls.ensures.ok c.in_ok-calls.ensures.holds c.in_ok-read_files.ensures.files c.in_ok-read_files.ensures.ok in
+    let loaded = loaded_so _ _ _ _ _ _ _ _ _ begun.are_first begun.reads begun.source c.in_ok-calls.ensures.calls c.in_ok-calls.ensures.ok c.in_ok-calls.ensures.source c.in_ok-read_files.ensures.files c.in_ok-read_files.ensures.ok in
     is_read _ _ _ _ _ _ loaded c.in-Ok.ensures
 
 pub returns-clause-err : goal.returns-clause-err
 returns-clause-err g c = λ start begun.
-    let loaded = loaded_so _ _ _ _ _ _ _ _ _ begun.are_first begun.reads begun.holds c.in_ok-calls.ensures.calls c.in_ok-calls.ensures.ok c.in_ok-calls.ensures.holds c.in_ok-read_files.ensures.files c.in_ok-read_files.ensures.ok in
+    let loaded = loaded_so _ _ _ _ _ _ _ _ _ begun.are_first begun.reads begun.source c.in_ok-calls.ensures.calls c.in_ok-calls.ensures.ok c.in_ok-calls.ensures.source c.in_ok-read_files.ensures.files c.in_ok-read_files.ensures.ok in
     rw c.from.ensures (refused_so _ _ _ _ _ _ loaded c.in-Ok.ensures _ c.in-Err.ensures.fault)
 
 pub returns-in-Ok-feed_behind-clause-feed : goal.returns-in-Ok-feed_behind-clause-feed
 returns-in-Ok-feed_behind-clause-feed g c = λ start begun.
-    let loaded = loaded_so _ _ _ _ _ _ _ _ _ begun.are_first begun.reads begun.holds c.in_ok-calls.ensures.calls c.in_ok-calls.ensures.ok c.in_ok-calls.ensures.holds c.in_ok-read_files.ensures.files c.in_ok-read_files.ensures.ok in
+    let loaded = loaded_so _ _ _ _ _ _ _ _ _ begun.are_first begun.reads begun.source c.in_ok-calls.ensures.calls c.in_ok-calls.ensures.ok c.in_ok-calls.ensures.source c.in_ok-read_files.ensures.files c.in_ok-read_files.ensures.ok in
     loaded_feed _ _ _ _ _ _ loaded c.in-Ok.ensures _ c.in-Ok-feed_behind.ensures.feed
 
 pub returns-in-Ok-feed_behind-clause-ok : goal.returns-in-Ok-feed_behind-clause-ok

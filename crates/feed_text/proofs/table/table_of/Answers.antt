@@ -11,6 +11,7 @@ loop-preserved c =
     record {
       rows = pushed.rise;
       count = omega (arith, pushed.count, c.loop.invariant.count);
+      going = rw c.in-Ok-true.field-0-test at c.in-Ok-true.ensures.going;
       stands = λ text begins. rw pushed.parts (rw c.in-Ok-true.field-0-test at (c.in-Ok-true.ensures.goes_on (Some text) (parts 0 c.loop.ends.items c.loop.fields) (c.loop.invariant.stands text begins)));
     }
 

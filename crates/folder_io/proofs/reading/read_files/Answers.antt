@@ -14,11 +14,11 @@ loop-place-preserved g c =
     let before = c.loop-place.invariant in
     let read = c.in_ok-bytes.ensures in
     let opens = rw c.all-names.ensures at read.opens in
-    let bytes = rw (before.holds, c.all-names.ensures) at read.bytes in
+    let bytes = rw (before.source, c.all-names.ensures) at read.bytes in
     record {
       order = omega (arith, before.order);
       ends = omega (arith, c.loop-place-test.true);
-      holds = read.holds ∙ before.holds;
+      source = read.source ∙ before.source;
       reads = λ start began. more_opened start _ _ c.loop-place.place _ (omega (arith, c.requires.places, c.loop-place-test.true)) (before.reads start began) opens read.ok;
       so_far = rw c.put_at.ensures.value (more_read _ c.args.from c.loop-place.place c.args.files.now c.loop-place.files c.in_ok-bytes.bytes before.so_far before.order (omega (arith, c.requires.places, c.loop-place-test.true, ap length c.put_at.ensures.value, c.put_at.ensures.size, length-set c.loop-place.files c.loop-place.place c.in_ok-bytes.bytes)) (record { within = read.within; given = bytes }));
     }

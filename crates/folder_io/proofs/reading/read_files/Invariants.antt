@@ -8,7 +8,7 @@ abbrev pub invariant-loop-place : goal.invariant-loop-place
 invariant-loop-place g l = record {
   order : l.from ≤ l.place;
   ends : l.place ≤ l.to;
-  holds : (g.F.Folder.state l.folder).holds ≡ (g.F.Folder.state l.fn.folder).holds;
+  source : (g.F.Folder.state l.folder).source ≡ (g.F.Folder.state l.fn.folder).source;
   reads : (start : FolderState) → ReadsTo start l.from (g.F.Folder.state l.fn.folder) → ReadsTo start l.place (g.F.Folder.state l.folder);
-  so_far : AreReadSoFar (g.F.Folder.state l.fn.folder).holds l.from l.place l.fn.files l.files;
+  so_far : AreReadSoFar (g.F.Folder.state l.fn.folder).source.contents l.from l.place l.fn.files l.files;
 }

@@ -25,6 +25,6 @@ returns-in-Ok-clause-err g c =
 
 pub returns-in_ok-refused-in-Err-Usage-clause-made : goal.returns-in_ok-refused-in-Err-Usage-clause-made
 returns-in_ok-refused-in-Err-Usage-clause-made g c =
-    let some = some_files (g.F.Folder.state c.args.folder.now).holds in
+    let some = some_files (g.F.Folder.state c.args.folder.now).source.contents in
     let wrong = subst (IsErrorOf _) c.in-Err-Usage.field-0-is c.in-Err-Usage.ensures.err in
     record { files = some.0; gives = some.1; is_due = rw (← wrong) c.in_ok-refused-in-Err-Usage.ensures }

@@ -3,7 +3,7 @@ use Rattle.feed_text.proofs.records.Records.next.Goals as goal
 
 pub returns-in-Ok-clause-goes_on : goal.returns-in-Ok-clause-goes_on
 returns-in-Ok-clause-goes_on g c =
-    tells g.R.Read.remaining c.args.self.now (record { reader = c.read_record.new.self; row = c.read_record.new.row }) c.in-Ok.found
+    tells g.R.Read.remaining c.args.self.now (record { reader = c.read_record.new.self; row = c.read_record.new.row; going = c.in-Ok.found }) c.in-Ok.found
     c.in-Ok.ensures.ready c.in-Ok.ensures.text c.in-Ok.ensures.reads
 
 pub returns-in-Utf8-clause-why : goal.returns-in-Utf8-clause-why

@@ -8,7 +8,7 @@ use Rattle.std.proofs.lemmas.Bool.Decides.{nat_tests}
 use Rattle.std.proofs.lemmas.List.Elements.{All-contains}
 use Rattle.plain_laws.specs.Plain.{filled_and}
 use Rattle.plain_laws.proofs.Laws.{list_any_same, list_any_tells, filled_and-true}
-use Rattle.fare_transfer_rules.specs.Marks.{is_marked, is_number}
+use Rattle.number_marks.specs.Marks.{is_marked, is_number}
 
 -- the numbers that are marked are those that rows name in a column
 pub marked_names : {R I : Type 0} (number : I → ℕ) (column : R → Option I) (rows all : List R) (marks : List Bool) (n : ℕ)

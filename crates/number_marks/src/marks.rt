@@ -1,48 +1,42 @@
-//! Marks of the leg groups that rows name.
+//! Which numbers rows name in a column.
 ghost use Rattle.std.specs.Prelude.{◌≡◌, ℕ, ◌&&◌, ◌||◌, nat_lt, length, IfOk};
 ghost use Rattle.std.specs.List.{list_any};
-ghost use Rattle.fare_transfer_rules.specs.Marks.{is_marked, is_number, number_in, names};
+ghost use Rattle.number_marks.specs.Marks.{is_marked, is_number};
 
-use feed_rows::TransferRuleRow;
 use std::alloc::{AllocError, Global};
 
-/// A column in which an empty field matches what no row names.
-#[derive(Clone, Copy)]
-pub enum Column {
-    From,
-    To,
-}
+/// A column in which each row may name a number.
+pub trait NumberColumn<R>: Copy {
+    ghost use Rattle.std.specs.Prelude.{◌≡◌, ℕ, Option};
 
-/// The number that the row names in the column.
-fn number_in(row: &TransferRuleRow, column: Column) -> Option<u32>
-    ensures { result ≡ number_in column row.now }
-{
-    match column {
-        Column::From => Some(row.from?.0),
-        Column::To => Some(row.to?.0),
-    }
+    /// The number that a row names.
+    ghost number: { Self → R → Option ℕ };
+
+    /// The number that the row names.
+    fn number_in(self, row: &R) -> Option<u32>
+        ensures { result ≡ number self row.now };
 }
 
 /// A mark for each number below `count`: whether a row names it in the column.
 ///
 /// # Errors
 /// Want of memory.
-pub fn marked(
+pub fn marked<R, C: NumberColumn<R>>(
     alloc: Global,
-    rows: &[TransferRuleRow],
-    column: Column,
+    rows: &[R],
+    column: C,
     count: usize,
 ) -> Result<Vec<bool>, AllocError>
-    ensures { IfOk result (λ marks. (i : ℕ) → is_marked marks.items i ≡ (nat_lt i count && list_any (names column i) rows.now)) }
+    ensures { IfOk result (λ marks. (i : ℕ) → is_marked marks.items i ≡ (nat_lt i count && list_any (λ row. is_number i (C.number column row)) rows.now)) }
 {
     let mut marks = vec![in alloc; false; count]?;
     for row in rows {
-        mark(&mut marks, number_in(row, column));
+        mark(&mut marks, column.number_in(row));
     }
     Ok(marks)
 }
 
-/// Marks the number, where it is filled and there is a mark for it.
+// Marks the number, where it is filled and there is a mark for it.
 fn mark(marks: &mut [bool], number: Option<u32>)
     ensures many { length marks.new ≡ length marks.old }
     ensures marks { (i : ℕ) → is_marked marks.new i ≡ (is_marked marks.old i || (nat_lt i (length marks.old) && is_number i number)) }
