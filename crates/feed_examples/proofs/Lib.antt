@@ -15,6 +15,7 @@ pub mod FareEdges
 pub mod FullFeed
 pub mod LeastEdges
 pub mod LegEdges
+pub mod GapChecks
 pub mod GeneratedAnswers
 pub mod GeneratedChecks
 pub mod GeneratedLines

@@ -14,6 +14,7 @@ pub mod LegRules
 pub mod TransferRules
 pub mod FareChoices
 pub mod OpenRows
+pub mod FareGaps
 pub mod FareSums
 pub mod FareStands
 pub mod LeastPrices

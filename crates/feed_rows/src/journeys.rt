@@ -70,6 +70,13 @@ pub struct RideFacts {
     pub arrival: Moment,
 }
 
+/// The boarding stop and the alighting stop of a ride.
+#[derive(Clone, Copy, PartialEq, Eq)]
+pub struct Pair {
+    pub from: StopId,
+    pub to: StopId,
+}
+
 /// The fare areas of a stop.
 pub type AreaList = AscendingList<AreaId>;
 
