@@ -4,9 +4,9 @@ ghost use Rattle.plan_patterns.specs.Runs.{AreTripsOf};
 
 use crate::feeds::feed_of;
 use feed_files::FileName;
-use feed_rows::{Feed, Query};
+use feed_rows::Feed;
 use feed_timetable::Timetable;
-use plan_patterns::Patterns;
+use plan_patterns::{Patterns, Span};
 use std::alloc::{AllocError, Global};
 use transit_base::{Moment, StopId, TripId};
 
@@ -60,14 +60,13 @@ fn all_trips(alloc: Global, timetable: &Timetable) -> Result<Vec<TripId>, AllocE
 const MIDNIGHT: i64 = 1_748_822_400;
 
 // From 07:30:00 to 09:00:00.
-const QUERY: Query = Query {
-    from: StopId(0),
-    to: StopId(2),
-    departure: Moment(MIDNIGHT + 27_000),
-    rides: 3,
-    window: 5_400,
-    rider: None,
+const SPAN: Span = Span {
+    from: Moment(MIDNIGHT + 27_000),
+    until: Moment(MIDNIGHT + 32_400),
 };
+
+// Where the trips of the second pattern call.
+const CALLS: [StopId; 3] = [StopId(0), StopId(1), StopId(2)];
 
 // The trips of the runs that can be boarded at a position of the second pattern from a moment on, and when they depart; none
 // where there is no such place.
@@ -127,14 +126,15 @@ fn are_trips(
     }
 }
 
-// Whether there are three patterns, and the trips of the second.
+// Whether there are three patterns, and the trips of the second, with where these call.
 fn are_boardable(patterns: &Patterns, alloc: Global) -> bool {
     for (position, from, wanted) in &BOARDABLE {
         if !are_trips(patterns, alloc, *position, *from, wanted) {
             return false;
         }
     }
-    patterns.count() == 3
+    let calls: &[StopId] = &CALLS;
+    patterns.count() == 3 && patterns.stops(1) == calls
 }
 
 // The same of the patterns of all trips.
@@ -142,7 +142,7 @@ fn has_patterns(timetable: &Timetable, alloc: Global) -> bool {
     let Ok(trips) = all_trips(alloc, timetable) else {
         return false;
     };
-    match Patterns::build(alloc, timetable, &QUERY, &trips) {
+    match Patterns::build(alloc, timetable, &SPAN, &trips) {
         Ok(patterns) => are_boardable(&patterns, alloc),
         Err(AllocError) => false,
     }

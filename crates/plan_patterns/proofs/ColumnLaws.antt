@@ -21,7 +21,7 @@ use Rattle.plan_patterns.specs.declared.halts.Halt.{Halt}
 use Rattle.plan_patterns.specs.declared.pattern.Boarding.{Boarding}
 use Rattle.plan_patterns.specs.declared.pattern.Pattern.{Pattern}
 use Rattle.plan_patterns.specs.declared.runs.Run.{Run}
-use Rattle.plan_patterns.specs.Columns.{AreBoardable, AreColumns, AreFirst, AreInOrder, CallsAtAll, IsBoarding, IsColumn, IsPattern, IsRunAt, IsSince, arrivals_of}
+use Rattle.plan_patterns.specs.Columns.{AreBoardable, AreColumns, AreFirst, AreInOrder, CallsAtAll, IsBoarding, IsColumn, IsPattern, IsRunAt, IsSince}
 use Rattle.plan_patterns.specs.Halts.{halt_of}
 use Rattle.plan_patterns.specs.Runs.{AreTimed, moment_of}
 
@@ -195,12 +195,11 @@ calls_at_all feed halts runs at =
 -- a pattern of these halts and runs, with their columns
 pub pattern_is : (feed : FeedRows) (halts : List Halt) (runs : List Run) (pattern : Pattern) →
     pattern.halts.items ≡ halts → pattern.runs.items ≡ runs → length halts < 2 ^ 32 → All (IsRunAt feed halts) runs →
-    pattern.stops.items ≡ map (λ (p : Halt). p.stop) halts → AreColumns feed runs (length halts) pattern.departures → pattern.arrivals ≡ map (arrivals_of feed) runs → IsPattern feed pattern
-pattern_is feed halts runs pattern halts_are runs_are few at stops departures arrivals = record {
+    pattern.stops.items ≡ map (λ (p : Halt). p.stop) halts → AreColumns feed runs (length halts) pattern.departures → IsPattern feed pattern
+pattern_is feed halts runs pattern halts_are runs_are few at stops departures = record {
   stops = stops ∙ ap (map (λ (p : Halt). p.stop)) (sym halts_are);
   few = subst (λ (hs : List Halt). length hs < 2 ^ 32) (sym halts_are) few;
   runs = subst (All (IsRunAt feed pattern.halts.items)) (sym runs_are) (subst (λ (hs : List Halt). All (IsRunAt feed hs) runs) (sym halts_are) at);
   departures = subst (λ (rs : List Run). AreColumns feed rs (length pattern.halts.items) pattern.departures) (sym runs_are)
       (subst (λ (hs : List Halt). AreColumns feed runs (length hs) pattern.departures) (sym halts_are) departures);
-  arrivals = arrivals ∙ ap (map (arrivals_of feed)) (sym runs_are);
 }

@@ -10,7 +10,7 @@ use Rattle.std.proofs.lemmas.List.Folds.{flat_map-map}
 use Rattle.std.proofs.lemmas.List.Sorted.{All-permutation, Contains-permutation}
 use Rattle.transit_base.specs.declared.numbers.TripId.{TripId}
 use Rattle.feed_rows.specs.FeedRows.{FeedRows}
-use Rattle.feed_rows.specs.declared.journeys.Query.{Query}
+use Rattle.plan_patterns.specs.declared.span.Span.{Span}
 use Rattle.plain_laws.specs.Plain.{int_same}
 use Rattle.plain_laws.proofs.Laws.{AllPairs-cons, AllPairs-head, AllPairs-tail, eq-int_same}
 use Rattle.plan_patterns.specs.declared.pattern.Pattern.{Pattern}
@@ -67,14 +67,14 @@ differ a b e same =
     equal x = grind (arith, nat_tests)
 
 -- the held runs by patterns
-pub grouped : (feed : FeedRows) (query : Query) (trips : List TripId) (held runs : List Run) (patterns : List Pattern) → AreHeld feed query trips held → IsPermutation held runs → AreCut feed runs patterns → ArePatterns feed query trips (map pattern_of patterns)
-grouped feed query trips held runs patterns are moved cut = record {
+pub grouped : (feed : FeedRows) (span : Span) (trips : List TripId) (held runs : List Run) (patterns : List Pattern) → AreHeld feed span trips held → IsPermutation held runs → AreCut feed runs patterns → ArePatterns feed span trips (map pattern_of patterns)
+grouped feed span trips held runs patterns are moved cut = record {
   halts = All-map (λ (p : PatternOf). All (HasHalts feed p.halts) p.runs) pattern_of patterns
       (All-weaker (IsPattern feed) (λ (p : Pattern). All (HasHalts feed p.halts.items) p.runs.items)
       (λ p is. All-weaker (IsRunAt feed p.halts.items) (HasHalts feed p.halts.items) (λ run at. at.calls) p.runs.items is.runs) patterns cut.built);
   apart = pair_of_patterns (λ (p q : PatternOf). p.halts ≢ q.halts) patterns cut.apart;
   held = λ run is. subst (λ rs. Contains rs run) all (Contains-permutation held runs run moved (are.all run is));
-  right = subst (All (IsHeldOf feed query trips)) all (All-permutation (IsHeldOf feed query trips) held runs moved are.right);
+  right = subst (All (IsHeldOf feed span trips)) all (All-permutation (IsHeldOf feed span trips) held runs moved are.right);
   known = subst (All (IsKnown feed)) all (All-permutation (IsKnown feed) held runs moved are.known);
   once = subst (AllPairs (λ (a b : Run). a ≢ b)) all
       (λ i j d lt within. differ (get_or runs i d) (get_or runs j d) (apart_moved same_run same_flips held runs moved are.once i j d lt within));

@@ -1,7 +1,6 @@
--- When the runs of a pattern are where: columns of departures and of arrivals.
+-- When the runs of a pattern depart: a column for each position.
 use Rattle.std.specs.Prelude.{◌≡◌, ◌≢◌, ℕ, ◌<◌, ◌≤◌, ◌^◌, drop, List, length, map, slice_get, slice_index_or, Some, All, Contains, ℤ, ◌≤ℤ◌, ◌<ℤ◌}
 use Rattle.std.specs.List.{AllPairs, AllWithin}
-use Rattle.transit_base.specs.declared.moments.Moment.{Moment}
 use Rattle.feed_rows.specs.declared.journeys.Call.{Call}
 use Rattle.feed_rows.specs.FeedRows.{FeedRows}
 use Rattle.feed_rows.specs.Calls.{calls_of}
@@ -11,14 +10,6 @@ use Rattle.plan_patterns.specs.declared.halts.Halt.{Halt}
 use Rattle.plan_patterns.specs.declared.runs.Run.{Run}
 use Rattle.plan_patterns.specs.Halts.{halts_of}
 use Rattle.plan_patterns.specs.Runs.{IsKnown, moment_of}
-
--- when a run arrives at a call of its trip
-abbrev pub arrival_of : Run → Call → Moment
-arrival_of run call = record { 0 = moment_of run call.arrival }
-
--- when it arrives at all of them
-abbrev pub arrivals_of : FeedRows → Run → List Moment
-arrivals_of feed run = map (arrival_of run) (calls_of feed run.trip)
 
 -- one of the runs, by its number, and when it departs from its trip's call at a position
 pub record IsBoarding (feed : FeedRows) (runs : List Run) (position : ℕ) (boarding : Boarding) : Type 0 where
@@ -94,4 +85,3 @@ pub record IsPattern (feed : FeedRows) (pattern : Pattern) : Type 0 where
   pub few : length pattern.halts.items < 2 ^ 32
   pub runs : All (IsRunAt feed pattern.halts.items) pattern.runs.items
   pub departures : AreColumns feed pattern.runs.items (length pattern.halts.items) pattern.departures
-  pub arrivals : pattern.arrivals ≡ map (arrivals_of feed) pattern.runs.items

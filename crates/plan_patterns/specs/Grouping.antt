@@ -4,7 +4,7 @@ use Rattle.std.specs.List.{AllPairs, flat_map}
 use Rattle.std.specs.Option.{option_map_or}
 use Rattle.transit_base.specs.declared.numbers.TripId.{TripId}
 use Rattle.feed_rows.specs.FeedRows.{FeedRows}
-use Rattle.feed_rows.specs.declared.journeys.Query.{Query}
+use Rattle.plan_patterns.specs.declared.span.Span.{Span}
 use Rattle.plan_patterns.specs.declared.pattern.Pattern.{Pattern}
 use Rattle.plan_patterns.specs.declared.halts.Halt.{Halt}
 use Rattle.plan_patterns.specs.declared.runs.Run.{Run}
@@ -45,12 +45,12 @@ abbrev pub HasHalts : FeedRows → List Halt → Run → Type 0
 HasHalts feed halts run = halts_of feed run.trip ≡ halts
 
 -- two trips are of one pattern exactly where they have the same halts; the runs of these trips with a ride that departs
--- no earlier than the query and arrives no later than its window ends stand in them, each once, and no others
-pub record ArePatterns (feed : FeedRows) (query : Query) (trips : List TripId)
+-- no earlier than the span begins and arrives no later than it ends stand in them, each once, and no others
+pub record ArePatterns (feed : FeedRows) (span : Span) (trips : List TripId)
     (patterns : List PatternOf) : Type 0 where
   pub halts : All (λ (p : PatternOf). All (HasHalts feed p.halts) p.runs) patterns
   pub apart : AllPairs (λ (p : PatternOf) (q : PatternOf). p.halts ≢ q.halts) patterns
-  pub held : (run : Run) → IsHeldOf feed query trips run → Contains (all_runs patterns) run
-  pub right : All (IsHeldOf feed query trips) (all_runs patterns)
+  pub held : (run : Run) → IsHeldOf feed span trips run → Contains (all_runs patterns) run
+  pub right : All (IsHeldOf feed span trips) (all_runs patterns)
   pub known : All (IsKnown feed) (all_runs patterns)
   pub once : AllPairs (λ (a : Run) (b : Run). a ≢ b) (all_runs patterns)

@@ -5,3 +5,4 @@ pub mod HeldRuns
 pub mod Halts
 pub mod Runs
 pub mod Servings
+pub mod Spans

@@ -1,4 +1,4 @@
-//! The runs that a query can catch, by patterns: trips that call at the same stops and let riders do the same there.
+//! The runs that have a ride within a span, by patterns: trips that call at the same stops and let riders do the same there.
 #![tactic(auto)]
 
 mod cuts;
@@ -8,9 +8,11 @@ mod pattern;
 mod patterns;
 mod runs;
 mod serving;
+mod span;
 
 pub use halts::Halt;
 pub use pattern::Boarding;
 pub use patterns::Patterns;
 pub use runs::Run;
 pub use serving::Serving;
+pub use span::Span;

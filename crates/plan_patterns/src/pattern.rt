@@ -1,14 +1,13 @@
-//! A pattern: what its trips have in common, its runs, and when these are where.
+//! A pattern: what its trips have in common, its runs, and when these depart.
 ghost use Rattle.std.specs.Prelude.{◌≡◌, ◌<◌, ◌^◌, length, map, All, IfOk, OnOk};
 ghost use Rattle.std.specs.List.Sorted.{IsPermutation};
-ghost use Rattle.feed_rows.specs.declared.journeys.Call.{Call};
-ghost use Rattle.plan_patterns.specs.Columns.{AreColumns, AreFirst, AreInOrder, CallsAt, CallsAtAll, IsBoarding, IsColumn, IsPattern, IsRunAt, IsSince, arrival_of, arrivals_of};
+ghost use Rattle.plan_patterns.specs.Columns.{AreColumns, AreFirst, AreInOrder, CallsAt, CallsAtAll, IsBoarding, IsColumn, IsPattern, IsRunAt, IsSince};
 ghost use Rattle.plan_patterns.specs.declared.halts.Halt.{Halt};
-ghost use Rattle.plan_patterns.specs.Runs.{AreTimed, IsKnown, IsNear};
+ghost use Rattle.plan_patterns.specs.Runs.{IsKnown};
 
 use crate::halts::Halt;
 use crate::runs::Run;
-use feed_timetable::{Calls, Timetable};
+use feed_timetable::Timetable;
 use item_groups::Groups;
 use std::alloc::{AllocError, Global};
 use transit_base::{Moment, StopId};
@@ -20,15 +19,13 @@ pub struct Boarding {
     pub at: Moment,
 }
 
-/// What the trips of a pattern have in common, its runs, and columns of when these are where.
+/// What the trips of a pattern have in common, its runs, and columns of when these depart.
 pub struct Pattern {
     pub stops: Vec<StopId>,
     pub halts: Vec<Halt>,
     pub runs: Vec<Run>,
     /// When runs depart, position by position, each in order of departure.
     pub departures: Groups<Boarding>,
-    /// When runs arrive, run by run, each at all positions.
-    pub arrivals: Groups<Moment>,
 }
 
 // Written out, so that what holds one needn't look into it to let go of it.
@@ -39,7 +36,6 @@ impl Drop for Pattern {
             halts: _,
             runs: _,
             departures: _,
-            arrivals: _,
         } = self;
     }
 }
@@ -53,38 +49,6 @@ fn stops_of(alloc: Global, halts: &[Halt]) -> Result<Vec<StopId>, AllocError>
         stops.push(halt.stop)?;
     }
     Ok(stops)
-}
-
-// When a run of a trip with these calls arrives at them.
-fn arrivals_of(alloc: Global, run: &Run, calls: &Calls) -> Result<Vec<Moment>, AllocError>
-    requires near { IsNear run.now }
-    requires times { AreTimed calls.now }
-    ensures { IfOk result (λ arrivals. arrivals.items ≡ map (arrival_of run.now) calls.now) }
-{
-    let mut arrivals = Vec::with_capacity(alloc, calls.len())?;
-    for position in 0..calls.len() {
-        let call = calls.at(position);
-        arrivals.push(run.moment(call.arrival))?;
-    }
-    Ok(arrivals)
-}
-
-// When each run arrives at all its calls.
-fn all_arrivals(
-    alloc: Global,
-    timetable: &Timetable,
-    runs: &[Run],
-) -> Result<Groups<Moment>, AllocError>
-    requires { All (IsKnown timetable.now) runs.now }
-    ensures { IfOk result (λ arrivals. arrivals ≡ map (arrivals_of timetable.now) runs.now) }
-{
-    let mut arrivals = Groups::empty(alloc);
-    for number in 0..runs.len() {
-        let run = &runs[number];
-        let own = arrivals_of(alloc, run, &timetable.calls_of(run.trip))?;
-        arrivals.push(&own)?;
-    }
-    Ok(arrivals)
 }
 
 // The run with a number, and when it departs from the position.
@@ -197,7 +161,6 @@ impl Pattern {
             halts: Vec::from_slice(alloc, halts)?,
             runs: Vec::from_slice(alloc, runs)?,
             departures: all_departures(alloc, timetable, runs, halts.len() as u32)?,
-            arrivals: all_arrivals(alloc, timetable, runs)?,
         })
     }
 }

@@ -1,11 +1,12 @@
-//! The runs that a query can catch, by patterns.
-ghost use Rattle.std.specs.Prelude.{◌≡◌, ◌<◌, ◌^◌, length, map, option_map, slice_get, All, IfOk, OnOk, Some};
+//! The runs of a span, by patterns.
+ghost use Rattle.std.specs.Prelude.{◌≡◌, ◌<◌, ◌^◌, length, map, All, IfOk, OnOk};
 ghost use Rattle.plan_patterns.specs.declared.pattern.Pattern.{Pattern};
 ghost use Rattle.plan_patterns.specs.declared.halts.Halt.{Halt};
-ghost use Rattle.plan_patterns.specs.Columns.{AreBoardable, IsPattern, arrivals_of};
+ghost use Rattle.plan_patterns.specs.Columns.{AreBoardable, IsPattern};
 ghost use Rattle.plan_patterns.specs.Grouping.{ArePatterns, halts_at, runs_at, pattern_of, halts_by_pattern};
-ghost use Rattle.plan_patterns.specs.Runs.{AreTripsOf, IsUsualSpan};
+ghost use Rattle.plan_patterns.specs.Runs.{AreTripsOf};
 ghost use Rattle.plan_patterns.specs.Servings.{AreServings, halts_in, servings_at};
+ghost use Rattle.plan_patterns.specs.Spans.{IsUsualSpan};
 
 use crate::cuts::patterns_of;
 use crate::halts::Halt;
@@ -13,14 +14,15 @@ use crate::held::held_runs;
 use crate::pattern::{Boarding, Pattern, since};
 use crate::runs::Run;
 use crate::serving::{Serving, servings_of};
-use feed_rows::{Feed, Query};
+use crate::span::Span;
+use feed_rows::Feed;
 use feed_timetable::Timetable;
 use item_groups::Groups;
 use std::alloc::{AllocError, Global};
 use std::marker::Model;
 use transit_base::{Moment, StopId, TripId};
 
-/// The runs that a query can catch, by patterns: two trips are of one pattern exactly where they call at the same stops,
+/// The runs that have a ride within a span, by patterns: two trips are of one pattern exactly where they call at the same stops,
 /// in the same order, and let riders do the same there. Patterns are numbered from 0, and so are the positions and the
 /// runs of each. Contracts see it as the feed with the patterns.
 pub struct Patterns<'f> {
@@ -54,39 +56,39 @@ impl<'f> Model for Patterns<'f> {
     ghost invariant = { λ s. All (IsPattern s.feed.now) s.patterns.items × (length s.patterns.items < 2 ^ 32) × AreServings (halts_in s.patterns.items) (length s.feed.now.stops) s.servings };
 }
 
-// The patterns of the runs of these trips that have a ride within the query's window.
+// The patterns of the runs of these trips that have a ride within the span.
 fn held_patterns(
     alloc: Global,
     timetable: &Timetable,
-    query: &Query,
+    span: &Span,
     trips: &[TripId],
 ) -> Result<Vec<Pattern>, AllocError>
-    requires usual { IsUsualSpan query.now }
+    requires usual { IsUsualSpan span.now }
     requires trips { AreTripsOf timetable.now trips.now }
     ensures built { IfOk result (λ patterns. All (IsPattern timetable.now) patterns.items) }
-    ensures held { IfOk result (λ patterns. ArePatterns timetable.now query.now trips.now (map pattern_of patterns.items)) }
+    ensures held { IfOk result (λ patterns. ArePatterns timetable.now span.now trips.now (map pattern_of patterns.items)) }
 {
-    let held = held_runs(alloc, timetable, query, trips)?;
+    let held = held_runs(alloc, timetable, span, trips)?;
     patterns_of(alloc, timetable, &held)
 }
 
 impl<'f> Patterns<'f> {
-    /// The runs of these trips that have a ride within the query's window, by patterns. No other trip is looked at.
+    /// The runs of these trips that have a ride within the span, by patterns. No other trip is looked at.
     ///
     /// # Errors
     /// Want of memory; so counts that there would be 2^32 patterns, or runs of one, or more.
     pub fn build(
         alloc: Global,
         timetable: &Timetable<'f>,
-        query: &Query,
+        span: &Span,
         trips: &[TripId],
     ) -> Result<Patterns<'f>, AllocError>
-        requires usual { IsUsualSpan query.now }
+        requires usual { IsUsualSpan span.now }
         requires trips { AreTripsOf timetable.now trips.now }
         ensures feed { IfOk result (λ built. built.feed ≡ timetable.now) }
-        ensures patterns { IfOk result (λ built. ArePatterns timetable.now query.now trips.now built.patterns) }
+        ensures patterns { IfOk result (λ built. ArePatterns timetable.now span.now trips.now built.patterns) }
     {
-        let patterns = held_patterns(alloc, timetable, query, trips)?;
+        let patterns = held_patterns(alloc, timetable, span, trips)?;
         let servings = servings_of(alloc, timetable, &patterns)?;
         Ok(Patterns {
             feed: timetable.feed(),
@@ -135,16 +137,6 @@ impl<'f> Patterns<'f> {
     {
         let departures = &self.patterns[pattern as usize].departures;
         since(departures.group(position as usize), from)
-    }
-
-    /// When a run of a pattern arrives at each position.
-    pub fn arrivals(&self, pattern: u32, run: u32) -> &[Moment]
-        requires pattern { pattern < length self.now.patterns }
-        requires run { run < length (runs_at self.now.patterns pattern) }
-        ensures { option_map (arrivals_of self.now.feed) (slice_get (runs_at self.now.patterns pattern) run) ≡ Some result.now }
-    {
-        let arrivals = &self.patterns[pattern as usize].arrivals;
-        arrivals.group(run as usize)
     }
 
     /// Where riders may board a run of a pattern at the stop, by pattern and position.

@@ -13,6 +13,7 @@ ghost use Rattle.plan_plain.specs.Paths.{no_ride, with_ride};
 ghost use Rattle.plan_plain.specs.Searches.{AddsEnd, IsCheapest, IsEarliestEnd, HasRides, GoesOn, Gains, StartsAt, IsSearched};
 ghost use Rattle.plan_rides.specs.Asked.{asked};
 ghost use Rattle.plan_rides.specs.InTime.{HasCaught, IsRight, IsUsualQuery, IsWithinWindow};
+ghost use Rattle.plan_rides.specs.Scopes.{IsInScope};
 ghost use Rattle.transit_base.specs.declared.moments.Moment.{Moment};
 ghost use Rattle.transit_base.specs.declared.numbers.StopId.{StopId};
 
@@ -23,10 +24,10 @@ use fare_timeframes::Timeframes;
 use feed_rows::{Entry, Journey, Query, Triple};
 use feed_timetable::{Standing, Timetable};
 use pareto_front::Front;
-use plan_rides::{CaughtRide, Rides};
+use plan_rides::{CaughtRide, Rides, Scope, SpanRuns, deadline};
 use std::alloc::{AllocError, Global};
 use std::marker::Model;
-use transit_base::{Moment, Secs, StopId};
+use transit_base::{Moment, StopId};
 
 /// Where and when a journey ends.
 #[derive(Clone, Copy)]
@@ -303,16 +304,31 @@ fn entries_for_rider<'s>(
     ensures exact { IfOk result (λ entries. IsExactAnswer timetable.now query.now entries.items) }
     ensures covers { IfOk result (λ entries. CoversOffers timetable.now query.now entries.items) }
 {
-    let deadline = query.departure.plus(Secs(query.window));
-    let timeframes = Timeframes::between(alloc, timetable.feed(), query.departure, deadline)?;
-    match Rides::of(alloc, timetable, query) {
-        Ok(rides) => {
-            let search = Search {
-                rides: &rides,
-                timeframes: &timeframes,
-            };
-            search.entries(alloc, automaton)
-        }
+    match SpanRuns::of(alloc, timetable, &Scope::of(query)) {
+        Ok(runs) => entries_by_runs(&runs, query, alloc, automaton),
         Err(AllocError) => Err(AllocError),
     }
+}
+
+// The exact answer to a query, by the runs that are held for it.
+fn entries_by_runs<'s>(
+    runs: &'s SpanRuns<'s>,
+    query: &'s Query,
+    alloc: Global,
+    automaton: &Automaton,
+) -> Result<Vec<Entry>, AllocError>
+    requires usual { IsUsualQuery query.now }
+    requires within { IsInScope runs.now.scope query.now }
+    requires same { automaton.now ≡ terms runs.now.feed query.now.rider }
+    ensures exact { IfOk result (λ entries. IsExactAnswer runs.now.feed query.now entries.items) }
+    ensures covers { IfOk result (λ entries. CoversOffers runs.now.feed query.now entries.items) }
+{
+    let rides = Rides::of(runs, query);
+    let feed = rides.timetable().feed();
+    let timeframes = Timeframes::between(alloc, feed, query.departure, deadline(query))?;
+    let search = Search {
+        rides: &rides,
+        timeframes: &timeframes,
+    };
+    search.entries(alloc, automaton)
 }

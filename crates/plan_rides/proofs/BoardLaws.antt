@@ -22,11 +22,12 @@ use Rattle.feed_laws.proofs.SoundTrips.{sound_trip}
 use Rattle.plan_patterns.specs.declared.runs.Run.{Run}
 use Rattle.plan_patterns.specs.Grouping.{PatternOf, PatternsOf, runs_at}
 use Rattle.plan_rides.specs.Boarding.{AreMarks, Seeking}
+use Rattle.plan_rides.specs.Scopes.{IsInScope}
 use Rattle.plan_rides.specs.Cutoffs.{IsEarlyRide, cutoff_by, is_early, is_enough, is_span}
 use Rattle.plan_rides.specs.Departures.{HoldsRuns, run_by}
 use Rattle.plan_rides.specs.InTime.{deadline}
 use Rattle.plan_rides.specs.Spans.{AddsBoards, AreBoardSpans, FollowsOwn, IsEndFrom, IsOfPatterns, IsOfRuns, IsOfTrip, IsOfTripFrom, PutsBoard, is_end_by}
-use Rattle.plan_rides.proofs.CutoffLaws.{enough_at, enough_past, enough_some}
+use Rattle.plan_rides.proofs.CutoffLaws.{enough_at, enough_past, enough_some, onward}
 use Rattle.plan_rides.proofs.DepartureLaws.{ride_end}
 
 -- ---- when a journey ends
@@ -389,16 +390,16 @@ module _ (feed : FeedRows) (query : Query) (spans : List (Option Secs)) where
       (λ ride of. let lt = of.1 in (of.0, omega (arith, lt, all), of.2))
 
 -- the runs of all patterns have each ride of a query that takes more than one
-pub all_boards : (feed : FeedRows) (sought : Seeking) (spans old new : List (Option Secs)) (patterns : PatternsOf) →
-    HoldsRuns feed sought patterns → AreMarks feed sought → 1 < sought.query.rides →
-    AddsBoards feed sought.query spans (IsOfPatterns patterns.patterns (length patterns.patterns)) old new →
-    AreBoardSpans feed sought.query spans new
-all_boards feed sought spans old new patterns holds marks more adds until by ride facts is since in_time early =
+pub all_boards : (feed : FeedRows) (query : Query) (sought : Seeking) (spans old new : List (Option Secs)) (patterns : PatternsOf) →
+    HoldsRuns feed sought patterns → AreMarks feed sought → IsInScope sought.scope query → 1 < query.rides →
+    AddsBoards feed query spans (IsOfPatterns patterns.patterns (length patterns.patterns)) old new →
+    AreBoardSpans feed query spans new
+all_boards feed query sought spans old new patterns holds marks inside more adds until by ride facts is since in_time early =
     adds.all until by ride facts (record { is = is; since = since; until = in_time; early = early })
     (holds.all ride facts (record {
-      some = omega (arith, more);
+      some = subst (λ n. 0 < n) inside.rides (omega (arith, more));
       is = is;
-      boards = marks.all more facts.from.0;
-      since = since;
-      until = in_time;
+      boards = marks.all (subst (λ n. 1 < n) inside.rides more) facts.from.0;
+      since = onward sought.scope.span.from.0 query.departure.0 facts.departure.0 inside.since since;
+      until = onward facts.arrival.0 (deadline query) sought.scope.span.until.0 in_time inside.until;
     }))

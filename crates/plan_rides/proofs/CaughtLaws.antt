@@ -30,6 +30,7 @@ use Rattle.feed_laws.proofs.ShiftLaws.{found_from_Contains}
 use Rattle.feed_laws.proofs.SoundTrips.{sound_trip}
 use Rattle.plan_rides.specs.declared.departures.Departure.{Departure}
 use Rattle.plan_rides.specs.Boarding.{Seeking, MayBoard}
+use Rattle.plan_rides.specs.Scopes.{IsInScope}
 use Rattle.plan_rides.specs.Departures.{IsSpanned, IsDeparture, ride_to, facts_to, facts_in_time}
 use Rattle.plan_rides.specs.InTime.{next_in_time, if_in_time, deadline, IsWithinWindow}
 
@@ -111,19 +112,23 @@ caught_within feed query stand ride next sound within e =
     onward from at departs arrives way a b c = omega (arith, ints)
 
 -- a ride that is caught may be caught
-pub caught_spanned : (feed : FeedRows) (sought : Seeking) (stand : Stand) (ride : Ride) (next : Stand) →
-    IsWithinWindow sought.query stand.at → MayBoard feed sought stand →
-    (c : IsCaughtRide feed sought.query stand ride next) → IsSpanned feed sought ride c.facts
-caught_spanned feed sought stand ride next within board c = record {
-  some = board.some;
+pub caught_spanned : (feed : FeedRows) (query : Query) (sought : Seeking) (stand : Stand) (ride : Ride) (next : Stand) →
+    IsInScope sought.scope query → IsWithinWindow query stand.at → MayBoard feed query sought.marks stand →
+    (c : IsCaughtRide feed query stand ride next) → IsSpanned feed sought ride c.facts
+caught_spanned feed query sought stand ride next inside within board c = record {
+  some = subst (λ n. 0 < n) inside.rides board.some;
   is = c.is;
   boards = board.marked c.facts.from c.way c.way_is;
-  since = onward sought.query.departure.0 stand.at c.facts.departure.0 c.way within.since c.catches;
-  until = subst (λ (s : Stand). s.at ≤ℤ deadline sought.query) (sym c.ends) c.in_time;
+  since = onward sought.scope.span.from.0 query.departure.0 stand.at c.facts.departure.0 c.way inside.since within.since c.catches;
+  until = sooner c.facts.arrival.0 (deadline query) sought.scope.span.until.0
+      (subst (λ (s : Stand). s.at ≤ℤ deadline query) (sym c.ends) c.in_time) inside.until;
 }
   where
-    onward : (from at departs : ℤ) (way : ℕ) → from ≤ℤ at → (at +ℤ pos way) ≤ℤ departs → from ≤ℤ departs
-    onward from at departs way a b = omega (arith, ints)
+    onward : (begins from at departs : ℤ) (way : ℕ) → begins ≤ℤ from → from ≤ℤ at → (at +ℤ pos way) ≤ℤ departs → begins ≤ℤ departs
+    onward begins from at departs way first a b = omega (arith, ints)
+
+    sooner : (at last until : ℤ) → at ≤ℤ last → last ≤ℤ until → at ≤ℤ until
+    sooner at last until a b = omega (arith, ints)
 
 -- a way leads along a walk, or nowhere where none leads to itself
 pub walk_or_own : (feed : FeedRows) (query : Query) (stand : Stand) (stop : StopId) (way : ℕ) →

@@ -17,7 +17,6 @@ use Rattle.feed_rows.specs.Rides.{ride_facts}
 use Rattle.feed_rows.specs.Shifts.{shifts_of}
 use Rattle.feed_rows.specs.SoundFeed.{IsSoundFeed}
 use Rattle.feed_rows.specs.declared.journeys.Call.{Call}
-use Rattle.feed_rows.specs.declared.journeys.Query.{Query}
 use Rattle.feed_rows.specs.declared.journeys.Ride.{Ride}
 use Rattle.feed_rows.specs.declared.journeys.RideFacts.{RideFacts}
 use Rattle.feed_rows.specs.declared.rows.StopTimeRow.{StopTimeRow}
@@ -30,6 +29,7 @@ use Rattle.plain_laws.proofs.Laws.{All-from, AllPairs-append, Contains-cons_case
 use Rattle.plan_patterns.specs.declared.halts.Halt.{Halt}
 use Rattle.plan_patterns.specs.declared.pattern.Boarding.{Boarding}
 use Rattle.plan_patterns.specs.declared.runs.Run.{Run}
+use Rattle.plan_patterns.specs.declared.span.Span.{Span}
 use Rattle.plan_patterns.specs.declared.serving.Serving.{Serving}
 use Rattle.plan_patterns.specs.Columns.{AreBoardable, IsBoarding}
 use Rattle.plan_patterns.specs.Grouping.{ArePatterns, PatternOf, PatternsOf, all_runs, halts_at, halts_by_pattern, runs_at}
@@ -245,9 +245,9 @@ of_pattern patterns run at =
     }
 
 -- a run has the halts of its pattern
-has_halts : (feed : FeedRows) (query : Query) (trips : List TripId) (patterns : List PatternOf) (p : ℕ) (run : Run) →
-    ArePatterns feed query trips patterns → Contains (runs_at patterns p) run → halts_of feed run.trip ≡ halts_at patterns p
-has_halts feed query trips patterns p run are at = step (slice_get patterns p) refl at
+has_halts : (feed : FeedRows) (span : Span) (trips : List TripId) (patterns : List PatternOf) (p : ℕ) (run : Run) →
+    ArePatterns feed span trips patterns → Contains (runs_at patterns p) run → halts_of feed run.trip ≡ halts_at patterns p
+has_halts feed span trips patterns p run are at = step (slice_get patterns p) refl at
   where
     step : (o : Option PatternOf) → slice_get patterns p ≡ o →
         Contains (option_map_or (λ (x : PatternOf). x.runs) o []) run →
@@ -301,9 +301,9 @@ is_serving patterns stop serving at =
     })
 
 -- a run that is held is one of the feed
-run_held : (feed : FeedRows) (query : Query) (run : Run) → IsHeld feed query run → IsKnown feed run →
+run_held : (feed : FeedRows) (span : Span) (run : Run) → IsHeld feed span run → IsKnown feed run →
     IsRun (run_of feed run.trip run.day run.shift)
-run_held feed query run held known =
+run_held feed span run held known =
     let r = ride_facts_tells feed (record { trip = run.trip; day = run.day; shift = run.shift; from = held.from; to = held.to }) held.facts held.is in
     record {
       served = record { inside = known.inside; low = known.near.day_low; high = known.near.day_high; runs = r.runs };
@@ -320,16 +320,16 @@ same_number : (n : ℕ) → (n == n) ≡ true
 same_number n = grind (arith, nat_tests)
 
 -- riders may board a run of a pattern where that serves a stop
-stops_at : (feed : FeedRows) (query : Query) (trips : List TripId) (patterns : List PatternOf) (stop : ℕ) (serving : Serving) (run : Run) →
-    ArePatterns feed query trips patterns → IsServing patterns stop serving →
+stops_at : (feed : FeedRows) (span : Span) (trips : List TripId) (patterns : List PatternOf) (stop : ℕ) (serving : Serving) (run : Run) →
+    ArePatterns feed span trips patterns → IsServing patterns stop serving →
     Contains (runs_at patterns serving.pattern) run → StopsAt feed stop serving.position run
-stops_at feed query trips patterns stop serving run are serves at =
+stops_at feed span trips patterns stop serving run are serves at =
     let all = in_all patterns serving.pattern run at in
-    let halts = has_halts feed query trips patterns serving.pattern run are at in
+    let halts = has_halts feed span trips patterns serving.pattern run are at in
     let boards : boards_at (halts_of feed run.trip) stop serving.position ≡ true =
     subst (λ hs. boards_at hs stop serving.position ≡ true) (sym halts) serves.boards in
     step (slice_get (calls_of feed run.trip) serving.position) refl boards
-    (run_held feed query run (All-contains (IsHeldOf feed query trips) (all_runs patterns) run are.right all).held
+    (run_held feed span run (All-contains (IsHeldOf feed span trips) (all_runs patterns) run are.right all).held
     (All-contains (IsKnown feed) (all_runs patterns) run are.known all))
   where
     step : (o : Option Call) → slice_get (calls_of feed run.trip) serving.position ≡ o →
@@ -342,31 +342,31 @@ stops_at feed query trips patterns stop serving run are serves at =
         record { goes = runs; call = call; is = is; pickup = parts.0; at = told call.stop.0 stop parts.1 }
 
 -- each position at which patterns let riders board at a stop serves it
-serves_stop : (feed : FeedRows) (query : Query) (trips : List TripId) (patterns : List PatternOf) (stop : ℕ) → ArePatterns feed query trips patterns →
+serves_stop : (feed : FeedRows) (span : Span) (trips : List TripId) (patterns : List PatternOf) (stop : ℕ) → ArePatterns feed span trips patterns →
     All (Serves feed patterns stop) (servings_at (halts_by_pattern patterns) stop)
-serves_stop feed query trips patterns stop are = All-from (Serves feed patterns stop) (servings_at (halts_by_pattern patterns) stop)
+serves_stop feed span trips patterns stop are = All-from (Serves feed patterns stop) (servings_at (halts_by_pattern patterns) stop)
     (λ serving at.
     let serves = is_serving patterns stop serving at in
     record {
       pattern = serves.within;
       position = serves.inside;
       runs = All-from (StopsAt feed stop serving.position) (runs_at patterns serving.pattern)
-          (λ run has. stops_at feed query trips patterns stop serving run are serves has);
+          (λ run has. stops_at feed span trips patterns stop serving run are serves has);
     })
 
 -- each ride that may be caught boards at one of them
 takes_one : (feed : FeedRows) (sought : Seeking) (trips : List TripId) (patterns : List PatternOf) (ride : Ride)
     (facts : RideFacts) → AreBoarded feed sought trips →
-    ArePatterns feed sought.query trips patterns → IsSpanned feed sought ride facts →
+    ArePatterns feed sought.scope.span trips patterns → IsSpanned feed sought ride facts →
     TakesOneOf patterns (servings_at (halts_by_pattern patterns) facts.from.0)
     (length (servings_at (halts_by_pattern patterns) facts.from.0)) ride
 takes_one feed sought trips patterns ride facts boarded are e =
-    let held : IsHeld feed sought.query (run_by ride) =
+    let held : IsHeld feed sought.scope.span (run_by ride) =
     record { from = ride.from; to = ride.to; facts = facts; is = e.is; since = e.since; until = e.until } in
     let of = of_pattern patterns (run_by ride) (are.held (run_by ride) (record { trip = boarded.all ride facts e; held = held })) in
     let r = ride_facts_tells feed ride facts e.is in
     let from : r.boarding.stop.0 ≡ facts.from.0 = ap (λ (f : RideFacts). f.from.0) r.facts_are in
-    let halts : halts_of feed ride.trip ≡ halts_at patterns of.number = has_halts feed sought.query trips patterns of.number (run_by ride) are of.has in
+    let halts : halts_of feed ride.trip ≡ halts_at patterns of.number = has_halts feed sought.scope.span trips patterns of.number (run_by ride) are of.has in
     let boards : boards_at (halts_at patterns of.number) facts.from.0 ride.from ≡ true =
     subst (λ hs. boards_at hs facts.from.0 ride.from ≡ true) halts
     (boards_at-call feed ride.trip ride.from r.boarding r.boards facts.from.0
@@ -384,20 +384,20 @@ takes_one feed sought trips patterns ride facts boarded are e =
       record { run = of.has; from = refl },
     )
 
--- so patterns of the runs of a query hold them
+-- so patterns of the runs of a span hold them
 pub holds_runs : (feed : FeedRows) (sought : Seeking) (trips : List TripId) (patterns : PatternsOf) →
-    AreBoarded feed sought trips → patterns.feed ≡ feed → ArePatterns feed sought.query trips patterns.patterns →
+    AreBoarded feed sought trips → patterns.feed ≡ feed → ArePatterns feed sought.scope.span trips patterns.patterns →
     HoldsRuns feed sought patterns
 holds_runs feed sought trips patterns boarded of are = record {
   of = of;
   runs = λ p. All-from (IsRunOf feed) (runs_at patterns.patterns p)
       (λ run has.
       let all = in_all patterns.patterns p run has in
-      run_held feed sought.query run
-      (All-contains (IsHeldOf feed sought.query trips) (all_runs patterns.patterns) run are.right all).held
+      run_held feed sought.scope.span run
+      (All-contains (IsHeldOf feed sought.scope.span trips) (all_runs patterns.patterns) run are.right all).held
       (All-contains (IsKnown feed) (all_runs patterns.patterns) run are.known all));
   all = λ ride facts e.
-      let held : IsHeld feed sought.query (run_by ride) =
+      let held : IsHeld feed sought.scope.span (run_by ride) =
       record { from = ride.from; to = ride.to; facts = facts; is = e.is; since = e.since; until = e.until } in
       let found = of_pattern patterns.patterns (run_by ride)
       (are.held (run_by ride) (record { trip = boarded.all ride facts e; held = held })) in
@@ -406,7 +406,7 @@ holds_runs feed sought trips patterns boarded of are = record {
 
 -- and they give its departures
 pub are_departures : (feed : FeedRows) (sought : Seeking) (trips : List TripId) (patterns : PatternsOf) →
-    AreBoarded feed sought trips → patterns.feed ≡ feed → ArePatterns feed sought.query trips patterns.patterns →
+    AreBoarded feed sought trips → patterns.feed ≡ feed → ArePatterns feed sought.scope.span trips patterns.patterns →
     AreDepartures feed sought patterns
 are_departures feed sought trips patterns boarded of are = record {
   of = of;
@@ -415,7 +415,7 @@ are_departures feed sought trips patterns boarded of are = record {
         subst (λ s. TakesOneOf patterns.patterns (servings_at (halts_by_pattern patterns.patterns) s)
         (length (servings_at (halts_by_pattern patterns.patterns) s)) ride) from
         (takes_one feed sought trips patterns.patterns ride facts boarded are e);
-    right = serves_stop feed sought.query trips patterns.patterns stop are;
+    right = serves_stop feed sought.scope.span trips patterns.patterns stop are;
   };
 }
 

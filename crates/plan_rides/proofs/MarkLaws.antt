@@ -162,16 +162,17 @@ marks_back items new len long same =
     ∙ take_all len new (omega (arith, long, same))
 
 -- where one may ride, one may board
-pub may_board : (feed : FeedRows) (sought : Seeking) (stand : Stand) → AreMarks feed sought →
-    MayRide feed sought.query stand → MayBoard feed sought stand
-may_board feed sought stand marks may = record {
+pub may_board : (feed : FeedRows) (query : Query) (sought : Seeking) (stand : Stand) → query.from ≡ sought.scope.from →
+    query.rides ≡ sought.scope.rides → AreMarks feed sought → MayRide feed query stand → MayBoard feed query sought.marks stand
+may_board feed query sought stand from rides marks may = record {
   some = may.some;
   marked = λ stop way is.
       let some = may.some in
       ⊎_elim
-      (λ (few : sought.query.rides < 2).
+      (λ (few : query.rides < 2).
       let one = may.one (omega (arith, some, few)) in
-      marks.first one.0 one.1 stop way (subst (λ s. way_to feed sought.query s stop ≡ Some way) one.2 is))
-      (λ (more : 2 ≤ sought.query.rides). marks.all (omega (arith, more)) stop.0)
-      (cases_lt sought.query.rides 2);
+      marks.first query from one.0 (subst (λ s. IsTrue (stands_for feed s one.0)) from one.1) stop way
+      (subst (λ s. way_to feed query s stop ≡ Some way) one.2 is))
+      (λ (more : 2 ≤ query.rides). marks.all (omega (arith, more, rides)) stop.0)
+      (cases_lt query.rides 2);
 }

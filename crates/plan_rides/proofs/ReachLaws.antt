@@ -1,5 +1,5 @@
 -- The positions that a traveller gets to, and how lists of them grow.
-use Rattle.std.proofs.Common.{◌≡◌, refl, sym, ◌∙◌, ap, subst, ℕ, ◌+◌, ◌<◌, ◌≤◌, ◌⊎◌, inl, inr, ⊎_elim, false, List, [], ◌∷◌, ◌++◌, length, get_or, arith, ℤ, pos, ◌+ℤ◌}
+use Rattle.std.proofs.Common.{◌≡◌, refl, sym, ◌∙◌, ap, subst, ℕ, ◌+◌, ◌<◌, ◌≤◌, ◌⊎◌, inl, inr, ⊎_elim, false, List, [], ◌∷◌, ◌++◌, length, get_or, arith, ℤ, pos, ◌+ℤ◌, ◌≤ℤ◌}
 use Rattle.std.specs.Prelude.{Some, None, slice_get, Contains}
 use Rattle.std.proofs.lemmas.Bool.{cases_lt}
 use Rattle.std.proofs.lemmas.List.Elements.{Contains-append_left, Contains-push, Contains-push_cases}
@@ -14,6 +14,8 @@ use Rattle.feed_walks.specs.declared.steps.Step.{Step}
 use Rattle.plan_rides.specs.declared.positions.Reached.{Reached}
 use Rattle.plan_rides.specs.declared.servings.TimedServing.{TimedServing}
 use Rattle.plan_rides.specs.Boarding.{MayBoard, Seeking}
+use Rattle.plan_rides.specs.Scopes.{IsInScope}
+use Rattle.plan_patterns.specs.declared.span.Span.{Span}
 use Rattle.plan_rides.specs.Cutoffs.{CutoffOf, is_early}
 use Rattle.plan_rides.specs.Departures.{BoardsAt, TakesServing}
 use Rattle.plan_rides.specs.InTime.{IsWithinWindow, next_in_time}
@@ -111,36 +113,35 @@ module _ (me : Positioned) (lasts : CutoffOf) (stand : Stand) (number : ℕ) whe
       })
 
   -- one more that may be passed over
-  pub reach_closed : (stop : StopId) (way : ℕ) (earliest : ℤ) (served : List TimedServing) (k : ℕ) (x : TimedServing)
-      (old new : List Reached) → k < length served → IsWithinWindow me.query stand.at →
+  pub reach_closed : (span : Span) (stop : StopId) (way : ℕ) (earliest : ℤ) (served : List TimedServing) (k : ℕ) (x : TimedServing)
+      (old new : List Reached) → k < length served → span.from.0 ≤ℤ me.query.departure.0 → IsWithinWindow me.query stand.at →
       way_to me.feed me.query stand stop ≡ Some way → earliest ≡ stand.at +ℤ pos way →
-      IsTimed me.feed me.query me.patterns stop.0 (get_or served k x) →
+      IsTimed me.feed span me.patterns stop.0 (get_or served k x) →
       is_open (get_or served k x) earliest lasts stop.0 ≡ false →
       AddsReached me lasts stand number (TakesTimed me.patterns served k) old new →
       AddsReached me lasts stand number (TakesTimed me.patterns served (k + 1)) old new
-  reach_closed stop way earliest served k x old new lt within way_is at timed closed before = record {
+  reach_closed span stop way earliest served k x old new lt begins within way_is at timed closed before = record {
     still = before.still;
     all = λ latest last ride next e early takes. ⊎_elim
         (λ lower. before.all latest last ride next e early lower)
-        (λ here. absurd (never_closed me.feed me.query latest lasts stand stop way earliest me.patterns (get_or served k x) ride
-        next within last way_is at timed closed e early here))
+        (λ here. absurd (never_closed me.feed me.query span latest lasts stand stop way earliest me.patterns (get_or served k x) ride
+        next begins within last way_is at timed closed e early here))
         (timed_step me.patterns served k x ride lt takes);
     right = before.right;
   }
 
   -- all of them
   pub reach_stop : (sought : Seeking) (stop n : ℕ) (served : List TimedServing) (old new : List Reached) →
-      sought.query ≡ me.query → IsWithinWindow me.query stand.at → MayBoard me.feed sought stand →
+      IsInScope sought.scope me.query → IsWithinWindow me.query stand.at → MayBoard me.feed me.query sought.marks stand →
       AreTimed me.feed sought me.patterns stop served → length served ≤ n →
       AddsReached me lasts stand number (TakesTimed me.patterns served n) old new →
       AddsReached me lasts stand number (BoardsAt me.feed stop) old new
-  reach_stop sought stop n served old new same within board timed whole adds =
+  reach_stop sought stop n served old new inside within board timed whole adds =
       reached_same (TakesTimed me.patterns served n) (BoardsAt me.feed stop) old new adds
       (λ ride next e boards.
-      let c = caught_ride me.feed sought.query stand ride next (subst (λ q. next_in_time me.feed q stand ride ≡ Some next)
-      (sym same) e) in
+      let c = caught_ride me.feed me.query stand ride next e in
       let from : c.facts.from.0 ≡ stop = ap (λ (f : RideFacts). f.from.0) (same_Some _ _ (sym c.is ∙ boards.is)) ∙ boards.at in
-      let spanned = caught_spanned me.feed sought stand ride next (subst (λ q. IsWithinWindow q stand.at) (sym same) within) board c in
+      let spanned = caught_spanned me.feed me.query sought stand ride next inside within board c in
       let takes = timed.all ride c.facts spanned from in
       let lt = takes.1 in
       (takes.0, omega (arith, lt, whole), takes.2, takes.3, takes.4))

@@ -18,6 +18,7 @@ use Rattle.feed_rows.specs.SoundFeed.{IsSoundFeed}
 use Rattle.plain_laws.proofs.Laws.{le-int_le, slice_get-push_before, slice_get-push_last}
 use Rattle.plan_patterns.specs.declared.pattern.Boarding.{Boarding}
 use Rattle.plan_patterns.specs.declared.serving.Serving.{Serving}
+use Rattle.plan_patterns.specs.declared.span.Span.{Span}
 use Rattle.plan_patterns.specs.Columns.{AreBoardable}
 use Rattle.plan_patterns.specs.Grouping.{PatternOf, PatternsOf, runs_at}
 use Rattle.plan_patterns.specs.Servings.{list_at}
@@ -29,7 +30,7 @@ use Rattle.plan_rides.specs.InTime.{IsWithinWindow, deadline, next_in_time}
 use Rattle.plan_rides.specs.Served.{AddsTimed, AreTimed, AreTimedStops, IsTimed, TakesTimed, is_open}
 use Rattle.plan_rides.proofs.CaughtLaws.{IsCaughtRide, caught_ride}
 use Rattle.plan_rides.proofs.DepartureLaws.{boarding_for, ride_stop, taken_stop, takes_more}
-use Rattle.plan_rides.proofs.CutoffLaws.{caught_parts, earlier_early}
+use Rattle.plan_rides.proofs.CutoffLaws.{caught_parts, earlier_early, onward}
 
 -- the stop of a number
 abbrev stop_id : ℕ → StopId
@@ -46,28 +47,28 @@ timed_still patterns old timed ride takes =
     let long = length_push old timed in
     (takes.0, omega (arith, lt, long), takes.2, slice_get-push_before old timed takes.0 lt ∙ takes.3, takes.4)
 
--- one of which no run departs since the query does needn't be listed
-pub timed_past : (feed : FeedRows) (query : Query) (patterns : List PatternOf) (stop : ℕ) (serving : Serving)
+-- one of which no run departs since the span begins needn't be listed
+pub timed_past : (feed : FeedRows) (span : Span) (patterns : List PatternOf) (stop : ℕ) (serving : Serving)
     (listed : List Boarding) (served : List TimedServing) → length listed ≡ 0 →
-    AreBoardable feed (runs_at patterns serving.pattern) serving.position query.departure.0 listed →
-    AddsTimed feed query patterns stop serving served served
-timed_past feed query patterns stop serving listed served none are = record {
+    AreBoardable feed (runs_at patterns serving.pattern) serving.position span.from.0 listed →
+    AddsTimed feed span patterns stop serving served served
+timed_past feed span patterns stop serving listed served none are = record {
   still = λ ride takes. takes;
   all = λ ride facts is since takes.
-      let found = boarding_for feed patterns serving ride facts listed query.departure.0 are is takes since in
+      let found = boarding_for feed patterns serving ride facts listed span.from.0 are is takes since in
       let lt = found.1.1 in
       absurd (omega (arith, lt, none));
   right = λ right. right;
 }
 
 -- one that is listed with its first and its last departure
-pub timed_more : (feed : FeedRows) (query : Query) (patterns : List PatternOf) (stop : ℕ) (serving : Serving)
+pub timed_more : (feed : FeedRows) (span : Span) (patterns : List PatternOf) (stop : ℕ) (serving : Serving)
     (listed : List Boarding) (x : Boarding) (timed : TimedServing) (old : List TimedServing) → timed.serving ≡ serving →
     timed.first ≡ (get_or listed 0 x).at → timed.last ≡ (get_or listed (length listed - 1) x).at →
     Serves feed patterns stop serving →
-    AreBoardable feed (runs_at patterns serving.pattern) serving.position query.departure.0 listed →
-    AddsTimed feed query patterns stop serving old (old ++ timed ∷ [])
-timed_more feed query patterns stop serving listed x timed old is first last serves are = record {
+    AreBoardable feed (runs_at patterns serving.pattern) serving.position span.from.0 listed →
+    AddsTimed feed span patterns stop serving old (old ++ timed ∷ [])
+timed_more feed span patterns stop serving listed x timed old is first last serves are = record {
   still = λ ride takes. timed_still patterns old timed ride takes;
   all = λ ride facts goes since takes.
       let long = length_push old timed in (
@@ -77,8 +78,8 @@ timed_more feed query patterns stop serving listed x timed old is first last ser
         slice_get-push_last old timed (length old) refl,
         subst (λ s. TakesServing patterns s ride) (sym is) takes,
       );
-  right = λ right. All-append (IsTimed feed query patterns stop) old (timed ∷ []) right
-      (All-cons (IsTimed feed query patterns stop) timed [] here (All-nil (IsTimed feed query patterns stop)));
+  right = λ right. All-append (IsTimed feed span patterns stop) old (timed ∷ []) right
+      (All-cons (IsTimed feed span patterns stop) timed [] here (All-nil (IsTimed feed span patterns stop)));
 }
   where
     ordered : (i j : ℕ) → i ≤ j → j < length listed → (get_or listed i x).at.0 ≤ℤ (get_or listed j x).at.0
@@ -89,11 +90,11 @@ timed_more feed query patterns stop serving listed x timed old is first last ser
         subst (λ n. (get_or listed i x).at.0 ≤ℤ (get_or listed n x).at.0) same (omega (arith, ints)))
         (cases_lt i j)
 
-    here : IsTimed feed query patterns stop timed
+    here : IsTimed feed span patterns stop timed
     here = record {
       serves = subst (Serves feed patterns stop) (sym is) serves;
       bounds = λ ride facts goes takes since.
-          let found = boarding_for feed patterns serving ride facts listed query.departure.0 are goes
+          let found = boarding_for feed patterns serving ride facts listed span.from.0 are goes
           (subst (λ s. TakesServing patterns s ride) is takes) since in
           let i = found.1.0 in
           let lt = found.1.1 in
@@ -108,27 +109,27 @@ timed_more feed query patterns stop serving listed x timed old is first last ser
           );
     }
 
--- of the first n positions that serve a stop, those at which a ride boards since the query departs are listed
-pub record ListsTimed (feed : FeedRows) (query : Query) (patterns : List PatternOf) (stop : ℕ) (servings : List Serving)
+-- of the first n positions that serve a stop, those at which a ride boards since the span begins are listed
+pub record ListsTimed (feed : FeedRows) (span : Span) (patterns : List PatternOf) (stop : ℕ) (servings : List Serving)
     (n : ℕ) (served : List TimedServing) : Type 0 where
   pub all : (ride : Ride) (facts : RideFacts) → ride_facts feed ride ≡ Some facts →
-      query.departure.0 ≤ℤ facts.departure.0 → TakesOneOf patterns servings n ride →
+      span.from.0 ≤ℤ facts.departure.0 → TakesOneOf patterns servings n ride →
       TakesTimed patterns served (length served) ride
-  pub right : All (IsTimed feed query patterns stop) served
+  pub right : All (IsTimed feed span patterns stop) served
 
-pub lists_none : (feed : FeedRows) (query : Query) (patterns : List PatternOf) (stop : ℕ) (servings : List Serving) →
-    ListsTimed feed query patterns stop servings 0 []
-lists_none feed query patterns stop servings = record {
+pub lists_none : (feed : FeedRows) (span : Span) (patterns : List PatternOf) (stop : ℕ) (servings : List Serving) →
+    ListsTimed feed span patterns stop servings 0 []
+lists_none feed span patterns stop servings = record {
   all = λ ride facts is since takes. let below = takes.1 in absurd (omega (arith, below));
-  right = All-nil (IsTimed feed query patterns stop);
+  right = All-nil (IsTimed feed span patterns stop);
 }
 
-pub lists_more : (feed : FeedRows) (query : Query) (patterns : List PatternOf) (stop : ℕ) (servings : List Serving)
+pub lists_more : (feed : FeedRows) (span : Span) (patterns : List PatternOf) (stop : ℕ) (servings : List Serving)
     (k : ℕ) (x : Serving) (old new : List TimedServing) → k < length servings →
-    ListsTimed feed query patterns stop servings k old →
-    AddsTimed feed query patterns stop (get_or servings k x) old new →
-    ListsTimed feed query patterns stop servings (k + 1) new
-lists_more feed query patterns stop servings k x old new lt before adds = record {
+    ListsTimed feed span patterns stop servings k old →
+    AddsTimed feed span patterns stop (get_or servings k x) old new →
+    ListsTimed feed span patterns stop servings (k + 1) new
+lists_more feed span patterns stop servings k x old new lt before adds = record {
   all = λ ride facts is since takes. ⊎_elim
       (λ lower. adds.still ride (before.all ride facts is since lower))
       (λ here. adds.all ride facts is since here)
@@ -139,7 +140,7 @@ lists_more feed query patterns stop servings k x old new lt before adds = record
 -- so all are that may be caught
 pub are_timed : (feed : FeedRows) (sought : Seeking) (patterns : List PatternOf) (stop n : ℕ) (servings : List Serving)
     (served : List TimedServing) → AreServed feed sought patterns stop servings → length servings ≤ n →
-    ListsTimed feed sought.query patterns stop servings n served → AreTimed feed sought patterns stop served
+    ListsTimed feed sought.scope.span patterns stop servings n served → AreTimed feed sought patterns stop served
 are_timed feed sought patterns stop n servings served are whole lists = record {
   all = λ ride facts e from.
       let takes = are.all ride facts e from in
@@ -185,7 +186,7 @@ stops_all feed sought patterns n by_stop sound of whole many each = record {
         all = λ ride facts e from.
             let lt = ride_stop feed ride facts sound e.is in
             absurd (omega (arith, lt, from, past, whole));
-        right = All-nil (IsTimed feed sought.query patterns.patterns stop);
+        right = All-nil (IsTimed feed sought.scope.span patterns.patterns stop);
       }))
       (cases_lt stop n);
 }
@@ -206,14 +207,14 @@ timed_step patterns served k x ride lt takes =
     (cases_lt takes.0 k)
 
 -- no ride is caught at a position from which the last run has left, or the first departs too late
-pub never_closed : (feed : FeedRows) (query : Query) (latest lasts : CutoffOf) (stand : Stand) (stop : StopId)
+pub never_closed : (feed : FeedRows) (query : Query) (span : Span) (latest lasts : CutoffOf) (stand : Stand) (stop : StopId)
     (way : ℕ) (earliest : ℤ) (patterns : List PatternOf) (timed : TimedServing) (ride : Ride) (next : Stand) →
-    IsWithinWindow query stand.at → AreLastDepartures feed query latest lasts →
+    span.from.0 ≤ℤ query.departure.0 → IsWithinWindow query stand.at → AreLastDepartures feed query latest lasts →
     way_to feed query stand stop ≡ Some way → earliest ≡ stand.at +ℤ pos way →
-    IsTimed feed query patterns stop.0 timed → is_open timed earliest lasts stop.0 ≡ false →
+    IsTimed feed span patterns stop.0 timed → is_open timed earliest lasts stop.0 ≡ false →
     next_in_time feed query stand ride ≡ Some next → is_early latest next.stop.0 next.at ≡ true →
     TakesServing patterns timed.serving ride → ⊥
-never_closed feed query latest lasts stand stop way earliest patterns timed ride next within last way_is at is closed e
+never_closed feed query span latest lasts stand stop way earliest patterns timed ride next begins within last way_is at is closed e
     early
     takes =
     both_ways (is_open timed earliest lasts stop.0) closed
@@ -231,7 +232,7 @@ never_closed feed query latest lasts stand stop way earliest patterns timed ride
     parts = caught_parts feed query latest stand ride next within early c
 
     bounds : (timed.first.0 ≤ℤ c.facts.departure.0) × (c.facts.departure.0 ≤ℤ timed.last.0)
-    bounds = is.bounds ride c.facts c.is takes parts.0
+    bounds = is.bounds ride c.facts c.is takes (onward span.from.0 query.departure.0 c.facts.departure.0 begins parts.0)
 
     boards : c.facts.from.0 ≡ stop.0
     boards = taken_stop feed patterns stop.0 timed.serving ride c.facts is.serves takes c.is

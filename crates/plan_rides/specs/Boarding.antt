@@ -7,18 +7,19 @@ use Rattle.feed_rows.specs.FeedRows.{FeedRows}
 use Rattle.feed_rows.specs.JourneyStands.{Stand, first_stand, way_to}
 use Rattle.feed_rows.specs.Journeys.{stands_for}
 use Rattle.feed_walks.specs.declared.steps.Step.{Step}
+use Rattle.plan_rides.specs.declared.scope.Scope.{Scope}
 
 -- the stop is marked; a stop past the end of the marks counts as such
 abbrev pub is_marked : List Bool → ℕ → Bool
 is_marked marks stop = slice_index_or marks stop true
 
--- a query, and marks of the stops at which its rides may board
+-- for which queries rides are sought, and marks of the stops at which these may board
 pub record Seeking : Type 0 where
-  pub query : Query
+  pub scope : Scope
   pub marks : List Bool
 
-abbrev pub seeking : Query → List Bool → Seeking
-seeking query marks = record { query = query; marks = marks }
+abbrev pub seeking : Scope → List Bool → Seeking
+seeking scope marks = record { scope = scope; marks = marks }
 
 -- riders may board at the stop time, and its stop is marked
 abbrev pub is_boarding : Seeking → StopTimeRow → Bool
@@ -29,11 +30,16 @@ abbrev pub MarksFrom : FeedRows → Query → List Bool → Stand → Type 0
 MarksFrom feed query marks stand = (stop : StopId) (way : ℕ) → way_to feed query stand stop ≡ Some way →
     is_marked marks stop.0 ≡ true
 
--- the stops are marked at which a first ride may board, and for a query of more than one ride all
+-- the stops are marked at which a first ride of a query from this stop may board, whenever it departs
+abbrev pub AreFirstMarks : FeedRows → StopId → List Bool → Type 0
+AreFirstMarks feed from marks =
+    (query : Query) → query.from ≡ from → (first : StopId) → IsTrue (stands_for feed from first) →
+    MarksFrom feed query marks (first_stand query first)
+
+-- those are marked, and for more than one ride all
 pub record AreMarks (feed : FeedRows) (sought : Seeking) : Type 0 where
-  pub first : (first : StopId) → IsTrue (stands_for feed sought.query.from first) →
-      MarksFrom feed sought.query sought.marks (first_stand sought.query first)
-  pub all : 1 < sought.query.rides → (stop : ℕ) → is_marked sought.marks stop ≡ true
+  pub first : AreFirstMarks feed sought.scope.from sought.marks
+  pub all : 1 < sought.scope.rides → (stop : ℕ) → is_marked sought.marks stop ≡ true
 
 -- the new marks have those that were there, and one for each stop of this part
 pub record AddsMarks (Part : ℕ → Type 0) (old new : List Bool) : Type 0 where
@@ -59,9 +65,9 @@ pub record MayRide (feed : FeedRows) (query : Query) (stand : Stand) : Type 0 wh
       (first : StopId) × IsTrue (stands_for feed query.from first) × (stand ≡ first_stand query first)
 
 -- the query has rides, and the stops are marked at which one may board from here
-pub record MayBoard (feed : FeedRows) (sought : Seeking) (stand : Stand) : Type 0 where
-  pub some : 0 < sought.query.rides
-  pub marked : MarksFrom feed sought.query sought.marks stand
+pub record MayBoard (feed : FeedRows) (query : Query) (marks : List Bool) (stand : Stand) : Type 0 where
+  pub some : 0 < query.rides
+  pub marked : MarksFrom feed query marks stand
 
 -- the stop stands among the first k of a list
 abbrev pub IsAmong : List StopId → ℕ → StopId → Type 0

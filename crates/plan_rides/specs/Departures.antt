@@ -1,4 +1,4 @@
--- Departures within a query's window, by the stops that they are from.
+-- Departures within a span, by the stops that they are from.
 use Rattle.std.specs.Prelude.{◌≡◌, ◌≢◌, Bool, true, false, ◌&&◌, ℕ, ◌<◌, ◌≤◌, List, length, slice_get, slice_index_or, All, Contains, Option, Some, ℤ, pos, ◌+ℤ◌, ◌≤ℤ◌, int_le}
 use Rattle.std.specs.List.{AllPairs, AllWithin}
 use Rattle.transit_base.specs.Moments.{moment_at}
@@ -25,14 +25,14 @@ use Rattle.plan_rides.specs.Cutoffs.{CutoffOf, is_early}
 use Rattle.plan_rides.specs.InTime.{deadline, departure_of}
 use Rattle.plan_rides.specs.Runs.{RunOf, run_of, IsRun}
 
--- the query has rides, and the ride goes so, boards at a stop that is marked, departs no earlier than the query, and
--- arrives no later than its window ends
+-- there may be rides, and the ride goes so, boards at a stop that is marked, departs no earlier than the span begins, and
+-- arrives no later than it ends
 pub record IsSpanned (feed : FeedRows) (sought : Seeking) (ride : Ride) (facts : RideFacts) : Type 0 where
-  pub some : 0 < sought.query.rides
+  pub some : 0 < sought.scope.rides
   pub is : ride_facts feed ride ≡ Some facts
   pub boards : is_marked sought.marks facts.from.0 ≡ true
-  pub since : sought.query.departure.0 ≤ℤ facts.departure.0
-  pub until : facts.arrival.0 ≤ℤ deadline sought.query
+  pub since : sought.scope.span.from.0 ≤ℤ facts.departure.0
+  pub until : facts.arrival.0 ≤ℤ sought.scope.span.until.0
 
 -- the trips are of the feed, each once, and those are among them that have a ride that may be caught
 pub record AreBoarded (feed : FeedRows) (sought : Seeking) (trips : List TripId) : Type 0 where
@@ -68,10 +68,6 @@ pub record IsDeparture (feed : FeedRows) (d : Departure) : Type 0 where
   pub is : slice_get (calls_of feed d.trip) d.from ≡ Some call
   pub pickup : call.pickup ≡ true
   pub made : departure_from (run_of feed d.trip d.day d.shift) call d.from ≡ d
-
--- it departs no earlier than the query
-abbrev pub IsSince : Query → Departure → Type 0
-IsSince query d = query.departure.0 ≤ℤ d.at.0
 
 -- the departure is one of the feed, from this stop
 abbrev pub IsFromStop : FeedRows → ℕ → Departure → Type 0

@@ -16,9 +16,6 @@ use Rattle.plan_rides.specs.declared.caught.CaughtRide.{CaughtRide}
 abbrev pub deadline : Query → ℤ
 deadline query = query.departure.0 +ℤ pos query.window
 
-abbrev pub IsDeadline : Query → ℤ → Type 0
-IsDeadline query at = at ≡ deadline query
-
 -- the stand, where one stands there within the window
 abbrev pub if_in_time : Query → Stand → Option Stand
 if_in_time query stand = when (int_le stand.at (deadline query)) stand

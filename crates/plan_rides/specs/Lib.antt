@@ -5,6 +5,7 @@ pub mod Departures
 pub mod InTime
 pub mod Reached
 pub mod Runs
+pub mod Scopes
 pub mod Served
 pub mod Spans
 pub mod Travelling

@@ -1,11 +1,11 @@
 -- Where and when patterns serve stops.
 use Rattle.std.specs.Prelude.{◌≡◌, ℕ, ◌<◌, Bool, ◌&&◌, List, Some, length, slice_get, All, ℤ, ◌≤ℤ◌, int_le}
-use Rattle.feed_rows.specs.declared.journeys.Query.{Query}
 use Rattle.feed_rows.specs.declared.journeys.Ride.{Ride}
 use Rattle.feed_rows.specs.declared.journeys.RideFacts.{RideFacts}
 use Rattle.feed_rows.specs.FeedRows.{FeedRows}
 use Rattle.feed_rows.specs.Rides.{ride_facts}
 use Rattle.plan_patterns.specs.declared.serving.Serving.{Serving}
+use Rattle.plan_patterns.specs.declared.span.Span.{Span}
 use Rattle.plan_patterns.specs.Grouping.{PatternOf, PatternsOf}
 use Rattle.plan_patterns.specs.Servings.{list_at}
 use Rattle.plan_rides.specs.declared.servings.TimedServing.{TimedServing}
@@ -17,13 +17,13 @@ use Rattle.plan_rides.specs.Departures.{IsSpanned, Serves, TakesServing}
 abbrev pub is_open : TimedServing → ℤ → CutoffOf → ℕ → Bool
 is_open timed from lasts stop = int_le from timed.last.0 && is_early lasts stop timed.first.0
 
--- a position at which riders may board at this stop; each ride that boards there, no earlier than the query, departs no
--- earlier than the first moment and no later than the last
-pub record IsTimed (feed : FeedRows) (query : Query) (patterns : List PatternOf) (stop : ℕ) (timed : TimedServing) :
+-- a position at which riders may board at this stop; each ride that boards there, no earlier than the span begins, departs
+-- no earlier than the first moment and no later than the last
+pub record IsTimed (feed : FeedRows) (span : Span) (patterns : List PatternOf) (stop : ℕ) (timed : TimedServing) :
     Type 0 where
   pub serves : Serves feed patterns stop timed.serving
   pub bounds : (ride : Ride) (facts : RideFacts) → ride_facts feed ride ≡ Some facts →
-      TakesServing patterns timed.serving ride → query.departure.0 ≤ℤ facts.departure.0 →
+      TakesServing patterns timed.serving ride → span.from.0 ≤ℤ facts.departure.0 →
       (timed.first.0 ≤ℤ facts.departure.0) × (facts.departure.0 ≤ℤ timed.last.0)
 
 -- the ride boards at one of the first n of these positions
@@ -37,7 +37,7 @@ pub record AreTimed (feed : FeedRows) (sought : Seeking) (patterns : List Patter
     (served : List TimedServing) : Type 0 where
   pub all : (ride : Ride) (facts : RideFacts) → IsSpanned feed sought ride facts → facts.from.0 ≡ stop →
       TakesTimed patterns served (length served) ride
-  pub right : All (IsTimed feed sought.query patterns stop) served
+  pub right : All (IsTimed feed sought.scope.span patterns stop) served
 
 -- so it is at each stop, with those that are listed by its number
 pub record AreTimedStops (feed : FeedRows) (sought : Seeking) (patterns : PatternsOf)
@@ -45,11 +45,12 @@ pub record AreTimedStops (feed : FeedRows) (sought : Seeking) (patterns : Patter
   pub of : patterns.feed ≡ feed
   pub each : (stop : ℕ) → AreTimed feed sought patterns.patterns stop (list_at by_stop stop)
 
--- the new list has what it had, and the position, where a ride boards there no earlier than the query; and stays right
-pub record AddsTimed (feed : FeedRows) (query : Query) (patterns : List PatternOf) (stop : ℕ) (serving : Serving)
+-- the new list has what it had, and the position, where a ride boards there no earlier than the span begins; and stays
+-- right
+pub record AddsTimed (feed : FeedRows) (span : Span) (patterns : List PatternOf) (stop : ℕ) (serving : Serving)
     (old new : List TimedServing) : Type 0 where
   pub still : (ride : Ride) → TakesTimed patterns old (length old) ride → TakesTimed patterns new (length new) ride
   pub all : (ride : Ride) (facts : RideFacts) → ride_facts feed ride ≡ Some facts →
-      query.departure.0 ≤ℤ facts.departure.0 → TakesServing patterns serving ride → TakesTimed patterns new (length new)
+      span.from.0 ≤ℤ facts.departure.0 → TakesServing patterns serving ride → TakesTimed patterns new (length new)
       ride
-  pub right : All (IsTimed feed query patterns stop) old → All (IsTimed feed query patterns stop) new
+  pub right : All (IsTimed feed span patterns stop) old → All (IsTimed feed span patterns stop) new

@@ -1,12 +1,12 @@
 //! The least seconds from where a ride boards to a journey's end: trip by trip, from the last call of each.
-ghost use Rattle.std.specs.Prelude.{◌≡◌, ◌<◌, ◌≤◌, ◌-ℤ◌, ℤ, pos, length, All, true, false};
+ghost use Rattle.std.specs.Prelude.{◌≡◌, ◌<◌, ◌≤◌, ◌-ℤ◌, ℕ, ℤ, pos, length, All, true, false};
+ghost use Rattle.plan_patterns.specs.Grouping.{runs_at};
 ghost use Rattle.plan_rides.specs.Cutoffs.{is_enough};
-ghost use Rattle.plan_rides.specs.Departures.{HoldsRuns, IsRunOf};
+ghost use Rattle.plan_rides.specs.Departures.{IsRunOf};
 ghost use Rattle.plan_rides.specs.InTime.{IsUsualQuery};
 ghost use Rattle.plan_rides.specs.Spans.{AddsBoards, FollowsOwn, IsOfPatterns, IsOfRuns, IsOfTrip, PutsBoard, is_end_by};
 ghost use Rattle.transit_base.specs.Limits.{most_time};
 
-use crate::sought::Sought;
 use crate::spans::{shorter, span_of};
 use feed_rows::{Call, Query};
 use feed_timetable::Timetable;
@@ -109,16 +109,15 @@ fn add_runs(
 pub fn add_patterns<'f>(
     timetable: &Timetable<'f>,
     patterns: &Patterns<'f>,
-    sought: &Sought,
+    query: &Query,
     spans: &[Option<Secs>],
     boards: &mut [Option<Secs>],
 )
-    requires held { HoldsRuns timetable.now sought.now patterns.now }
+    requires runs { (p : ℕ) → All (IsRunOf timetable.now) (runs_at patterns.now.patterns p) }
     requires spans { length spans.now ≡ length timetable.now.stops }
     requires boards { length boards.old ≡ length timetable.now.stops }
-    ensures { AddsBoards timetable.now sought.now.query spans.now (IsOfPatterns patterns.now.patterns (length patterns.now.patterns)) boards.old boards.new }
+    ensures { AddsBoards timetable.now query.now spans.now (IsOfPatterns patterns.now.patterns (length patterns.now.patterns)) boards.old boards.new }
 {
-    let query = sought.query();
     for pattern in 0..patterns.count() {
         add_runs(timetable, query, spans, patterns.runs(pattern), boards);
     }

@@ -1,22 +1,24 @@
-//! The departures of a query's window, and the patterns whose runs they are of.
+//! The departures of a span, and the patterns whose runs they are of.
 ghost use Rattle.std.specs.Prelude.{◌≡◌, ◌<◌, ◌≤◌, length, All, IfOk, OnOk};
 ghost use Rattle.plan_patterns.specs.declared.runs.Run.{Run};
 ghost use Rattle.plan_patterns.specs.Columns.{AreInOrder};
 ghost use Rattle.plan_patterns.specs.Runs.{IsNear};
+ghost use Rattle.plan_patterns.specs.Spans.{IsUsualSpan};
 ghost use Rattle.plan_rides.specs.Boarding.{is_boarding};
 ghost use Rattle.plan_rides.specs.Cutoffs.{cutoff_of};
 ghost use Rattle.plan_rides.specs.Departures.{AddsTrip, AreBoarded, AreDepartures, AreLateFrom, AreListed, HoldsRuns, departure_at};
 ghost use Rattle.plan_rides.specs.Departures.{facts_in_time, ride_to, run_with};
-ghost use Rattle.plan_rides.specs.InTime.{deadline, IsUsualQuery};
+ghost use Rattle.plan_rides.specs.InTime.{IsUsualQuery};
 ghost use Rattle.transit_base.specs.Limits.{most_time};
 
 use crate::cutoffs::{Cutoff, is_early};
+use crate::scope::deadline;
 use crate::sought::Sought;
 use feed_rows::{Call, Query, Ride, RideFacts, StopTimeRow};
 use feed_timetable::Timetable;
 use plan_patterns::{Boarding, Patterns, Run};
 use std::alloc::{AllocError, Global};
-use transit_base::{Day, Moment, NetworkId, Secs, StopId, TripId};
+use transit_base::{Day, Moment, NetworkId, StopId, TripId};
 
 /// A run's departure from one of its calls, where riders may board.
 #[derive(Clone, Copy)]
@@ -74,14 +76,6 @@ impl Departure {
     }
 }
 
-/// The latest moment at which a journey may end.
-pub fn deadline(query: &Query) -> Moment
-    requires usual { IsUsualQuery query.now }
-    ensures { result.0 ≡ deadline query.now }
-{
-    query.departure.plus(Secs(query.window))
-}
-
 // Whether riders may board at the stop time, and its stop is marked.
 fn is_boarding(sought: &Sought, row: &StopTimeRow) -> bool
     ensures { result ≡ is_boarding sought.now row.now }
@@ -106,8 +100,8 @@ fn list_once(marks: &mut [bool], trips: &mut Vec<TripId>, trip: TripId) -> Resul
     Ok(())
 }
 
-/// The trips that riders may board at a stop that is marked, in the order of the file. A query of one ride has few of
-/// them, and looks at no other trip again, whatever the days.
+/// The trips that riders may board at a stop that is marked, in the order of the file. For one ride there are few of
+/// them, and no other trip is looked at again, whatever the days.
 ///
 /// # Errors
 /// Want of memory.
@@ -119,7 +113,7 @@ pub fn boarded_trips(
     ensures { IfOk result (λ trips. AreBoarded timetable.now sought.now trips.items) }
 {
     let mut trips = Vec::new(alloc);
-    if sought.query().rides == 0 {
+    if sought.rides() == 0 {
         return Ok(trips);
     }
     let feed = timetable.feed();
@@ -134,7 +128,7 @@ pub fn boarded_trips(
     Ok(trips)
 }
 
-/// The runs by which a ride of the query may be caught, by patterns.
+/// The runs by which a ride may be caught, by patterns.
 ///
 /// # Errors
 /// Want of memory.
@@ -143,12 +137,12 @@ pub fn patterns_of<'f>(
     timetable: &Timetable<'f>,
     sought: &Sought,
 ) -> Result<Patterns<'f>, AllocError>
-    requires usual { IsUsualQuery sought.now.query }
+    requires usual { IsUsualSpan sought.now.scope.span }
     ensures held { IfOk result (λ patterns. HoldsRuns timetable.now sought.now patterns) }
     ensures served { IfOk result (λ patterns. AreDepartures timetable.now sought.now patterns) }
 {
     let trips = boarded_trips(alloc, timetable, sought)?;
-    Patterns::build(alloc, timetable, sought.query(), &trips)
+    Patterns::build(alloc, timetable, sought.span(), &trips)
 }
 
 /// Where one of these runs departs that is boarded so, from the stop, which is at this position.

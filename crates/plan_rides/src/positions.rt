@@ -15,7 +15,8 @@ ghost use Rattle.transit_base.specs.Limits.{most_time};
 
 use crate::caught::CaughtRide;
 use crate::cutoffs::{Cutoff, is_early};
-use crate::departures::{Departure, deadline, departure_at, first_late};
+use crate::departures::{Departure, departure_at, first_late};
+use crate::scope::deadline;
 use crate::servings::TimedServing;
 use crate::sought::Sought;
 use feed_rows::{Call, Query};
@@ -91,14 +92,14 @@ fn add_departure(
     Ok(())
 }
 
-/// Where riders may board the runs of a query's patterns. Contracts see the feed, the query and the patterns.
+/// Where riders of a query may board the runs that are held. Contracts see the feed, the query and the patterns.
 pub struct Positions<'s> {
     pub(crate) timetable: &'s Timetable<'s>,
     pub(crate) query: &'s Query,
-    pub(crate) sought: Sought,
-    pub(crate) patterns: Patterns<'s>,
+    pub(crate) sought: &'s Sought,
+    pub(crate) patterns: &'s Patterns<'s>,
     /// Where and when the patterns serve each stop.
-    pub(crate) served: Groups<TimedServing>,
+    pub(crate) served: &'s Groups<TimedServing>,
 }
 
 // Written out, so that what holds one needn't look into it to let go of it.
@@ -115,19 +116,19 @@ impl<'s> Drop for Positions<'s> {
 }
 
 impl<'s> Model for Positions<'s> {
-    ghost use Rattle.std.specs.Prelude.{◌≡◌};
     ghost use Rattle.feed_rows.specs.SoundFeed.{IsSoundFeed};
     ghost use Rattle.plan_rides.specs.Boarding.{AreMarks};
     ghost use Rattle.plan_rides.specs.Departures.{HoldsRuns};
     ghost use Rattle.plan_rides.specs.InTime.{IsUsualQuery};
     ghost use Rattle.plan_rides.specs.Reached.{Positioned, positioned};
+    ghost use Rattle.plan_rides.specs.Scopes.{IsInScope};
     ghost use Rattle.plan_rides.specs.Served.{AreTimedStops};
 
     ghost Value = { Positioned };
 
-    ghost view = { λ s. positioned s.timetable.now s.query.now s.patterns.patterns };
+    ghost view = { λ s. positioned s.timetable.now s.query.now s.patterns.now.patterns };
 
-    ghost invariant = { λ s. IsSoundFeed s.timetable.now × IsUsualQuery s.query.now × AreTimedStops s.timetable.now s.sought s.patterns s.served × (s.sought.query ≡ s.query.now) × AreMarks s.timetable.now s.sought × HoldsRuns s.timetable.now s.sought s.patterns };
+    ghost invariant = { λ s. IsSoundFeed s.timetable.now × IsUsualQuery s.query.now × AreTimedStops s.timetable.now s.sought.now s.patterns.now s.served.now × IsInScope s.sought.now.scope s.query.now × AreMarks s.timetable.now s.sought.now × HoldsRuns s.timetable.now s.sought.now s.patterns.now };
 }
 
 impl<'s> Positions<'s> {

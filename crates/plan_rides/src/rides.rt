@@ -1,19 +1,19 @@
-//! The rides of a query over a timetable.
+//! The rides of a query by the runs that are held.
 ghost use Rattle.std.specs.Prelude.{◌≡◌, ◌<◌, All, IfOk, length, option_map};
 ghost use Rattle.feed_rows.specs.JourneyStands.{first_stand};
 ghost use Rattle.feed_rows.specs.SoundFeed.{IsSoundFeed};
 ghost use Rattle.feed_timetable.specs.Standings.{stand_of};
 ghost use Rattle.plan_rides.specs.Asked.{asked, arrival_in_time};
 ghost use Rattle.plan_rides.specs.Boarding.{MayRide};
-ghost use Rattle.plan_rides.specs.InTime.{IsUsualQuery, IsDeadline, IsWithinWindow, HasCaught, IsRight};
+ghost use Rattle.plan_rides.specs.InTime.{IsUsualQuery, IsWithinWindow, HasCaught, IsRight};
+ghost use Rattle.plan_rides.specs.Scopes.{IsInScope};
 ghost use Rattle.plan_rides.specs.Spans.{AreBoardSpans, AreEndSpans, IsOneMoreSpan};
 
 use crate::boards::add_patterns;
 use crate::caught::CaughtRide;
-use crate::departures::{deadline, patterns_of};
+use crate::held::SpanRuns;
 use crate::positions::Positions;
-use crate::servings::served_stops;
-use crate::sought::Sought;
+use crate::scope::deadline;
 use crate::spans::{end_span, span_from};
 use feed_rows::Query;
 use feed_timetable::{Standing, Timetable};
@@ -21,64 +21,46 @@ use std::alloc::{AllocError, Global};
 use std::marker::Model;
 use transit_base::{Moment, Secs, StopId};
 
-/// The rides of a query over a timetable, by where they can be caught: by the patterns of its runs.
+/// The rides of a query, by where they can be caught: by the patterns of the runs that are held for it.
 /// Contracts see it as the feed and the query.
 pub struct Rides<'s> {
     positions: Positions<'s>,
-    deadline: Moment,
 }
 
 // Written out, so that what holds one needn't look into it to let go of it.
 impl<'s> Drop for Rides<'s> {
     fn drop(self) {
-        let Rides {
-            positions: _,
-            deadline: _,
-        } = self;
+        let Rides { positions: _ } = self;
     }
 }
 
 impl<'s> Model for Rides<'s> {
     ghost use Rattle.feed_rows.specs.SoundFeed.{IsSoundFeed};
     ghost use Rattle.plan_rides.specs.Asked.{Asked, asked};
-    ghost use Rattle.plan_rides.specs.InTime.{IsUsualQuery, IsDeadline};
+    ghost use Rattle.plan_rides.specs.InTime.{IsUsualQuery};
 
     ghost Value = { Asked };
 
     ghost view = { λ s. asked s.positions.feed s.positions.query };
 
-    ghost invariant = { λ s. IsSoundFeed s.positions.feed × IsUsualQuery s.positions.query × IsDeadline s.positions.query s.deadline.0 };
+    ghost invariant = { λ s. IsSoundFeed s.positions.feed × IsUsualQuery s.positions.query };
 }
 
 impl<'s> Rides<'s> {
-    /// The rides of the query over the timetable.
-    ///
-    /// # Errors
-    /// Want of memory.
-    pub fn of(
-        alloc: Global,
-        timetable: &'s Timetable<'s>,
-        query: &'s Query,
-    ) -> Result<Rides<'s>, AllocError>
+    /// The rides of the query, by runs that are held for it and for others.
+    pub fn of(runs: &'s SpanRuns<'s>, query: &'s Query) -> Rides<'s>
         requires usual { IsUsualQuery query.now }
-        ensures { IfOk result (λ rides. rides ≡ asked timetable.now query.now) }
+        requires within { IsInScope runs.now.scope query.now }
+        ensures { result ≡ asked runs.now.feed query.now }
     {
-        let sought = Sought::new(alloc, timetable, query)?;
-        match patterns_of(alloc, timetable, &sought) {
-            Ok(patterns) => {
-                let served = served_stops(alloc, timetable, &patterns, &sought)?;
-                Ok(Rides {
-                    positions: Positions {
-                        timetable,
-                        query,
-                        sought,
-                        patterns,
-                        served,
-                    },
-                    deadline: deadline(query),
-                })
-            }
-            Err(AllocError) => Err(AllocError),
+        Rides {
+            positions: Positions {
+                timetable: runs.timetable,
+                query,
+                sought: &runs.sought,
+                patterns: &runs.patterns,
+                served: &runs.served,
+            },
         }
     }
 
@@ -95,13 +77,6 @@ impl<'s> Rides<'s> {
         ensures usual { IsUsualQuery self.now.query }
     {
         self.positions.query
-    }
-
-    /// The latest moment at which a journey may end.
-    pub fn deadline(&self) -> Moment
-        ensures { IsDeadline self.now.query result.0 }
-    {
-        self.deadline
     }
 
     /// Where one stands at a first stop, before any ride.
@@ -123,11 +98,9 @@ impl<'s> Rides<'s> {
         requires { IsWithinWindow self.now.query standing.at.0 }
         ensures { option_map (λ (moment : Moment). moment.0) result ≡ arrival_in_time self.now.feed self.now.query (stand_of standing) last }
     {
-        let arrival = self
-            .positions
-            .timetable
-            .end_arrival(self.positions.query, standing, last)?;
-        if arrival.0 > self.deadline.0 {
+        let query = self.positions.query;
+        let arrival = self.positions.timetable.end_arrival(query, standing, last)?;
+        if arrival.0 > deadline(query).0 {
             return None;
         }
         Some(arrival)
@@ -180,8 +153,8 @@ impl<'s> Rides<'s> {
         let mut boards = vec![in alloc; None; stops]?;
         add_patterns(
             positions.timetable,
-            &positions.patterns,
-            &positions.sought,
+            positions.patterns,
+            positions.query,
             spans,
             &mut boards,
         );

@@ -1,5 +1,5 @@
 //! Where and when patterns serve stops: the moments of the first and of the last departure from each position since the
-//! query departs, which tell without a look into the pattern whether one can be caught there.
+//! span begins, which tell without a look into the pattern whether one can be caught there.
 ghost use Rattle.std.specs.Prelude.{◌≡◌, ◌<◌, IfOk, OnOk, length};
 ghost use Rattle.feed_rows.specs.SoundFeed.{IsSoundFeed};
 ghost use Rattle.plan_rides.specs.Cutoffs.{cutoff_of};
@@ -8,15 +8,14 @@ ghost use Rattle.plan_rides.specs.Served.{AddsTimed, AreTimed, AreTimedStops, is
 
 use crate::cutoffs::{Cutoff, is_early};
 use crate::sought::Sought;
-use feed_rows::Query;
 use feed_timetable::Timetable;
 use item_groups::Groups;
-use plan_patterns::{Patterns, Serving};
+use plan_patterns::{Patterns, Serving, Span};
 use std::alloc::{AllocError, Global};
 use transit_base::{Moment, StopId};
 
 /// A position of a pattern at which riders may board, and when the first and the last of its runs depart from there, of
-/// those that do so no earlier than the query.
+/// those that do so no earlier than the span begins.
 #[derive(Clone, Copy)]
 pub struct TimedServing {
     pub serving: Serving,
@@ -33,18 +32,18 @@ impl TimedServing {
     }
 }
 
-// Appends the position with its moments; nothing where no run departs since the query does.
+// Appends the position with its moments; nothing where no run departs since the span begins.
 fn add_serving(
     patterns: &Patterns,
-    query: &Query,
+    span: &Span,
     stop: StopId,
     serving: &Serving,
     served: &mut Vec<TimedServing>,
 ) -> Result<(), AllocError>
     requires { Serves patterns.now.feed patterns.now.patterns stop.0 serving.now }
-    ensures { OnOk result (AddsTimed patterns.now.feed query.now patterns.now.patterns stop.0 serving.now served.old.items served.new.items) }
+    ensures { OnOk result (AddsTimed patterns.now.feed span.now patterns.now.patterns stop.0 serving.now served.old.items served.new.items) }
 {
-    let boardings = patterns.boardable(serving.pattern, serving.position, query.departure);
+    let boardings = patterns.boardable(serving.pattern, serving.position, span.from);
     if boardings.is_empty() {
         return Ok(());
     }
@@ -56,7 +55,7 @@ fn add_serving(
     Ok(())
 }
 
-// Replaces what `served` holds by the positions at the stop from which a run departs since the query does.
+// Replaces what `served` holds by the positions at the stop from which a run departs since the span begins.
 fn serve_stop(
     patterns: &Patterns,
     sought: &Sought,
@@ -68,10 +67,10 @@ fn serve_stop(
     ensures { OnOk result (AreTimed patterns.now.feed sought.now patterns.now.patterns stop.0 served.new.items) }
 {
     served.clear();
-    let query = sought.query();
+    let span = sought.span();
     let servings = patterns.serving(stop);
     for k in 0..servings.len() {
-        add_serving(patterns, query, stop, &servings[k], served)?;
+        add_serving(patterns, span, stop, &servings[k], served)?;
     }
     Ok(())
 }

@@ -1,21 +1,20 @@
-//! A query, and where its rides may board.
-ghost use Rattle.std.specs.Prelude.{◌≡◌, length, IfOk, IsTrue};
+//! For which queries rides are sought, and where these may board.
+ghost use Rattle.std.specs.Prelude.{◌≡◌, length, IfOk};
 ghost use Rattle.feed_rows.specs.JourneyStands.{first_stand};
-ghost use Rattle.feed_rows.specs.Journeys.{stands_for};
 ghost use Rattle.feed_rows.specs.declared.journeys.Query.{Query};
-ghost use Rattle.plan_rides.specs.Boarding.{AddsMarks, AreMarks, MarksFirsts, MarksFrom, is_marked, seeking};
-ghost use Rattle.transit_base.specs.declared.numbers.StopId.{StopId};
+ghost use Rattle.plan_rides.specs.Boarding.{AddsMarks, AreFirstMarks, AreMarks, MarksFirsts, MarksFrom, is_marked, seeking};
 
-use feed_rows::Query;
+use crate::scope::Scope;
 use feed_timetable::Timetable;
+use plan_patterns::Span;
 use std::alloc::{AllocError, Global};
 use std::marker::Model;
 use transit_base::StopId;
 
-/// A query, with marks of the stops at which its rides may board, so that no departures are listed from others.
+/// A scope, with marks of the stops at which rides of its queries may board, so that no departures are listed from others.
 /// Contracts see it as these two.
 pub struct Sought {
-    query: Query,
+    scope: Scope,
     /// By stop. A stop past their end counts as marked.
     marks: Vec<bool>,
 }
@@ -23,7 +22,7 @@ pub struct Sought {
 // Written out, so that what holds one needn't look into it to let go of it.
 impl Drop for Sought {
     fn drop(self) {
-        let Sought { query: _, marks: _ } = self;
+        let Sought { scope: _, marks: _ } = self;
     }
 }
 
@@ -32,30 +31,37 @@ impl Model for Sought {
 
     ghost Value = { Seeking };
 
-    ghost view = { λ s. seeking s.query s.marks.items };
+    ghost view = { λ s. seeking s.scope s.marks.items };
 }
 
 impl Sought {
-    /// The query over the timetable. Where it has one ride alone, the stops are marked at which that may board.
+    /// The scope over the timetable. Where it is of one ride alone, the stops are marked at which that may board.
     ///
     /// # Errors
     /// Want of memory.
-    pub fn new(alloc: Global, timetable: &Timetable, query: &Query) -> Result<Sought, AllocError>
-        ensures query { IfOk result (λ sought. sought.query ≡ query.now) }
+    pub fn new(alloc: Global, timetable: &Timetable, scope: &Scope) -> Result<Sought, AllocError>
+        ensures scope { IfOk result (λ sought. sought.scope ≡ scope.now) }
         ensures marks { IfOk result (λ sought. AreMarks timetable.now sought) }
     {
-        let marks = marks_of(alloc, timetable, query)?;
+        let marks = marks_of(alloc, timetable, scope)?;
         Ok(Sought {
-            query: *query,
+            scope: *scope,
             marks,
         })
     }
 
-    /// The query.
-    pub fn query(&self) -> &Query
-        ensures { result.now ≡ self.now.query }
+    /// The span.
+    pub fn span(&self) -> &Span
+        ensures { result.now ≡ self.now.scope.span }
     {
-        &self.query
+        &self.scope.span
+    }
+
+    /// The greatest number of rides.
+    pub fn rides(&self) -> u8
+        ensures { result ≡ self.now.scope.rides }
+    {
+        self.scope.rides
     }
 
     /// Whether the stop is marked.
@@ -67,23 +73,23 @@ impl Sought {
     }
 }
 
-// The marks of the stops at which rides of the query may board.
-fn marks_of(alloc: Global, timetable: &Timetable, query: &Query) -> Result<Vec<bool>, AllocError>
-    ensures { IfOk result (λ marks. AreMarks timetable.now (seeking query.now marks.items)) }
+// The marks of the stops at which rides of the scope's queries may board.
+fn marks_of(alloc: Global, timetable: &Timetable, scope: &Scope) -> Result<Vec<bool>, AllocError>
+    ensures { IfOk result (λ marks. AreMarks timetable.now (seeking scope.now marks.items)) }
 {
-    if query.rides > 1 {
+    if scope.rides > 1 {
         return Ok(Vec::new(alloc));
     }
-    first_marks(alloc, timetable, query)
+    first_marks(alloc, timetable, scope.from)
 }
 
-// The marks of the stops at which a first ride may board.
-fn first_marks(alloc: Global, timetable: &Timetable, query: &Query) -> Result<Vec<bool>, AllocError>
-    ensures { IfOk result (λ marks. (first : StopId) → IsTrue (stands_for timetable.now query.now.from first) → MarksFrom timetable.now query.now marks.items (first_stand query.now first)) }
+// The marks of the stops at which a first ride from the stop may board.
+fn first_marks(alloc: Global, timetable: &Timetable, from: StopId) -> Result<Vec<bool>, AllocError>
+    ensures { IfOk result (λ marks. AreFirstMarks timetable.now from marks.items) }
 {
     let stops = timetable.feed().stops.items().len();
     let mut marks = vec![in alloc; false; stops]?;
-    mark_all(timetable, timetable.members(query.from), &mut marks);
+    mark_all(timetable, timetable.members(from), &mut marks);
     Ok(marks)
 }
 

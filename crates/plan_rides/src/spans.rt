@@ -5,8 +5,8 @@ ghost use Rattle.plan_rides.specs.Cutoffs.{is_span};
 ghost use Rattle.plan_rides.specs.InTime.{IsUsualQuery};
 ghost use Rattle.plan_rides.specs.Spans.{AreSpans, IsEndSpan, IsSpanBefore, boards_of, no_spans, stands_of, with_spans};
 
-use crate::departures::deadline;
 use crate::rides::Rides;
+use crate::scope::deadline;
 use feed_rows::Query;
 use feed_timetable::{Standing, Timetable};
 use item_groups::Groups;

@@ -2,7 +2,7 @@
 ghost use Rattle.std.specs.Prelude.{◌≡◌, ◌⊎◌, ◌||◌, ◌+◌, ◌<◌, ◌≤◌, ◌==◌, false, true, pos, ◌≤ℤ◌, ◌*ℤ◌, ◌*◌, ◌^◌, nat_abs, slice_get};
 ghost use Rattle.feed_rows.specs.FareFloor.{fare_floor};
 ghost use Rattle.feed_rows.specs.PartialJourneys.{LabelFacts};
-ghost use Rattle.plan_rides.specs.InTime.{IsWithinWindow};
+ghost use Rattle.plan_rides.specs.InTime.{IsWithinWindow, deadline};
 ghost use Rattle.plan_rounds.specs.Bounds.{AreFoundBy, AreUntilsOf, CostsBy, IsFoundUntil, IsOutdoneAfter, IsSince, IsUntil, IsUntilBy, since_of};
 ghost use Rattle.plan_rounds.specs.Prices.{AreLeastPrices};
 ghost use Rattle.round_laws.specs.Futility.{LeadsBy, is_within, least_end, least_price, some_takes_back};
@@ -17,6 +17,7 @@ use crate::prices::{LeastPrices, is_far};
 use crate::search::{Search, Source};
 use feed_rows::{Feed, Triple};
 use feed_timetable::Standing;
+use plan_rides::deadline;
 use round_labels::Label;
 use round_table::Final;
 use transit_base::{Moment, Money, Secs, StopId};
@@ -169,6 +170,13 @@ impl<'s, 'l> Search<'s, 'l> {
         self.has_ahead(finals, label.arrival, label.rides, self.least_end(label))
     }
 
+    /// The latest moment at which a journey may end.
+    fn last_end(&self) -> Moment
+        ensures { result.0 ≡ deadline self.now.query }
+    {
+        deadline(self.rides.query())
+    }
+
     /// After when no ride from the label need arrive, in a search that is to be whole: the first arrival that is found with no more
     /// rides than one more makes of it and for no more than can follow by the least price of its table; else the latest moment at
     /// which a journey may end. Another search goes by `until`, which tells more.
@@ -176,7 +184,7 @@ impl<'s, 'l> Search<'s, 'l> {
         requires { IsSource self.now.feed self.now.query source.now }
         ensures { IsOutdoneAfter self.now finals.now source.now.label.now result.0 }
     {
-        let mut after = self.rides.deadline();
+        let mut after = self.last_end();
         if !self.aim.whole {
             return after;
         }
@@ -262,7 +270,7 @@ impl<'s, 'l> Search<'s, 'l> {
         }
         self.found_by(
             finals,
-            self.rides.deadline(),
+            self.last_end(),
             label.rides + behind + 1,
             price,
         )
@@ -300,7 +308,7 @@ impl<'s, 'l> Search<'s, 'l> {
     {
         let _usual = self.limit();
         if self.aim.whole {
-            return self.rides.deadline();
+            return self.last_end();
         }
         let mut until = self.departure();
         for behind in 0..self.limit() - label.rides {
@@ -318,7 +326,7 @@ impl<'s, 'l> Search<'s, 'l> {
         let _usual = self.limit();
         let prices = self.prices;
         let label = source.label;
-        let last = self.rides.deadline();
+        let last = self.last_end();
         let all = self.until(prices, label, None, finals);
         match prices.late_since(label, self.departure(), last) {
             Some(since) => Until {

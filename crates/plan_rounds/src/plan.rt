@@ -9,6 +9,7 @@ ghost use Rattle.plan_rides.specs.InTime.{IsUsualQuery};
 ghost use Rattle.feed_rows.specs.ClosedTable.{IsClosedTable};
 ghost use Rattle.feed_rows.specs.SoundTable.{IsSoundTable};
 ghost use Rattle.plan_rides.specs.Asked.{asked};
+ghost use Rattle.plan_rides.specs.Scopes.{IsInScope};
 ghost use Rattle.fare_timeframes.specs.BuiltTimeframes.{AreTimeframesOf};
 ghost use Rattle.plan_rounds.specs.Prices.{AreLeastPrices};
 ghost use Rattle.plan_rides.specs.Spans.{AreSpans, no_spans};
@@ -26,7 +27,7 @@ use fare_timeframes::Timeframes;
 use feed_rows::{Entry, Feed, Query, Triple};
 use feed_timetable::Timetable;
 use pareto_front::Front;
-use plan_rides::{Rides, Spans};
+use plan_rides::{Rides, Scope, SpanRuns, Spans, deadline};
 use round_table::RoundTable;
 use std::alloc::{AllocError, Global};
 use transit_base::Moment;
@@ -304,8 +305,8 @@ fn planned_at<'s>(
     requires automaton { automaton.now ≡ terms rides.now.feed rides.now.query.rider }
     ensures { IfOk result (λ planned. IsPlanned rides.now whole planned.0 planned.1.items) }
 {
-    let departure = rides.query().departure;
-    let timeframes = Timeframes::between(alloc, feed, departure, rides.deadline())?;
+    let query = rides.query();
+    let timeframes = Timeframes::between(alloc, feed, query.departure, deadline(query))?;
     let spans = spans_of(alloc, rides, whole)?;
     let prices = prices_of(alloc, rides, feed, &spans)?;
     planned_with(
@@ -336,6 +337,23 @@ fn planned_over<'s>(
     }
 }
 
+/// The same for the query, by the runs that are held for it.
+fn planned_by<'s>(
+    runs: &'s SpanRuns<'s>,
+    query: &'s Query,
+    alloc: Global,
+    feed: &'s Feed,
+    whole: bool,
+) -> Result<(RoundTable, Vec<Entry>), AllocError>
+    requires usual { IsUsualQuery query.now }
+    requires within { IsInScope runs.now.scope query.now }
+    requires feed { feed.now ≡ runs.now.feed }
+    ensures { IfOk result (λ planned. IsPlanned (asked runs.now.feed query.now) whole planned.0 planned.1.items) }
+{
+    let rides = Rides::of(runs, query);
+    planned_over(alloc, &rides, feed, whole)
+}
+
 /// The same for the query.
 fn planned_of(
     alloc: Global,
@@ -347,8 +365,8 @@ fn planned_of(
     ensures { IfOk result (λ planned. IsPlanned (asked timetable.now query.now) whole planned.0 planned.1.items) }
 {
     let feed = timetable.feed();
-    match Rides::of(alloc, timetable, query) {
-        Ok(rides) => planned_over(alloc, &rides, feed, whole),
+    match SpanRuns::of(alloc, timetable, &Scope::of(query)) {
+        Ok(runs) => planned_by(&runs, query, alloc, feed, whole),
         Err(AllocError) => Err(AllocError),
     }
 }

@@ -22,11 +22,11 @@ add_trip-requires-clause-inside c = c.requires.trips.inside c.loop-place.place _
 pub loop-place-preserved : goal.loop-place-preserved
 loop-place-preserved c =
     let feed = c.args.timetable.now in
-    let query = c.args.query.now in
+    let span = c.args.span.now in
     let trips = c.args.trips.now in
     let place = c.loop-place.place in
-    joined_more place (λ k. held_of_trip feed query (trip_at trips k)) c.loop-place.runs.items
-    (held_of_trip feed query (trip_at trips place)) c.add_trip.new.runs.items c.loop-place.invariant refl
+    joined_more place (λ k. held_of_trip feed span (trip_at trips k)) c.loop-place.runs.items
+    (held_of_trip feed span (trip_at trips place)) c.add_trip.new.runs.items c.loop-place.invariant refl
     c.in_ok-add_trip.ensures
 
 pub returns : goal.returns

@@ -9,6 +9,6 @@ returns-clause-built c = IfOk-weaker c.patterns_of.result _ _ (λ patterns are. 
 
 pub returns-clause-held : goal.returns-clause-held
 returns-clause-held c =
-    let held = subst (AreHeld c.args.timetable.now c.args.query.now c.args.trips.now) (sym c.deref.ensures.value) c.in_ok-held.ensures in
+    let held = subst (AreHeld c.args.timetable.now c.args.span.now c.args.trips.now) (sym c.deref.ensures.value) c.in_ok-held.ensures in
     IfOk-weaker c.patterns_of.result _ _
-    (λ patterns are. grouped c.args.timetable.now c.args.query.now c.args.trips.now c.deref.result.now are.in_order patterns.items held are.moved are.cut) c.patterns_of.ensures
+    (λ patterns are. grouped c.args.timetable.now c.args.span.now c.args.trips.now c.deref.result.now are.in_order patterns.items held are.moved are.cut) c.patterns_of.ensures

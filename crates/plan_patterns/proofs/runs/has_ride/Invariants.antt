@@ -5,6 +5,6 @@ use Rattle.plan_patterns.proofs.runs.has_ride.Given as goal
 abbrev pub invariant-loop-at : goal.invariant-loop-at
 invariant-loop-at l =
     record {
-      boarded : l.boarded ≡ is_boarded l.query l.run l.calls l.at;
-      none : has_ride_to l.query l.run l.calls l.at ≡ false;
+      boarded : l.boarded ≡ is_boarded l.span l.run l.calls l.at;
+      none : has_ride_to l.span l.run l.calls l.at ≡ false;
     }

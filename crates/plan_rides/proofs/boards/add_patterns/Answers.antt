@@ -1,7 +1,6 @@
 use Rattle.std.proofs.Common.{◌∙◌, length, subst, sym, arith}
 use Rattle.std.specs.Prelude.{All}
 use Rattle.plan_rides.specs.Departures.{IsRunOf}
-use Rattle.plan_rides.specs.Spans.{AddsBoards, IsOfRuns}
 use Rattle.plan_rides.proofs.BoardLaws.{patterns_all, patterns_more, patterns_none}
 use Rattle.plan_rides.proofs.boards.add_patterns.Goals as goal
 
@@ -10,7 +9,7 @@ loop-pattern-init c = patterns_none _ _ _ _ _
 
 pub add_runs-requires-clause-runs : goal.add_runs-requires-clause-runs
 add_runs-requires-clause-runs c =
-    subst (All (IsRunOf c.args.timetable.now)) (sym c.runs.ensures) (c.requires.held.runs c.loop-pattern.pattern)
+    subst (All (IsRunOf c.args.timetable.now)) (sym c.runs.ensures) (c.requires.runs c.loop-pattern.pattern)
 
 pub add_runs-requires-clause-boards : goal.add_runs-requires-clause-boards
 add_runs-requires-clause-boards c = c.loop-pattern.invariant.many ∙ c.requires.boards
@@ -18,10 +17,7 @@ add_runs-requires-clause-boards c = c.loop-pattern.invariant.many ∙ c.requires
 pub loop-pattern-preserved : goal.loop-pattern-preserved
 loop-pattern-preserved c =
     let runs = c.runs.result.now in
-    patterns_more _ _ _ _ _ runs _ _ _ c.runs.ensures c.loop-pattern.invariant
-    (subst (λ q. AddsBoards c.args.timetable.now q c.args.spans.now (IsOfRuns runs (length runs)) c.loop-pattern.boards
-    c.add_runs.new.boards)
-    c.query-query.ensures c.add_runs.ensures)
+    patterns_more _ _ _ _ _ runs _ _ _ c.runs.ensures c.loop-pattern.invariant c.add_runs.ensures
 
 pub returns : goal.returns
 returns c =

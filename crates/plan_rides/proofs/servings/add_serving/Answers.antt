@@ -11,14 +11,14 @@ returns-then-is_empty c =
     let test = c.if-is_empty.true in
     let is = c.is_empty.ensures in
     let none : length listed ≡ 0 = grind (arith, nat_tests, test, is) in
-    timed_past patterns.feed c.args.query.now patterns.patterns c.args.stop.0 c.args.serving.now listed
+    timed_past patterns.feed c.args.span.now patterns.patterns c.args.stop.0 c.args.serving.now listed
     c.args.served.now.items none c.boardable-boardings.ensures
 
 pub returns : goal.returns
 returns c =
     let patterns = c.args.patterns.now in
     let listed = c.boardable-boardings.result.now in
-    subst (AddsTimed patterns.feed c.args.query.now patterns.patterns c.args.stop.0 c.args.serving.now c.args.served.now.items)
+    subst (AddsTimed patterns.feed c.args.span.now patterns.patterns c.args.stop.0 c.args.serving.now c.args.served.now.items)
     (sym c.in_ok-push.ensures.items)
-    (timed_more patterns.feed c.args.query.now patterns.patterns c.args.stop.0 c.args.serving.now listed _ _
+    (timed_more patterns.feed c.args.span.now patterns.patterns c.args.stop.0 c.args.serving.now listed _ _
     c.args.served.now.items refl refl refl c.requires c.boardable-boardings.ensures)

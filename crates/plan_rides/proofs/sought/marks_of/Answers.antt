@@ -4,7 +4,7 @@ use Rattle.plan_rides.proofs.sought.marks_of.Goals as goal
 
 pub returns : goal.returns
 returns c =
-    let few = c.if-query-gt1.false in
+    let few = c.if-scope-gt1.false in
     IfOk-weaker c.first_marks.result _ _
     (λ marks first. record {
       first = first;

@@ -1,20 +1,14 @@
 use Rattle.std.proofs.Common.{arith}
-use Rattle.std.proofs.lemmas.List.Elements.{All-weaker}
-use Rattle.plan_patterns.specs.Columns.{IsRunAt}
-use Rattle.plan_patterns.specs.Runs.{IsKnown}
 use Rattle.plan_patterns.proofs.ColumnLaws.{calls_at_all, pattern_is}
 use Rattle.plan_patterns.proofs.pattern.Pattern.of.Goals as goal
 
 pub all_departures-requires-clause-runs : goal.all_departures-requires-clause-runs
 all_departures-requires-clause-runs c = calls_at_all c.args.timetable.now c.args.halts.now c.args.runs.now c.requires.runs
 
-pub all_arrivals-requires : goal.all_arrivals-requires
-all_arrivals-requires c = All-weaker (IsRunAt c.args.timetable.now c.args.halts.now) (IsKnown c.args.timetable.now) (λ run is. is.known) c.args.runs.now c.requires.runs
-
 pub returns-clause-built : goal.returns-clause-built
 returns-clause-built c =
     pattern_is c.args.timetable.now c.args.halts.now c.args.runs.now _ c.in_ok-from_slice.ensures.items c.in_ok-from_slice-2.ensures.items
-    (omega (arith, c.if-halts.false)) c.requires.runs c.in_ok-stops_of.ensures c.in_ok-all_departures.ensures c.in_ok-all_arrivals.ensures
+    (omega (arith, c.if-halts.false)) c.requires.runs c.in_ok-stops_of.ensures c.in_ok-all_departures.ensures
 
 pub all_departures-requires-clause-few : goal.all_departures-requires-clause-few
 all_departures-requires-clause-few c = omega (arith, c.if-halts.false)

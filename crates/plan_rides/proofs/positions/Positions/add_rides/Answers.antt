@@ -51,7 +51,7 @@ add_departure-requires-clause-right c =
     let x = c.departure_at-departure.result in
     let make = departure_at feed reached.stop reached.serving.position c.runs-runs.result.now in
     let lt : k < length boardings = omega (arith, c.loop-k-test.true, c.first_late-k-end.ensures.within) in
-    let since = (since_of feed c.self.inside.patterns reached.stop reached.serving reached.earliest.0 c.runs-runs.result.now boardings
+    let since = (since_of feed c.self.inside.patterns.now reached.stop reached.serving reached.earliest.0 c.runs-runs.result.now boardings
     (subst (λ (m : Positioned). Serves m.feed m.patterns reached.stop.0 reached.serving) (sym c.self.view_is) c.requires.serves)
     c.self.invariant.2.of c.runs-runs.ensures c.boardable-boardings.ensures) in
     subst (IsDeparture feed) (get_or-map make boardings k no_boarding x lt ∙ sym c.departure_at-departure.ensures)
@@ -72,7 +72,7 @@ loop-k-preserved c =
     let within = subst (λ n. k < n) (sym (length-map boardings make)) lt in
     let is : get_or departures k x ≡ x = get_or-map make boardings k no_boarding x lt ∙ sym c.departure_at-departure.ensures in
     let since = subst (λ (m : Positioned). AreSince m.feed m.patterns reached.serving reached.stop.0 reached.earliest.0 departures) c.self.view_is
-    (since_of feed c.self.inside.patterns reached.stop reached.serving reached.earliest.0 c.runs-runs.result.now boardings
+    (since_of feed c.self.inside.patterns.now reached.stop reached.serving reached.earliest.0 c.runs-runs.result.now boardings
     (subst (λ (m : Positioned). Serves m.feed m.patterns reached.stop.0 reached.serving) (sym c.self.view_is) c.requires.serves)
     c.self.invariant.2.of c.runs-runs.ensures c.boardable-boardings.ensures) in
     let adds = subst (λ (m : Positioned). AddsFound m.feed m.query latest x.stop.0 x.at.0 (IsBy m.feed x) c.loop-k.rides.items c.add_departure.new.rides.items)
@@ -93,7 +93,7 @@ returns c =
     let departures = map (departure_at feed reached.stop reached.serving.position runs) boardings in
     let late = c.first_late-k-end.ensures in
     let since = subst (λ (m : Positioned). AreSince m.feed m.patterns reached.serving reached.stop.0 reached.earliest.0 departures) c.self.view_is
-    (since_of feed c.self.inside.patterns reached.stop reached.serving reached.earliest.0 c.runs-runs.result.now boardings
+    (since_of feed c.self.inside.patterns.now reached.stop reached.serving reached.earliest.0 c.runs-runs.result.now boardings
     (subst (λ (m : Positioned). Serves m.feed m.patterns reached.stop.0 reached.serving) (sym c.self.view_is) c.requires.serves)
     c.self.invariant.2.of c.runs-runs.ensures c.boardable-boardings.ensures) in
     found_since me latest reached departures _ _ since

@@ -3,9 +3,10 @@ use Rattle.std.specs.Prelude.{None, Some}
 use Rattle.feed_rows.specs.JourneyStands.{way_to}
 use Rattle.feed_timetable.specs.Standings.{stand_of}
 use Rattle.plan_rides.specs.declared.servings.TimedServing.{TimedServing}
-use Rattle.plan_rides.specs.Boarding.{AreMarks, MayRide}
+use Rattle.plan_rides.specs.Boarding.{AreMarks}
 use Rattle.plan_rides.specs.Cutoffs.{cutoff_of}
 use Rattle.plan_rides.specs.Reached.{Positioned}
+use Rattle.plan_rides.specs.Scopes.{IsInScope}
 use Rattle.plan_rides.specs.Served.{AreTimed, IsTimed}
 use Rattle.plan_rides.proofs.MarkLaws.{may_board}
 use Rattle.plan_rides.proofs.ReachLaws.{reach_closed, reach_late, reach_no_way, reach_open, reach_stop, reach_untimed}
@@ -36,20 +37,20 @@ loop-k-preserved c =
     let stand = stand_of c.args.who.now.standing in
     let stop = c.args.stop in
     let seconds = c.in-Some.seconds in
-    let sought = c.self.inside.sought in
+    let sought = c.self.inside.sought.now in
     let served = c.get-served.result.now in
     let k = c.loop-k.k in
     let x : TimedServing =
     record { serving = record { pattern = 0; position = 0 }; first = record { 0 = pos 0 }; last = record { 0 = pos 0 } }
     in
     let earliest = c.plus-earliest.result.0 in
-    let query = c.self.invariant.3 ∙ ap (λ (m : Positioned). m.query) c.self.view_is in
+    let inside = subst (λ (m : Positioned). IsInScope sought.scope m.query) c.self.view_is c.self.invariant.3 in
     let way = subst (λ (m : Positioned). way_to m.feed m.query stand stop ≡ Some seconds) c.self.view_is (sym c.in-Some.ensures) in
     let at = c.plus-earliest.ensures in
     let all = subst (λ (m : Positioned). AreTimed m.feed sought m.patterns stop.0 served) c.self.view_is
-    (subst (AreTimed c.self.inside.timetable.now sought c.self.inside.patterns.patterns stop.0) (sym c.get-served.ensures)
+    (subst (AreTimed c.self.inside.timetable.now sought c.self.inside.patterns.now.patterns stop.0) (sym c.get-served.ensures)
     (c.self.invariant.2.each stop.0)) in
-    let timed = subst (λ q. IsTimed me.feed q me.patterns stop.0 (get_or served k x)) query (all.right k x c.loop-k-test.true) in
+    let timed : IsTimed me.feed sought.scope.span me.patterns stop.0 (get_or served k x) = all.right k x c.loop-k-test.true in
     elim c.if-is_open.branch [
       | then-is_open+in_ok-push w ↦
           rw w.reached-is
@@ -57,8 +58,8 @@ loop-k-preserved c =
           (record { serves = timed.serves; way = seconds; way_is = way; at = at }) w.in_ok-push.ensures.items c.loop-k.invariant)
       | else-is_open w ↦
           rw w.reached-is
-          (reach_closed me (cutoff_of c.args.lasts.now) stand c.args.who.now.number stop seconds earliest served k x _ _ c.loop-k-test.true
-          c.requires.within way at timed (sym c.is_open.ensures ∙ w.if-is_open.false) c.loop-k.invariant)
+          (reach_closed me (cutoff_of c.args.lasts.now) stand c.args.who.now.number sought.scope.span stop seconds earliest served k x _ _ c.loop-k-test.true
+          inside.since c.requires.within way at timed (sym c.is_open.ensures ∙ w.if-is_open.false) c.loop-k.invariant)
     ]
 
 pub returns : goal.returns
@@ -66,13 +67,12 @@ returns c =
     let me = c.args.self.now in
     let stand = stand_of c.args.who.now.standing in
     let stop = c.args.stop in
-    let sought = c.self.inside.sought in
+    let sought = c.self.inside.sought.now in
     let served = c.get-served.result.now in
-    let query = c.self.invariant.3 ∙ ap (λ (m : Positioned). m.query) c.self.view_is in
+    let inside = subst (λ (m : Positioned). IsInScope sought.scope m.query) c.self.view_is c.self.invariant.3 in
     let timed = subst (λ (m : Positioned). AreTimed m.feed sought m.patterns stop.0 served) c.self.view_is
-    (subst (AreTimed c.self.inside.timetable.now sought c.self.inside.patterns.patterns stop.0) (sym c.get-served.ensures)
+    (subst (AreTimed c.self.inside.timetable.now sought c.self.inside.patterns.now.patterns stop.0) (sym c.get-served.ensures)
     (c.self.invariant.2.each stop.0)) in
     let marks = subst (λ (m : Positioned). AreMarks m.feed sought) c.self.view_is c.self.invariant.4 in
-    let may = subst (λ q. MayRide me.feed q stand) (sym query) c.requires.may in
-    reach_stop me (cutoff_of c.args.lasts.now) stand c.args.who.now.number sought stop.0 c.loop-k.k served _ _ query c.requires.within
-    (may_board me.feed sought stand marks may) timed c.loop-k-test.false c.loop-k.invariant
+    reach_stop me (cutoff_of c.args.lasts.now) stand c.args.who.now.number sought stop.0 c.loop-k.k served _ _ inside c.requires.within
+    (may_board me.feed me.query sought stand inside.from inside.rides marks c.requires.may) timed c.loop-k-test.false c.loop-k.invariant

@@ -1,5 +1,4 @@
 use Rattle.std.proofs.Common.{◌<◌, ◌∙◌, ap, length, subst, sym, arith}
-use Rattle.feed_rows.specs.declared.journeys.Query.{Query}
 use Rattle.feed_rows.specs.FeedRows.{FeedRows}
 use Rattle.plan_rides.specs.Asked.{Asked}
 use Rattle.plan_rides.specs.Reached.{Positioned}
@@ -34,12 +33,10 @@ returns-clause-boards c =
     let adds = c.add_patterns.ensures in
     let back = marks_back items new c.in_ok-boards.boards.len (omega (arith, ok)) (adds.many
     ∙ ap length c.deref_mut.ensures.value) in
-    let more = subst (λ (q : Query). 1 < q.rides) (sym c.positions.invariant.3)
-    (subst (λ (m : Positioned). 1 < m.query.rides) (sym c.positions.view_is)
-    (subst (λ (a : Asked). 1 < a.query.rides) (sym c.self.view_is) c.requires.rides)) in
-    let all = all_boards feed inside.sought spans c.deref_mut.result.now new inside.patterns c.positions.invariant.5
-    c.positions.invariant.4 more adds in
+    let more = subst (λ (m : Positioned). 1 < m.query.rides) (sym c.positions.view_is)
+    (subst (λ (a : Asked). 1 < a.query.rides) (sym c.self.view_is) c.requires.rides) in
+    let all = all_boards feed inside.query.now inside.sought.now spans c.deref_mut.result.now new inside.patterns.now c.positions.invariant.5
+    c.positions.invariant.4 c.positions.invariant.3 more adds in
     subst (AreBoardSpans me.feed me.query spans) (sym back)
     (subst (λ (a : Asked). AreBoardSpans a.feed a.query spans new) c.self.view_is
-    (subst (λ (m : Positioned). AreBoardSpans m.feed m.query spans new) c.positions.view_is
-    (subst (λ q. AreBoardSpans feed q spans new) c.positions.invariant.3 all)))
+    (subst (λ (m : Positioned). AreBoardSpans m.feed m.query spans new) c.positions.view_is all))

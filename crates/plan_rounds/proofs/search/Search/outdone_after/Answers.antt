@@ -1,21 +1,19 @@
-use Rattle.std.proofs.Common.{ap, ◌∙◌, slice_index_or}
+use Rattle.std.proofs.Common.{◌∙◌, slice_index_or}
 use Rattle.std.specs.Int.{w128}
 use Rattle.std.proofs.lemmas.Int.{to_z-of_z}
 use Rattle.std.proofs.lemmas.List.Elements.{Contains-get_or}
-use Rattle.plan_rides.specs.InTime.{deadline}
-use Rattle.plan_rounds.specs.Searched.{Searched}
 use Rattle.plan_rounds.proofs.UsefulLaws.{no_final, outdone_deadline, outdone_sooner}
 use Rattle.plan_rounds.proofs.search.Search.outdone_after.Goals as goal
 
 pub returns-then-not-self : goal.returns-then-not-self
 returns-then-not-self c =
-    outdone_deadline c.args.self.now c.args.finals.now c.args.source.now.label.now c.deadline-after.result.0
-    (c.deadline-after.ensures ∙ ap (λ (s : Searched). deadline s.query) c.self.view_is)
+    outdone_deadline c.args.self.now c.args.finals.now c.args.source.now.label.now c.last_end-after.result.0
+    c.last_end-after.ensures
 
 pub loop-k-init : goal.loop-k-init
 loop-k-init c =
-    outdone_deadline c.args.self.now c.args.finals.now c.args.source.now.label.now c.deadline-after.result.0
-    (c.deadline-after.ensures ∙ ap (λ (s : Searched). deadline s.query) c.self.view_is)
+    outdone_deadline c.args.self.now c.args.finals.now c.args.source.now.label.now c.last_end-after.result.0
+    c.last_end-after.ensures
 
 pub loop-k-preserved : goal.loop-k-preserved
 loop-k-preserved c =

@@ -1,15 +1,13 @@
-use Rattle.std.proofs.Common.{ap, arith, ◌∙◌}
-use Rattle.plan_rides.specs.InTime.{deadline}
+use Rattle.std.proofs.Common.{arith}
 use Rattle.plan_rounds.specs.Bounds.{since_of}
-use Rattle.plan_rounds.specs.Searched.{Searched}
 use Rattle.round_labels.specs.Labels.{facts_of}
 use Rattle.plan_rounds.proofs.UsefulLaws.{until_all, until_before, until_deadline, until_more}
 use Rattle.plan_rounds.proofs.search.Search.until.Goals as goal
 
 pub returns-then-self : goal.returns-then-self
 returns-then-self c =
-    until_deadline c.args.self.now c.args.finals.now c.args.label.now (since_of c.args.since) c.deadline.result.0
-    (c.deadline.ensures ∙ ap (λ (s : Searched). deadline s.query) c.self.view_is)
+    until_deadline c.args.self.now c.args.finals.now c.args.label.now (since_of c.args.since) c.last_end.result.0
+    c.last_end.ensures
 
 pub loop-behind-preserved : goal.loop-behind-preserved
 loop-behind-preserved c =

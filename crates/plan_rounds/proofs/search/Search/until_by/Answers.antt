@@ -1,10 +1,9 @@
-use Rattle.std.proofs.Common.{◌+◌, ◌≤ℤ◌, add-one, ap, arith, refl, subst, sym, suc, ◌∙◌, ℤ}
+use Rattle.std.proofs.Common.{◌+◌, ◌≤ℤ◌, add-one, arith, refl, subst, sym, suc, ◌∙◌, ℤ}
 use Rattle.std.specs.Int.{w128}
 use Rattle.std.proofs.lemmas.Int.{ints, to_z-of_z}
 use Rattle.transit_base.specs.declared.moments.Moment.{Moment}
 use Rattle.plan_rides.specs.InTime.{deadline}
 use Rattle.plan_rounds.specs.Bounds.{CostsOn, since_of}
-use Rattle.plan_rounds.specs.Searched.{Searched}
 use Rattle.round_labels.specs.Labels.{facts_of}
 use Rattle.round_laws.specs.Futility.{LeadsBy}
 use Rattle.plan_rounds.proofs.PriceLaws.{costs_on, far_none}
@@ -48,7 +47,7 @@ returns c =
     let costs = costs_on task.feed task.query c.args.prices.now c.feed-feed.ensures.sound c.requires.prices n (facts_of x) c.args.since
     (omega (arith, few)) c.requires.within c.requires.since in
     let is = to_z-of_z w128 c.least_on-price.result (record { sfits = c.least_on-price.type_inv }) ∙ c.least_on-price.ensures in
-    by_found task c.args.finals.now (since_of c.args.since) n (x.rides + n + 1) (facts_of x) _ c.deadline.result c.found_by.result refl
-    (c.deadline.ensures ∙ ap (λ (s : Searched). deadline s.query) c.self.view_is)
+    by_found task c.args.finals.now (since_of c.args.since) n (x.rides + n + 1) (facts_of x) _ c.last_end.result c.found_by.result refl
+    c.last_end.ensures
     (subst (CostsOn task.feed task.query (since_of c.args.since) n (facts_of x)) (sym is) costs)
     c.found_by.ensures
