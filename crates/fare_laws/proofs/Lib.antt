@@ -1,5 +1,6 @@
 pub mod StateLaws
 pub mod MoveLaws
+pub mod AfreshLaws
 pub mod ExtensionLaws
 pub mod StartLaws
 pub mod LongerLaws
