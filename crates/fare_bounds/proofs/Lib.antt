@@ -4,4 +4,5 @@ pub mod PayableLaws
 pub mod LevelLaws
 pub mod LimitLaws
 pub mod StepLaws
+pub mod LastLaws
 pub mod BoundLaws

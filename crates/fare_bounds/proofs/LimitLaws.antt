@@ -23,19 +23,19 @@ use Rattle.fare_bounds.specs.Limits.{limit_at, seconds_of, longest_limit, latest
 
 -- ---- limits
 
+-- what stands for the groups that a field matches is at most what stands for each of them
+pub place_within : (limits : List ℕ) (field : Option LegGroupId) (group : LegGroupId) (seconds : ℕ) → CanMatch field group →
+    seconds ≤ limit_at limits (row_place field) → seconds ≤ longest_limit limits (Some group)
+place_within limits None group seconds matches le = omega (arith, le)
+place_within limits (Some own) group seconds matches le =
+    let here : seconds ≤ limit_at limits (group.0 + 2) =
+    subst (λ (n : ℕ). seconds ≤ limit_at limits (n + 2)) matches le in
+    omega (arith, here)
+
 -- the limit of a row is at most that of each group before its changes
 pub row_within : (limits : List ℕ) (row : TransferRuleRow) (group : LegGroupId) → CanMatch row.from group →
     IsWithinLimits limits row → seconds_of row.limit ≤ longest_limit limits (Some group)
-row_within limits row group matches within = by row.from matches within
-  where
-    by : (field : Option LegGroupId) → CanMatch field group →
-        seconds_of row.limit ≤ limit_at limits (row_place field) →
-        seconds_of row.limit ≤ longest_limit limits (Some group)
-    by None matches le = omega (arith, le)
-    by (Some own) matches le =
-        let here : seconds_of row.limit ≤ limit_at limits (group.0 + 2) =
-        subst (λ (n : ℕ). seconds_of row.limit ≤ limit_at limits (n + 2)) matches le in
-        omega (arith, here)
+row_within limits row group matches within = place_within limits row.from group (seconds_of row.limit) matches within
 
 -- ---- clocks
 

@@ -105,7 +105,7 @@ can_match feed column None group is = tt
 can_match feed column (Some own) group is = eqb-true own.0 group.0 is
 
 -- a row that is selected can match the groups of both legs, and has no limit or one that holds
-selected_matches : (feed : FeedRows) (change : AskedChange) (row : TransferRuleRow) →
+pub selected_matches : (feed : FeedRows) (change : AskedChange) (row : TransferRuleRow) →
     is_selected feed change row ≡ true →
     CanMatch row.from change.from × CanMatch row.to change.to × (empty_or row.limit change.holds ≡ true)
 unfolding suffices is_candidate
@@ -123,7 +123,7 @@ selected_matches feed change row is =
     )
 
 -- the change that is asked about lies between the groups of the state and of the leg
-asked_tells : (state : FareState) (next : FareLeg) (change : AskedChange) → asked_after state next ≡ Some change →
+pub asked_tells : (state : FareState) (next : FareLeg) (change : AskedChange) → asked_after state next ≡ Some change →
     (state.group ≡ Some change.from) × (next.group ≡ Some change.to)
 asked_tells state next change is = by state.group next.group is
   where

@@ -3,3 +3,4 @@ pub mod Limits
 pub mod Payable
 pub mod Levels
 pub mod FareBounds
+pub mod LastChanges

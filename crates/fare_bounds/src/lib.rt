@@ -7,6 +7,7 @@
 
 mod amounts;
 mod bounds;
+mod last_changes;
 mod least;
 mod level;
 mod limits;
@@ -15,3 +16,4 @@ mod steps;
 
 pub use amounts::place_of;
 pub use bounds::FareBounds;
+pub use last_changes::LastChanges;

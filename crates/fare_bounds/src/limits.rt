@@ -46,7 +46,7 @@ fn latest_of(departure: Option<Moment>, arrival: Option<Moment>) -> Option<Momen
 
 /// The greater of the limit of the group and that of all groups.
 #[inline]
-fn longest_limit(limits: &[u32], group: Option<LegGroupId>) -> u32
+pub fn longest_limit(limits: &[u32], group: Option<LegGroupId>) -> u32
     ensures { result ≡ longest_limit limits.now group }
 {
     limit_at(limits, place_of(group)).max(limit_at(limits, 1))
@@ -74,7 +74,7 @@ fn seconds_of(limit: Option<Limit>) -> u32
 }
 
 /// Puts the limit at the place, unless a greater one stands there.
-fn raise(limits: &mut Vec<u32>, place: usize, seconds: u32)
+pub fn raise(limits: &mut Vec<u32>, place: usize, seconds: u32)
     requires { place < vec_len limits.old }
     ensures raised { IsRaised place seconds limits.old.items limits.new.items }
     ensures len { vec_len limits.new ≡ vec_len limits.old }
