@@ -199,16 +199,22 @@ lesser_covers a facts m n less = record {
     with_held : (p x y h k : ℤ) → (x +ℤ h) ≤ℤ (y +ℤ k) → (p +ℤ x +ℤ h) ≤ℤ (p +ℤ y +ℤ k)
     with_held p x y h k le = omega (arith, ints, le)
 
+-- facts are held below or lacking where those are that cover them
+pub done_below : (task : Searched) (finals : List Final) (new : List Label) (a b : LabelFacts) → IsStated a → IsStated b → Covers a b →
+    IsHeldBelow new a ⊎ Lacks task finals a → IsHeldBelow new b ⊎ Lacks task finals b
+done_below task finals new a b stated stated' covers done =
+    ⊎_elim (λ held. inl (held.0, held.1, covers-trans (facts_of held.0) a b held.2 covers))
+    (λ lack. inr (lacks_below task finals a b stated stated' covers lack)) done
+
 -- so what it leads to is held below or lacking, where that is which the other leads to
 below_lesser : (task : Searched) (finals : List Final) (new : List Label) (from : LabelFacts) (facts : RideFacts) (m n : Move) (b : LabelFacts) →
     b ≡ facts_after from facts n → IsLesserMove m n →
     IsHeldBelow new (facts_after from facts m) ⊎ Lacks task finals (facts_after from facts m) → IsHeldBelow new b ⊎ Lacks task finals b
 below_lesser task finals new from facts m n b is less =
     let a = facts_after from facts m in
-    let covers = subst (Covers a) (sym is) (lesser_covers from facts m n less) in
-    ⊎_elim (λ held. inl (held.0, held.1, covers-trans (facts_of held.0) a b held.2 covers))
-    (λ lack. inr (lacks_below task finals a b (ne_eqb (from.rides + 1) 0 (λ e. omega (arith, e)))
-    (subst IsStated (sym is) (ne_eqb (from.rides + 1) 0 (λ e. omega (arith, e)))) covers lack))
+    done_below task finals new a b (ne_eqb (from.rides + 1) 0 (λ e. omega (arith, e)))
+    (subst IsStated (sym is) (ne_eqb (from.rides + 1) 0 (λ e. omega (arith, e))))
+    (subst (Covers a) (sym is) (lesser_covers from facts m n less))
 
 -- a move that is bettered is no loss where those before it were offered
 pub leads_without : (task : Searched) (finals : List Final) (source : Source) (caught : CaughtRide) (moves : List Move) (k : ℕ)

@@ -10,6 +10,7 @@ pub mod PriceLaws
 pub mod RideSteps
 pub mod ScanLaws
 pub mod SourceLaws
+pub mod SettledLaws
 pub mod SpanLaws
 pub mod SpreadLaws
 pub mod StopLaws

@@ -35,7 +35,7 @@ use Rattle.plan_rounds.proofs.StopLaws.{stands_inside}
 -- ---- rides
 
 -- a ride that is caught in time is one by which labels go on
-rides_by : (feed : FeedRows) (query : Query) (x : Label) (caught : CaughtRide) → x.rides < query.rides →
+pub rides_by : (feed : FeedRows) (query : Query) (x : Label) (caught : CaughtRide) → x.rides < query.rides →
     IsRight feed query (stand_of_label x) caught → IsCaughtRide feed query (facts_of x) caught.ride caught.facts
 rides_by feed query x caught few right =
     let c = caught_ride feed query (stand_of_label x) caught.ride (stand_at_end caught.facts) right.next in

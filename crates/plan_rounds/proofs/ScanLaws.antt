@@ -31,6 +31,8 @@ use Rattle.plan_rounds.specs.Scans.{AddsMarks, AreMarks, AreReached, IsFairIn, I
 use Rattle.plan_rounds.specs.Searched.{Searched, Lacks}
 use Rattle.plan_rounds.specs.Sources.{IsSource, StepsByFirst}
 use Rattle.plan_rounds.specs.Stores.{StepsBy, StepsTo}
+use Rattle.plan_rounds.specs.Settled.{ArePassed, IsDone}
+use Rattle.plan_rounds.proofs.RideSteps.{rides_more}
 use Rattle.plan_rounds.proofs.SpanLaws.{in_time_of}
 use Rattle.plan_rounds.proofs.SourceLaws.{from_more, from_only}
 
@@ -190,6 +192,16 @@ module _ (task : Searched) (round : Round) where
 
 -- ---- the rides from a position
 
+-- one that departs no earlier than one gets there is caught from the label
+pub right_at : (task : Searched) (round : Round) (x : Label) (reached : Reached) (latest : CutoffOf) (rides : List CaughtRide) →
+    IsRound task round → IsReachedFrom round.positions.now (stand_of_label x) reached → HoldsFrom round.positions.now latest reached rides →
+    (caught : CaughtRide) → Contains rides caught → int_le reached.earliest.0 caught.facts.departure.0 ≡ true →
+    IsRight task.feed task.query (stand_of_label x) caught
+right_at task round x reached latest rides is from holds caught at since =
+    subst (λ q. IsRight task.feed q (stand_of_label x) caught) is.query
+    (subst (λ f. IsRight f round.positions.now.query (stand_of_label x) caught) is.feed
+    (kept_right round.positions.now latest (stand_of_label x) reached rides from holds caught at (int_le-true _ _ since)))
+
 module _ (task : Searched) (round : Round) (source : Source) (reached : Reached) (latest : CutoffOf)
     (rides : List CaughtRide) (is : IsRound task round) (own : IsSource task.feed task.query source)
     (from : IsReachedFrom round.positions.now (stand_of_label source.label.now) reached)
@@ -203,10 +215,7 @@ module _ (task : Searched) (round : Round) (source : Source) (reached : Reached)
   -- one that departs no earlier than one gets there is caught
   pub right_from : (caught : CaughtRide) → Contains rides caught → int_le reached.earliest.0 caught.facts.departure.0 ≡ true →
       IsRight task.feed task.query stand caught
-  right_from caught at since =
-      subst (λ q. IsRight task.feed q stand caught) is.query
-      (subst (λ f. IsRight f me.query stand caught) is.feed
-      (kept_right me latest stand reached rides from holds caught at (int_le-true _ _ since)))
+  right_from caught at since = right_at task round source.label.now reached latest rides is from holds caught at since
 
   -- one that departs earlier leads nowhere
   pub by_passed : (k : ℕ) (caught : CaughtRide) (b : LabelFacts) → slice_get rides k ≡ Some caught →
@@ -253,19 +262,26 @@ module _ (task : Searched) (round : Round) (source : Source) (reached : Reached)
       (subst (λ (f : RideFacts). is_early own_latest f.to.0 f.arrival.0 ≡ false) facts_are late)))
       (cases_lt steps.0 k)
 
-  -- so does one that needn't be tried
-  pub by_left_out : (latest_own late_own : CutoffOf) (moment : ℤ) (k : ℕ) (caught : CaughtRide) (b : LabelFacts) →
+  -- so does one that needn't be tried, but for what is done already
+  pub by_left_out : (latest_own late_own : CutoffOf) (moment passed : ℤ) (bags : List Label) (k : ℕ) (caught : CaughtRide) (b : LabelFacts) →
       slice_get rides k ≡ Some caught → int_le reached.earliest.0 caught.facts.departure.0 ≡ true → source.label.now.rides ≡ round.count →
       IsFairIn task round source.label.now None latest_own → IsFairIn task round source.label.now (Some moment) late_own →
-      IsLeftOut task latest_own moment late_own caught.facts → StepsByFirst task.feed task.query source rides (k + 1) b →
-      StepsByFirst task.feed task.query source rides k b ⊎ Lacks task round.finals.now b
-  by_left_out latest_own late_own moment k caught b at since counts fair fair_late (inl late) steps =
-      by_late None latest_own k caught b at since counts fair (since_none caught.facts) late steps
-  by_left_out latest_own late_own moment k caught b at since counts fair fair_late (inr (inl late)) steps =
-      by_late (Some moment) late_own k caught b at since counts fair_late
-      (λ m is. subst (λ (z : ℤ). z <ℤ caught.facts.departure.0) (same_Some _ _ is) late.0) late.1 steps
-  by_left_out latest_own late_own moment k caught b at since counts fair fair_late (inr (inr loose)) steps =
-      inr (λ strict. absurd (both_ways task.loose strict loose))
+      ArePassed task round.finals.now source.label.now reached.earliest.0 rides passed bags →
+      IsLeftOut task latest_own moment late_own passed caught.facts → StepsByFirst task.feed task.query source rides (k + 1) b →
+      StepsByFirst task.feed task.query source rides k b ⊎ IsDone task round.finals.now bags b
+  by_left_out latest_own late_own moment passed bags k caught b at since counts fair fair_late are (inl departs) steps =
+      let lt = slice_get_within rides k caught at in
+      ⊎_elim inl
+      (λ by. inr (are caught b (k, lt, same_Some _ _ (sym (slice_get-get_or rides k caught lt) ∙ at)) since departs by))
+      (rides_more task.feed task.query source rides k caught b at steps)
+  by_left_out latest_own late_own moment passed bags k caught b at since counts fair fair_late are (inr (inl late)) steps =
+      ⊎_elim inl (λ lack. inr (inr lack)) (by_late None latest_own k caught b at since counts fair (since_none caught.facts) late steps)
+  by_left_out latest_own late_own moment passed bags k caught b at since counts fair fair_late are (inr (inr (inl late))) steps =
+      ⊎_elim inl (λ lack. inr (inr lack))
+      (by_late (Some moment) late_own k caught b at since counts fair_late
+      (λ m is. subst (λ (z : ℤ). z <ℤ caught.facts.departure.0) (same_Some _ _ is) late.0) late.1 steps)
+  by_left_out latest_own late_own moment passed bags k caught b at since counts fair fair_late are (inr (inr (inr loose))) steps =
+      inr (inr (λ strict. absurd (both_ways task.loose strict loose)))
 
   -- each step by a ride from there is by one of them, or leads to what the search may lack
   pub steps_from : (b : LabelFacts) → source.label.now.rides ≡ round.count → IsFairIn task round source.label.now None latest →

@@ -133,6 +133,18 @@ module _ (feed : FeedRows) (query : Query) (Lacking : LabelFacts → Type 0) (la
     all = λ b w. ⊎_elim (one.all b) inr (whole b w);
   }
 
+  -- a part but for what was held or may be lacking
+  pub spreads_done : (Part Whole : LabelFacts → Type 0) (old new : List Label) →
+      Spreads feed query Lacking labels rides Part old new →
+      ((b : LabelFacts) → Whole b → Part b ⊎ (IsHeldBelow old b ⊎ Lacking b)) →
+      Spreads feed query Lacking labels rides Whole old new
+  spreads_done Part Whole old new one whole = record {
+    still = one.still;
+    kept = one.kept;
+    right = one.right;
+    all = λ b w. ⊎_elim (one.all b) (λ done. ⊎_elim (λ held. inl (one.still b held)) inr done) (whole b w);
+  }
+
   -- an offer that was taken in
   pub spreads_taken : {E : Type 0} (result : Result (Unit {0}) E) (old new : List Label) (x y : Label) →
       OnOk result (Takes old x new) → x ≡ y → IsFresh feed query labels rides y →

@@ -3,6 +3,7 @@ pub mod Gathered
 pub mod Legs
 pub mod Moves
 pub mod Planned
+pub mod Settled
 pub mod Scans
 pub mod Searched
 pub mod Sources

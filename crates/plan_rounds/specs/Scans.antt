@@ -132,12 +132,13 @@ pub record AreMarks (task : Searched) (round : Round) (marks : Marks) : Type 0 w
 abbrev pub IsFairIn : Searched → Round → Label → Option ℤ → CutoffOf → Type 0
 IsFairIn task round x since latest = x.rides ≡ round.count → IsFairBy task round.finals.now x since latest
 
--- a ride needn't be tried from a label: it arrives too late; or it departs later than the moment, and arrives too late for that; or
--- the search may lack all
-abbrev pub IsLeftOut : Searched → CutoffOf → ℤ → CutoffOf → RideFacts → Type 0
-IsLeftOut task latest since late facts =
-    (is_early latest facts.to.0 facts.arrival.0 ≡ false)
-    ⊎ (((since <ℤ facts.departure.0) × (is_early late facts.to.0 facts.arrival.0 ≡ false)) ⊎ (task.loose ≡ true))
+-- a ride needn't be tried from a label: it departs when it has passed, or arrives too late; or it departs later than the moment, and
+-- arrives too late for that; or the search may lack all
+abbrev pub IsLeftOut : Searched → CutoffOf → ℤ → CutoffOf → ℤ → RideFacts → Type 0
+IsLeftOut task latest since late passed facts =
+    (passed <ℤ facts.departure.0)
+    ⊎ ((is_early latest facts.to.0 facts.arrival.0 ≡ false)
+    ⊎ (((since <ℤ facts.departure.0) × (is_early late facts.to.0 facts.arrival.0 ≡ false)) ⊎ (task.loose ≡ true)))
 
 -- rides serve for the label at the position: among them are those from there that arrive early enough, by a cutoff that is fair
 -- to it

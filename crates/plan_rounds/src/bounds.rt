@@ -171,7 +171,7 @@ impl<'s, 'l> Search<'s, 'l> {
     }
 
     /// The latest moment at which a journey may end.
-    fn last_end(&self) -> Moment
+    pub(crate) fn last_end(&self) -> Moment
         ensures { result.0 ≡ deadline self.now.query }
     {
         deadline(self.rides.query())
@@ -268,12 +268,7 @@ impl<'s, 'l> Search<'s, 'l> {
         if self.is_off(label, behind + 1) {
             return self.departure();
         }
-        self.found_by(
-            finals,
-            self.last_end(),
-            label.rides + behind + 1,
-            price,
-        )
+        self.found_by(finals, self.last_end(), label.rides + behind + 1, price)
     }
 
     /// The moment; in a loose search no later than its horizon.

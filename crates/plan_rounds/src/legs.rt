@@ -7,10 +7,12 @@ ghost use Rattle.plan_rides.specs.Cutoffs.{AreLastDepartures, cutoff_of};
 ghost use Rattle.plan_rides.specs.Reached.{AreKept, HoldsFrom, none_kept};
 ghost use Rattle.plan_rounds.specs.Legs.{AreKinds, HasKinds, StayKnown};
 ghost use Rattle.plan_rounds.specs.Moves.{HasFares};
+ghost use Rattle.plan_rounds.specs.Settled.{HasGroups, StayLabels};
 
 use crate::repeats::Repeats;
 use crate::scan::{Cutoffs, Round};
 use crate::search::{Found, Search};
+use crate::settled::Settled;
 use plan_rides::{CaughtRide, Cutoff, KeptRides, Reached};
 use std::alloc::{AllocError, Global};
 use transit_base::Moment;
@@ -21,6 +23,7 @@ pub struct KeptLegs {
     pub(crate) rides: KeptRides,
     pub(crate) kinds: Vec<usize>,
     pub(crate) repeats: Repeats,
+    pub(crate) settled: Settled,
 }
 
 // Written out, so that what holds one needn't look into it to let go of it.
@@ -30,6 +33,7 @@ impl Drop for KeptLegs {
             rides: _,
             kinds: _,
             repeats: _,
+            settled: _,
         } = self;
     }
 }
@@ -41,6 +45,7 @@ impl KeptLegs {
             rides: KeptRides::none(alloc),
             kinds: Vec::new(alloc),
             repeats: Repeats::none(alloc),
+            settled: Settled::none(alloc),
         }
     }
 
@@ -48,9 +53,12 @@ impl KeptLegs {
     pub(crate) fn clear(&mut self)
         ensures rides { self.new.rides ≡ none_kept }
         ensures kinds { self.new.kinds.items ≡ [] }
+        ensures groups { self.new.settled.groups.items ≡ [] }
+        ensures labels { self.new.settled.labels.items ≡ [] }
     {
         self.rides.clear();
         self.kinds.clear();
+        self.settled.clear();
     }
 }
 
@@ -65,6 +73,8 @@ pub struct RideLegs<'r> {
     /// The moment past which those that depart are late, and how late these may arrive.
     pub(crate) since: Moment,
     pub(crate) late: Cutoff<'r>,
+    /// The moment past which those that depart lead to nothing that a cheaper label doesn't lead to.
+    pub(crate) passed: Moment,
 }
 
 impl<'s, 'l> Search<'s, 'l> {
@@ -113,6 +123,9 @@ impl<'s, 'l> Search<'s, 'l> {
         requires kept { AreKept round.now.positions.now (cutoff_of cutoffs.latest) kept.old.rides }
         requires kinds { HasKinds self.now.feed found.old.known kept.old }
         requires fares { HasFares self.now found.old.known }
+        requires groups { HasGroups self.now kept.old }
+        ensures groups { OnOk result (HasGroups self.now kept.new) }
+        ensures labels { OnOk result (StayLabels kept.old kept.new) }
         ensures kept { OnOk result (AreKept round.now.positions.now (cutoff_of cutoffs.entry.latest) kept.new.rides) }
         ensures holds { OnOk result (HoldsFrom round.now.positions.now (cutoff_of cutoffs.entry.latest) reached.now kept.new.rides.rides) }
         ensures kinds { OnOk result (HasKinds self.now.feed found.new.known kept.new) }
@@ -126,6 +139,12 @@ impl<'s, 'l> Search<'s, 'l> {
             return Ok(());
         }
         self.find_kinds(found, kept.rides.rides(), &mut kept.kinds)?;
+        self.find_groups(
+            &found.known,
+            kept.rides.rides(),
+            &kept.kinds,
+            &mut kept.settled,
+        )?;
         if self.is_quick() {
             kept.repeats.find(kept.rides.rides(), &kept.kinds)?;
         }

@@ -13,5 +13,6 @@ mod repeats;
 mod scan;
 mod search;
 mod seen;
+mod settled;
 
 pub use plan::{round_entries, rounds};

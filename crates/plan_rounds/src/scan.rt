@@ -1,5 +1,5 @@
 //! How a round goes on from its labels: pattern by pattern, and position by position.
-ghost use Rattle.std.specs.Prelude.{◌≡◌, ◌⊎◌, ◌+◌, ◌≤ℤ◌, ◌<ℤ◌, ◌++◌, ◌∷◌, [], false, true, List, None, Option, Some, int_le, slice_get, OnOk, ℤ};
+ghost use Rattle.std.specs.Prelude.{◌≡◌, ◌⊎◌, ◌+◌, ◌≤ℤ◌, ◌<ℤ◌, ◌++◌, ◌∷◌, [], false, true, List, None, Option, Some, int_le, length, slice_get, OnOk, ℤ};
 ghost use Rattle.std.specs.List.Sorted.{IsPermutation};
 ghost use Rattle.plan_rides.specs.Cutoffs.{AreLastDepartures, cutoff_of, is_early};
 ghost use Rattle.plan_rides.specs.InTime.{IsWithinWindow, deadline};
@@ -10,7 +10,8 @@ ghost use Rattle.plan_rounds.specs.Bounds.{AreUntilsOf, IsFairBy, IsUntil};
 ghost use Rattle.plan_rounds.specs.Legs.{AreKinds, HasKinds};
 ghost use Rattle.plan_rounds.specs.Moves.{HasFares};
 ghost use Rattle.plan_rounds.specs.Scans.{AddsLabel, AddsMarks, AreInOrder, AreMarks, IsFairIn, IsLeftOut, IsMarked, IsRound, ServeFor, SpreadsIn, StepsAt, StepsFromPosition};
-ghost use Rattle.plan_rounds.specs.Sources.{IsSource, SpreadsFrom};
+ghost use Rattle.plan_rounds.specs.Settled.{ArePassed, AreSettled};
+ghost use Rattle.plan_rounds.specs.Sources.{IsSource, SpreadsFrom, StepsByFirst};
 ghost use Rattle.plan_rounds.specs.Stores.{StepsFrom};
 ghost use Rattle.round_labels.specs.declared.label.Label.{Label};
 
@@ -197,11 +198,15 @@ impl<'s, 'l> Search<'s, 'l> {
         Ok(())
     }
 
-    /// Whether the ride is to be tried from a label that gets to its position: one that arrives too late isn't, nor one that departs
-    /// late and arrives too late for that; nor, in a quick search, one that is like another which departs before it.
+    /// Whether the ride is to be tried from a label that gets to its position: one that departs when a cheaper label goes on alike isn't,
+    /// nor one that arrives too late, or departs late and arrives too late for that; nor, in a quick search, one that is like another
+    /// which departs before it.
     fn is_tried(&self, legs: &RideLegs, ride: usize, caught: &CaughtRide, reached: &Reached) -> bool
-        ensures { result ≡ false → IsLeftOut self.now (cutoff_of legs.now.latest) legs.now.since.0 (cutoff_of legs.now.late) caught.now.facts }
+        ensures { result ≡ false → IsLeftOut self.now (cutoff_of legs.now.latest) legs.now.since.0 (cutoff_of legs.now.late) legs.now.passed.0 caught.now.facts }
     {
+        if departs_after(caught, legs.passed) {
+            return false;
+        }
         if !arrives_early(caught, &legs.latest) {
             return false;
         }
@@ -237,7 +242,9 @@ impl<'s, 'l> Search<'s, 'l> {
         requires late { IsFairIn self.now round.now source.now.label.now (Some legs.since.0) (cutoff_of legs.late) }
         requires kinds { AreKinds self.now.feed known.now legs.rides.now legs.kinds.now }
         requires fares { HasFares self.now known.now }
-        ensures { OnOk result (SpreadsFrom self.now round.now.finals.now source.now (StepsAt self.now round.now.positions.now source.now.label.now reached.now) bags.old bags.new) }
+        requires passed { ArePassed self.now round.now.finals.now source.now.label.now reached.now.earliest.0 legs.rides.now legs.passed.0 bags.old }
+        ensures each { OnOk result (SpreadsFrom self.now round.now.finals.now source.now (StepsByFirst self.now.feed self.now.query source.now legs.entry.rides.now (length legs.entry.rides.now)) bags.old bags.new) }
+        ensures all { OnOk result (SpreadsFrom self.now round.now.finals.now source.now (StepsAt self.now round.now.positions.now source.now.label.now reached.now) bags.old bags.new) }
     {
         let after = self.outdone_after(source, round.finals);
         for k in 0..legs.rides.len() {
@@ -272,11 +279,14 @@ impl<'s, 'l> Search<'s, 'l> {
         requires fair { (x : Label) → slice_get round.now.labels.now reached.now.number ≡ Some x → IsFairIn self.now round.now x None (cutoff_of cutoffs.latest) }
         requires until { (x : Label) → slice_get round.now.labels.now reached.now.number ≡ Some x → x.rides ≡ round.now.count → AreUntilsOf self.now round.now.finals.now x until }
         requires fares { HasFares self.now found.old.known }
+        requires settled { AreSettled self.now round.now.finals.now round.now.count kept.old bags.old }
         ensures kept { OnOk result (AreKept round.now.positions.now (cutoff_of cutoffs.entry.latest) kept.new.rides) }
         ensures kinds { OnOk result (HasKinds self.now.feed found.new.known kept.new) }
         ensures fares { HasFares self.now found.new.known }
+        ensures settled { OnOk result (AreSettled self.now round.now.finals.now round.now.count kept.new bags.new) }
         ensures spreads { OnOk result (SpreadsIn self.now round.now (StepsFromPosition self.now round.now reached.now) bags.old bags.new) }
     {
+        let _feed = self.feed();
         self.keep_legs(found, round, reached, cutoffs, kept)?;
         let label = round.labels.get(reached.number as usize);
         let source = Source {
@@ -284,6 +294,7 @@ impl<'s, 'l> Search<'s, 'l> {
             number: reached.number,
             label: &label,
         };
+        let own = self.settled_label(&kept.settled, &label, reached);
         let more = usize::from(self.limit() - round.count - 1);
         let legs = RideLegs {
             rides: kept.rides.rides(),
@@ -292,6 +303,7 @@ impl<'s, 'l> Search<'s, 'l> {
             latest: self.cutoffs_by(more, until.all).latest,
             since: until.since,
             late: self.cutoffs_by(more, until.late).latest,
+            passed: kept.settled.passed(own, self.last_end()),
         };
         self.offer_rides(
             &found.known,
@@ -301,7 +313,8 @@ impl<'s, 'l> Search<'s, 'l> {
             &source,
             reached,
             legs,
-        )
+        )?;
+        kept.settled.add(own)
     }
 
     /// Offers what one more ride leads to from the labels that reach these positions, position by position. What `kept` holds is

@@ -8,6 +8,7 @@ use Rattle.plan_rounds.specs.Scans.{IsMarked, StepsAtFirst}
 use Rattle.plan_rounds.specs.Searched.{Lacks}
 use Rattle.plan_rounds.proofs.LegLaws.{kinds_none}
 use Rattle.plan_rounds.proofs.ScanLaws.{steps_all, steps_more, steps_none, until_at}
+use Rattle.plan_rounds.proofs.SettledLaws.{settled_none}
 use Rattle.plan_rounds.proofs.SourceLaws.{from_all}
 use Rattle.plan_rounds.proofs.SpreadLaws.{spreads_but, spreads_more, spreads_none}
 use Rattle.plan_rounds.proofs.UsefulLaws.{until_later}
@@ -24,6 +25,8 @@ loop-k-init c =
       fares = c.requires.fares;
       kept = subst (AreKept round.positions.now (cutoff_of c.cutoffs_by-cutoffs.result.latest)) (sym c.clear.ensures.rides) tt;
       kinds = kinds_none me.feed c.args.found.now.known c.clear.new.self c.clear.ensures.rides c.clear.ensures.kinds;
+      settled = settled_none me round.finals.now round.count c.clear.new.self c.args.bags.now c.clear.ensures.rides c.clear.ensures.groups
+          c.clear.ensures.labels;
     }
 
 pub cutoffs_by-cutoffs-requires : goal.cutoffs_by-cutoffs-requires
@@ -84,6 +87,7 @@ loop-k-preserved c =
       fares = c.in_ok-offer_from.ensures.fares;
       kept = c.in_ok-offer_from.ensures.kept;
       kinds = c.in_ok-offer_from.ensures.kinds;
+      settled = c.in_ok-offer_from.ensures.settled;
     }
 
 pub returns-clause-spreads : goal.returns-clause-spreads

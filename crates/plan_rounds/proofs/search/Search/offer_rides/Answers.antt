@@ -11,7 +11,7 @@ use Rattle.round_table.specs.Finals.{HasEnds}
 use Rattle.plan_rounds.specs.Searched.{Lacks}
 use Rattle.plan_rounds.proofs.RideSteps.{by_first, rides_more}
 use Rattle.plan_rounds.proofs.ScanLaws.{by_left_out, by_passed, right_from, steps_from}
-use Rattle.plan_rounds.proofs.SpreadLaws.{spreads_but, spreads_more, spreads_same}
+use Rattle.plan_rounds.proofs.SpreadLaws.{spreads_but, spreads_done, spreads_more, spreads_same}
 use Rattle.plan_rounds.proofs.search.Search.offer_rides.Goals as goal
 use Rattle.plan_rounds.proofs.search.Search.offer_rides.Goals.{then-departs_since+then-is_tried+in_ok-offer_ride, then-departs_since+else-is_tried, else-departs_since}
 
@@ -62,11 +62,12 @@ loop-k-preserved c =
           rw w.bags-is (spreads_more me.feed me.query lack source.labels.now _ _ _ _ _ _ _ was w.in_ok-offer_ride.ensures
           (λ b. rides_more me.feed me.query source rides k (slice_index_or rides k none) b at))
       | then-departs_since+else-is_tried w ↦
-          rw w.bags-is (spreads_but me.feed me.query lack source.labels.now _ _ _ _ _ was
+          rw w.bags-is (spreads_done me.feed me.query lack source.labels.now _ _ _ _ _ was
           (λ b. by_left_out me c.args.round.now source c.args.reached.now serve.latest rides c.requires.round c.requires.source
-          c.requires.from serve.holds (cutoff_of c.args.legs.latest) (cutoff_of c.args.legs.late) c.args.legs.since.0 k
+          c.requires.from serve.holds (cutoff_of c.args.legs.latest) (cutoff_of c.args.legs.late) c.args.legs.since.0
+          c.args.legs.passed.0 c.args.bags.now k
           (slice_index_or rides k none) b at
-          (sym c.departs_since.ensures ∙ w.if-departs_since.true) c.requires.counts c.requires.own c.requires.late
+          (sym c.departs_since.ensures ∙ w.if-departs_since.true) c.requires.counts c.requires.own c.requires.late c.requires.passed
           (w.is_tried.ensures w.if-is_tried.false)))
       | else-departs_since w ↦
           rw w.bags-is (spreads_same me.feed me.query lack source.labels.now _ _ _ _ _ was
@@ -74,8 +75,16 @@ loop-k-preserved c =
           c.requires.from serve.holds k (slice_index_or rides k none) b at (sym c.departs_since.ensures ∙ w.if-departs_since.false)))
     ]
 
-pub returns : goal.returns
-returns c =
+pub returns-clause-each : goal.returns-clause-each
+returns-clause-each c =
+    let me = c.args.self.now in
+    let source = c.args.source.now in
+    let rides = c.args.legs.rides.now in
+    spreads_same me.feed me.query (Lacks me c.args.round.now.finals.now) source.labels.now _ _ _ _ _ c.loop-k.invariant
+    (λ b by. by_first me.feed me.query source rides (length rides) c.loop-k.k b c.loop-k-test.false by)
+
+pub returns-clause-all : goal.returns-clause-all
+returns-clause-all c =
     let me = c.args.self.now in
     let source = c.args.source.now in
     let rides = c.args.legs.rides.now in
