@@ -1,7 +1,7 @@
 // Fare states and the moves from them, worked by hand; and runs of moves beside the least price of the same legs.
 ghost use Rattle.std.specs.Prelude.{◌≤◌, ◌^◌, nat_abs};
 
-use crate::prices::{feed_with, leg, price_of, three_legs};
+use crate::prices::{feed_by, feed_with, leg, price_of, three_legs};
 use crate::readings;
 use fare_automaton::Automaton;
 use fare_products::Products;
@@ -185,6 +185,136 @@ fn is_as_worked(alloc: Global) -> bool {
 #[test]
 fn moves_and_rows(rt: HostRuntime) {
     assert!(rt; is_as_worked(rt.alloc()));
+}
+
+// ---- transfer rules of types 1 and 2
+
+// A change to land costs a ticket and leaves both legs charged; one from land costs a ticket in place of both.
+const CHARGED: &[u8] = b"from_leg_group_id,to_leg_group_id,fare_transfer_type,fare_product_id\n\
+    town,land,1,short\nland,town,2,short\n";
+
+// A leg by this rule and product row, before which the change is filled so.
+fn by(
+    rule: u32,
+    product: u32,
+    state: FareState,
+    sums: (i64, i64),
+    change: Option<(XferId, ProductRowId)>,
+) -> Move {
+    let (xfer, xfer_product) = match change {
+        Some((own, row)) => (Some(own), Some(row)),
+        None => (None, None),
+    };
+    Move {
+        state,
+        paid: Money(sums.0),
+        held: Money(sums.1),
+        rule: RuleId(rule),
+        product: ProductRowId(product),
+        xfer,
+        xfer_product,
+    }
+}
+
+// Whether these are the moves, in this order.
+fn are_same(moves: &[Move], wanted: &[Move; 3]) -> bool {
+    let [first, second, third] = wanted;
+    match moves {
+        [a, b, c] => is_same(a, first) && is_same(b, second) && is_same(c, third),
+        _ => false,
+    }
+}
+
+// Whether these are the moves of a leg after the state, where so much is held.
+fn are_next(
+    automaton: &Automaton,
+    alloc: Global,
+    state: &FareState,
+    held: Money,
+    wanted: &[Move; 3],
+) -> bool
+    requires { nat_abs held.0 ≤ 10 ^ 16 }
+{
+    match automaton.step(alloc, state, held, &leg(alloc, 31_200, 31_800)) {
+        Ok(moves) => are_same(moves.items(), wanted),
+        Err(AllocError) => false,
+    }
+}
+
+// Whether the moves after a leg of town, of which 1.80 is held, are these: within town no change is arranged; to land what is
+// held, the change and the leg are paid, by the dearer row or the cheaper one.
+fn goes_to_land(automaton: &Automaton, alloc: Global) -> bool {
+    let change = Some((XferId(0), ProductRowId(2)));
+    let wanted = [
+        by(0, 2, state_of(0, true), (180, 180), None),
+        by(1, 0, state_of(1, false), (660, 0), change),
+        by(1, 1, state_of(1, false), (610, 0), change),
+    ];
+    are_next(automaton, alloc, &state_of(0, true), Money(180), &wanted)
+}
+
+// Whether the moves after a first leg of land, of which 2.50 is held, are these: to town the change alone is paid; within land no
+// change is arranged.
+fn goes_to_town(automaton: &Automaton, alloc: Global) -> bool {
+    let change = Some((XferId(1), ProductRowId(2)));
+    let wanted = [
+        by(0, 2, state_of(0, false), (180, 0), change),
+        by(1, 0, state_of(1, true), (250, 300), None),
+        by(1, 1, state_of(1, true), (250, 250), None),
+    ];
+    are_next(automaton, alloc, &state_of(1, true), Money(250), &wanted)
+}
+
+// Whether moves are as they were worked by hand under both rows.
+fn is_charged_as_worked(alloc: Global) -> bool {
+    let Ok(feed) = feed_with(alloc, CHARGED) else {
+        return false;
+    };
+    match Automaton::compile(alloc, &feed, None) {
+        Ok(automaton) => goes_to_land(&automaton, alloc) && goes_to_town(&automaton, alloc),
+        Err(AllocError) => false,
+    }
+}
+
+#[test]
+fn moves_of_both_types(rt: HostRuntime) {
+    assert!(rt; is_charged_as_worked(rt.alloc()));
+}
+
+// ---- how little a leg can cost
+
+// Legs cost 0.50 less than nothing at least, and changes 1.00 less, by one of two
+// rows; what costs 9.00 less than nothing is for no leg and no change.
+const REFUNDS: &[u8] = b"fare_product_id,fare_media_id,amount,currency\n\
+    day,,3.00,EUR\nshort,,-0.50,EUR\nshort,card,-0.20,EUR\nback,,-0.30,EUR\nback,card,-1.00,EUR\nnone,,-9.00,EUR\n";
+
+const BACK: &[u8] = b"from_leg_group_id,to_leg_group_id,fare_transfer_type,fare_product_id\n\
+    town,land,0,back\n,,0,\n";
+
+// Whether the floor under these transfer rules is this amount.
+fn has_floor(alloc: Global, products: &[u8], rows: &[u8], wanted: Money) -> bool {
+    let Ok(feed) = feed_by(alloc, products, rows) else {
+        return false;
+    };
+    match Automaton::compile(alloc, &feed, None) {
+        Ok(automaton) => automaton.floor().0 == wanted.0,
+        Err(AllocError) => false,
+    }
+}
+
+// Where nothing costs less than nothing, the floor is 0.
+#[test]
+fn floors(rt: HostRuntime) {
+    assert!(rt; has_floor(rt.alloc(), REFUNDS, BACK, Money(-150)));
+    assert!(rt; has_floor(rt.alloc(), REFUNDS, COLUMNS, Money(-50)));
+    assert!(rt;
+        has_floor(
+            rt.alloc(),
+            b"fare_product_id,amount,currency\nday,3.00,EUR\nshort,1.80,EUR\nback,-1.00,EUR\n",
+            BACK,
+            Money(-100)
+        )
+    );
 }
 
 // ---- runs of moves

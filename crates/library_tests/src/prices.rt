@@ -35,6 +35,15 @@ const OPEN: &[u8] =
 
 // The feed with these transfer rules.
 pub fn feed_with(alloc: Global, transfer_rules: &[u8]) -> Result<Feed, AllocError> {
+    feed_by(alloc, PRODUCTS, transfer_rules)
+}
+
+// The feed with these products and transfer rules.
+pub fn feed_by<'t>(
+    alloc: Global,
+    products: &'t [u8],
+    transfer_rules: &'t [u8],
+) -> Result<Feed, AllocError> {
     let texts: [(FileName, &[u8]); 9] = [
         (FileName::Stops, b"stop_id\nA\n"),
         (FileName::Routes, b"route_id\nR\n"),
@@ -51,7 +60,7 @@ pub fn feed_with(alloc: Global, transfer_rules: &[u8]) -> Result<Feed, AllocErro
             FileName::FareMedia,
             b"fare_media_id,fare_media_type\ncard,2\n",
         ),
-        (FileName::FareProducts, PRODUCTS),
+        (FileName::FareProducts, products),
         (FileName::FareLegRules, TWO_GROUPS),
         (FileName::FareTransferRules, transfer_rules),
     ];

@@ -1,4 +1,4 @@
-// Plans by rounds beside those of the search that looks at all journeys.
+// Plans by rounds, by an answer alone and by the table of all labels, beside those of the search that looks at all journeys.
 ghost use Rattle.plan_rides.specs.InTime.{IsUsualQuery};
 
 use crate::drawn::{drawn_feed, query_of};
@@ -6,7 +6,7 @@ use feed_rows::{Entry, Feed, Query, Triple};
 use feed_timetable::Timetable;
 use pareto_front::are_same_triples;
 use plan_plain::plain_entries;
-use plan_rounds::round_entries;
+use plan_rounds::{round_entries, rounds};
 use std::alloc::{AllocError, Global};
 
 // The triples of the entries.
@@ -18,13 +18,30 @@ fn triples(alloc: Global, entries: &[Entry]) -> Result<Vec<Triple>, AllocError> 
     Ok(triples)
 }
 
-// Whether both find the same, and something.
-fn is_found_by_both(alloc: Global, timetable: &Timetable, query: &Query) -> Result<bool, AllocError>
+// The triples in which the table of all labels ends.
+fn triples_of_table(
+    alloc: Global,
+    timetable: &Timetable,
+    query: &Query,
+) -> Result<Vec<Triple>, AllocError>
     requires { IsUsualQuery query.now }
 {
-    let rounds = triples(alloc, &round_entries(alloc, timetable, query)?)?;
+    let table = rounds(alloc, timetable, query)?;
+    let mut triples = Vec::new(alloc);
+    for end in table.finals() {
+        triples.push(end.triple)?;
+    }
+    Ok(triples)
+}
+
+// Whether all three find the same, and something.
+fn is_found_by_all(alloc: Global, timetable: &Timetable, query: &Query) -> Result<bool, AllocError>
+    requires { IsUsualQuery query.now }
+{
+    let found = triples(alloc, &round_entries(alloc, timetable, query)?)?;
+    let table = triples_of_table(alloc, timetable, query)?;
     let plain = triples(alloc, &plain_entries(alloc, timetable, query)?)?;
-    Ok(!rounds.is_empty() && are_same_triples(&rounds, &plain))
+    Ok(!found.is_empty() && are_same_triples(&found, &plain) && are_same_triples(&table, &plain))
 }
 
 // The same over a feed.
@@ -32,7 +49,7 @@ fn is_found_over(alloc: Global, feed: &Feed, query: &Query) -> Result<bool, Allo
     requires { IsUsualQuery query.now }
 {
     match Timetable::build(alloc, feed) {
-        Ok(timetable) => is_found_by_both(alloc, &timetable, query),
+        Ok(timetable) => is_found_by_all(alloc, &timetable, query),
         Err(AllocError) => Err(AllocError),
     }
 }
@@ -40,7 +57,7 @@ fn is_found_over(alloc: Global, feed: &Feed, query: &Query) -> Result<bool, Allo
 // How many drawn feeds are planned over. More of them are tried by hand: `rt try --test` with 300 here.
 const DRAWN_FEEDS: u32 = 100;
 
-// Whether both find the same over each of them.
+// Whether all three find the same over each of them.
 fn is_found_over_all(alloc: Global) -> Result<bool, AllocError> {
     for number in 0..DRAWN_FEEDS {
         let feed = drawn_feed(alloc, number + 1)?;
