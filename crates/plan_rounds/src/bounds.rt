@@ -102,7 +102,7 @@ fn earlier(a: Moment, b: Moment) -> Moment
 }
 
 /// The later of both.
-fn later(a: Moment, b: Moment) -> Moment
+pub fn later(a: Moment, b: Moment) -> Moment
     ensures first { a.0 ≤ℤ result.0 }
     ensures second { b.0 ≤ℤ result.0 }
     ensures is { (result ≡ a) ⊎ (result ≡ b) }

@@ -9,6 +9,7 @@ ghost use Rattle.plan_rounds.specs.Moves.{HasFares};
 ghost use Rattle.plan_rounds.specs.Settled.{AddsLabel, AreGroupsOf, HasCheaper, HasGroup, IsSettledAt, IsSettledSince, StayGroups};
 ghost use Rattle.round_labels.specs.Labels.{IsBounded};
 
+use crate::bounds::later;
 use crate::search::Search;
 use fare_automaton::KnownOptions;
 use fare_bounds::LastChanges;
@@ -44,14 +45,6 @@ impl Drop for Settled {
             labels: _,
         } = self;
     }
-}
-
-/// The later of both.
-fn later(a: Moment, b: Moment) -> Moment
-    ensures first { a.0 ≤ℤ result.0 }
-    ensures second { b.0 ≤ℤ result.0 }
-{
-    if a.0 < b.0 { b } else { a }
 }
 
 /// The moment; or an earlier one past which both labels are settled, where the other is as cheap.
