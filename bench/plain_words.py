@@ -5,9 +5,10 @@
 
 For each number of stop times (10,000, 100,000 and 1,000,000, where none is named) it makes a feed in FOLDER as city_feed.py does, and
 runs `check` seven times. Then it asks four ways through the city, two of them along a rail line and the bus beside it: by the plain
-words, by eight rides, and by three rides within two hours. Each command runs three times, and the least time counts. Above 10,000 stop
-times come COUNT ways (40) between lines at hours that are drawn, by the plain words, twice each; over 10,000 the four ways with
-`--stats`. PROGRAM is crates/plan_cli/out/plan_cli where none is named, or else release/farewise.
+words, by eight rides, and by three rides within two hours. Each command runs five times, and a check before each of them, since a
+machine's speed wavers from one minute to the next; the least times count. Above 10,000 stop times come COUNT ways (40) between lines at
+hours that are drawn, by the plain words, twice each, and the slowest of them beside checks; over 10,000 the four ways with `--stats`.
+PROGRAM is crates/plan_cli/out/plan_cli where none is named, or else release/farewise.
 
 A line has the seconds of the processor, as a ratio to the least of check, the memory at its most, as a ratio to that of check, and the
 number of journeys; and `above` where it is past what such a plan may take. A run is ended after the seconds of the limit (30), and isn't
@@ -31,6 +32,8 @@ TIMES = ["07:40:00", "09:05:00", "12:10:00", "16:45:00"]
 # The further words of a plan, and how many times the check it may take.
 PLANS = {"plain words": ([], 2.5), "eight rides": (["--rides", "8"], 4), "three rides in two hours": (["--rides", "3", "--within", "7200"], 1.6)}
 WORST = 6
+# How often a command runs beside a check.
+RUNS = 5
 # What a plan may take whatever the check does, and how many times its memory.
 SECONDS, MEGABYTES, MEMORY = 0.02, 8, 2
 
@@ -93,7 +96,19 @@ def least_run(command, limit, count):
     return least_of(runs_of(command, limit, count))
 
 
-def print_run(rows, said, run, check, times):
+def run_beside(begin, words, limit, count):
+    """The least of so many runs, and that of the checks before each of them."""
+    runs, checks = [], []
+    for _ in range(count):
+        checks.append(run_once([*begin, "check"], limit))
+        runs.append(run_once([*begin, *words], limit))
+        if runs[-1].is_ended:
+            break
+    return least_of(runs), least_of(checks)
+
+
+def print_run(rows, said, begin, words, limit, times):
+    run, check = run_beside(begin, words, limit, RUNS)
     if run.is_ended:
         print(f"{rows}\t{said}\tended after {run.seconds:.1f} s\t{run.megabytes:.1f} MB\tabove", flush=True)
         return
@@ -106,7 +121,7 @@ def print_run(rows, said, run, check, times):
     )
 
 
-def print_pairs(rows, begin, city, check, count, limit):
+def print_pairs(rows, begin, city, count, limit):
     rng = random.Random(f"pairs {rows}")
     runs = []
     for _ in range(count):
@@ -115,8 +130,8 @@ def print_pairs(rows, begin, city, check, count, limit):
     runs.sort(key=lambda it: (it[0].is_ended, it[0].seconds))
     ended = sum(it.is_ended for it, _ in runs)
     print(f"{rows}\t{count} ways at any hour\t{ended} ended\tmedian {statistics.median(it.seconds for it, _ in runs):.3f} s", flush=True)
-    worst, words = runs[-1]
-    print_run(rows, f"the worst of them: {' '.join(words)}", worst, check, WORST)
+    _, words = runs[-1]
+    print_run(rows, f"the worst of them: {' '.join(words)}", begin, ["plan", *words], limit, WORST)
 
 
 def print_size(folder, program, rows, limit, pairs):
@@ -131,9 +146,9 @@ def print_size(folder, program, rows, limit, pairs):
     asked = [["plan", *way, DATE, at] for way, at in zip(ways, TIMES)]
     for said, (words, times) in PLANS.items():
         for plan in asked:
-            print_run(rows, f"{said}: {' '.join(plan[1:])}", least_run([*begin, *plan, *words], limit, 3), check, times)
+            print_run(rows, f"{said}: {' '.join(plan[1:])}", begin, [*plan, *words], limit, times)
     if rows > 10_000:
-        print_pairs(rows, begin, city, check, pairs, limit)
+        print_pairs(rows, begin, city, pairs, limit)
         return
     for plan in asked:
         run = least_run([*begin, *plan, "--stats"], limit, 3)
