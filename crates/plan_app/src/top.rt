@@ -28,9 +28,10 @@ pub fn run<F: Folder, S: Sink>(
     sink: &mut S,
 ) -> Status
     ensures causes { Explains words.now (F.state folder.old) (F.state folder.new) (S.state sink.old) (S.state sink.new) result }
-    ensures answers_all { AnswersAll words.now (F.state folder.old) (F.state folder.new) (S.state sink.old) (S.state sink.new) result }
     ensures unwritten { writes_nothing result ≡ true → sink.new ≡ sink.old }
     ensures untouched { asks_folder (asked_of words.now) ≡ false → folder.new ≡ folder.old }
+    ensures answers_all { AnswersAll words.now (F.state folder.old) (F.state folder.new) (S.state sink.old) (S.state sink.new) result }
+    ensures source { (F.state folder.new).source ≡ (F.state folder.old).source }
 {
     let outcome = match made(alloc, words, folder) {
         Ok(outcome) => outcome,
