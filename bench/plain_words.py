@@ -5,12 +5,13 @@
 
 For each number of stop times (10,000, 100,000 and 1,000,000, where none is named) it makes a feed in FOLDER as city_feed.py does, and
 runs `check` seven times. Then it asks four ways through the city, two of them along a rail line and the bus beside it: by the plain
-words, by eight rides, and by three rides within two hours. Each command runs five times, and a check before each of them, since a
-machine's speed wavers from one minute to the next; the least times count. Above 10,000 stop times come COUNT ways (40) between lines at
-hours that are drawn, by the plain words, twice each, and the slowest of them beside checks; over 10,000 the four ways with `--stats`.
+words, by eight rides, and by three rides within two hours. Each command runs seven times, and a check before each of them, since a
+machine's speed wavers from one second to the next: the median of the ratios counts, and the least time. Above 10,000 stop times come
+COUNT ways (40) between lines at hours that are drawn, by the plain words, twice each, and the slowest of them beside checks; over 10,000
+the four ways with `--stats`.
 PROGRAM is crates/plan_cli/out/plan_cli where none is named, or else release/farewise.
 
-A line has the seconds of the processor, as a ratio to the least of check, the memory at its most, as a ratio to that of check, and the
+A line has the seconds of the processor, their ratio to those of the check, the memory at its most, as a ratio to that of check, and the
 number of journeys; and `above` where it is past what such a plan may take. A run is ended after the seconds of the limit (30), and isn't
 tried again.
 """
@@ -33,7 +34,7 @@ TIMES = ["07:40:00", "09:05:00", "12:10:00", "16:45:00"]
 PLANS = {"plain words": ([], 2.5), "eight rides": (["--rides", "8"], 4), "three rides in two hours": (["--rides", "3", "--within", "7200"], 1.6)}
 WORST = 6
 # How often a command runs beside a check.
-RUNS = 5
+RUNS = 7
 # What a plan may take whatever the check does, and how many times its memory.
 SECONDS, MEGABYTES, MEMORY = 0.02, 8, 2
 
@@ -97,24 +98,27 @@ def least_run(command, limit, count):
 
 
 def run_beside(begin, words, limit, count):
-    """The least of so many runs, and that of the checks before each of them."""
+    """So many runs, and the checks before each of them."""
     runs, checks = [], []
     for _ in range(count):
         checks.append(run_once([*begin, "check"], limit))
         runs.append(run_once([*begin, *words], limit))
         if runs[-1].is_ended:
             break
-    return least_of(runs), least_of(checks)
+    return runs, checks
 
 
 def print_run(rows, said, begin, words, limit, times):
-    run, check = run_beside(begin, words, limit, RUNS)
+    runs, checks = run_beside(begin, words, limit, RUNS)
+    run, check = least_of(runs), least_of(checks)
     if run.is_ended:
         print(f"{rows}\t{said}\tended after {run.seconds:.1f} s\t{run.megabytes:.1f} MB\tabove", flush=True)
         return
-    above = run.seconds > max(times * check.seconds, SECONDS) or run.megabytes > max(MEMORY * check.megabytes, MEGABYTES)
+    ratio = statistics.median(one.seconds / other.seconds for one, other in zip(runs, checks))
+    is_slow = ratio > times and run.seconds > SECONDS
+    above = is_slow or run.megabytes > max(MEMORY * check.megabytes, MEGABYTES)
     print(
-        f"{rows}\t{said}\t{run.seconds:.3f} s\t{run.seconds / check.seconds:.2f} times check (at most {times}, or {SECONDS} s)"
+        f"{rows}\t{said}\t{run.seconds:.3f} s\t{ratio:.2f} times check (at most {times}, or {SECONDS} s)"
         f"\t{run.megabytes:.1f} MB\t{run.megabytes / check.megabytes:.2f} times (at most {MEMORY}, or {MEGABYTES} MB)"
         f"\t{run.journeys()} journeys\t{'above' if above else '-'}",
         flush=True,
