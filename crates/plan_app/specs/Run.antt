@@ -49,7 +49,8 @@ abbrev pub WhereRead : Bool → FolderState → FolderState → ((FileName → H
 WhereRead true folder later fact = WhereTold folder (λ contents. ¬ (Rose folder.faults later.faults) → fact (held contents))
 WhereRead false folder later fact = (files : FileName → HeldFile) → fact files
 
--- where a task is due over the files that are asked about, and nothing fails outside, it is answered, or memory was wanting
+-- where a task is due over the files that are asked about, and nothing fails outside, it is answered, or memory was wanting;
+-- so it is of each answer that has its cause (`proofs/CauseLaws`: `all_answered`)
 abbrev pub AnswersAll : List (List ℕ) → FolderState → FolderState → SinkState → SinkState → Status → Type 0
 AnswersAll words folder later sink after answer =
     WhereRead (asks_folder (asked_of words)) folder later (λ files. (task : Task) → due files words ≡ Ok task →

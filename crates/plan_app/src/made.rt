@@ -37,6 +37,7 @@ fn feed_for<F: Folder>(alloc: Global, asked: &Asked, folder: &mut F) -> Result<F
     ensures feed { IfOk result (IsFeedFor (F.state folder.old) (asked_request asked.now)) }
     ensures err { IfErr result (λ error. GivesNone error (asked_request asked.now) (F.state folder.old) (F.state folder.new)) }
     ensures untouched { asks_folder (Ok (asked_request asked.now)) ≡ false → folder.new ≡ folder.old }
+    ensures source { (F.state folder.new).source ≡ (F.state folder.old).source }
 {
     match asked {
         Asked::Gen(words) => match made_feed(alloc, words) {
@@ -55,6 +56,7 @@ fn made_for<F: Folder>(alloc: Global, asked: &Asked, folder: &mut F) -> Result<O
     ensures ok { OnOk result (Reads (Ok (asked_request asked.now)) (F.state folder.old) (F.state folder.new)) }
     ensures err { IfErr result (λ stop. Stops stop (Ok (asked_request asked.now)) (F.state folder.old) (F.state folder.new)) }
     ensures untouched { asks_folder (Ok (asked_request asked.now)) ≡ false → folder.new ≡ folder.old }
+    ensures source { (F.state folder.new).source ≡ (F.state folder.old).source }
 {
     match feed_for(alloc, asked, folder) {
         Ok(feed) => Ok(outcome_of(alloc, &feed, asked)?),
@@ -78,6 +80,7 @@ pub(crate) fn made<F: Folder>(
     ensures ok { OnOk result (Reads (asked_of words.now) (F.state folder.old) (F.state folder.new)) }
     ensures err { IfErr result (λ stop. Stops stop (asked_of words.now) (F.state folder.old) (F.state folder.new)) }
     ensures untouched { asks_folder (asked_of words.now) ≡ false → folder.new ≡ folder.old }
+    ensures source { (F.state folder.new).source ≡ (F.state folder.old).source }
 {
     match asked_of(words) {
         Ok(asked) => made_for(alloc, &asked, folder),

@@ -1,7 +1,7 @@
 //! The top call.
 ghost use Rattle.std.specs.Prelude.{◌≡◌, true, false};
 ghost use Rattle.plan_words.specs.Words.{asked_of};
-ghost use Rattle.plan_app.specs.Run.{AnswersAll, Explains, asks_folder, writes_nothing};
+ghost use Rattle.plan_app.specs.Run.{Explains, asks_folder, writes_nothing};
 
 use crate::made::made;
 use command_answers::{Status, Stop, write_text};
@@ -28,9 +28,9 @@ pub fn run<F: Folder, S: Sink>(
     sink: &mut S,
 ) -> Status
     ensures causes { Explains words.now (F.state folder.old) (F.state folder.new) (S.state sink.old) (S.state sink.new) result }
-    ensures answers_all { AnswersAll words.now (F.state folder.old) (F.state folder.new) (S.state sink.old) (S.state sink.new) result }
     ensures unwritten { writes_nothing result ≡ true → sink.new ≡ sink.old }
     ensures untouched { asks_folder (asked_of words.now) ≡ false → folder.new ≡ folder.old }
+    ensures source { (F.state folder.new).source ≡ (F.state folder.old).source }
 {
     let outcome = match made(alloc, words, folder) {
         Ok(outcome) => outcome,
