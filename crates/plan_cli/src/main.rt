@@ -3,9 +3,9 @@
 
 mod program;
 
-use program::run_program;
+use program::{exit_code, run_program};
 use std::process::ExitCode;
 
 fn main(rt: HostRuntime) -> ExitCode {
-    run_program(rt)
+    exit_code(&run_program(rt))
 }
