@@ -28,7 +28,7 @@ use Rattle.feed_faults.specs.OnLiterals.{feeds_on_literals}
 use Rattle.plan_words.specs.Words.{asked_of}
 use Rattle.command_answers.specs.Due.{Task, task_of, task_over, due}
 use Rattle.command_answers.specs.declared.refusal.Refusal.TheVariants as refusal
-use Rattle.command_answers.proofs.SmallFolder.{files, rows, on_the_day, stay, bus}
+use Rattle.command_answers.proofs.SmallFolder.{files, rows, no_category, on_the_day, stay, bus}
 
 -- a byte put before the first word
 abbrev onto_first : ℕ → List (List ℕ) → List (List ℕ)
@@ -68,7 +68,7 @@ due_plans = refl
 -- `price` is about them and the rides
 due_price :
     due files (spaced (codes "price T1,2025-06-02,-,1,2"))
-    ≡ Ok (Task.Prices rows (record { rides = bus ∷ []; rider = None }))
+    ≡ Ok (Task.Prices rows (record { rides = bus ∷ []; buyer = no_category }))
 unfolding asked_of read_words role_at value_at fits_form time_value number_value ride_word named_ride has_trip_id
     has_rider_id is_default_rider is_ride is_active shifts_of calls_of call_at feeds_on_literals days_from_civil
     day_count days_of_years
@@ -103,7 +103,7 @@ gen_over_rows :
       departure = record { 0 = pos (on_the_day 25200) };
       rides = 4;
       window = 86400;
-      rider = None;
+      buyer = no_category;
     }))
 unfolding has_stop_id has_rider_id is_default_rider digits days_from_civil day_count days_of_years days_of_months
 gen_over_rows = refl

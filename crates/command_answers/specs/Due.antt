@@ -15,7 +15,7 @@ use Rattle.feed_rows.specs.GeneratedFeed.{generated, generated_plan}
 use Rattle.feed_rows.specs.GeneratedTexts.{AreMinimalTriples}
 use Rattle.feed_rows.specs.RoundTables.{RoundTable, entries_of}
 use Rattle.feed_rows.specs.SoundTable.{IsSoundTable}
-use Rattle.transit_base.specs.declared.numbers.RiderId.{RiderId}
+use Rattle.feed_rows.specs.declared.journeys.Buyer.{Buyer}
 use Rattle.feed_rows.specs.declared.journeys.Ride.{Ride}
 use Rattle.feed_rows.specs.declared.fares.Choice.{Choice}
 use Rattle.feed_rows.specs.declared.fares.Triple.{Triple}
@@ -98,12 +98,12 @@ pub record AreTableLines (feed : FeedRows) (query : Query) (lines : List (List �
   pub covers : CoversOffers feed query entries
   pub are_lines : lines ≡ lines_of_entries feed entries ++ stats_line (length table.labels) ∷ []
 
--- the lines are those of a choice of the least price that the rides have for the rider, or tell that no choice pays them
-abbrev pub ArePriceLines : FeedRows → List Ride → Option RiderId → List (List ℕ) → Type 0
-ArePriceLines feed rides rider lines =
-    ((choice : Choice) × (price : ℤ) × IsLeastPrice feed rides rider choice price
+-- the lines are those of a choice of the least price that the rides have for the buyer, or tell that no choice pays them
+abbrev pub ArePriceLines : FeedRows → List Ride → Buyer → List (List ℕ) → Type 0
+ArePriceLines feed rides buyer lines =
+    ((choice : Choice) × (price : ℤ) × IsLeastPrice feed rides buyer choice price
     × (lines ≡ price_lines feed (length rides) choice price))
-    ⊎ (IsUncovered feed rides rider × (lines ≡ uncovered_lines))
+    ⊎ (IsUncovered feed rides buyer × (lines ≡ uncovered_lines))
 
 -- the lines are that of the feed's size and those of exactly the minimal triples of the query, in order; without triple there
 -- is no fare-covered journey of the query
@@ -119,7 +119,7 @@ abbrev pub DoTask : Task → List (List ℕ) → Type 0
 DoTask (Task.Checks feed) lines = lines ≡ check_text feed ∷ []
 DoTask (Task.Plans feed query false) lines = ArePlanLines feed query lines
 DoTask (Task.Plans feed query true) lines = AreTableLines feed query lines
-DoTask (Task.Prices feed query) lines = AreJoinedRides feed query.rides × ArePriceLines feed query.rides query.rider lines
+DoTask (Task.Prices feed query) lines = AreJoinedRides feed query.rides × ArePriceLines feed query.rides query.buyer lines
 DoTask (Task.Generates feed query) lines = AreGenLines feed query lines
 
 -- the answer and the line of a refusal

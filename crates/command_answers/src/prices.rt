@@ -20,7 +20,7 @@ use ticket_explain::{Text, price_lines_of, uncovered_lines_of};
 fn price_text(alloc: Global, feed: &Feed, query: &PriceQuery) -> Result<Text, AllocError>
     requires known { AreKnown feed.now query.now.rides.items }
     requires few { length query.now.rides.items ≤ 8 }
-    ensures { IfOk result (ArePriceLines feed.now (rides_of query.now.rides.items) query.now.rider) }
+    ensures { IfOk result (ArePriceLines feed.now (rides_of query.now.rides.items) query.now.buyer) }
 {
     let Some(priced) = price_of(alloc, feed, query)? else {
         return uncovered_lines_of(alloc);

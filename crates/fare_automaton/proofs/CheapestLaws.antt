@@ -6,7 +6,7 @@ use Rattle.std.proofs.lemmas.Int.{ints}
 use Rattle.std.proofs.lemmas.List.{take_all, take_more, append-nil, length-map}
 use Rattle.std.proofs.lemmas.List.Elements.{All-append, All-contains, All-push, All-weaker, Contains-append_left, Contains-append_right}
 use Rattle.std.proofs.lemmas.Option.{same_Some, slice_get-get_or, slice_get-map, slice_get_within}
-use Rattle.transit_base.specs.declared.numbers.RiderId.{RiderId}
+use Rattle.feed_rows.specs.declared.journeys.Buyer.{Buyer}
 use Rattle.feed_rows.specs.declared.fares.ChangeChoice.{ChangeChoice}
 use Rattle.feed_rows.specs.declared.fares.LegChoice.{LegChoice}
 use Rattle.feed_rows.specs.declared.journeys.LegFacts.{LegFacts}
@@ -172,11 +172,11 @@ lesser_through a b c ab bc =
     through x y z p q = omega (arith, ints, p, q)
 
 -- fewer of enough moves are enough
-pub enough_fewer : (feed : FeedRows) (rider : Option RiderId) (state : Option FareState) (held : ℤ) (leg : LegFacts) (moves fewer : List Move) →
-    AreEnoughMoves feed rider state held leg moves → AreFewerMoves moves fewer → AreEnoughMoves feed rider state held leg fewer
-enough_fewer feed rider state held leg moves fewer are few = record {
-  right = All-weaker (Contains moves) (λ move. move_after feed rider state held leg move ≡ Some move)
-      (λ move at. All-contains (λ move. move_after feed rider state held leg move ≡ Some move) moves move are.right at) fewer few.from;
+pub enough_fewer : (feed : FeedRows) (buyer : Buyer) (state : Option FareState) (held : ℤ) (leg : LegFacts) (moves fewer : List Move) →
+    AreEnoughMoves feed buyer state held leg moves → AreFewerMoves moves fewer → AreEnoughMoves feed buyer state held leg fewer
+enough_fewer feed buyer state held leg moves fewer are few = record {
+  right = All-weaker (Contains moves) (λ move. move_after feed buyer state held leg move ≡ Some move)
+      (λ move at. All-contains (λ move. move_after feed buyer state held leg move ≡ Some move) moves move are.right at) fewer few.from;
   enough = λ move is.
       let first = are.enough move is in
       let less = All-contains (HasLesserMove fewer) moves first.0 few.each first.1 in
@@ -190,30 +190,30 @@ record Tells (feed : FeedRows) (arranged : Bool) (place : Option ChangeChoice) :
   pub filled : is_some place ≡ arranged
   pub kind : is_none (place_kind feed place) ≡ not arranged
 
-module _ (feed : FeedRows) (rider : Option RiderId) where
+module _ (feed : FeedRows) (buyer : Buyer) where
   unarranged : (b : Bool) → not b ≡ true → false ≡ b
   unarranged false e = refl
   unarranged true e = absurd (let no : false ≡ true = e in cc)
 
-  tells : (change : Option AskedChange) (place : Option ChangeChoice) → is_place_after feed rider change place ≡ true →
+  tells : (change : Option AskedChange) (place : Option ChangeChoice) → is_place_after feed buyer change place ≡ true →
       Tells feed (filled_and change (is_arranged_after feed)) place
   unfolding is_row_after
   tells change None holds = record { filled = unarranged _ holds; kind = sym holds }
   tells None (Some pick) holds = absurd (let no : false ≡ true = holds in cc)
   tells (Some change) (Some pick) holds =
       let row = filled_and-true (slice_get feed.transfer_rules pick.rule.0) _ holds in
-      let arranged = arranged_by feed rider change pick holds in
+      let arranged = arranged_by feed buyer change pick holds in
       record {
         filled = sym arranged;
         kind = ap (λ (o : Option TransferRuleRow). is_none (option_map (λ (r : TransferRuleRow). r.kind) o)) row.is ∙ ap not (sym arranged);
       }
 
   -- the places of a change are alike
-  pub places_alike : (change : Option AskedChange) (places : List (Option ChangeChoice)) → places ≡ place_list feed rider change → AreAlike feed places
+  pub places_alike : (change : Option AskedChange) (places : List (Option ChangeChoice)) → places ≡ place_list feed buyer change → AreAlike feed places
   places_alike change places is a b has_a has_b =
       let at = λ (place : Option ChangeChoice) (has : Contains places place).
       tells change place
-      (All-contains (λ p. is_place_after feed rider change p ≡ true) (place_list feed rider change) place (are_places feed rider change).right
+      (All-contains (λ p. is_place_after feed buyer change p ≡ true) (place_list feed buyer change) place (are_places feed buyer change).right
       (subst (λ (ps : List (Option ChangeChoice)). Contains ps place) is has)) in
       ((at a has_a).filled ∙ sym (at b has_b).filled, (at a has_a).kind ∙ sym (at b has_b).kind)
 

@@ -5,8 +5,8 @@ use Rattle.std.specs.Option.{option_map_or}
 use Rattle.std.specs.List.{list_any, list_all}
 use Rattle.std.proofs.lemmas.List.Folds.{list_all_more, list_any_more}
 use Rattle.std.proofs.Common.{◌+◌, ◌<◌, take, get_or}
-use Rattle.transit_base.specs.declared.numbers.RiderId.{RiderId}
 use Rattle.transit_base.specs.declared.numbers.XferId.{XferId}
+use Rattle.feed_rows.specs.declared.journeys.Buyer.{Buyer}
 use Rattle.feed_rows.specs.declared.rows.TransferRuleRow.{TransferRuleRow}
 use Rattle.feed_rows.specs.FeedRows.{FeedRows}
 use Rattle.feed_rows.specs.TransferRules.{AskedChange, group_matches, is_candidate, suffices, count_le, is_least_count, is_selected}
@@ -138,25 +138,25 @@ module _ (feed : FeedRows) (change : AskedChange) (among : List ClassedRow) (are
       turned false y z = refl
 
   -- the rows that are chosen give the places of those that are selected
-  pub places_are : (rider : Option RiderId) → flat_map (λ (r : ClassedRow). chosen_places feed rider change least r.row) among
-      ≡ joined_below (length feed.transfer_rules) (row_places feed rider change)
-  places_are rider =
-      ap (flat_map (λ (r : ClassedRow). chosen_places feed rider change least r.row)) are.are
+  pub places_are : (buyer : Buyer) → flat_map (λ (r : ClassedRow). chosen_places feed buyer change least r.row) among
+      ≡ joined_below (length feed.transfer_rules) (row_places feed buyer change)
+  places_are buyer =
+      ap (flat_map (λ (r : ClassedRow). chosen_places feed buyer change least r.row)) are.are
       ∙ flat_map-picks (length feed.transfer_rules) (λ i. at_and feed.transfer_rules i (is_between feed change.from change.to)) (row_to are.to_class)
-      (λ (r : ClassedRow). chosen_places feed rider change least r.row) (row_places feed rider change)
+      (λ (r : ClassedRow). chosen_places feed buyer change least r.row) (row_places feed buyer change)
       (λ i. by i (slice_get feed.transfer_rules i))
     where
       by_row : (i : ℕ) (row : TransferRuleRow) (b : Bool) → is_between feed change.from change.to row ≡ b
-          → (if b then (if is_chosen change least row then product_places feed rider i row.product else []) else [])
-          ≡ (if is_selected feed change row then product_places feed rider i row.product else [])
+          → (if b then (if is_chosen change least row then product_places feed buyer i row.product else []) else [])
+          ≡ (if is_selected feed change row then product_places feed buyer i row.product else [])
       by_row i row true holds =
-          ap (λ c. if c then product_places feed rider i row.product else [])
+          ap (λ c. if c then product_places feed buyer i row.product else [])
           (ap (λ c. c && is_within least row.count) (sym (inside row holds)) ∙ selected_is row)
       by_row i row false fails =
-          sym (ap (λ c. if c && is_least_count feed change row.count then product_places feed rider i row.product else []) (outside row fails))
+          sym (ap (λ c. if c && is_least_count feed change row.count then product_places feed buyer i row.product else []) (outside row fails))
 
       by : (i : ℕ) (o : Option TransferRuleRow)
-          → (if filled_and o (is_between feed change.from change.to) then option_map_or (λ row. if is_chosen change least row then product_places feed rider i row.product else []) o [] else [])
-          ≡ option_map_or (λ row. if is_selected feed change row then product_places feed rider i row.product else []) o []
+          → (if filled_and o (is_between feed change.from change.to) then option_map_or (λ row. if is_chosen change least row then product_places feed buyer i row.product else []) o [] else [])
+          ≡ option_map_or (λ row. if is_selected feed change row then product_places feed buyer i row.product else []) o []
       by i None = refl
       by i (Some row) = by_row i row (is_between feed change.from change.to row) refl

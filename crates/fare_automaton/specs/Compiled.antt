@@ -5,8 +5,8 @@ use Rattle.std.specs.List.{list_any, list_all}
 use Rattle.transit_base.specs.declared.numbers.LegGroupId.{LegGroupId}
 use Rattle.transit_base.specs.declared.numbers.ProductId.{ProductId}
 use Rattle.transit_base.specs.declared.numbers.ProductRowId.{ProductRowId}
-use Rattle.transit_base.specs.declared.numbers.RiderId.{RiderId}
 use Rattle.transit_base.specs.declared.numbers.XferId.{XferId}
+use Rattle.feed_rows.specs.declared.journeys.Buyer.{Buyer}
 use Rattle.feed_rows.specs.declared.rows.TransferRuleRow.{TransferRuleRow}
 use Rattle.feed_rows.specs.FeedRows.{FeedRows}
 use Rattle.feed_rows.specs.FareChoices.{open_rows}
@@ -68,8 +68,8 @@ ArePairRows feed pairs =
 -- ---- products
 
 -- the table has the open rows of each product
-abbrev pub AreOpenRows : FeedRows → Option RiderId → List (List ProductRowId) → Type 0
-AreOpenRows feed rider opened = (product : ProductId) → unwrap_or (slice_get opened product.0) [] ≡ open_rows feed product rider
+abbrev pub AreOpenRows : FeedRows → Buyer → List (List ProductRowId) → Type 0
+AreOpenRows feed buyer opened = (product : ProductId) → unwrap_or (slice_get opened product.0) [] ≡ open_rows feed product buyer
 
 -- ---- rows for a change
 

@@ -133,8 +133,8 @@ priced_rides_join feed request query e =
     let named = unless_fault_ok (named_rides feed request.rides) _ query e in
     let followed = unless_fault_ok (unless_missed named.0 (first_missed feed named.0)) _ query named.2 in
     let rider = unless_fault_ok (chosen_rider feed request.rider) _ query followed.2 in
-    let made : Ok (record { rides = followed.0; rider = rider.0 }) ≡ Ok query = rider.2 in
-    let made_is : record { rides = followed.0; rider = rider.0 } ≡ query = cc in
+    let made : Ok (record { rides = followed.0; buyer = record { rider = rider.0 } }) ≡ Ok query = rider.2 in
+    let made_is : record { rides = followed.0; buyer = record { rider = rider.0 } } ≡ query = cc in
     let is : followed.0 ≡ query.rides = ap (λ q. q.rides) made_is in
     let kept = none_missed feed named.0 followed.0 followed.1 in
     subst (AreJoinedRides feed) (kept.0 ∙ is) (record {

@@ -3,7 +3,7 @@
 -- `FareLaws`, `ChoiceLaws`, `SumLaws` and `StandLaws` prove that the course gives them.
 use Rattle.std.specs.Prelude.{◌≡◌, ℕ, zero, suc, ◌+◌, ◌-◌, Bool, ◌&&◌, ◌||◌, ◌==◌, if◌then◌else◌, List, Option, Some, is_none, ℤ, pos, ◌+ℤ◌, slice_get, option_map, option_and_then}
 use Rattle.std.specs.Option.{option_map_or}
-use Rattle.transit_base.specs.declared.numbers.RiderId.{RiderId}
+use Rattle.feed_rows.specs.declared.journeys.Buyer.{Buyer}
 use Rattle.feed_rows.specs.declared.fares.ChangeChoice.{ChangeChoice}
 use Rattle.feed_rows.specs.declared.fares.LegChoice.{LegChoice}
 use Rattle.feed_rows.specs.declared.fares.Choice.{Choice}
@@ -106,30 +106,30 @@ stand_of_next feed stand next pick place =
     }
 
 -- where fares stand after a first leg; nowhere where the choice isn't one for it
-unfoldable pub first_fare_stand : FeedRows → Option RiderId → LegFacts → LegChoice → Option FareStand
-first_fare_stand feed rider leg pick =
+unfoldable pub first_fare_stand : FeedRows → Buyer → LegFacts → LegChoice → Option FareStand
+first_fare_stand feed buyer leg pick =
     option_and_then
-    (λ first. when (is_leg_choice feed rider leg pick) (stand_of_first feed first pick))
+    (λ first. when (is_leg_choice feed buyer leg pick) (stand_of_first feed first pick))
     (chosen_leg feed leg pick)
 
 -- where fares stand after one more leg; nowhere where its choice or the place of the change to it isn't right
-unfoldable pub next_fare_stand : FeedRows → Option RiderId → FareStand → LegFacts → LegChoice → Option ChangeChoice → Option FareStand
-next_fare_stand feed rider stand leg pick place =
+unfoldable pub next_fare_stand : FeedRows → Buyer → FareStand → LegFacts → LegChoice → Option ChangeChoice → Option FareStand
+next_fare_stand feed buyer stand leg pick place =
     option_and_then
     (λ next. when
-    (is_leg_choice feed rider leg pick && is_change_choice feed rider (change_to stand.run next) place)
+    (is_leg_choice feed buyer leg pick && is_change_choice feed buyer (change_to stand.run next) place)
     (stand_of_next feed stand next pick place))
     (chosen_leg feed leg pick)
 
 -- where fares stand after leg i, step by step; nowhere where a leg or a change up to it isn't paid
-abbrev pub stand_at : FeedRows → Option RiderId → List LegFacts → Choice → ℕ → Option FareStand
-stand_at feed rider legs choice zero =
-    option_and_then (λ leg. option_and_then (first_fare_stand feed rider leg) (slice_get choice.legs 0)) (slice_get legs 0)
-stand_at feed rider legs choice (suc i) =
+abbrev pub stand_at : FeedRows → Buyer → List LegFacts → Choice → ℕ → Option FareStand
+stand_at feed buyer legs choice zero =
+    option_and_then (λ leg. option_and_then (first_fare_stand feed buyer leg) (slice_get choice.legs 0)) (slice_get legs 0)
+stand_at feed buyer legs choice (suc i) =
     option_and_then (λ stand. option_and_then (λ leg. option_and_then (λ pick. option_and_then
-    (next_fare_stand feed rider stand leg pick)
+    (next_fare_stand feed buyer stand leg pick)
     (slice_get choice.changes i)) (slice_get choice.legs (suc i))) (slice_get legs (suc i)))
-    (stand_at feed rider legs choice i)
+    (stand_at feed buyer legs choice i)
 
 -- so fares stand after n + 1 legs that a choice pays: by the run of the last leg, by what is held, and by the sum
 pub record IsStandOf (feed : FeedRows) (legs : List LegFacts) (choice : Choice) (n : ℕ) (stand : FareStand) : Type 0 where

@@ -4,7 +4,7 @@
 use Rattle.std.specs.Prelude.{◌≡◌, ◌≢◌, ℕ, ◌+◌, Bool, true, false, ◌&&◌, not, if◌then◌else◌, List, All, AllPairs, Contains, Option, Some, None, is_none, ℤ, pos, option_map, option_and_then}
 use Rattle.std.specs.Option.{is_some, unwrap_or}
 use Rattle.std.specs.List.{list_any}
-use Rattle.transit_base.specs.declared.numbers.RiderId.{RiderId}
+use Rattle.feed_rows.specs.declared.journeys.Buyer.{Buyer}
 use Rattle.feed_rows.specs.declared.fares.ChangeChoice.{ChangeChoice}
 use Rattle.feed_rows.specs.declared.fares.LegChoice.{LegChoice}
 use Rattle.feed_rows.specs.declared.journeys.LegFacts.{LegFacts}
@@ -63,15 +63,15 @@ unfoldable pub is_arranged_after : FeedRows → AskedChange → Bool
 is_arranged_after feed change = list_any (is_selected feed change) feed.transfer_rules
 
 -- the row is selected for the change, with the right product row
-unfoldable pub is_row_after : FeedRows → Option RiderId → AskedChange → ChangeChoice → Bool
-is_row_after feed rider change pick =
+unfoldable pub is_row_after : FeedRows → Buyer → AskedChange → ChangeChoice → Bool
+is_row_after feed buyer change pick =
     at_and feed.transfer_rules pick.rule.0 (λ rule.
-    is_selected feed change rule && is_change_product feed rider rule.product pick.product)
+    is_selected feed change rule && is_change_product feed buyer rule.product pick.product)
 
 -- the place of the change is filled exactly where the change is arranged, and then by a choice for it
-abbrev pub is_place_after : FeedRows → Option RiderId → Option AskedChange → Option ChangeChoice → Bool
-is_place_after feed rider change None = not (filled_and change (is_arranged_after feed))
-is_place_after feed rider change (Some pick) = filled_and change (λ c. is_row_after feed rider c pick)
+abbrev pub is_place_after : FeedRows → Buyer → Option AskedChange → Option ChangeChoice → Bool
+is_place_after feed buyer change None = not (filled_and change (is_arranged_after feed))
+is_place_after feed buyer change (Some pick) = filled_and change (λ c. is_row_after feed buyer c pick)
 
 -- ---- what follows
 
@@ -103,33 +103,33 @@ next_move feed state held next taken =
     }
 
 -- the move with what follows, where its row numbers are an option for a first leg
-unfoldable pub move_of_first : FeedRows → Option RiderId → LegFacts → Move → Option Move
-move_of_first feed rider leg taken =
+unfoldable pub move_of_first : FeedRows → Buyer → LegFacts → Move → Option Move
+move_of_first feed buyer leg taken =
     option_and_then
     (λ first. when
-    (is_leg_choice feed rider leg (leg_taken taken) && is_none (place_taken taken) && is_whole taken)
+    (is_leg_choice feed buyer leg (leg_taken taken) && is_none (place_taken taken) && is_whole taken)
     (first_move feed first taken))
     (chosen_leg feed leg (leg_taken taken))
 
 -- and where they are one for a leg after the state
-unfoldable pub move_of_next : FeedRows → Option RiderId → FareState → ℤ → LegFacts → Move → Option Move
-move_of_next feed rider state held leg taken =
+unfoldable pub move_of_next : FeedRows → Buyer → FareState → ℤ → LegFacts → Move → Option Move
+move_of_next feed buyer state held leg taken =
     option_and_then
     (λ next. when
-    (is_leg_choice feed rider leg (leg_taken taken)
-    && is_place_after feed rider (asked_after state next) (place_taken taken)
+    (is_leg_choice feed buyer leg (leg_taken taken)
+    && is_place_after feed buyer (asked_after state next) (place_taken taken)
     && is_whole taken)
     (next_move feed state held next taken))
     (chosen_leg feed leg (leg_taken taken))
 
 -- the move with what follows, after the state or as a first leg; none where its row numbers are no option
-abbrev pub move_after : FeedRows → Option RiderId → Option FareState → ℤ → LegFacts → Move → Option Move
-move_after feed rider None held leg taken = move_of_first feed rider leg taken
-move_after feed rider (Some state) held leg taken = move_of_next feed rider state held leg taken
+abbrev pub move_after : FeedRows → Buyer → Option FareState → ℤ → LegFacts → Move → Option Move
+move_after feed buyer None held leg taken = move_of_first feed buyer leg taken
+move_after feed buyer (Some state) held leg taken = move_of_next feed buyer state held leg taken
 
 -- the moves are exactly those that there are, each once
-pub record AreMovesAfter (feed : FeedRows) (rider : Option RiderId) (state : Option FareState) (held : ℤ)
+pub record AreMovesAfter (feed : FeedRows) (buyer : Buyer) (state : Option FareState) (held : ℤ)
     (leg : LegFacts) (moves : List Move) : Type 0 where
-  pub right : All (λ move. move_after feed rider state held leg move ≡ Some move) moves
-  pub all : (move : Move) → move_after feed rider state held leg move ≡ Some move → Contains moves move
+  pub right : All (λ move. move_after feed buyer state held leg move ≡ Some move) moves
+  pub all : (move : Move) → move_after feed buyer state held leg move ≡ Some move → Contains moves move
   pub once : AllPairs (λ a b. a ≢ b) moves

@@ -6,7 +6,7 @@ use crate::readings;
 use fare_automaton::Automaton;
 use fare_products::Products;
 use fare_transfer_rules::XferRules;
-use feed_rows::{FareState, Feed, LegFacts, Move, TransferFacts};
+use feed_rows::{FareState, Feed, LegFacts, Move, NO_CATEGORY, TransferFacts};
 use std::alloc::{AllocError, Global};
 use transit_base::{LegGroupId, Moment, Money, NetworkId, ProductId, ProductRowId, RuleId, XferId};
 
@@ -114,7 +114,7 @@ fn are_steps(automaton: &Automaton, alloc: Global) -> bool {
 
 // Whether the moves over the feed are those that were worked by hand.
 fn are_moves(alloc: Global, feed: &Feed) -> bool {
-    match Automaton::compile(alloc, feed, None) {
+    match Automaton::compile(alloc, feed, NO_CATEGORY) {
         Ok(automaton) => are_starts(&automaton, alloc) && are_steps(&automaton, alloc),
         Err(AllocError) => false,
     }
@@ -154,7 +154,7 @@ fn are_change_rows(alloc: Global, feed: &Feed) -> bool {
 
 // Whether these rows of a product are open.
 fn are_open(products: &Products, alloc: Global, product: u32, wanted: &[ProductRowId]) -> bool {
-    match products.open_rows(alloc, ProductId(product), None) {
+    match products.open_rows(alloc, ProductId(product), NO_CATEGORY) {
         Ok(rows) => rows.items() == wanted,
         Err(AllocError) => false,
     }
@@ -270,7 +270,7 @@ fn is_charged_as_worked(alloc: Global) -> bool {
     let Ok(feed) = feed_with(alloc, CHARGED) else {
         return false;
     };
-    match Automaton::compile(alloc, &feed, None) {
+    match Automaton::compile(alloc, &feed, NO_CATEGORY) {
         Ok(automaton) => goes_to_land(&automaton, alloc) && goes_to_town(&automaton, alloc),
         Err(AllocError) => false,
     }
@@ -296,7 +296,7 @@ fn has_floor(alloc: Global, products: &[u8], rows: &[u8], wanted: Money) -> bool
     let Ok(feed) = feed_by(alloc, products, rows) else {
         return false;
     };
-    match Automaton::compile(alloc, &feed, None) {
+    match Automaton::compile(alloc, &feed, NO_CATEGORY) {
         Ok(automaton) => automaton.floor().0 == wanted.0,
         Err(AllocError) => false,
     }
@@ -438,7 +438,7 @@ fn least_of_runs(
     feed: &Feed,
     legs: &[LegFacts; 3],
 ) -> Result<Option<Money>, AllocError> {
-    match Automaton::compile(alloc, feed, None) {
+    match Automaton::compile(alloc, feed, NO_CATEGORY) {
         Ok(automaton) => Ok(least_sum(&runs_of(&automaton, alloc, legs)?)),
         Err(AllocError) => Err(AllocError),
     }

@@ -4,7 +4,7 @@ ghost use Rattle.plan_rides.specs.InTime.{IsUsualQuery};
 
 use crate::feeds::feed_of;
 use feed_files::FileName;
-use feed_rows::{Feed, Query};
+use feed_rows::{Buyer, Feed, Query};
 use std::alloc::{AllocError, Global};
 use transit_base::{Moment, RiderId, StopId};
 
@@ -169,6 +169,8 @@ pub fn query_of(seed: u32) -> Query
         departure: Moment(20_241 * 86_400 + 25_200),
         rides: 2 + (seed / 2 % 3) as u8,
         window: 3_600,
-        rider: Some(RiderId(seed % 2)),
+        buyer: Buyer {
+            rider: Some(RiderId(seed % 2)),
+        },
     }
 }

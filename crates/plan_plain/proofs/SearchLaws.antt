@@ -9,11 +9,11 @@ use Rattle.std.proofs.lemmas.List.Folds.{Any-from_list_any, list_any-from_Any}
 use Rattle.std.proofs.lemmas.List.{get_or_default, append-nil}
 use Rattle.std.proofs.lemmas.List.Elements.{All-weaker, All-nil, All-contains}
 use Rattle.transit_base.specs.Limits.{most_time}
+use Rattle.feed_rows.specs.declared.journeys.Buyer.{Buyer}
 use Rattle.feed_rows.specs.declared.fares.Triple.{Triple}
 use Rattle.feed_rows.specs.Legs.{leg_facts, legs_of}
 use Rattle.feed_rows.specs.PriceTexts.{IsLeastPrice, IsUncovered}
 use Rattle.transit_base.specs.declared.moments.Moment.{Moment}
-use Rattle.transit_base.specs.declared.numbers.RiderId.{RiderId}
 use Rattle.transit_base.specs.declared.numbers.StopId.{StopId}
 use Rattle.feed_rows.specs.declared.journeys.Query.{Query}
 use Rattle.feed_rows.specs.declared.journeys.LegFacts.{LegFacts}
@@ -311,23 +311,23 @@ none_late feed query first stand taken searched none e has =
 
 -- the price of an entry's rides
 entry_price : (feed : FeedRows) (query : Query) (first : StopId) (rides : List Ride) (e : Entry) →
-    HasRides feed query first rides e → rides_price feed rides e.choice query.rider ≡ Some e.triple.price.0
+    HasRides feed query first rides e → rides_price feed rides e.choice query.buyer ≡ Some e.triple.price.0
 entry_price feed query first rides e has =
-    subst (λ rs. rides_price feed rs e.choice query.rider ≡ Some e.triple.price.0) has.goes has.right.price
+    subst (λ rs. rides_price feed rs e.choice query.buyer ≡ Some e.triple.price.0) has.goes has.right.price
 
 -- where no choice pays the rides, no entry has them
 pub none_uncovered : (feed : FeedRows) (query : Query) (first : StopId) (rides : List Ride) →
-    IsUncovered feed rides query.rider → IsBest feed query first rides None
+    IsUncovered feed rides query.buyer → IsBest feed query first rides None
 none_uncovered feed query first rides uncovered e has =
     none-some e.triple.price.0 (sym (uncovered e.choice) ∙ entry_price feed query first rides e has)
 
 -- what is of least price for the legs of rides is so for the rides
-pub cheapest_of_legs : (feed : FeedRows) (rides : List Ride) (legs : List LegFacts) (rider : Option RiderId)
-    (priced : Option Priced) → legs_of feed rides ≡ Some legs → IsLeastOrNone feed legs rider priced →
-    IsCheapest feed rides rider priced
-cheapest_of_legs feed rides legs rider None are uncovered = uncovered_rides feed rides legs rider are uncovered
-cheapest_of_legs feed rides legs rider (Some priced) are least =
-    least_price_of_rides feed rides legs rider are priced.choice priced.sum.0 least
+pub cheapest_of_legs : (feed : FeedRows) (rides : List Ride) (legs : List LegFacts) (buyer : Buyer)
+    (priced : Option Priced) → legs_of feed rides ≡ Some legs → IsLeastOrNone feed legs buyer priced →
+    IsCheapest feed rides buyer priced
+cheapest_of_legs feed rides legs buyer None are uncovered = uncovered_rides feed rides legs buyer are uncovered
+cheapest_of_legs feed rides legs buyer (Some priced) are least =
+    least_price_of_rides feed rides legs buyer are priced.choice priced.sum.0 least
 
 -- there are as many legs as rides
 pub count_of_legs : (feed : FeedRows) (rides : List Ride) (legs : List LegFacts) → legs_of feed rides ≡ Some legs →
@@ -340,7 +340,7 @@ pub best_is : (feed : FeedRows) (query : Query) (stand : Stand) (taken : Taken) 
     IsSearched feed query entry.journey.first stand taken → IsEarliestEnd feed query stand (Some end) →
     length taken.rides ≤ query.rides → entry.journey.last ≡ end.last → entry.triple.arrival ≡ end.arrival →
     entry.triple.rides ≡ length taken.rides → entry.journey.rides ≡ taken.rides →
-    IsLeastPrice feed taken.rides query.rider entry.choice entry.triple.price.0 →
+    IsLeastPrice feed taken.rides query.buyer entry.choice entry.triple.price.0 →
     IsBest feed query entry.journey.first taken.rides (Some entry)
 best_is feed query stand taken entry end searched earliest few last_is arrival_is count rides price =
     let first = entry.journey.first in
@@ -356,7 +356,7 @@ best_is feed query stand taken entry end searched earliest few last_is arrival_i
       record {
         journey = journey_of_after feed query entry.journey entry.triple.arrival.0 stand searched.starts ends (omega arith) goes timed.0 timed.1;
         rides = count ∙ sym long;
-        price = subst (λ rs. rides_price feed rs entry.choice query.rider ≡ Some entry.triple.price.0) (sym rides) price.paid;
+        price = subst (λ rs. rides_price feed rs entry.choice query.buyer ≡ Some entry.triple.price.0) (sym rides) price.paid;
       },
       λ e has.
           let reached = entry_arrival feed query first stand taken e searched has in
@@ -453,7 +453,7 @@ gains_end feed query first path stand left old new none here =
 pub searched_first : (feed : FeedRows) (query : Query) (first : StopId) (stand : Stand) →
     stand ≡ first_stand query first →
     IsWithinWindow query stand.at → IsTrue (stands_for feed query.from first) →
-    IsSearched feed query first stand (no_ride (terms feed query.rider))
+    IsSearched feed query first stand (no_ride (terms feed query.buyer))
 unfolding legs_of
 searched_first feed query first stand is within starts =
     record { within = within; starts = starts; goes = ap Some (sym is); legs = refl; terms = refl }

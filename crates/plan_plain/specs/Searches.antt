@@ -1,7 +1,7 @@
 -- The entries of a query that go on from where a search stands, and lists that cover them.
 use Rattle.std.specs.Prelude.{ℤ, ◌≤ℤ◌, IsTrue, ◌≡◌, ◌⊎◌, ℕ, ◌<◌, ◌≤◌, ◌++◌, [], ◌∷◌, slice_get, slice_index_or, true, List, length, All, Option, Some, None}
-use Rattle.transit_base.specs.declared.numbers.RiderId.{RiderId}
 use Rattle.transit_base.specs.declared.numbers.StopId.{StopId}
+use Rattle.feed_rows.specs.declared.journeys.Buyer.{Buyer}
 use Rattle.feed_rows.specs.declared.journeys.Query.{Query}
 use Rattle.feed_rows.specs.declared.journeys.Ride.{Ride}
 use Rattle.feed_rows.specs.declared.fares.Entry.{Entry}
@@ -40,10 +40,10 @@ IsBest feed query first rides (Some best) =
     IsEntry feed query best × ((entry : Entry) → HasRides feed query first rides entry →
     at_most best.triple entry.triple ≡ true)
 
--- the choice and its sum are of least price, or no choice pays the rides for the rider
-abbrev pub IsCheapest : FeedRows → List Ride → Option RiderId → Option Priced → Type 0
-IsCheapest feed rides rider None = IsUncovered feed rides rider
-IsCheapest feed rides rider (Some priced) = IsLeastPrice feed rides rider priced.choice priced.sum.0
+-- the choice and its sum are of least price, or no choice pays the rides for the buyer
+abbrev pub IsCheapest : FeedRows → List Ride → Buyer → Option Priced → Type 0
+IsCheapest feed rides buyer None = IsUncovered feed rides buyer
+IsCheapest feed rides buyer (Some priced) = IsLeastPrice feed rides buyer priced.choice priced.sum.0
 
 -- the entry goes on from here, where one stands after the rides of the path, with at most so many more
 pub record GoesOn (feed : FeedRows) (query : Query) (first : StopId) (path : List Ride) (stand : Stand) (left : ℕ) (entry : Entry) : Type 0 where
@@ -65,13 +65,13 @@ pub record StartsAt (feed : FeedRows) (query : Query) (first : StopId) (entry : 
   pub starts : entry.journey.first ≡ first
 
 -- the rides are caught in time one after another from the first stop, lead here within the window, and these are their
--- legs, which are priced by the rows of the feed for the query's rider
+-- legs, which are priced by the rows of the feed for the query's buyer
 pub record IsSearched (feed : FeedRows) (query : Query) (first : StopId) (stand : Stand) (taken : Taken) : Type 0 where
   pub within : IsWithinWindow query stand.at
   pub starts : IsTrue (stands_for feed query.from first)
   pub goes : after (next_in_time feed query) (first_stand query first) taken.rides ≡ Some stand
   pub legs : legs_of feed taken.rides ≡ Some taken.legs
-  pub terms : taken.terms ≡ terms feed query.rider
+  pub terms : taken.terms ≡ terms feed query.buyer
 
 -- there is an end, at this moment or before
 abbrev pub EndsBy : ℤ → Option End → Type 0

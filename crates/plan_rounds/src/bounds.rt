@@ -129,7 +129,7 @@ impl<'s, 'l> Search<'s, 'l> {
 
     /// How little a leg with the change to it can cost.
     fn floor(&self) -> Money
-        ensures { result.0 ≡ fare_floor self.now.feed self.now.query.rider }
+        ensures { result.0 ≡ fare_floor self.now.feed self.now.query.buyer }
     {
         self.automaton.floor()
     }

@@ -75,7 +75,7 @@ fn table_with<'s, 'l>(
 ) -> Result<RoundTable, AllocError>
     requires feed { feed.now ≡ rides.now.feed }
     requires timeframes { AreTimeframesOf rides.now.feed timeframes.now }
-    requires automaton { automaton.now ≡ terms rides.now.feed rides.now.query.rider }
+    requires automaton { automaton.now ≡ terms rides.now.feed rides.now.query.buyer }
     requires spans { AreSpans rides.now.feed rides.now.query spans.now }
     requires prices { AreLeastPrices rides.now.feed rides.now.query prices.now }
     requires none { aim.whole ≡ true → spans.now ≡ no_spans }
@@ -165,7 +165,7 @@ fn found_soon<'s, 'l>(
 ) -> Result<Vec<Entry>, AllocError>
     requires feed { feed.now ≡ rides.now.feed }
     requires timeframes { AreTimeframesOf rides.now.feed timeframes.now }
-    requires automaton { automaton.now ≡ terms rides.now.feed rides.now.query.rider }
+    requires automaton { automaton.now ≡ terms rides.now.feed rides.now.query.buyer }
     requires spans { AreSpans rides.now.feed rides.now.query spans.now }
     requires prices { AreLeastPrices rides.now.feed rides.now.query prices.now }
     ensures { IfOk result (λ entries. All (IsEntry rides.now.feed rides.now.query) entries.items) }
@@ -200,7 +200,7 @@ fn known_with<'s>(
 ) -> Result<Vec<Entry>, AllocError>
     requires feed { feed.now ≡ rides.now.feed }
     requires timeframes { AreTimeframesOf rides.now.feed timeframes.now }
-    requires automaton { automaton.now ≡ terms rides.now.feed rides.now.query.rider }
+    requires automaton { automaton.now ≡ terms rides.now.feed rides.now.query.buyer }
     requires spans { AreSpans rides.now.feed rides.now.query spans.now }
     requires prices { AreLeastPrices rides.now.feed rides.now.query prices.now }
     ensures are { IfOk result (λ entries. All (IsEntry rides.now.feed rides.now.query) entries.items) }
@@ -248,7 +248,7 @@ fn planned_with<'s>(
 ) -> Result<(RoundTable, Vec<Entry>), AllocError>
     requires feed { feed.now ≡ rides.now.feed }
     requires timeframes { AreTimeframesOf rides.now.feed timeframes.now }
-    requires automaton { automaton.now ≡ terms rides.now.feed rides.now.query.rider }
+    requires automaton { automaton.now ≡ terms rides.now.feed rides.now.query.buyer }
     requires spans { AreSpans rides.now.feed rides.now.query spans.now }
     requires prices { AreLeastPrices rides.now.feed rides.now.query prices.now }
     requires none { whole ≡ true → spans.now ≡ no_spans }
@@ -286,7 +286,7 @@ fn prices_of(
 {
     let query = rides.query();
     let lasts = last_groups(alloc, rides, spans)?;
-    let bounds = FareBounds::of(alloc, feed, query.rider, query.rides, &lasts)?;
+    let bounds = FareBounds::of(alloc, feed, query.buyer, query.rides, &lasts)?;
     Ok(LeastPrices { bounds, lasts })
 }
 
@@ -302,7 +302,7 @@ fn planned_at<'s>(
     whole: bool,
 ) -> Result<(RoundTable, Vec<Entry>), AllocError>
     requires feed { feed.now ≡ rides.now.feed }
-    requires automaton { automaton.now ≡ terms rides.now.feed rides.now.query.rider }
+    requires automaton { automaton.now ≡ terms rides.now.feed rides.now.query.buyer }
     ensures { IfOk result (λ planned. IsPlanned rides.now whole planned.0 planned.1.items) }
 {
     let query = rides.query();
@@ -331,7 +331,7 @@ fn planned_over<'s>(
     requires { feed.now ≡ rides.now.feed }
     ensures { IfOk result (λ planned. IsPlanned rides.now whole planned.0 planned.1.items) }
 {
-    match Automaton::compile(alloc, feed, rides.query().rider) {
+    match Automaton::compile(alloc, feed, rides.query().buyer) {
         Ok(automaton) => planned_at(alloc, rides, &automaton, feed, whole),
         Err(AllocError) => Err(AllocError),
     }

@@ -60,7 +60,7 @@ pub struct Search<'s, 'l> {
     pub(crate) rides: &'l Rides<'s>,
     pub(crate) feed: &'l Feed,
     pub(crate) timeframes: &'l Timeframes,
-    /// The fares for the query's rider.
+    /// The fares for the query's buyer.
     pub(crate) automaton: &'l Automaton<'s>,
     /// The least seconds to a journey's end; none where the search is to be whole.
     pub(crate) spans: &'l Spans,
@@ -84,7 +84,7 @@ impl<'s, 'l> Model for Search<'s, 'l> {
 
     ghost view = { λ s. searched s.rides.now (aim_of s.aim) };
 
-    ghost invariant = { λ s. AreTimeframesOf s.rides.now.feed s.timeframes.now × (s.automaton.now ≡ terms s.rides.now.feed s.rides.now.query.rider) × (s.takes_back ≡ some_takes_back s.rides.now.feed) × AreSpans s.rides.now.feed s.rides.now.query s.spans.now × (s.aim.whole ≡ true → s.spans.now ≡ no_spans) × (s.feed.now ≡ s.rides.now.feed) × IsAim (aim_of s.aim) × AreLeastPrices s.rides.now.feed s.rides.now.query s.prices.now };
+    ghost invariant = { λ s. AreTimeframesOf s.rides.now.feed s.timeframes.now × (s.automaton.now ≡ terms s.rides.now.feed s.rides.now.query.buyer) × (s.takes_back ≡ some_takes_back s.rides.now.feed) × AreSpans s.rides.now.feed s.rides.now.query s.spans.now × (s.aim.whole ≡ true → s.spans.now ≡ no_spans) × (s.feed.now ≡ s.rides.now.feed) × IsAim (aim_of s.aim) × AreLeastPrices s.rides.now.feed s.rides.now.query s.prices.now };
 }
 
 /// A label with its number among those so far, from which a round goes on.
@@ -253,7 +253,7 @@ impl<'s, 'l> Search<'s, 'l> {
         options: &[LegChoice],
     ) -> Result<(), AllocError>
         requires bounded { IsBounded label.now }
-        requires options { AreEnough self.now.feed self.now.query.rider (leg_facts self.now.feed ride.now) options.now }
+        requires options { AreEnough self.now.feed self.now.query.buyer (leg_facts self.now.feed ride.now) options.now }
         ensures { OnOk result (AreMovesOf self.now.feed self.now.query label.now (leg_facts self.now.feed ride.now) room.new.moves.items) }
     {
         let _feed = self.feed();
@@ -289,7 +289,7 @@ impl<'s, 'l> Search<'s, 'l> {
         requires source { IsSource self.now.feed self.now.query source.now }
         requires right { IsRight self.now.feed self.now.query (stand_of_label source.now.label.now) caught.now }
         requires ended { HasEnds self.now.feed self.now.query source.now.labels.now finals.now }
-        requires options { AreEnough self.now.feed self.now.query.rider (leg_facts self.now.feed caught.now.facts) options.now }
+        requires options { AreEnough self.now.feed self.now.query.buyer (leg_facts self.now.feed caught.now.facts) options.now }
         requires after { IsOutdoneAfter self.now finals.now source.now.label.now after.0 }
         ensures { OnOk result (SpreadsFrom self.now finals.now source.now (StepsBy self.now.feed self.now.query (facts_of source.now.label.now) caught.now.ride) bags.old bags.new) }
     {
@@ -321,7 +321,7 @@ impl<'s, 'l> Search<'s, 'l> {
         requires right { IsRight self.now.feed self.now.query (stand_of_label source.now.label.now) caught.now }
         requires ended { HasEnds self.now.feed self.now.query source.now.labels.now finals.now }
         requires small { IsSmall taken.now }
-        requires pays { move_after self.now.feed self.now.query.rider source.now.label.now.state source.now.label.now.held.0 (leg_facts self.now.feed caught.now.facts) taken.now ≡ Some taken.now }
+        requires pays { move_after self.now.feed self.now.query.buyer source.now.label.now.state source.now.label.now.held.0 (leg_facts self.now.feed caught.now.facts) taken.now ≡ Some taken.now }
         ensures { OnOk result (SpreadsFrom self.now finals.now source.now (λ b. b ≡ facts_after (facts_of source.now.label.now) caught.now.facts taken.now) bags.old bags.new) }
     {
         let _feed = self.feed();

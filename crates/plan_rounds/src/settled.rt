@@ -190,7 +190,7 @@ impl<'s, 'l> Search<'s, 'l> {
     ) -> Result<(), AllocError>
         requires kinds { AreKinds self.now.feed known.now rides.now kinds.now }
         requires fares { HasFares self.now known.now }
-        ensures groups { OnOk result (AreGroupsOf self.now.feed self.now.query.rider rides.now settled.new.groups.items) }
+        ensures groups { OnOk result (AreGroupsOf self.now.feed self.now.query.buyer rides.now settled.new.groups.items) }
         ensures changes { OnOk result (AreLastChanges self.now.feed settled.new.groups.items settled.new.changes) }
         ensures labels { OnOk result (settled.new.labels.items ≡ []) }
     {

@@ -5,8 +5,8 @@ use Rattle.std.specs.Prelude.{◌==◌, int_le, nat_le, Option, Some, None, is_n
 use Rattle.std.proofs.lemmas.Bool.Decides.{nat_tests}
 use Rattle.std.proofs.lemmas.Int.{ints}
 use Rattle.std.proofs.lemmas.Option.{same_Some, none-some}
-use Rattle.transit_base.specs.declared.numbers.RiderId.{RiderId}
 use Rattle.transit_base.specs.declared.numbers.StopId.{StopId}
+use Rattle.feed_rows.specs.declared.journeys.Buyer.{Buyer}
 use Rattle.feed_rows.specs.declared.fares.Triple.{Triple}
 use Rattle.feed_rows.specs.declared.journeys.LegFacts.{LegFacts}
 use Rattle.feed_rows.specs.declared.journeys.Query.{Query}
@@ -100,10 +100,10 @@ catches_too feed query a b ride facts stated stated' covers c = record {
 -- ---- fares
 
 -- a move that leads on from less that was paid, and from no greater price, to the same state
-record LeadsToo (feed : FeedRows) (rider : Option RiderId) (state : Option FareState) (paid held paid' : ℤ)
+record LeadsToo (feed : FeedRows) (buyer : Buyer) (state : Option FareState) (paid held paid' : ℤ)
     (leg : LegFacts) (move' : Move) : Type 0 where
   pub move : Move
-  pub is : move_after feed rider state held leg move ≡ Some move
+  pub is : move_after feed buyer state held leg move ≡ Some move
   pub state_is : move.state ≡ move'.state
   pub held_is : move.held ≡ move'.held
   pub paid_less : (paid +ℤ move.paid.0) ≤ℤ (paid' +ℤ move'.paid.0)
@@ -113,26 +113,26 @@ less_by_parts : (x x' p p' q q' : ℤ) → x ≡ p +ℤ q → x' ≡ p' +ℤ q' 
 less_by_parts x x' p p' q q' e e' le = omega (arith, ints, e, e', le)
 
 -- each move after a state leads on from less as well
-leads_too : (feed : FeedRows) (rider : Option RiderId) (state : Option FareState) (paid held paid' held' : ℤ)
+leads_too : (feed : FeedRows) (buyer : Buyer) (state : Option FareState) (paid held paid' held' : ℤ)
     (leg : LegFacts) (move' : Move) → paid ≤ℤ paid' → (paid +ℤ held) ≤ℤ (paid' +ℤ held') →
-    move_after feed rider state held' leg move' ≡ Some move' →
-    LeadsToo feed rider state paid held paid' leg move'
-leads_too feed rider None paid held paid' held' leg move' le le' is = record {
+    move_after feed buyer state held' leg move' ≡ Some move' →
+    LeadsToo feed buyer state paid held paid' leg move'
+leads_too feed buyer None paid held paid' held' leg move' le le' is = record {
   move = move';
   is = is;
   state_is = refl;
   held_is = refl;
   paid_less = omega (arith, ints, le);
 }
-leads_too feed rider (Some state) paid held paid' held' leg move' le le' is =
-    let m = next_tells feed rider state held' leg move' is in
+leads_too feed buyer (Some state) paid held paid' held' leg move' le le' is =
+    let m = next_tells feed buyer state held' leg move' is in
     let kind = place_kind feed (place_taken move') in
     let amount = amount_of feed move'.product in
     let charge = place_charge feed (place_taken move') in
     record {
       move = next_move feed state held m.next move';
       is =
-          sym (next_when feed rider leg (next_move feed state held m.next move') state held m.next true m.chosen
+          sym (next_when feed buyer leg (next_move feed state held m.next move') state held m.next true m.chosen
           (all_true _ _ _ m.paid_leg m.right_place m.whole));
       state_is = ap (λ (q : Move). q.state) m.follows;
       held_is = ap (λ (q : Move). q.held) m.follows;
@@ -174,9 +174,9 @@ pub follow : (feed : FeedRows) (query : Query) (a a' : LabelFacts) (ride : Ride)
 follow feed query a a' ride move' b' stated stated' covers s =
     let leg = leg_facts feed s.facts in
     let pays =
-    subst (λ (state : Option FareState). move_after feed query.rider state a'.held leg move' ≡ Some move')
+    subst (λ (state : Option FareState). move_after feed query.buyer state a'.held leg move' ≡ Some move')
     (sym covers.state) s.pays in
-    let m = leads_too feed query.rider a.state a.paid a.held a'.paid a'.held leg move' covers.paid covers.price pays in
+    let m = leads_too feed query.buyer a.state a.paid a.held a'.paid a'.held leg move' covers.paid covers.price pays in
     record {
       move = m.move;
       b = facts_after a s.facts m.move;

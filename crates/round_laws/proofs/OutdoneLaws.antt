@@ -55,9 +55,9 @@ end_covered : (feed : FeedRows) (query : Query) (a b : LabelFacts) → Covers a 
     least_end feed query true a ≤ℤ least_end feed query true b
 unfolding least_end
 end_covered feed query a b c =
-    both (least_so_far a) (least_so_far b) (fare_floor feed query.rider *ℤ pos (query.rides - a.rides))
-    (fare_floor feed query.rider *ℤ pos (query.rides - b.rides)) (least_covered a b c)
-    (floor_after (fare_floor feed query.rider) query.rides a.rides b.rides (floor_below feed query.rider) c.rides)
+    both (least_so_far a) (least_so_far b) (fare_floor feed query.buyer *ℤ pos (query.rides - a.rides))
+    (fare_floor feed query.buyer *ℤ pos (query.rides - b.rides)) (least_covered a b c)
+    (floor_after (fare_floor feed query.buyer) query.rides a.rides b.rides (floor_below feed query.buyer) c.rides)
   where
     both : (x y z w : ℤ) → x ≤ℤ y → z ≤ℤ w → (x +ℤ z) ≤ℤ (y +ℤ w)
     both x y z w p q = omega (arith, ints, p, q)
@@ -67,7 +67,7 @@ end_lower : (feed : FeedRows) (query : Query) (whole : Bool) (a : LabelFacts) �
     least_end feed query true a ≤ℤ least_end feed query whole a
 unfolding least_end
 end_lower feed query whole a =
-    added (least_so_far a) (least_price feed whole a) (fare_floor feed query.rider *ℤ pos (query.rides - a.rides))
+    added (least_so_far a) (least_price feed whole a) (fare_floor feed query.buyer *ℤ pos (query.rides - a.rides))
     (by ((whole || some_takes_back feed) || is_none a.state))
   where
     by : (b : Bool) → least_so_far a ≤ℤ (if b then least_so_far a else price_so_far a)

@@ -49,7 +49,7 @@ least_price feed whole a =
 -- the least price at a journey's end
 unfoldable pub least_end : FeedRows → Query → Bool → LabelFacts → ℤ
 least_end feed query whole a =
-    least_price feed whole a +ℤ (fare_floor feed query.rider *ℤ pos (query.rides - a.rides))
+    least_price feed whole a +ℤ (fare_floor feed query.buyer *ℤ pos (query.rides - a.rides))
 
 -- the triple arrives no later than this moment, with no more rides than so many, and costs no more than this
 abbrev pub is_within : ℤ → ℕ → ℤ → Triple → Bool

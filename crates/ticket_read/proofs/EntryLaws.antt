@@ -103,7 +103,7 @@ judged_is feed query entry e =
 pub judged_right : (feed : FeedRows) (query : Query) (journey : Journey) (choice : Choice) (entry : Entry) → judged feed query journey choice ≡ Some entry → IsEntry feed query entry
 unfolding judged
 judged_right feed query journey choice entry e =
-    option_and_then_some _ (journey_arrival feed query journey) entry e (λ arrival arrives rest. by arrival arrives (rides_price feed journey.rides choice query.rider) refl rest)
+    option_and_then_some _ (journey_arrival feed query journey) entry e (λ arrival arrives rest. by arrival arrives (rides_price feed journey.rides choice query.buyer) refl rest)
   where
     made : ℤ → ℤ → Entry
     made arrival price =
@@ -113,7 +113,7 @@ judged_right feed query journey choice entry e =
           choice = choice;
         }
 
-    by : (arrival : ℤ) → journey_arrival feed query journey ≡ Some arrival → (o : Option ℤ) → rides_price feed journey.rides choice query.rider ≡ o
+    by : (arrival : ℤ) → journey_arrival feed query journey ≡ Some arrival → (o : Option ℤ) → rides_price feed journey.rides choice query.buyer ≡ o
         → option_map (made arrival) o ≡ Some entry → IsEntry feed query entry
     by arrival arrives None price h = absurd (none-some entry h)
     by arrival arrives (Some sum) price h =
@@ -155,7 +155,7 @@ entry_read : (feed : FeedRows) (query : Query) (entry : Entry) → IsSoundFeed f
 unfolding entry_lines entry_of
 entry_read feed query entry sound e =
     let way = travel_reads feed query entry.journey entry.triple.arrival.0 sound e.journey in
-    let of = choice_of feed entry.journey.rides entry.choice query.rider entry.triple.price.0 e.price in
+    let of = choice_of feed entry.journey.rides entry.choice query.buyer entry.triple.price.0 e.price in
     let fares = fares_read (Some entry.journey.first) (Some entry.journey.last) entry.journey.rides feed entry.choice sound of in
     let rest = reads_both feed (travel_lines feed entry.journey) (fare_lines feed entry.choice) empty_draft _ _ way fares in
     let head = head_tells feed entry.triple sound in

@@ -50,7 +50,7 @@ journey_arrival feed query journey = if is_asked feed query journey then way_arr
 unfoldable pub judged : FeedRows → Query → Journey → Choice → Option Entry
 judged feed query journey choice =
     given (journey_arrival feed query journey) (λ arrival.
-    given_last (rides_price feed journey.rides choice query.rider) (λ price.
+    given_last (rides_price feed journey.rides choice query.buyer) (λ price.
     record {
       triple = record { arrival = record { 0 = arrival }; rides = length journey.rides; price = record { 0 = price } };
       journey = journey;

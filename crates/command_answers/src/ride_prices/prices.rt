@@ -36,11 +36,11 @@ pub fn price_of(
 ) -> Result<Option<Priced>, AllocError>
     requires known { AreKnown feed.now query.now.rides.items }
     requires few { length query.now.rides.items ≤ 8 }
-    ensures { IfOk result (IsLeastOfRides feed.now (rides_of query.now.rides.items) query.now.rider) }
+    ensures { IfOk result (IsLeastOfRides feed.now (rides_of query.now.rides.items) query.now.buyer) }
 {
     let legs = legs_of(alloc, feed, query.rides.as_slice())?;
     match Fares::build(alloc, feed) {
-        Ok(fares) => price(alloc, &fares, legs.as_slice(), query.rider),
+        Ok(fares) => price(alloc, &fares, legs.as_slice(), query.buyer),
         Err(AllocError) => Err(AllocError),
     }
 }

@@ -9,17 +9,16 @@ ghost use Rattle.command_answers.specs.NamedRides.{rides_of, AreKnown, query_of,
 
 use crate::ride_prices::rides::{NamedRide, named_ride};
 use fare_products::chosen_rider;
-use feed_rows::UsageFault;
+use feed_rows::{Buyer, UsageFault};
 use feed_timetable::Timetable;
 use plan_words::{PriceWords, RideWords, WordsError};
 use std::alloc::{AllocError, Global};
-use transit_base::RiderId;
 
-/// Rides that follow one another, and the rider category for which they are priced.
+/// Rides that follow one another, and the buyer for whom they are priced.
 #[derive(Drop)]
 pub struct PriceQuery {
     pub rides: Vec<NamedRide>,
-    pub rider: Option<RiderId>,
+    pub buyer: Buyer,
 }
 
 // Adds a ride.
@@ -79,7 +78,7 @@ fn first_missed(timetable: &Timetable, rides: &[NamedRide]) -> Option<usize>
     None
 }
 
-/// The rides and the rider that the words name, or the first fault of these names: rides that the feed lacks come before
+/// The rides and the buyer that the words name, or the first fault of these names: rides that the feed lacks come before
 /// changes that can't be made, and these before the rider.
 ///
 /// # Errors
@@ -100,7 +99,10 @@ pub fn price_query_of(
         return Err(WordsError::Usage(UsageFault::NoChange(i as u32 + 1)));
     }
     match chosen_rider(timetable.feed(), words.rider) {
-        Ok(rider) => Ok(PriceQuery { rides, rider }),
+        Ok(rider) => Ok(PriceQuery {
+            rides,
+            buyer: Buyer { rider },
+        }),
         Err(fault) => Err(WordsError::Usage(fault)),
     }
 }

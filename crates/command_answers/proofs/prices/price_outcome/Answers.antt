@@ -10,4 +10,4 @@ returns-in_ok-text-in-Ok c =
     let query = c.in-Ok.query in
     price_due _ _ (price_request c.args.words.now) (query_of query) _ _ _
     refl c.in-Ok.ensures.value c.answered.ensures.told c.answered.ensures.text
-    (subst (λ feed. ArePriceLines feed (rides_of query.rides.items) query.rider c.in_ok-text-in-Ok.text) c.feed.ensures.value c.in_ok-text-in-Ok.ensures)
+    (subst (λ feed. ArePriceLines feed (rides_of query.rides.items) query.buyer c.in_ok-text-in-Ok.text) c.feed.ensures.value c.in_ok-text-in-Ok.ensures)

@@ -20,13 +20,13 @@ price-requires c =
 pub returns-in-Ok : goal.returns-in-Ok
 returns-in-Ok c =
     let feed = c.args.feed.now in
-    let rider = c.args.query.now.rider in
+    let buyer = c.args.query.now.buyer in
     let named = c.as_slice.result.now in
     let legs = c.in_ok-legs.legs.items in
     IfOk-weaker c.price.result _ _
     (λ priced least.
-    let of_feed = subst (λ (f : FeedRows). IsLeastOrNone f c.as_slice-in-Ok.result.now rider priced) c.in-Ok.ensures least in
-    let of_legs = subst (λ (ls : List LegFacts). IsLeastOrNone feed ls rider priced) c.as_slice-in-Ok.ensures.value of_feed in
-    subst (λ (ns : List NamedRide). IsLeastOfRides feed (rides_of ns) rider priced) c.as_slice.ensures.value
-    (least_of_legs feed (rides_of named) legs rider priced c.in_ok-legs.ensures of_legs))
+    let of_feed = subst (λ (f : FeedRows). IsLeastOrNone f c.as_slice-in-Ok.result.now buyer priced) c.in-Ok.ensures least in
+    let of_legs = subst (λ (ls : List LegFacts). IsLeastOrNone feed ls buyer priced) c.as_slice-in-Ok.ensures.value of_feed in
+    subst (λ (ns : List NamedRide). IsLeastOfRides feed (rides_of ns) buyer priced) c.as_slice.ensures.value
+    (least_of_legs feed (rides_of named) legs buyer priced c.in_ok-legs.ensures of_legs))
     c.price.ensures

@@ -21,7 +21,7 @@ returns c =
       journey = record { first = c.args.first; last = c.in-Some.end.last; rides = c.in_ok-rides.rides };
       choice = c.in-Some-2.priced.choice;
     } in
-    let price = subst (IsCheapest feed c.args.path.now.rides query.rider) c.in-Some-2.is c.in_ok-priced.ensures in
+    let price = subst (IsCheapest feed c.args.path.now.rides query.buyer) c.in-Some-2.is c.in_ok-priced.ensures in
     let earliest = subst (IsEarliestEnd feed query (stand_of c.args.standing)) c.in-Some.is c.earliest_end.ensures in
     let best = best_is feed query (stand_of c.args.standing) c.args.path.now entry c.in-Some.end c.requires.searched earliest c.requires.few refl refl c.len.ensures c.in_ok-rides.ensures price in
     gains_offer feed query (HasRides feed query c.args.first c.args.path.now.rides) entry c.args.front.now c.offer.new.self best.0 best.1
@@ -30,4 +30,4 @@ returns c =
 pub returns-in_default-2 : goal.returns-in_default-2
 returns-in_default-2 c =
     gains_none _ _ _ _ (none_uncovered c.args.self.now.feed c.args.self.now.query c.args.first c.args.path.now.rides
-    (subst (IsCheapest c.args.self.now.feed c.args.path.now.rides c.args.self.now.query.rider) c.in_default-2.is c.in_ok-priced.ensures))
+    (subst (IsCheapest c.args.self.now.feed c.args.path.now.rides c.args.self.now.query.buyer) c.in_default-2.is c.in_ok-priced.ensures))

@@ -6,4 +6,4 @@ use Rattle.plan_rounds.proofs.search.Search.spread_all.Goals as goal
 
 pub spread_by-requires-clause-fares : goal.spread_by-requires-clause-fares
 spread_by-requires-clause-fares c =
-    ap (λ (k : KnownPicks). k.terms) c.of.ensures ∙ c.self.invariant.1 ∙ ap (λ (a : Searched). terms a.feed a.query.rider) c.self.view_is
+    ap (λ (k : KnownPicks). k.terms) c.of.ensures ∙ c.self.invariant.1 ∙ ap (λ (a : Searched). terms a.feed a.query.buyer) c.self.view_is
