@@ -14,7 +14,7 @@ use crate::automaton::Automaton;
 use crate::changes::{GroupedLeg, change_after};
 use crate::judge::{is_whole, leg_taken, place_taken};
 use crate::reads::GroupReads;
-use feed_rows::{Buyer, ChangeChoice, FareState, LegFacts, Move};
+use feed_rows::{Buyer, CHANGE_ALONE, ChangeChoice, FareState, LegFacts, Move, includes_leg_after};
 use transit_base::{LegGroupId, Moment, Money, ProductRowId};
 
 impl<'f> Automaton<'f> {
@@ -299,9 +299,13 @@ fn paid_by(held: i64, code: u8, amount: i64, charge: i64) -> i64
     requires charge { IsLow charge }
     ensures { result ≡ next_paid (pos 0) held (Some code) amount charge }
 {
-    if code == 2 {
+    if code == CHANGE_ALONE {
         return charge;
     }
     let before = held + charge;
-    if code == 0 { before } else { before + amount }
+    if includes_leg_after(code) {
+        before
+    } else {
+        before + amount
+    }
 }

@@ -25,9 +25,9 @@ pub use journeys::{
     NO_CATEGORY, Pair, Query, Ride, RideFacts, RideList, Shifts, USUAL_WINDOW,
 };
 pub use rows::{
-    AreaRow, ExceptionRow, FrequencyRow, LegRuleRow, Limit, LinkRow, MediumRow, PLATFORM,
-    ProductRow, RiderRow, RouteRow, STATION, ServiceRow, StopAreaRow, StopRow, StopTimeRow,
-    TimeframeRow, TransferRuleRow, TripRow,
+    AreaRow, CHANGE_ALONE, ExceptionRow, FrequencyRow, LEG_BEFORE_AND_CHANGE, LegRuleRow, Limit,
+    LinkRow, MediumRow, PLATFORM, ProductRow, RiderRow, RouteRow, STATION, ServiceRow, StopAreaRow,
+    StopRow, StopTimeRow, TimeframeRow, TransferRuleRow, TripRow, includes_leg_after,
 };
 pub use states::{FareState, Move, Moves};
 pub use times::CallTime;
