@@ -14,8 +14,7 @@ use Rattle.feed_rows.specs.declared.rows.TransferRuleRow.{TransferRuleRow}
 use Rattle.feed_rows.specs.declared.states.FareState.{FareState}
 use Rattle.feed_rows.specs.declared.states.Move.{Move}
 use Rattle.feed_rows.specs.FeedRows.{FeedRows}
-use Rattle.feed_rows.specs.FareStands.{next_held, place_kind}
-use Rattle.feed_rows.specs.FareSteps.{is_arranged_after, is_place_after, is_row_after, move_after, next_move}
+use Rattle.feed_rows.specs.FareSteps.{next_held, place_kind, is_arranged_after, is_place_after, is_row_after, move_after, next_move}
 use Rattle.feed_rows.specs.FareSums.{amount_of}
 use Rattle.feed_rows.specs.TransferRules.{AskedChange, FareLeg}
 use Rattle.plain_laws.specs.Plain.{filled_and, joined_below}

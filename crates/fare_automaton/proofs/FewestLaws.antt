@@ -14,8 +14,7 @@ use Rattle.feed_rows.specs.declared.states.FareState.{FareState}
 use Rattle.feed_rows.specs.declared.states.Move.{Move}
 use Rattle.feed_rows.specs.FeedRows.{FeedRows}
 use Rattle.feed_rows.specs.FareChoices.{chosen_leg, is_leg_choice}
-use Rattle.feed_rows.specs.FareStands.{frees_first, frees_next, next_held, next_paid, place_charge, place_kind}
-use Rattle.feed_rows.specs.FareSteps.{asked_after, first_move, is_place_after, leg_taken, move_of_first, move_of_next, place_taken}
+use Rattle.feed_rows.specs.FareSteps.{frees_first, frees_next, next_held, next_paid, place_charge, place_kind, asked_after, first_move, is_place_after, leg_taken, move_of_first, move_of_next, place_taken}
 use Rattle.feed_rows.specs.FareSums.{amount_of}
 use Rattle.feed_rows.specs.TransferRules.{FareLeg}
 use Rattle.plain_laws.specs.Plain.{joined_below}

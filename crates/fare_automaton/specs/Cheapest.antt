@@ -2,7 +2,7 @@
 use Rattle.std.specs.Prelude.{if◌then◌else◌, Option, Some, None, ℤ, pos, int_le}
 use Rattle.feed_rows.specs.declared.fares.ChangeChoice.{ChangeChoice}
 use Rattle.feed_rows.specs.FeedRows.{FeedRows}
-use Rattle.feed_rows.specs.FareStands.{next_paid, place_charge, place_kind}
+use Rattle.feed_rows.specs.FareSteps.{next_paid, place_charge, place_kind}
 use Rattle.fare_automaton.specs.declared.cheapest.PaidPlace.{PaidPlace}
 
 -- what a leg of this amount and the change to it by this place add to what was paid

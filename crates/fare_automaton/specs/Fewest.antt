@@ -10,8 +10,7 @@ use Rattle.feed_rows.specs.declared.states.FareState.{FareState}
 use Rattle.feed_rows.specs.declared.states.Move.{Move}
 use Rattle.feed_rows.specs.FeedRows.{FeedRows}
 use Rattle.feed_rows.specs.FareChoices.{is_leg_choice}
-use Rattle.feed_rows.specs.FareStands.{place_kind}
-use Rattle.feed_rows.specs.FareSteps.{move_after}
+use Rattle.feed_rows.specs.FareSteps.{place_kind, move_after}
 use Rattle.feed_rows.specs.FareSums.{amount_of}
 
 -- the leg group of the option's rule; none where there is no such rule

@@ -23,8 +23,7 @@ use Rattle.feed_rows.specs.FeedRows.{FeedRows}
 use Rattle.feed_rows.specs.Codes.{change_alone, includes_leg_after}
 use Rattle.feed_rows.specs.FareChoices.{is_open, chosen_leg, is_leg_choice, is_change_product}
 use Rattle.feed_rows.specs.FareStates.{capped_count, state_of_run}
-use Rattle.feed_rows.specs.FareStands.{Run, place_kind, place_charge, next_paid, next_held}
-use Rattle.feed_rows.specs.FareSteps.{move_after, leg_taken, place_taken, asked_after, is_place_after, is_row_after, next_state, run_told, has_clock}
+use Rattle.feed_rows.specs.FareSteps.{Run, place_kind, place_charge, next_paid, next_held, move_after, leg_taken, place_taken, asked_after, is_place_after, is_row_after, next_state, run_told, has_clock}
 use Rattle.feed_rows.specs.FareSums.{amount_of}
 use Rattle.feed_rows.specs.LegRules.{is_selected_rule}
 use Rattle.feed_rows.specs.TransferRules.{FareLeg, AskedChange, asked_change, change_between, limit_holds, group_matches, is_candidate, suffices, is_selected, is_least_count, same_group}

@@ -10,9 +10,8 @@ use Rattle.feed_rows.specs.declared.states.FareState.{FareState}
 use Rattle.feed_rows.specs.declared.states.Move.{Move}
 use Rattle.feed_rows.specs.FeedRows.{FeedRows}
 use Rattle.feed_rows.specs.FareChoices.{chosen_leg, is_leg_choice, is_change_product}
-use Rattle.feed_rows.specs.FareStands.{next_paid, next_held, place_kind, place_charge}
 use Rattle.feed_rows.specs.FareStates.{capped_count, state_of_run}
-use Rattle.feed_rows.specs.FareSteps.{leg_taken, place_taken, asked_after, is_arranged_after, is_row_after, is_place_after, next_state, first_move, next_move, move_of_first, move_of_next}
+use Rattle.feed_rows.specs.FareSteps.{next_paid, next_held, place_kind, place_charge, leg_taken, place_taken, asked_after, is_arranged_after, is_row_after, is_place_after, next_state, first_move, next_move, move_of_first, move_of_next}
 use Rattle.feed_rows.specs.FareSums.{amount_of}
 use Rattle.feed_rows.specs.TransferRules.{FareLeg, AskedChange, is_selected, same_group}
 use Rattle.plain_laws.specs.Plain.{filled_and}

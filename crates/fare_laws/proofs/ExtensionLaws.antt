@@ -24,9 +24,9 @@ use Rattle.feed_rows.specs.FeedRows.{FeedRows}
 use Rattle.feed_rows.specs.TransferRules.{FareLeg, AskedChange, asked_change, same_group, is_same_group_at, run_start, is_selected, is_selected_transfer, is_arranged, IsRun}
 use Rattle.feed_rows.specs.FareChoices.{chosen_leg, fare_leg, is_leg_choice, is_change_product, is_transfer_choice, is_change_choice, is_fare_choice}
 use Rattle.feed_rows.specs.FareSums.{transfer_kind, starts_chain, amount_of}
-use Rattle.feed_rows.specs.FareStands.{Run, fresh_run, change_to, extends, next_run, IsRunAt, frees_first, frees_next, next_paid, place_kind, place_charge, FareStand, stand_of_next, next_fare_stand, IsStandOf}
+use Rattle.feed_rows.specs.FareStands.{fresh_run, extends, next_run, IsRunAt, FareStand, stand_of_next, next_fare_stand, IsStandOf}
 use Rattle.feed_rows.specs.FareStates.{held_of, held_amount, paid_amount, greatest_count, capped_count, state_of_run, state_at, state_of, fare_state}
-use Rattle.feed_rows.specs.FareSteps.{leg_taken, place_taken, is_whole, asked_after, is_arranged_after, is_row_after, is_place_after, next_state, next_move, move_of_next, AreMovesAfter}
+use Rattle.feed_rows.specs.FareSteps.{Run, change_to, frees_first, frees_next, next_paid, place_kind, place_charge, leg_taken, place_taken, is_whole, asked_after, is_arranged_after, is_row_after, is_place_after, next_state, next_move, move_of_next, AreMovesAfter}
 use Rattle.feed_rows.specs.FareExtensions.{changes_with, extended, Extends, BeginsWith, AreExtensions}
 use Rattle.plain_laws.specs.Plain.{filled_and, when}
 use Rattle.plain_laws.proofs.Laws.{list_any-place, slice_get-new_item}

@@ -20,8 +20,7 @@ use Rattle.feed_rows.specs.FeedRows.{FeedRows}
 use Rattle.feed_rows.specs.Codes.{change_alone, includes_leg_after}
 use Rattle.feed_rows.specs.FareChoices.{is_open, is_leg_choice, is_change_product}
 use Rattle.feed_rows.specs.FareFloor.{is_for_legs, is_for_changes, least_amount, fare_floor}
-use Rattle.feed_rows.specs.FareStands.{frees_first, next_paid, next_held, place_kind, place_charge}
-use Rattle.feed_rows.specs.FareSteps.{move_after, leg_taken, place_taken, is_place_after, is_row_after, asked_after}
+use Rattle.feed_rows.specs.FareSteps.{frees_first, next_paid, next_held, place_kind, place_charge, move_after, leg_taken, place_taken, is_place_after, is_row_after, asked_after}
 use Rattle.feed_rows.specs.FareSums.{amount_of}
 use Rattle.feed_rows.specs.LegRules.{is_selected_rule}
 use Rattle.feed_rows.specs.TransferRules.{AskedChange, is_selected}

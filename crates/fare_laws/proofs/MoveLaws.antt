@@ -18,9 +18,8 @@ use Rattle.feed_rows.specs.FeedRows.{FeedRows}
 use Rattle.feed_rows.specs.SoundFares.{AreSoundTransferRules}
 use Rattle.feed_rows.specs.TransferRules.{FareLeg}
 use Rattle.feed_rows.specs.FareChoices.{chosen_leg, is_leg_choice}
-use Rattle.feed_rows.specs.FareStands.{next_paid}
 use Rattle.feed_rows.specs.FareStates.{is_within, count_within, greatest_count}
-use Rattle.feed_rows.specs.FareSteps.{leg_taken, place_taken, is_whole, asked_after, is_place_after, first_move, next_move, move_of_first, move_of_next}
+use Rattle.feed_rows.specs.FareSteps.{next_paid, leg_taken, place_taken, is_whole, asked_after, is_place_after, first_move, next_move, move_of_first, move_of_next}
 use Rattle.plain_laws.specs.Plain.{when}
 use Rattle.fare_laws.specs.BareMoves.{bare}
 use Rattle.plain_laws.proofs.Laws.{All-slice_get}

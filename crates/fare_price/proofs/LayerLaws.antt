@@ -17,9 +17,8 @@ use Rattle.feed_rows.specs.FeedRows.{FeedRows}
 use Rattle.feed_rows.specs.SoundFeed.{IsSoundFeed}
 use Rattle.feed_rows.specs.FareChoices.{chosen_leg, is_fare_choice}
 use Rattle.feed_rows.specs.FareExtensions.{extended, Extends}
-use Rattle.feed_rows.specs.FareStands.{next_paid, place_kind, place_charge, frees_first, frees_next}
 use Rattle.feed_rows.specs.FareStates.{held_amount, paid_amount, fare_state}
-use Rattle.feed_rows.specs.FareSteps.{leg_taken, place_taken, next_move, move_of_first, move_of_next, move_after}
+use Rattle.feed_rows.specs.FareSteps.{next_paid, place_kind, place_charge, frees_first, frees_next, leg_taken, place_taken, next_move, move_of_first, move_of_next, move_after}
 use Rattle.feed_rows.specs.FareSums.{amount_of, fare_sum}
 use Rattle.feed_rows.specs.LeastPrices.{IsLeastPriceOfLegs, AreUncoveredLegs}
 use Rattle.plain_laws.specs.Plain.{when}

@@ -16,7 +16,8 @@ use Rattle.feed_rows.specs.Journeys.{facts_at}
 use Rattle.feed_rows.specs.Legs.{leg_facts, legs_of}
 use Rattle.feed_rows.specs.TransferRules.{FareLeg, change_at, goes_on, run_start}
 use Rattle.feed_rows.specs.FareChoices.{chosen_leg, fare_leg, is_leg_choice, is_change_choice, is_leg_paid, is_change_paid, is_fare_choice}
-use Rattle.feed_rows.specs.FareStands.{Run, change_to, extends, next_run, IsRunAt}
+use Rattle.feed_rows.specs.FareSteps.{Run, change_to}
+use Rattle.feed_rows.specs.FareStands.{extends, next_run, IsRunAt}
 use Rattle.plain_laws.proofs.Laws.{collect_below-same, all_below-same, slice_get-append_left, slice_get-push_last, slice_get-old_item, slice_get-new_item}
 use Rattle.feed_laws.proofs.FareLaws.{IsRunAt-prefix, change_at-prefix, change_of_run, extends_of_run, run_of_next, run_start-prefix}
 use Rattle.feed_laws.proofs.TransferLaws.{run_start-on, run_start-off}

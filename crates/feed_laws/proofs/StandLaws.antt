@@ -18,7 +18,8 @@ use Rattle.plain_laws.specs.Plain.{when}
 use Rattle.feed_rows.specs.TransferRules.{FareLeg, change_at}
 use Rattle.feed_rows.specs.FareChoices.{chosen_leg, fare_leg, is_leg_choice, is_change_choice, is_leg_paid, is_fare_choice}
 use Rattle.feed_rows.specs.FareSums.{amount_of, fare_sum, fare_price}
-use Rattle.feed_rows.specs.FareStands.{Run, change_to, next_run, IsRunAt, frees_next, frees_first, next_held, next_paid, place_kind, place_charge, FareStand, stand_price, stand_of_first, stand_of_next, first_fare_stand, next_fare_stand, stand_at, IsStandOf}
+use Rattle.feed_rows.specs.FareSteps.{Run, change_to, frees_next, frees_first, next_held, next_paid, place_kind, place_charge}
+use Rattle.feed_rows.specs.FareStands.{next_run, IsRunAt, FareStand, stand_of_first, stand_of_next, first_fare_stand, next_fare_stand, stand_at, IsStandOf}
 use Rattle.plain_laws.proofs.Laws.{slice_get-append_left, slice_get-push_last, slice_get-old_item, slice_get-new_item}
 use Rattle.feed_laws.proofs.FareLaws.{run_of_first}
 use Rattle.feed_laws.proofs.SumLaws.{IsPushed, next_total, next_paid-total, fare_sum-push, fare_sum-first, held_at-push, held_at-first}
@@ -390,18 +391,6 @@ stepped feed buyer (suc n) legs picks places long long' long'' =
     (subst (Stepped feed buyer (front.front ++ front.last ∷ []) more (suc n))
     (sym (stand_at-push feed buyer front.front front.last last.choice last.place last.pick more n front.long last.pushed))
     (stepped_next feed buyer front.front front.last last.choice last.place last.pick more n front.long last.pushed _ before))
-
--- stepping along all legs gives the price of a choice, which is there exactly where the choice pays the legs
-pub fare_price-stand : (feed : FeedRows) (buyer : Buyer) (legs : List LegFacts) (choice : Choice) (n : ℕ) →
-    length legs ≡ suc n → length choice.legs ≡ suc n → length choice.changes ≡ n →
-    fare_price feed legs choice buyer ≡ option_map stand_price (stand_at feed buyer legs choice n)
-fare_price-stand feed buyer legs choice n long long' long'' =
-    by (stand_at feed buyer legs choice n) (stepped feed buyer n legs choice.legs choice.changes long long' long'')
-  where
-    by : (o : Option FareStand) → Stepped feed buyer legs choice n o →
-        fare_price feed legs choice buyer ≡ option_map stand_price o
-    by None unpaid = rw unpaid refl
-    by (Some stand) paid = let pays = paid.0 in rw pays (ap Some (sym paid.1.price))
 
 -- where a choice has other places it has no price
 pub fare_price-places : (feed : FeedRows) (buyer : Buyer) (legs : List LegFacts) (choice : Choice)

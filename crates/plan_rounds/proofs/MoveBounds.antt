@@ -15,8 +15,7 @@ use Rattle.feed_rows.specs.FeedRows.{FeedRows}
 use Rattle.feed_rows.specs.SoundFeed.{IsSoundFeed}
 use Rattle.feed_rows.specs.FareChoices.{chosen_leg}
 use Rattle.feed_rows.specs.FareSums.{amount_of}
-use Rattle.feed_rows.specs.FareStands.{place_kind, place_charge, frees_first, frees_next}
-use Rattle.feed_rows.specs.FareSteps.{leg_taken, place_taken, move_of_first, move_of_next, move_after}
+use Rattle.feed_rows.specs.FareSteps.{place_kind, place_charge, frees_first, frees_next, leg_taken, place_taken, move_of_first, move_of_next, move_after}
 use Rattle.plain_laws.proofs.Laws.{All-slice_get, chain_gives}
 use Rattle.round_labels.specs.Labels.{IsSmall}
 

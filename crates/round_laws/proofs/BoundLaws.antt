@@ -18,8 +18,7 @@ use Rattle.feed_rows.specs.declared.states.FareState.{FareState}
 use Rattle.feed_rows.specs.declared.states.Move.{Move}
 use Rattle.feed_rows.specs.Codes.{change_alone}
 use Rattle.feed_rows.specs.FareFloor.{fare_floor}
-use Rattle.feed_rows.specs.FareStands.{place_kind, frees_first}
-use Rattle.feed_rows.specs.FareSteps.{move_after, place_taken}
+use Rattle.feed_rows.specs.FareSteps.{place_kind, frees_first, move_after, place_taken}
 use Rattle.feed_rows.specs.FeedRows.{FeedRows}
 use Rattle.feed_rows.specs.JourneyStands.{way_to}
 use Rattle.feed_rows.specs.LabelCover.{price_so_far}

@@ -14,8 +14,7 @@ use Rattle.feed_rows.specs.declared.journeys.Ride.{Ride}
 use Rattle.feed_rows.specs.declared.journeys.RideFacts.{RideFacts}
 use Rattle.feed_rows.specs.declared.states.FareState.{FareState}
 use Rattle.feed_rows.specs.declared.states.Move.{Move}
-use Rattle.feed_rows.specs.FareStands.{next_paid, place_kind, place_charge}
-use Rattle.feed_rows.specs.FareSteps.{place_taken, next_move, move_after}
+use Rattle.feed_rows.specs.FareSteps.{next_paid, place_kind, place_charge, place_taken, next_move, move_after}
 use Rattle.feed_rows.specs.FareSums.{amount_of}
 use Rattle.feed_rows.specs.FeedRows.{FeedRows}
 use Rattle.feed_rows.specs.Journeys.{is_caught}
