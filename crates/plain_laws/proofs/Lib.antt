@@ -1,3 +1,4 @@
+pub mod AddsLaws
 pub mod AscendingLaws
 pub mod BelowLaws
 pub mod ByteMapLaws

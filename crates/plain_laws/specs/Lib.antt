@@ -1,3 +1,4 @@
+pub mod Adds
 pub mod Ascending
 pub mod Below
 pub mod Given
