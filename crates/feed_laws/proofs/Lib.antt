@@ -1,3 +1,4 @@
+pub mod ActiveDays
 pub mod CallLaws
 pub mod CallTimes
 pub mod ChoiceLaws
