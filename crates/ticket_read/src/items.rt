@@ -61,7 +61,7 @@ fn start_in(text: &[u8]) -> Option<Option<u32>>
 }
 
 // The trip with this id.
-#[tactic(auto, using(crate::proofs::NameLaws::trip_within))]
+#[tactic(auto, using(feed_laws::proofs::PriceQueryLaws::trip_within))]
 fn trip_in(timetable: &Timetable, id: &[u8]) -> Option<TripId>
     ensures value { result ≡ find_trip timetable.now id.now }
     ensures within { IfSome result (λ trip. trip.0 < length timetable.now.trips) }
