@@ -21,8 +21,8 @@ pub use feed::{
 };
 pub use ids::Id;
 pub use journeys::{
-    AreaList, Call, FrameList, Journey, LEAST_SHIFT, LegFacts, LegList, MOST_SHIFT, Pair, Query,
-    Ride, RideFacts, RideList, Shifts, USUAL_WINDOW,
+    AreaList, Call, FrameList, Journey, LEAST_SHIFT, LegFacts, LegList, MOST_RIDES, MOST_SHIFT,
+    Pair, Query, Ride, RideFacts, RideList, Shifts, USUAL_WINDOW,
 };
 pub use rows::{
     AreaRow, ExceptionRow, FrequencyRow, LegRuleRow, Limit, LinkRow, MediumRow, PLATFORM,

@@ -1,6 +1,7 @@
 //! The words that name the rides of `price`.
 ghost use Rattle.std.specs.Prelude.{◌≡◌, ◌<◌, ◌≤◌, IfOk, IfSome, Ok, Some, is_none, length, option_map, slice_get};
 ghost use Rattle.plain_laws.specs.Plain.{find_below};
+ghost use Rattle.feed_rows.specs.Limits.{most_rides};
 ghost use Rattle.feed_rows.specs.CommandWords.{word_at};
 ghost use Rattle.feed_rows.specs.NumberedItems.{read_at, read_each};
 ghost use Rattle.feed_rows.specs.RideWords.{comma_before, ride_parts, start_value, sequence_value, ride_word};
@@ -171,7 +172,7 @@ fn first_unread(texts: &[&str]) -> Option<usize>
 /// The rides that one to eight words name, or the first word that names none, counted from 1.
 pub(crate) fn rides_in(texts: Vec<&str>) -> Result<RideWords<'_>, UsageFault>
     requires some { 1 ≤ length texts.items }
-    requires few { length texts.items ≤ 8 }
+    requires few { length texts.items ≤ most_rides }
     ensures value { unless_fault result (λ rides. Ok (rides_of rides)) ≡ read_each ride_word usage.BadRide (texts_of texts.entry.items) }
     ensures usual { IfOk result AreUsualRides }
 {

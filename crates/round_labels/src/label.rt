@@ -1,5 +1,6 @@
 //! What a search by rounds keeps of a partial journey.
 ghost use Rattle.std.specs.Prelude.{◌≡◌, ◌+◌, ◌+ℤ◌, ◌<◌, ◌≤◌, ◌^◌, Some, nat_abs};
+ghost use Rattle.feed_rows.specs.Limits.{most_rides};
 ghost use Rattle.feed_timetable.specs.Standings.{stand_of};
 ghost use Rattle.round_labels.specs.Labels.{IsBounded, IsSmall, class_of, same_flag, same_group, same_moment, same_parts, same_state, stand_of_label, started, went_on};
 
@@ -51,7 +52,7 @@ impl Label {
 
     /// The label after one more ride of these facts, where this one has the number.
     pub fn after(&self, number: u32, ride: &Ride, facts: &RideFacts, taken: &Move) -> Label
-        requires few { self.now.rides < 8 }
+        requires few { self.now.rides < most_rides }
         requires bounded { IsBounded self.now }
         requires small { IsSmall taken.now }
         ensures value { result ≡ went_on self.now number ride.now facts.now taken.now }
