@@ -19,6 +19,7 @@ pub mod FareSums
 pub mod FareStands
 pub mod LeastPrices
 pub mod FareStates
+pub mod SameStates
 pub mod FareSteps
 pub mod FareExtensions
 pub mod ParetoTriples

@@ -29,6 +29,6 @@ pub use rows::{
     ProductRow, RiderRow, RouteRow, STATION, ServiceRow, StopAreaRow, StopRow, StopTimeRow,
     TimeframeRow, TransferRuleRow, TripRow,
 };
-pub use states::{FareState, Move, Moves};
+pub use states::{FareState, Move, Moves, same_group};
 pub use times::CallTime;
 pub use usage::{StopWord, UsageFault, WordRole};
