@@ -1,6 +1,6 @@
 -- Ways to pay legs: the moves that lead to them, the choices that their steps make, and what a search keeps true of
 -- them.
-use Rattle.std.specs.Prelude.{◌≡◌, ℕ, zero, suc, ◌+◌, ◌*◌, ◌^◌, ◌<◌, ◌≤◌, ◌⊎◌, Bool, true, ◌&&◌, if◌then◌else◌, List, [], Option, Some, None, ℤ, pos, ◌+ℤ◌, ◌≤ℤ◌, int_le, nat_abs, slice_get, Contains}
+use Rattle.std.specs.Prelude.{◌≡◌, ℕ, zero, suc, ◌+◌, ◌*◌, ◌^◌, ◌<◌, ◌≤◌, ◌⊎◌, Bool, true, ◌&&◌, List, [], Option, Some, None, ℤ, pos, ◌+ℤ◌, ◌≤ℤ◌, int_le, nat_abs, slice_get, Contains}
 use Rattle.std.specs.Option.{option_map_or}
 use Rattle.transit_base.specs.declared.numbers.RiderId.{RiderId}
 use Rattle.feed_rows.specs.declared.fares.Choice.{Choice}
@@ -13,6 +13,7 @@ use Rattle.feed_rows.specs.FareExtensions.{extended}
 use Rattle.feed_rows.specs.FareStates.{held_amount, paid_amount, fare_state}
 use Rattle.feed_rows.specs.SameStates.{same_parts}
 use Rattle.feed_rows.specs.FareSteps.{move_after}
+use Rattle.plain_laws.specs.Lesser.{lesser_by}
 use Rattle.label_bag.specs.Bags.{covers}
 use Rattle.fare_price.specs.declared.ways.Way.{Way}
 
@@ -89,8 +90,7 @@ pub record AreNextWays (feed : FeedRows) (rider : Option RiderId) (leg : LegFact
 
 -- the one that costs less: the first, where both cost the same
 abbrev pub cheaper : Option Way → Way → Way
-cheaper None way = way
-cheaper (Some other) way = if int_le (cost other) (cost way) then other else way
+cheaper = lesser_by cost
 
 -- ---- the choice that steps make
 

@@ -7,6 +7,7 @@ pub mod FilterLaws
 pub mod InsertLaws
 pub mod JoinedLaws
 pub mod LeastLaws
+pub mod LesserLaws
 pub mod NumberLaws
 pub mod OptionalLaws
 pub mod OrderLaws

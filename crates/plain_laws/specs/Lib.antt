@@ -3,6 +3,7 @@ pub mod Ascending
 pub mod Below
 pub mod Given
 pub mod Items
+pub mod Lesser
 pub mod Numbers
 pub mod Optional
 pub mod Steps
