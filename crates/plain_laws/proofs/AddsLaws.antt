@@ -1,6 +1,5 @@
 -- Laws of what calls add: parts one after another, a part said otherwise, and one that has nothing.
-use Rattle.std.proofs.Common.{⊎_elim, inl, inr, ◌⊎◌, List}
-use Rattle.std.specs.Prelude.{Contains}
+use Rattle.std.proofs.Common.{⊎_elim, inr, ◌⊎◌, List}
 use Rattle.plain_laws.specs.Adds.{Adds, OnlyBesides}
 
 -- one part after another

@@ -1,11 +1,10 @@
 -- How a search goes on, and what it has when it is through.
 use Rattle.std.proofs.Common.{◌≡◌, refl, sym, ◌∙◌, ap, subst, ℕ, ◌+◌, ◌-◌, ◌<◌, ◌≤◌, ◌⊎◌, inl, inr, ⊎_elim, true, List, [], ◌∷◌, ◌++◌, length, get_or, append_assoc, arith, ℤ, pos, ◌+ℤ◌, ◌≤ℤ◌}
-use Rattle.std.specs.Prelude.{Option, Some, None, slice_get, option_map, All, Contains, IsTrue, int_le, ◌==◌}
+use Rattle.std.specs.Prelude.{Option, Some, None, slice_get, option_map, All, Contains, IsTrue, int_le}
 use Rattle.std.proofs.lemmas.Int.{ints}
 use Rattle.std.proofs.lemmas.Bool.{cases_lt}
 use Rattle.std.proofs.lemmas.Bool.Decides.{nat_tests}
-use Rattle.std.proofs.lemmas.Option.{same_Some, none-some, slice_get_within, slice_get-get_or, cond_some}
-use Rattle.std.proofs.lemmas.List.Folds.{Any-from_list_any, list_any-from_Any}
+use Rattle.std.proofs.lemmas.Option.{same_Some, none-some, slice_get-get_or, cond_some}
 use Rattle.std.proofs.lemmas.List.{get_or_default, append-nil}
 use Rattle.std.proofs.lemmas.List.Elements.{All-weaker, All-nil, All-contains}
 use Rattle.transit_base.specs.Limits.{most_time}
@@ -26,7 +25,7 @@ use Rattle.feed_rows.specs.Journeys.{stands_for}
 use Rattle.feed_rows.specs.JourneyStands.{Stand, first_stand, stand_at_end, next_stand, way_to, way_out, end_arrival}
 use Rattle.feed_rows.specs.ParetoTriples.{at_most, is_before}
 use Rattle.feed_rows.specs.StopLinks.{stop_set}
-use Rattle.plain_laws.specs.Plain.{after, when}
+use Rattle.plain_laws.specs.Plain.{after}
 use Rattle.feed_laws.proofs.ExactLaws.{exact_of_front, covers_offers}
 use Rattle.fare_price.specs.declared.Priced.{Priced}
 use Rattle.fare_automaton.specs.Terms.{terms}
@@ -46,7 +45,7 @@ use Rattle.plan_plain.specs.Paths.{Taken, no_ride, with_ride}
 use Rattle.plan_rides.specs.Asked.{arrival_in_time}
 use Rattle.plan_rides.specs.Boarding.{IsAmong, MayRide}
 use Rattle.plan_rides.proofs.ArrivalLaws.{arrives_in_time}
-use Rattle.plan_rides.proofs.MarkLaws.{stop_id, stands_for_member, member_of_stands_for, among_more}
+use Rattle.plan_rides.proofs.MarkLaws.{stands_for_member, member_of_stands_for, among_more}
 use Rattle.plan_plain.specs.declared.search.End.{End}
 use Rattle.plan_plain.specs.Searches.{covers_entry, AddsEnd, EndsBy, HasRides, IsBest, IsCheapest, IsEarliest, IsEarliestEnd, IsEndIn, GoesOn, Gains, StartsAt, IsSearched, StartsAmong, CoversWays}
 

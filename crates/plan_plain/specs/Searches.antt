@@ -1,5 +1,5 @@
 -- The entries of a query that go on from where a search stands, and lists that cover them.
-use Rattle.std.specs.Prelude.{ℤ, ◌≤ℤ◌, IsTrue, ◌≡◌, ◌⊎◌, ℕ, ◌<◌, ◌≤◌, ◌++◌, [], ◌∷◌, slice_get, slice_index_or, true, List, length, All, Option, Some, None}
+use Rattle.std.specs.Prelude.{ℤ, ◌≤ℤ◌, IsTrue, ◌≡◌, ◌⊎◌, ℕ, ◌<◌, ◌≤◌, ◌++◌, [], ◌∷◌, slice_index_or, true, List, length, Option, Some, None}
 use Rattle.transit_base.specs.declared.numbers.RiderId.{RiderId}
 use Rattle.transit_base.specs.declared.numbers.StopId.{StopId}
 use Rattle.feed_rows.specs.declared.journeys.Query.{Query}
