@@ -4,16 +4,15 @@ ghost use Rattle.plain_laws.specs.Plain.{find_below};
 ghost use Rattle.feed_rows.specs.Limits.{most_rides};
 ghost use Rattle.feed_rows.specs.CommandWords.{word_at};
 ghost use Rattle.feed_rows.specs.NumberedItems.{read_at, read_each};
-ghost use Rattle.feed_rows.specs.RideWords.{comma_before, ride_parts, start_value, sequence_value, ride_word};
+ghost use Rattle.feed_rows.specs.RideWords.{comma_before, ride_parts, sequence_value, ride_word};
 ghost use Rattle.feed_rows.specs.UsageFaults.{unless_fault};
 ghost use Rattle.feed_rows.specs.declared.usage.UsageFault.TheVariants as usage;
-ghost use Rattle.transit_base.specs.Limits.{most_time};
 ghost use Rattle.plan_words.specs.Rides.{ride_of, parts_of, texts_of, rides_of, IsUsualRide, AreUsualRides};
 
 use crate::values::{date_in, number_in};
 use feed_rows::UsageFault;
-use feed_text::time_of;
-use transit_base::{Day, MOST_TIME};
+use feed_text::start_in;
+use transit_base::Day;
 
 /// A ride, as its word names it.
 #[derive(Clone, Copy)]
@@ -102,18 +101,6 @@ fn parts_of(word: &[u8]) -> Option<RideParts<'_>>
         from: &word[third + 1..fourth],
         to: &word[fourth + 1..],
     })
-}
-
-// The first departure of a run, or `-` where none is given.
-fn start_in(text: &[u8]) -> Option<Option<u32>>
-    ensures value { result ≡ start_value text.now }
-    ensures high { IfSome result (λ start. IfSome start (λ s. s ≤ most_time)) }
-{
-    if text == b"-".as_slice() {
-        return Some(None);
-    }
-    let start = time_of(text, MOST_TIME)?;
-    Some(Some(start))
 }
 
 // A stop_sequence.
