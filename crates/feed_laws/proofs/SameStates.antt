@@ -1,5 +1,5 @@
 -- States of fares that test as the same are the same.
-use Rattle.std.proofs.Common.{◌≡◌, refl, ap, ℕ, Bool, Option}
+use Rattle.std.proofs.Common.{◌≡◌, refl, ap, ℕ, ℤ, Bool, Option}
 use Rattle.std.specs.Bool.{Decides}
 use Rattle.transit_base.specs.declared.moments.Moment.{Moment}
 use Rattle.transit_base.specs.declared.numbers.LegGroupId.{LegGroupId}
@@ -8,10 +8,13 @@ use Rattle.feed_rows.specs.SameStates.{same_parts}
 use Rattle.plain_laws.proofs.Decisions.{Test, both, int_equals, is, likewise, same_field, same_flag, same_option}
 
 abbrev equal_group : (o p : Option LegGroupId) → Test (o ≡ p)
-equal_group = same_field (λ g. g.0) (λ g h e. ap (λ n. record { 0 = n }) e)
+equal_group o p = same_field (λ (g : LegGroupId). g.0) (λ g h e. ap (λ n. record { 0 = n }) e) o p
+
+abbrev moment_is : (m n : Moment) → Test (m ≡ n)
+moment_is m n = likewise (int_equals m.0 n.0) (ap (λ (k : ℤ). record { 0 = k })) (ap (λ (k : Moment). k.0))
 
 abbrev equal_moment : (o p : Option Moment) → Test (o ≡ p)
-equal_moment = same_option (λ m n. likewise (int_equals m.0 n.0) (ap (λ k. record { 0 = k })) (ap (λ (k : Moment). k.0)))
+equal_moment o p = same_option moment_is o p
 
 state_of : Option LegGroupId → ℕ → Option Moment → Option Moment → Bool → FareState
 state_of group count departure arrival first =

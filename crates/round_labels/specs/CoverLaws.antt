@@ -36,7 +36,7 @@ same_class_decides : (a b : LabelClass) → Decides (same_class a b) (a ≡ b)
 unfolding class_at
 same_class_decides a b =
     Decides-like (same_class a b)
-    (λ both. class_equal a.stop.0 b.stop.0 a.state b.state both.0 both.1)
+    (λ (both : (a.stop.0 ≡ b.stop.0) × (a.state ≡ b.state)). class_equal a.stop.0 b.stop.0 a.state b.state both.0 both.1)
     (λ same. (ap (λ (c : LabelClass). c.stop.0) same, ap (λ (c : LabelClass). c.state) same))
     (Decides-and (a.stop.0 == b.stop.0) (same_state a.state b.state) (Decides-eqb a.stop.0 b.stop.0)
     (same_state_decides a.state b.state))
