@@ -31,6 +31,6 @@ adds_none right never = record {
 }
 
 -- what a list has besides, one list after another
-pub besides_on : {X : Type 0} {P : X → Type 0} {old mid new : List X} → OnlyBesides P old mid → OnlyBesides P mid new →
+pub besides_on : {X : Type 0} (P : X → Type 0) (old mid new : List X) → OnlyBesides P old mid → OnlyBesides P mid new →
     OnlyBesides P old new
-besides_on a b x at = ⊎_elim (λ before. a x before) (λ own. inr own) (b x at)
+besides_on P old mid new a b x at = ⊎_elim (λ before. a x before) (λ own. inr own) (b x at)

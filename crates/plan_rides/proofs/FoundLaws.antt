@@ -41,7 +41,7 @@ module _ (feed : FeedRows) (query : Query) (latest : CutoffOf) (stop : ℕ) (fro
       ((ride : Ride) (facts : RideFacts) → IsEarlyRide feed query latest ride facts → Whole ride → Part ride ⊎ More ride) →
       AddsFound feed query latest stop from Whole old new
   found_more Part More Whole old mid new a b split =
-      adds_more besides_on a b
+      adds_more (besides_on (IsFound feed query stop from) old mid new) a b
       (λ ride own. ⊎_elim (λ p. inl (own.0, own.1, p)) (λ m. inr (own.0, own.1, m)) (split ride own.0 own.1 own.2))
 
   -- the same part, said otherwise
