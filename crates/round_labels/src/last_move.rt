@@ -1,6 +1,9 @@
 //! The move that pays the last ride of a label, as a key.
+ghost use Rattle.std.specs.Prelude.{◌≡◌};
 ghost use Rattle.std.specs.Cmp.{partial_equiv_from_equiv};
+ghost use Rattle.round_labels.specs.LastMoves.{same_move};
 
+use crate::label::same_parts;
 use crate::label_class::{group_number, moment_number};
 use feed_rows::Move;
 use std::hash::{Hash, Hasher};
@@ -17,9 +20,12 @@ impl PartialEq for LastMove {
 
     ghost laws = { partial_equiv_from_equiv last_equivalence };
 
-    #[tactic(auto, unfolding(crate::specs::LastMoves::same_move, feed_rows::specs::SameStates::same_parts))]
     fn eq(&self, other: &Self) -> bool {
-        self.0 == other.0
+        match (&self.0, &other.0) {
+            (Some(one), Some(other)) => same_move(one, other),
+            (None, None) => true,
+            _ => false,
+        }
     }
 }
 
@@ -48,4 +54,18 @@ impl Hash for LastMove {
             state.write_i64(moment_number(after.arrival));
         }
     }
+}
+
+/// Whether each part of the moves is the same.
+#[tactic(auto, unfolding(crate::specs::LastMoves::same_move))]
+fn same_move(a: &Move, b: &Move) -> bool
+    ensures { result ≡ same_move a.now b.now }
+{
+    same_parts(&a.state, &b.state)
+        && a.paid == b.paid
+        && a.held == b.held
+        && a.rule == b.rule
+        && a.product == b.product
+        && a.xfer == b.xfer
+        && a.xfer_product == b.xfer_product
 }
