@@ -1,5 +1,6 @@
 //! The answer of a price.
 ghost use Rattle.std.specs.Prelude.{◌≤◌, length, IfOk};
+ghost use Rattle.feed_rows.specs.Limits.{most_rides};
 ghost use Rattle.feed_rows.specs.PriceQueries.{price_query_of};
 ghost use Rattle.command_answers.specs.Due.{Task, task_by, ArePriceLines};
 ghost use Rattle.command_answers.specs.Outcomes.{IsOutcome};
@@ -19,7 +20,7 @@ use ticket_explain::{Text, price_lines_of, uncovered_lines_of};
 // The lines of the least price of the rides.
 fn price_text(alloc: Global, feed: &Feed, query: &PriceQuery) -> Result<Text, AllocError>
     requires known { AreKnown feed.now query.now.rides.items }
-    requires few { length query.now.rides.items ≤ 8 }
+    requires few { length query.now.rides.items ≤ most_rides }
     ensures { IfOk result (ArePriceLines feed.now (rides_of query.now.rides.items) query.now.buyer) }
 {
     let Some(priced) = price_of(alloc, feed, query)? else {

@@ -3,10 +3,8 @@ use Rattle.std.proofs.Common.{◌≡◌, refl, sym, ◌∙◌, ap, ℕ, Bool, tr
 use Rattle.std.specs.Prelude.{if◌then◌else◌, slice_get, is_some, nat_le, flat_map}
 use Rattle.std.specs.Option.{option_map_or}
 use Rattle.std.specs.List.{list_any, list_all}
-use Rattle.std.proofs.lemmas.List.Folds.{list_all_more, list_any_more}
-use Rattle.std.proofs.Common.{◌+◌, ◌<◌, take, get_or}
-use Rattle.transit_base.specs.declared.numbers.XferId.{XferId}
 use Rattle.feed_rows.specs.declared.journeys.Buyer.{Buyer}
+use Rattle.transit_base.specs.declared.numbers.XferId.{XferId}
 use Rattle.feed_rows.specs.declared.rows.TransferRuleRow.{TransferRuleRow}
 use Rattle.feed_rows.specs.FeedRows.{FeedRows}
 use Rattle.feed_rows.specs.TransferRules.{AskedChange, group_matches, is_candidate, suffices, count_le, is_least_count, is_selected}
@@ -20,22 +18,6 @@ use Rattle.fare_transfer_rules.specs.Counts.{is_within}
 use Rattle.fare_automaton.specs.Compiled.{suits, suits_at, not_above, not_above_at, is_chosen, AreLeast}
 use Rattle.fare_automaton.specs.Options.{product_places, row_places, chosen_places}
 use Rattle.fare_automaton.proofs.PickedLaws.{picked_all, picked_any, flat_map-picks}
-
--- the least count among one row more
-pub least_more : (feed : FeedRows) (change : AskedChange) (among : List ClassedRow) (i : ℕ) (d : ClassedRow) (least new : Option (Option ℕ)) → i < length among
-    → AreLeast feed change (take i among) least
-    → ((count : Option ℕ) → is_within new count ≡ (is_within least count && not_above_at feed change count (get_or among i d).row))
-    → is_some new ≡ (is_some least || suits_at feed change (get_or among i d).row) →
-    AreLeast feed change (take (i + 1) among) new
-least_more feed change among i d least new lt before within some =
-    record {
-      within = λ count.
-          within count ∙ ap (λ b. b && not_above_at feed change count (get_or among i d).row) (before.within count)
-          ∙ sym (list_all_more (λ (r : ClassedRow). not_above_at feed change count r.row) among i d lt);
-      some =
-          some ∙ ap (λ b. b || suits_at feed change (get_or among i d).row) before.some
-          ∙ sym (list_any_more (λ (r : ClassedRow). suits_at feed change r.row) among i d lt);
-    }
 
 -- what a row that suits or not adds to the least count
 module _ (feed : FeedRows) (change : AskedChange) (least : Option (Option ℕ)) (row : XferId) where

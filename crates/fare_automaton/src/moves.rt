@@ -13,7 +13,9 @@ use crate::automaton::Automaton;
 use crate::changes::{GroupedLeg, change_after};
 use crate::judge::{is_whole, leg_taken, place_taken};
 use crate::reads::GroupReads;
-use feed_rows::{Buyer, CHANGE_ALONE, ChangeChoice, FareState, LegFacts, Move, includes_leg_after};
+use feed_rows::{
+    Buyer, CHANGE_ALONE, ChangeChoice, FareState, LegFacts, Move, includes_leg_after, same_group,
+};
 use transit_base::{LegGroupId, Moment, Money, ProductRowId};
 
 impl<'f> Automaton<'f> {
@@ -255,16 +257,6 @@ fn clock_after(goes_on: bool, clock: Option<Moment>, next: Moment, is_read: bool
         Some(next)
     } else {
         None
-    }
-}
-
-/// Whether both groups are there, and equal.
-fn same_group(a: Option<LegGroupId>, b: Option<LegGroupId>) -> bool
-    ensures { result ≡ same_group a b }
-{
-    match (a, b) {
-        (Some(g), Some(h)) => g.0 == h.0,
-        _ => false,
     }
 }
 

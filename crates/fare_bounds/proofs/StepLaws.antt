@@ -1,8 +1,8 @@
 -- A level tells no more than each move leads to, where the level before it tells what follows.
 use Rattle.std.proofs.Common.{◌≡◌, refl, sym, ◌∙◌, ap, subst, ℕ, ◌+◌, ◌≤◌, Bool, true, false, ◌&&◌, List, arith}
-use Rattle.std.specs.Prelude.{◌==◌, if◌then◌else◌, Option, Some, None, is_none, slice_get, option_map, option_and_then, ℤ, pos, ◌+ℤ◌, ◌≤ℤ◌, ◌<ℤ◌}
+use Rattle.std.specs.Prelude.{◌==◌, if◌then◌else◌, Option, Some, None, slice_get, option_map, option_and_then, ℤ, pos, ◌+ℤ◌, ◌≤ℤ◌, ◌<ℤ◌}
 use Rattle.std.specs.Int.{int_min}
-use Rattle.std.specs.Option.{option_map_or, is_some, ForSome}
+use Rattle.std.specs.Option.{option_map_or, ForSome}
 use Rattle.std.proofs.lemmas.Bool.{and_parts, eqb-true}
 use Rattle.std.proofs.lemmas.Bool.Decides.{nat_tests}
 use Rattle.std.proofs.lemmas.Int.{ints}
@@ -22,14 +22,13 @@ use Rattle.feed_rows.specs.declared.states.Move.{Move}
 use Rattle.feed_rows.specs.FeedRows.{FeedRows}
 use Rattle.feed_rows.specs.Codes.{change_alone, includes_leg_after}
 use Rattle.feed_rows.specs.FareChoices.{is_open, chosen_leg, is_leg_choice, is_change_product}
-use Rattle.feed_rows.specs.FareStates.{capped_count, state_of_run}
-use Rattle.feed_rows.specs.FareSteps.{Run, place_kind, place_charge, next_paid, next_held, move_after, leg_taken, place_taken, asked_after, is_place_after, is_row_after, next_state, run_told, has_clock}
+use Rattle.feed_rows.specs.FareSteps.{Run, place_kind, place_charge, next_paid, next_held, move_after, leg_taken, place_taken, asked_after, is_place_after, is_row_after, run_told, has_clock}
 use Rattle.feed_rows.specs.FareSums.{amount_of}
 use Rattle.feed_rows.specs.LegRules.{is_selected_rule}
-use Rattle.feed_rows.specs.TransferRules.{FareLeg, AskedChange, asked_change, change_between, limit_holds, group_matches, is_candidate, suffices, is_selected, is_least_count, same_group}
+use Rattle.feed_rows.specs.TransferRules.{FareLeg, AskedChange, asked_change, change_between, limit_holds, group_matches, is_candidate, suffices, is_selected, is_least_count}
 use Rattle.plain_laws.specs.Plain.{at_and, empty_or}
 use Rattle.plain_laws.proofs.Laws.{filled_and-true}
-use Rattle.fare_laws.proofs.MoveLaws.{first_tells, next_tells}
+use Rattle.fare_laws.proofs.MoveLaws.{first_tells, next_group, next_tells}
 use Rattle.fare_bounds.specs.declared.least.LeastAmounts.{LeastAmounts}
 use Rattle.fare_bounds.specs.declared.level.Level.{Level}
 use Rattle.fare_bounds.specs.Amounts.{amount_at, place_of, row_place, at_place}
@@ -137,23 +136,6 @@ asked_tells state next change is = by state.group next.group is
     by (Some g) None e = absurd (none-some change e)
     by (Some g) (Some h) e =
         (ap (λ (c : AskedChange). Some c.from) (same_Some _ _ e), ap (λ (c : AskedChange). Some c.to) (same_Some _ _ e))
-
-same_groups : (a b : Option LegGroupId) → same_group a b ≡ true → a ≡ b
-same_groups None b is = absurd (let no : false ≡ true = is in cc)
-same_groups (Some g) None is = absurd (let no : false ≡ true = is in cc)
-same_groups (Some g) (Some h) is = ap (λ (n : ℕ). Some (record { 0 = n })) (eqb-true g.0 h.0 is)
-
--- the state after a leg has the group of its rule
-next_group : (feed : FeedRows) (state : FareState) (next : FareLeg) (place : Option ChangeChoice) →
-    (next_state feed state next place).group ≡ next.group
-next_group feed state next place = by (same_group state.group next.group && is_some place) refl
-  where
-    by : (b : Bool) → (same_group state.group next.group && is_some place) ≡ b →
-        (if b
-        then record state { count = capped_count feed state.group (state.count + 1); first = false }
-        else state_of_run feed next.group 0 next (is_none place)).group ≡ next.group
-    by true is = same_groups state.group next.group (and_parts (same_group state.group next.group) (is_some place) is).0
-    by false is = refl
 
 -- what stands for a group is at most what stands for the groups that a field matches which matches it
 below_row : (amounts : List ℤ) (field : Option LegGroupId) (group : LegGroupId) → CanMatch field group →

@@ -4,7 +4,7 @@ use Rattle.std.proofs.Common.{◌≡◌, refl, sym, ◌∙◌, ap, subst, ℕ, z
 use Rattle.std.specs.Prelude.{if◌then◌else◌, Option, Some, None, is_none, ℤ, pos, ◌+ℤ◌, ◌-ℤ◌, slice_get, option_and_then, slice_index_or}
 use Rattle.std.specs.Option.{is_some}
 use Rattle.std.proofs.lemmas.Int.{ints}
-use Rattle.std.proofs.lemmas.Bool.{and_parts, eqb-true}
+use Rattle.std.proofs.lemmas.Bool.{and_parts}
 use Rattle.std.proofs.lemmas.List.{length_push}
 use Rattle.std.proofs.lemmas.Option.{same_Some, none-some, cond_some}
 use Rattle.std.proofs.Math.Seq.{take-append_seam, drop-append_seam}
@@ -33,15 +33,11 @@ use Rattle.plain_laws.proofs.Laws.{list_any-place, slice_get-new_item}
 use Rattle.feed_laws.proofs.TransferLaws.{run_start-run}
 use Rattle.feed_laws.proofs.SumLaws.{IsPushed}
 use Rattle.feed_laws.proofs.StandLaws.{next_fare_stand-of, places_of_paid, IsStandOf-one, stand_of_paid, step_of_paid, paid_of_step}
+use Rattle.feed_laws.proofs.FareLaws.{same_group-equal}
 use Rattle.fare_laws.proofs.MoveLaws.{next_tells, next_when}
 use Rattle.fare_laws.proofs.StateLaws.{told, SameRows, selected_same, arranged_same, agree, capped_again}
 
 -- ---- the state of legs
-
-same_group-equal : (a b : Option LegGroupId) → same_group a b ≡ true → b ≡ a
-same_group-equal None b same = absurd (let no : false ≡ true = same in cc)
-same_group-equal (Some g) None same = absurd (let no : false ≡ true = same in cc)
-same_group-equal (Some g) (Some h) same = ap (λ (n : ℕ). Some (record { 0 = n })) (sym (eqb-true g.0 h.0 same))
 
 -- leg j has this group
 record HasGroup (leg : ℕ → Option FareLeg) (j : ℕ) (group : Option LegGroupId) : Type 0 where
@@ -73,7 +69,7 @@ group_along feed leg b i first run is (suc m) le =
         record {
           value = next;
           is = sym (ap leg place) ∙ at;
-          of_group = same_group-equal have.value.group next.group both ∙ have.of_group;
+          of_group = sym (same_group-equal have.value.group next.group both) ∙ have.of_group;
         }
 
 last_of_run : (feed : FeedRows) (leg : ℕ → Option FareLeg) (i : ℕ) (run : Run) → IsRunAt feed leg i run → HasGroup leg i run.first.group

@@ -1,7 +1,7 @@
 -- What moves are, step by step, and bounds of counts.
-use Rattle.std.proofs.Common.{◌≡◌, refl, ◌∙◌, ℕ, suc, ◌≤◌, Bool, true, false, ◌&&◌, List, [], ◌∷◌, arith}
+use Rattle.std.proofs.Common.{◌≡◌, refl, ◌∙◌, ℕ, ◌+◌, suc, ◌≤◌, Bool, true, false, ◌&&◌, List, [], ◌∷◌, arith}
 use Rattle.std.specs.Prelude.{◌==◌, if◌then◌else◌, Option, Some, None, is_none, ℤ, pos, ◌+ℤ◌, slice_get, map, fold, max, option_map, option_and_then}
-use Rattle.std.specs.Option.{unwrap_or, ForSome}
+use Rattle.std.specs.Option.{unwrap_or, is_some, ForSome}
 use Rattle.std.proofs.lemmas.Bool.{and_parts}
 use Rattle.std.proofs.lemmas.Int.{ints}
 use Rattle.std.proofs.lemmas.Option.{none-some, cond_some}
@@ -16,12 +16,13 @@ use Rattle.feed_rows.specs.declared.states.FareState.{FareState}
 use Rattle.feed_rows.specs.declared.states.Move.{Move}
 use Rattle.feed_rows.specs.FeedRows.{FeedRows}
 use Rattle.feed_rows.specs.SoundFares.{AreSoundTransferRules}
-use Rattle.feed_rows.specs.TransferRules.{FareLeg}
+use Rattle.feed_rows.specs.TransferRules.{FareLeg, same_group}
 use Rattle.feed_rows.specs.FareChoices.{chosen_leg, is_leg_choice}
-use Rattle.feed_rows.specs.FareStates.{is_within, count_within, greatest_count}
-use Rattle.feed_rows.specs.FareSteps.{next_paid, leg_taken, place_taken, is_whole, asked_after, is_place_after, first_move, next_move, move_of_first, move_of_next}
+use Rattle.feed_rows.specs.FareSteps.{next_paid, leg_taken, place_taken, is_whole, asked_after, is_place_after, first_move, next_move, next_state, move_of_first, move_of_next}
+use Rattle.feed_rows.specs.FareStates.{is_within, capped_count, count_within, greatest_count, state_of_run}
 use Rattle.plain_laws.specs.Plain.{when}
 use Rattle.fare_laws.specs.BareMoves.{bare}
+use Rattle.feed_laws.proofs.FareLaws.{same_group-equal}
 use Rattle.plain_laws.proofs.Laws.{All-slice_get}
 
 -- ---- sums
@@ -151,3 +152,18 @@ module _ (feed : FeedRows) (buyer : Buyer) (state : FareState) (held : ℤ) (leg
           let parts = and_parts _ (is_whole move) found.0 in
           let both = and_parts (is_leg_choice feed buyer leg (leg_taken move)) _ parts.0 in
           record { next = next; chosen = chosen; paid_leg = both.0; right_place = both.1; whole = parts.1; follows = found.1 }
+
+-- ---- the state after a leg
+
+-- it has the group of the leg's rule
+pub next_group : (feed : FeedRows) (state : FareState) (next : FareLeg) (place : Option ChangeChoice) →
+    (next_state feed state next place).group ≡ next.group
+next_group feed state next place = by (same_group state.group next.group && is_some place) refl
+  where
+    by : (b : Bool) → (same_group state.group next.group && is_some place) ≡ b →
+        (if b
+        then record state { count = capped_count feed state.group (state.count + 1); first = false }
+        else state_of_run feed next.group 0 next (is_none place)).group ≡ next.group
+    by true is =
+        same_group-equal state.group next.group (and_parts (same_group state.group next.group) (is_some place) is).0
+    by false is = refl

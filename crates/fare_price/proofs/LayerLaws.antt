@@ -6,6 +6,7 @@ use Rattle.std.proofs.lemmas.Int.{ints}
 use Rattle.std.proofs.lemmas.Option.{same_Some, slice_get_within, cond_some}
 use Rattle.std.proofs.lemmas.List.Elements.{All-contains}
 use Rattle.transit_base.specs.declared.numbers.ProductRowId.{ProductRowId}
+use Rattle.transit_base.specs.declared.moments.Money.{Money}
 use Rattle.feed_rows.specs.declared.journeys.Buyer.{Buyer}
 use Rattle.feed_rows.specs.declared.fares.ChangeChoice.{ChangeChoice}
 use Rattle.feed_rows.specs.declared.fares.Choice.{Choice}
@@ -17,16 +18,15 @@ use Rattle.feed_rows.specs.FeedRows.{FeedRows}
 use Rattle.feed_rows.specs.SoundFeed.{IsSoundFeed}
 use Rattle.feed_rows.specs.FareChoices.{chosen_leg, is_fare_choice}
 use Rattle.feed_rows.specs.FareExtensions.{extended, Extends}
+use Rattle.feed_rows.specs.FareSteps.{place_kind, place_charge, frees_first, frees_next, leg_taken, place_taken, move_of_first, move_of_next, move_after}
 use Rattle.feed_rows.specs.FareStates.{held_amount, paid_amount, fare_state}
-use Rattle.feed_rows.specs.FareSteps.{next_paid, place_kind, place_charge, frees_first, frees_next, leg_taken, place_taken, next_move, move_of_first, move_of_next, move_after}
 use Rattle.feed_rows.specs.FareSums.{amount_of, fare_sum}
 use Rattle.feed_rows.specs.LeastPrices.{IsLeastPriceOfLegs, AreUncoveredLegs}
 use Rattle.plain_laws.specs.Plain.{when}
 use Rattle.plain_laws.proofs.Laws.{All-slice_get, chain_gives, slice_get-append_left, Contains-slice_get, slice_get-Contains, Contains-map, map-tells, list_any_tells, list_any-place, All-from}
-use Rattle.feed_laws.proofs.StandLaws.{places_of_paid, next_paid-covers}
-use Rattle.fare_laws.proofs.ExtensionLaws.{next_paid-from, all_true}
+use Rattle.feed_laws.proofs.StandLaws.{places_of_paid}
 use Rattle.fare_laws.proofs.LongerLaws.{IsMoveAfter, extends_by, made_by}
-use Rattle.fare_laws.proofs.MoveLaws.{next_tells, next_when}
+use Rattle.fare_laws.proofs.LeadLaws.{leads_too}
 use Rattle.fare_laws.proofs.StartLaws.{none_paid as no_leg_paid}
 use Rattle.label_bag.specs.Bags.{covers, Gathers}
 use Rattle.fare_automaton.specs.Fewest.{AreEnoughMoves}
@@ -118,40 +118,6 @@ moves_small feed buyer state held leg moves sound low enough =
     All-from IsSmall moves (λ move at.
     move_small feed buyer state held leg move sound low
     (All-contains (λ m. move_after feed buyer state held leg m ≡ Some m) moves move enough.right at))
-
--- a move that leads on from less that was paid, and from no greater price, to the same state
-record LeadsToo (feed : FeedRows) (buyer : Buyer) (state : FareState) (paid held paid' : ℤ)
-    (leg : LegFacts) (move' : Move) : Type 0 where
-  pub move : Move
-  pub is : move_after feed buyer (Some state) held leg move ≡ Some move
-  pub state_is : move.state ≡ move'.state
-  pub held_is : move.held.0 ≡ move'.held.0
-  pub paid_less : (paid +ℤ move.paid.0) ≤ℤ (paid' +ℤ move'.paid.0)
-
-less_by_parts : (x x' p p' q q' : ℤ) → x ≡ p +ℤ q → x' ≡ p' +ℤ q' → x ≤ℤ x' → (p +ℤ q) ≤ℤ (p' +ℤ q')
-less_by_parts x x' p p' q q' e e' le = omega (arith, ints, e, e', le)
-
-leads_too : (feed : FeedRows) (buyer : Buyer) (state : FareState) (paid held paid' held' : ℤ)
-    (leg : LegFacts) (move' : Move) → paid ≤ℤ paid' → (paid +ℤ held) ≤ℤ (paid' +ℤ held') →
-    move_after feed buyer (Some state) held' leg move' ≡ Some move' → LeadsToo feed buyer state paid held paid' leg move'
-leads_too feed buyer state paid held paid' held' leg move' le le' is =
-    let m = next_tells feed buyer state held' leg move' is in
-    let kind = place_kind feed (place_taken move') in
-    let amount = amount_of feed move'.product in
-    let charge = place_charge feed (place_taken move') in
-    record {
-      move = next_move feed state held m.next move';
-      is =
-          sym (next_when feed buyer leg (next_move feed state held m.next move') state held m.next true m.chosen
-          (all_true _ _ _ m.paid_leg m.right_place m.whole));
-      state_is = ap (λ (q : Move). q.state) m.follows;
-      held_is = ap (λ (q : Move). q.held.0) m.follows;
-      paid_less =
-          less_by_parts _ _ paid paid' (next_paid (pos 0) held kind amount charge) move'.paid.0
-          (next_paid-from paid held amount charge kind)
-          (next_paid-from paid' held' amount charge kind ∙ ap (λ (q : Move). paid' +ℤ q.paid.0) m.follows)
-          (next_paid-covers paid paid' held held' kind amount charge le le').0;
-    }
 
 -- ---- ways that are added
 
@@ -404,11 +370,11 @@ module _ (feed : FeedRows) (buyer : Buyer) (legs : List LegFacts) (leg : LegFact
       let from_state : move_after feed buyer (Some way.step.state) (held_amount feed made.choice) leg made.move ≡ Some made.move =
       subst (λ (s : Option FareState). move_after feed buyer s (held_amount feed made.choice) leg made.move ≡ Some made.move) has.state made.is in
       let too =
-      leads_too feed buyer way.step.state way.paid.0 way.step.held.0 (paid_amount feed made.choice) (held_amount feed made.choice) leg made.move
+      leads_too feed buyer (Some way.step.state) way.paid.0 way.step.held.0 (paid_amount feed made.choice) (held_amount feed made.choice) leg made.move
       has.paid has.cost from_state in
       subst (HasNoDearer feed (legs ++ leg ∷ []) new) (sym made.same)
       (no_dearer_after feed buyer legs leg made.choice way.paid.0 (length steps + at.0) too.move made.move new extends
-      (next.each at.0 way too.move (slice_get_within ways at.0 way at.1) at.1 too.is) too.state_is too.held_is too.paid_less)
+      (next.each at.0 way too.move (slice_get_within ways at.0 way at.1) at.1 too.is) too.state_is (ap (λ (h : Money). h.0) too.held_is) too.paid_less)
 
   pub next_layer : AreWaysOf feed buyer (legs ++ leg ∷ []) (steps ++ ways) (suc n) new
   next_layer = record {

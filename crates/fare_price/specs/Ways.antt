@@ -1,10 +1,7 @@
 -- Ways to pay legs: the moves that lead to them, the choices that their steps make, and what a search keeps true of
 -- them.
-use Rattle.std.specs.Prelude.{◌≡◌, ℕ, zero, suc, ◌+◌, ◌*◌, ◌^◌, ◌<◌, ◌≤◌, ◌⊎◌, Bool, true, false, not, ◌&&◌, ◌==◌, if◌then◌else◌, List, [], Option, Some, None, ℤ, pos, ◌+ℤ◌, ◌≤ℤ◌, int_le, nat_abs, slice_get, Contains}
+use Rattle.std.specs.Prelude.{◌≡◌, ℕ, zero, suc, ◌+◌, ◌*◌, ◌^◌, ◌<◌, ◌≤◌, ◌⊎◌, Bool, true, ◌&&◌, List, [], Option, Some, None, ℤ, pos, ◌+ℤ◌, ◌≤ℤ◌, int_le, nat_abs, slice_get, Contains}
 use Rattle.std.specs.Option.{option_map_or}
-use Rattle.std.specs.Ordering.{int_eq}
-use Rattle.transit_base.specs.declared.moments.Moment.{Moment}
-use Rattle.transit_base.specs.declared.numbers.LegGroupId.{LegGroupId}
 use Rattle.feed_rows.specs.declared.journeys.Buyer.{Buyer}
 use Rattle.feed_rows.specs.declared.fares.Choice.{Choice}
 use Rattle.feed_rows.specs.declared.journeys.LegFacts.{LegFacts}
@@ -14,39 +11,13 @@ use Rattle.feed_rows.specs.FeedRows.{FeedRows}
 use Rattle.feed_rows.specs.FareChoices.{is_fare_choice}
 use Rattle.feed_rows.specs.FareExtensions.{extended}
 use Rattle.feed_rows.specs.FareStates.{held_amount, paid_amount, fare_state}
+use Rattle.feed_rows.specs.SameStates.{same_parts}
 use Rattle.feed_rows.specs.FareSteps.{move_after}
+use Rattle.plain_laws.specs.Lesser.{lesser_by}
 use Rattle.label_bag.specs.Bags.{covers}
 use Rattle.fare_price.specs.declared.ways.Way.{Way}
 
 -- ---- which way is as good as another
-
--- both groups are there and equal, or neither is there
-abbrev pub same_group : Option LegGroupId → Option LegGroupId → Bool
-same_group None None = true
-same_group None (Some b) = false
-same_group (Some a) None = false
-same_group (Some a) (Some b) = a.0 == b.0
-
--- the same of moments
-abbrev pub same_moment : Option Moment → Option Moment → Bool
-same_moment None None = true
-same_moment None (Some b) = false
-same_moment (Some a) None = false
-same_moment (Some a) (Some b) = int_eq a.0 b.0
-
--- both flags are set, or neither is
-abbrev pub same_flag : Bool → Bool → Bool
-same_flag true b = b
-same_flag false b = not b
-
--- each part of the states is the same
-unfoldable pub same_state : FareState → FareState → Bool
-same_state a b =
-    same_group a.group b.group
-    && (a.count == b.count)
-    && same_moment a.departure b.departure
-    && same_moment a.arrival b.arrival
-    && same_flag a.first b.first
 
 -- what the legs cost
 abbrev pub cost : Way → ℤ
@@ -60,7 +31,7 @@ pub record IsBelow (a b : Way) : Type 0 where
 
 -- the test of that
 unfoldable pub is_as_good : Way → Way → Bool
-is_as_good a b = int_le a.paid.0 b.paid.0 && int_le (cost a) (cost b) && same_state a.step.state b.step.state
+is_as_good a b = int_le a.paid.0 b.paid.0 && int_le (cost a) (cost b) && same_parts a.step.state b.step.state
 
 -- ---- what moves lead to
 
@@ -119,8 +90,7 @@ pub record AreNextWays (feed : FeedRows) (buyer : Buyer) (leg : LegFacts) (base 
 
 -- the one that costs less: the first, where both cost the same
 abbrev pub cheaper : Option Way → Way → Way
-cheaper None way = way
-cheaper (Some other) way = if int_le (cost other) (cost way) then other else way
+cheaper = lesser_by cost
 
 -- ---- the choice that steps make
 

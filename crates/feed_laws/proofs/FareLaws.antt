@@ -13,7 +13,7 @@ use Rattle.feed_laws.proofs.TransferLaws.{run_start-on, run_start-off, run_start
 -- ---- the group of a run
 
 -- groups that are the same are equal
-same_group-equal : (a b : Option LegGroupId) → same_group a b ≡ true → a ≡ b
+pub same_group-equal : (a b : Option LegGroupId) → same_group a b ≡ true → a ≡ b
 same_group-equal None b same = absurd (cc)
 same_group-equal (Some g) None same = absurd (cc)
 same_group-equal (Some g) (Some h) same = ap (λ n. Some (record { 0 = n })) (eqb-true g.0 h.0 same)

@@ -18,6 +18,7 @@ pub mod FareGaps
 pub mod FareSums
 pub mod LeastPrices
 pub mod FareStates
+pub mod SameStates
 pub mod FareSteps
 pub mod FareStands
 pub mod FareExtensions

@@ -2,6 +2,9 @@
 use plain_laws::{AscendingList, ItemList};
 use transit_base::{AreaId, Day, FrameId, Moment, NetworkId, RiderId, StopId, TripId};
 
+/// The most rides that the words of a plan or a price may ask for.
+pub const MOST_RIDES: u32 = 8;
+
 /// The seconds after the departure within which a journey arrives, where the traveller doesn't say.
 pub const USUAL_WINDOW: u32 = 86_400;
 

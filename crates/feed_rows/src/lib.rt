@@ -21,7 +21,7 @@ pub use feed::{
 };
 pub use ids::Id;
 pub use journeys::{
-    AreaList, Buyer, Call, FrameList, Journey, LEAST_SHIFT, LegFacts, LegList, MOST_SHIFT,
+    AreaList, Buyer, Call, FrameList, Journey, LEAST_SHIFT, LegFacts, LegList, MOST_RIDES, MOST_SHIFT,
     NO_CATEGORY, Pair, Query, Ride, RideFacts, RideList, Shifts, USUAL_WINDOW,
 };
 pub use rows::{
@@ -29,6 +29,6 @@ pub use rows::{
     LinkRow, MediumRow, PLATFORM, ProductRow, RiderRow, RouteRow, STATION, ServiceRow, StopAreaRow,
     StopRow, StopTimeRow, TimeframeRow, TransferRuleRow, TripRow, includes_leg_after,
 };
-pub use states::{FareState, Move, Moves};
+pub use states::{FareState, Move, Moves, same_group};
 pub use times::CallTime;
 pub use usage::{StopWord, UsageFault, WordRole};

@@ -28,21 +28,10 @@ fn state_of(group: u32, first: bool) -> FareState {
     }
 }
 
-// Whether both moves take the same rows, and the same follows.
-fn is_same(a: &Move, b: &Move) -> bool {
-    a.state == b.state
-        && a.paid.0 == b.paid.0
-        && a.held.0 == b.held.0
-        && a.rule == b.rule
-        && a.product == b.product
-        && a.xfer == b.xfer
-        && a.xfer_product == b.xfer_product
-}
-
 // Whether the moves are this one alone.
 fn is_only(moves: &[Move], wanted: &Move) -> bool {
     match moves {
-        [own] => is_same(own, wanted),
+        [own] => *own == *wanted,
         _ => false,
     }
 }
@@ -220,7 +209,7 @@ fn by(
 fn are_same(moves: &[Move], wanted: &[Move; 3]) -> bool {
     let [first, second, third] = wanted;
     match moves {
-        [a, b, c] => is_same(a, first) && is_same(b, second) && is_same(c, third),
+        [a, b, c] => *a == *first && *b == *second && *c == *third,
         _ => false,
     }
 }

@@ -1,7 +1,7 @@
 -- What the words of a command ask for.
 use Rattle.std.specs.Prelude.{◌≤ℤ◌, ◌≤◌, pos, negsuc}
 use Rattle.std.specs.Option.{option_copied}
-use Rattle.feed_rows.specs.Limits.{most_window}
+use Rattle.feed_rows.specs.Limits.{most_rides, most_window}
 use Rattle.feed_rows.specs.Requests.{PlanRequest, PriceRequest, GenRequest, Request}
 use Rattle.plan_words.specs.Rides.{rides_of, AreUsualRides}
 use Rattle.plan_words.specs.declared.request.Asked.{Asked}
@@ -42,7 +42,7 @@ asked_request (asked.Gen gen) = Request.Gen (gen_request gen)
 pub record IsUsualPlan (plan : PlanWords) : Type 0 where
   pub early : negsuc 2_208_988_799 ≤ℤ plan.departure.0
   pub late : plan.departure.0 ≤ℤ pos 32_503_680_000
-  pub rides : plan.rides ≤ 8
+  pub rides : plan.rides ≤ most_rides
   pub window : plan.window ≤ most_window
 
 -- a feed of 2 to 32 lines, by a number of 16 bits

@@ -13,7 +13,7 @@ use crate::grammar::Form;
 use crate::rides::{RideWords, rides_in};
 use crate::values::{date_in, number_in, option_number};
 use clap::ArgMatches;
-use feed_rows::{USUAL_WINDOW, UsageFault};
+use feed_rows::{MOST_RIDES, USUAL_WINDOW, UsageFault};
 use feed_text::time_of;
 use plan_arguments::WordList;
 use std::alloc::AllocError;
@@ -83,7 +83,7 @@ fn plan_in<'a>(found: &ArgMatches<'a>) -> Result<Asked<'a>, WordsError>
     let Some(seconds) = time_of(named(found, 3).as_bytes(), 86_399) else {
         return Err(WordsError::Usage(UsageFault::BadTime));
     };
-    let Some(rides) = option_number(value_of(found, "--rides"), 4, 0, 8) else {
+    let Some(rides) = option_number(value_of(found, "--rides"), 4, 0, MOST_RIDES) else {
         return Err(WordsError::Usage(UsageFault::BadRides));
     };
     let within = value_of(found, "--within");

@@ -1,5 +1,6 @@
 //! The least price of rides that follow one another.
 ghost use Rattle.std.specs.Prelude.{◌≡◌, ◌≤◌, Some, IfOk, length};
+ghost use Rattle.feed_rows.specs.Limits.{most_rides};
 ghost use Rattle.feed_rows.specs.Legs.{legs_of};
 ghost use Rattle.command_answers.specs.NamedRides.{rides_of, AreKnown};
 ghost use Rattle.command_answers.specs.RidePrices.{IsLeastOfRides};
@@ -35,7 +36,7 @@ pub fn price_of(
     query: &PriceQuery,
 ) -> Result<Option<Priced>, AllocError>
     requires known { AreKnown feed.now query.now.rides.items }
-    requires few { length query.now.rides.items ≤ 8 }
+    requires few { length query.now.rides.items ≤ most_rides }
     ensures { IfOk result (IsLeastOfRides feed.now (rides_of query.now.rides.items) query.now.buyer) }
 {
     let legs = legs_of(alloc, feed, query.rides.as_slice())?;

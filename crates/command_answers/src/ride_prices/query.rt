@@ -1,5 +1,6 @@
 //! What the words of `price` ask for over a feed.
 ghost use Rattle.std.specs.Prelude.{◌≡◌, ◌<◌, ◌≤◌, ◌++◌, ◌∷◌, [], Ok, IfOk, IfErr, IfSome, OnOk, length};
+ghost use Rattle.feed_rows.specs.Limits.{most_rides};
 ghost use Rattle.feed_rows.specs.Journeys.{is_caught};
 ghost use Rattle.feed_rows.specs.PriceQueries.{named_rides, first_missed, price_query_of};
 ghost use Rattle.feed_rows.specs.StopLinks.{link};
@@ -38,7 +39,7 @@ fn named_rides(
     requires { AreUsualRides words.now }
     ensures named { IfOk result (λ rides. named_rides timetable.now (words_of words.now) ≡ Ok (rides_of rides.items)) }
     ensures known { IfOk result (λ rides. AreKnown timetable.now rides.items) }
-    ensures few { IfOk result (λ rides. length rides.items ≤ 8) }
+    ensures few { IfOk result (λ rides. length rides.items ≤ most_rides) }
     ensures err { IfErr result (IsErrorOf (named_rides timetable.now (words_of words.now))) }
 {
     let mut rides = Vec::new(alloc);
@@ -91,7 +92,7 @@ pub fn price_query_of(
     requires { AreUsualRides words.now.rides }
     ensures value { IfOk result (λ query. price_query_of timetable.now (price_request words.now) ≡ Ok (query_of query)) }
     ensures known { IfOk result (λ query. AreKnown timetable.now query.rides.items) }
-    ensures few { IfOk result (λ query. length query.rides.items ≤ 8) }
+    ensures few { IfOk result (λ query. length query.rides.items ≤ most_rides) }
     ensures err { IfErr result (IsErrorOf (price_query_of timetable.now (price_request words.now))) }
 {
     let rides = named_rides(alloc, timetable, &words.rides)?;

@@ -1,13 +1,14 @@
 use Rattle.std.proofs.Common.{refl, subst}
+use Rattle.plain_laws.proofs.AddsLaws.{adds_none}
 use Rattle.plan_plain.specs.Searches.{HasRides, IsCheapest, IsEarliestEnd}
 use Rattle.feed_rows.specs.declared.fares.Entry.{Entry}
 use Rattle.feed_timetable.specs.Standings.{stand_of}
-use Rattle.plan_plain.proofs.SearchLaws.{none_late, none_uncovered, best_is, gains_none, gains_offer}
+use Rattle.plan_plain.proofs.SearchLaws.{none_late, none_uncovered, best_is, gains_offer}
 use Rattle.plan_plain.proofs.search.Search.offer.Goals as goal
 
 pub returns-in_default : goal.returns-in_default
 returns-in_default c =
-    gains_none _ _ _ _ (none_late c.args.self.now.feed c.args.self.now.query c.args.first
+    adds_none (λ h. h) (none_late c.args.self.now.feed c.args.self.now.query c.args.first
     (stand_of c.args.standing) c.args.path.now c.requires.searched
     (subst (IsEarliestEnd c.args.self.now.feed c.args.self.now.query
     (stand_of c.args.standing)) c.in_default.is c.earliest_end.ensures))
@@ -29,5 +30,5 @@ returns c =
 
 pub returns-in_default-2 : goal.returns-in_default-2
 returns-in_default-2 c =
-    gains_none _ _ _ _ (none_uncovered c.args.self.now.feed c.args.self.now.query c.args.first c.args.path.now.rides
+    adds_none (λ h. h) (none_uncovered c.args.self.now.feed c.args.self.now.query c.args.first c.args.path.now.rides
     (subst (IsCheapest c.args.self.now.feed c.args.path.now.rides c.args.self.now.query.buyer) c.in_default-2.is c.in_ok-priced.ensures))
