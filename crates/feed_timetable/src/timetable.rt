@@ -17,6 +17,7 @@ ghost use Rattle.feed_rows.specs.JourneyStands.{way_to, way_out, end_arrival};
 ghost use Rattle.feed_timetable.specs.Standings.{stand_of, IsNear, AreShifts};
 ghost use Rattle.feed_timetable.specs.ServicesOn.{services_on};
 ghost use Rattle.feed_walks.specs.OutOf.{out_of};
+ghost use Rattle.feed_calendar.specs.BuiltCalendar.{IsCalendarOf};
 
 use crate::standing::Standing;
 use feed_calendar::Calendar;
@@ -151,6 +152,13 @@ impl<'f> Timetable<'f> {
         ensures { result.now ≡ out_of self.now platform }
     {
         self.walks.out_of(platform)
+    }
+
+    /// The service calendar of the feed.
+    pub fn calendar(&self) -> &Calendar
+        ensures { IsCalendarOf self.now result.now }
+    {
+        &self.calendar
     }
 
     /// Whether the trip's service is active on the day.
