@@ -302,11 +302,12 @@ impl<'f> Timetable<'f> {
         if first.0 == boarding.0 { Some(0) } else { None }
     }
 
-    // The seconds from where a journey's last ride alights to its last stop.
-    fn egress(&self, query: &Query, alighting: StopId, last: StopId) -> Option<u32>
-        ensures { result ≡ egress self.now query.now alighting last }
+    /// The seconds from where a journey's last ride alights to its last stop, where it goes to this stop; none where it
+    /// doesn't end there.
+    pub fn egress(&self, to: StopId, alighting: StopId, last: StopId) -> Option<u32>
+        ensures { (query : Query) → query.to ≡ to → result ≡ egress self.now query alighting last }
     {
-        if !self.stands_for(query.to, alighting) {
+        if !self.stands_for(to, alighting) {
             return self.link_seconds(alighting, last);
         }
         if alighting.0 == last.0 { Some(0) } else { None }
@@ -340,7 +341,7 @@ impl<'f> Timetable<'f> {
         if standing.fresh {
             self.direct(standing.stop, last)
         } else {
-            self.egress(query, standing.stop, last)
+            self.egress(query.to, standing.stop, last)
         }
     }
 

@@ -56,7 +56,7 @@ fn spans_of(alloc: Global, rides: &Rides, whole: bool) -> Result<Spans, AllocErr
     if whole {
         return Ok(Spans::none(alloc));
     }
-    Spans::of(alloc, rides, rides.query().rides)
+    rides.spans(alloc)
 }
 
 /// The table of the search by these with this aim.
