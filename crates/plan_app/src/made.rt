@@ -4,13 +4,13 @@ ghost use Rattle.feed_faults.specs.AcceptedFeed.{feed_of};
 ghost use Rattle.feed_faults.specs.FirstFault.{first_fault};
 ghost use Rattle.feed_rows.specs.GeneratedFeed.{generated};
 ghost use Rattle.feed_text.specs.TextErrors.{IsErrorOf};
-ghost use Rattle.plan_app.specs.Made.{IsFeedFor, GivesNone, IsMade, Stops};
+ghost use Rattle.plan_app.specs.Made.{IsFeedFor, GivesNone, IsMade, Fails};
 ghost use Rattle.plan_app.specs.Run.{Reads, asks_folder};
 ghost use Rattle.plan_words.specs.Request.{asked_request, IsUsualGen, IsUsualRequest};
 ghost use Rattle.plan_words.specs.Words.{asked_of};
 
 use crate::planning::outcome_of;
-use command_answers::{Outcome, Refusal, Stop, refused};
+use command_answers::{Failure, Outcome, Refusal, refused};
 use feed_check::{LoadError, check, load};
 use feed_maker::gen_files;
 use feed_rows::Feed;
@@ -50,19 +50,19 @@ fn feed_for<F: Folder>(alloc: Global, asked: &Asked, folder: &mut F) -> Result<F
 }
 
 // What a request answers over a folder, whichever words ask for it.
-fn made_for<F: Folder>(alloc: Global, asked: &Asked, folder: &mut F) -> Result<Outcome, Stop>
+fn made_for<F: Folder>(alloc: Global, asked: &Asked, folder: &mut F) -> Result<Outcome, Failure>
     requires { IsUsualRequest asked.now }
     ensures made { IfOk result (λ outcome. (words : List (List ℕ)) → Ok (asked_request asked.now) ≡ asked_of words → IsMade (F.state folder.old) words outcome) }
     ensures ok { OnOk result (Reads (Ok (asked_request asked.now)) (F.state folder.old) (F.state folder.new)) }
-    ensures err { IfErr result (λ stop. Stops stop (Ok (asked_request asked.now)) (F.state folder.old) (F.state folder.new)) }
+    ensures err { IfErr result (λ failure. Fails failure (Ok (asked_request asked.now)) (F.state folder.old) (F.state folder.new)) }
     ensures untouched { asks_folder (Ok (asked_request asked.now)) ≡ false → folder.new ≡ folder.old }
     ensures source { (F.state folder.new).source ≡ (F.state folder.old).source }
 {
     match feed_for(alloc, asked, folder) {
         Ok(feed) => Ok(outcome_of(alloc, &feed, asked)?),
-        Err(LoadError::ReadFault) => Err(Stop::ReadFault),
+        Err(LoadError::ReadFault) => Err(Failure::ReadFault),
         Err(LoadError::Fault(fault)) => Ok(refused(alloc, Refusal::Feed(fault))?),
-        Err(LoadError::NoMemory) => Err(Stop::NoMemory),
+        Err(LoadError::NoMemory) => Err(Failure::NoMemory),
     }
 }
 
@@ -75,16 +75,16 @@ pub(crate) fn made<F: Folder>(
     alloc: Global,
     words: &WordList,
     folder: &mut F,
-) -> Result<Outcome, Stop>
+) -> Result<Outcome, Failure>
     ensures made { IfOk result (IsMade (F.state folder.old) words.now) }
     ensures ok { OnOk result (Reads (asked_of words.now) (F.state folder.old) (F.state folder.new)) }
-    ensures err { IfErr result (λ stop. Stops stop (asked_of words.now) (F.state folder.old) (F.state folder.new)) }
+    ensures err { IfErr result (λ failure. Fails failure (asked_of words.now) (F.state folder.old) (F.state folder.new)) }
     ensures untouched { asks_folder (asked_of words.now) ≡ false → folder.new ≡ folder.old }
     ensures source { (F.state folder.new).source ≡ (F.state folder.old).source }
 {
     match asked_of(words) {
         Ok(asked) => made_for(alloc, &asked, folder),
         Err(WordsError::Usage(fault)) => Ok(refused(alloc, Refusal::Usage(fault))?),
-        Err(WordsError::NoMemory) => Err(Stop::NoMemory),
+        Err(WordsError::NoMemory) => Err(Failure::NoMemory),
     }
 }

@@ -4,7 +4,7 @@ ghost use Rattle.plan_words.specs.Words.{asked_of};
 ghost use Rattle.plan_app.specs.Run.{AnswersAll, Explains, asks_folder, writes_nothing};
 
 use crate::made::made;
-use command_answers::{Status, Stop, write_text};
+use command_answers::{Failure, Status, write_text};
 use folder_io::{Folder, Sink, Wrote};
 use plan_words::WordList;
 use std::alloc::Global;
@@ -35,8 +35,8 @@ pub fn run<F: Folder, S: Sink>(
 {
     let outcome = match made(alloc, words, folder) {
         Ok(outcome) => outcome,
-        Err(Stop::ReadFault) => return Status::ReadFault,
-        Err(Stop::NoMemory) => return Status::NoMemory,
+        Err(Failure::ReadFault) => return Status::ReadFault,
+        Err(Failure::NoMemory) => return Status::NoMemory,
     };
     match write_text(sink, &outcome.text) {
         Wrote::All => outcome.told,
