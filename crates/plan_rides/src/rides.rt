@@ -77,6 +77,14 @@ impl<'s> Rides<'s> {
         self.positions.timetable
     }
 
+    // The runs that are held for it.
+    fn runs(&self) -> &'s SpanRuns<'s>
+        ensures feed { result.now.feed ≡ self.now.feed }
+        ensures within { IsInScope result.now.scope self.now.query }
+    {
+        self.runs
+    }
+
     /// The query.
     pub fn query(&self) -> &'s Query
         ensures is { result.now ≡ self.now.query }
@@ -128,8 +136,9 @@ impl<'s> Rides<'s> {
     pub fn spans(&self, alloc: Global) -> Result<Spans, AllocError>
         ensures { IfOk result (AreSpans self.now.feed self.now.query) }
     {
-        let query = self.positions.query;
-        Spans::of(alloc, self.runs, query.to, query.window, query.rides)
+        let query = self.query();
+        let runs = self.runs();
+        Spans::of(alloc, runs, query.to, query.window, query.rides)
     }
 
     /// The rides that are caught from where one stands and end within the window.

@@ -33,7 +33,7 @@ returns-clause-many c =
     let past = c.loop-stop-test.false in
     let end = c.loop-stop.auto.stop-end in
     let stops = ap length c.items-stops.ensures.value in
-    let feed = ap (λ (f : FeedRows). length f.stops) c.feed.ensures.value in
+    let feed = ap (λ (f : FeedRows). length f.stops) (c.behind-timetable.view_is ∙ c.feed.ensures.value) in
     let many = c.loop-stop.invariant.many in
     omega (arith, past, end, stops, feed, many)
 

@@ -38,7 +38,7 @@ returns-clause-more c = λ query short serve.
     let end = c.loop-stop.auto.stop-end in
     let spans = c.args.spans.now in
     let same : c.loop-stop.stop ≡ length spans = omega (arith, past, end) in
-    one_more c.args.timetable.now c.args.window query spans c.args.boards.now c.loop-stop.new.items c.feed-_feed.ensures.sound
+    one_more c.args.timetable.now c.args.window query spans c.args.boards.now c.loop-stop.new.items c.feed-feed.ensures.sound
     c.requires.boards
     (record {
       many = c.loop-stop.invariant.many ∙ same;

@@ -10,7 +10,7 @@ pub returns-clause-many : goal.returns-clause-many
 returns-clause-many c =
     let new = c.add_patterns.new.boards in
     let ok = c.in_ok-boards.boards.ok.0 in
-    let stops = ap length (c.items-stops.ensures.value ∙ ap (λ (f : FeedRows). f.stops) c.feed.ensures.value) in
+    let stops = ap length (c.items-stops.ensures.value ∙ ap (λ (f : FeedRows). f.stops) (c.behind-timetable.view_is ∙ c.feed.ensures.value)) in
     let long = c.in_ok-boards.ensures.len in
     let many = c.add_patterns.ensures.many ∙ ap length c.deref_mut.ensures.value in
     let back = marks_back c.in_ok-boards.boards.items new c.in_ok-boards.boards.len (omega (arith, ok)) many in
