@@ -1,5 +1,5 @@
 -- Files that have no more bytes than are read.
-use Rattle.std.proofs.Common.{◌≡◌, sym, ◌∙◌, ap, subst, ⊎_elim, tt, List}
+use Rattle.std.proofs.Common.{◌≡◌, sym, ◌∙◌, ap, subst, ⊎_elim, List}
 use Rattle.std.specs.Prelude.{◌≢◌, replicate, slice_get, unwrap_or}
 use Rattle.std.proofs.lemmas.Bool.{cases_eq}
 use Rattle.std.proofs.lemmas.List.{get_or-replicate}
