@@ -30,7 +30,7 @@ use Rattle.feed_faults.specs.AcceptedFeed.{feed_of}
 use Rattle.folder_io.specs.FolderCalls.{FolderState}
 use Rattle.folder_io.specs.FileReading.{Gives}
 use Rattle.feed_faults.specs.FirstFault.{first_fault}
-use Rattle.plan_words.specs.Words.{asked_of}
+use Rattle.plan_words.specs.Words.{read_command}
 use Rattle.command_answers.specs.declared.refusal.Refusal.{Refusal}
 use Rattle.command_answers.specs.declared.refusal.Refusal.TheVariants as refusal
 use Rattle.command_answers.specs.declared.status.Status.{Status}
@@ -75,7 +75,7 @@ task_for files (Ok request) = task_over (files_for files request) (first_fault (
 
 -- the task, or what refuses it: first a fault of the words, then one of the files, then one of the names
 abbrev pub due : (FileName → HeldFile) → List (List ℕ) → Result Task Refusal
-due files words = task_for files (asked_of words)
+due files words = task_for files (read_command words)
 
 -- the lines are those of entries that list in order exactly the minimal triples of arrival, rides and price among all
 -- fare-covered journeys of the query, one for each, with such a journey and its tickets; without entry there is no such

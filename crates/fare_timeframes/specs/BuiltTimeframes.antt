@@ -12,7 +12,7 @@ use Rattle.fare_timeframes.specs.FrameDays.{IsDayOf}
 
 -- the timeframe groups are those of this feed
 pub record AreTimeframesOf (feed : FeedRows) (timeframes : Timeframes) : Type 0 where
-  pub calendar : IsCalendarOf feed timeframes.calendar
+  pub calendar : IsCalendarOf feed timeframes.calendar.now
   pub areas : AreAreasOf feed timeframes.areas
   pub count : timeframes.count ≡ length feed.frame_names
   pub rises : (frame : ℕ) → IsNonDecreasingBy (λ (row : TimeframeRow). row.start) (rows_at timeframes.rows frame)

@@ -4,6 +4,7 @@
 ghost use Rattle.std.specs.Prelude.{◌≡◌, filter, map, nat_le, IfOk, IfSome, OnOk};
 ghost use Rattle.std.specs.List.{list_any};
 ghost use Rattle.std.specs.List.Sorted.{IsNonDecreasingBy};
+ghost use Rattle.feed_calendar.specs.BuiltCalendar.{IsCalendarOf};
 ghost use Rattle.feed_rows.specs.FeedRows.{FeedRows};
 ghost use Rattle.feed_rows.specs.Legs.{holds_at, frames_at, leg_facts};
 ghost use Rattle.fare_areas.specs.AreaRows.{DoRise};
@@ -23,11 +24,11 @@ use item_groups::{Grouped, Groups};
 use std::alloc::{AllocError, Global};
 use transit_base::{AreaId, Day, FrameId, Moment};
 
-/// The timeframe groups of a feed, with its calendar and its areas.
+/// The timeframe groups of a feed, with its areas, by a calendar that is lent.
 ///
 /// What the calls answer is about the feed that the value was built from.
-pub struct Timeframes {
-    calendar: Calendar,
+pub struct Timeframes<'c> {
+    calendar: &'c Calendar,
     areas: Areas,
     /// How many timeframe groups there are.
     count: u32,
@@ -38,7 +39,7 @@ pub struct Timeframes {
 }
 
 // Written out, so that what holds one needn't look into it to let go of it.
-impl Drop for Timeframes {
+impl<'c> Drop for Timeframes<'c> {
     fn drop(self) {
         let Timeframes {
             calendar: _,
@@ -50,20 +51,27 @@ impl Drop for Timeframes {
     }
 }
 
-impl Timeframes {
-    /// The timeframe groups of the feed.
+impl<'c> Timeframes<'c> {
+    /// The timeframe groups of the feed, by its calendar.
     ///
     /// # Errors
     /// Want of memory.
-    pub fn build(alloc: Global, feed: &Feed) -> Result<Timeframes, AllocError>
+    pub fn build(
+        alloc: Global,
+        feed: &Feed,
+        calendar: &'c Calendar,
+    ) -> Result<Timeframes<'c>, AllocError>
+        requires { IsCalendarOf feed.now calendar.now }
         ensures { IfOk result (λ timeframes. AreTimeframesOf feed.now timeframes) }
     {
         let count = feed.frame_names.items().len() as u32;
+        let areas = Areas::build(alloc, feed)?;
+        let rows = rows_by_frame(alloc, feed.timeframes.items(), count)?;
         Ok(Timeframes {
-            calendar: Calendar::build(alloc, feed)?,
-            areas: Areas::build(alloc, feed)?,
+            calendar,
+            areas,
             count,
-            rows: rows_by_frame(alloc, feed.timeframes.items(), count)?,
+            rows,
             days: Vec::new(alloc),
         })
     }
@@ -76,12 +84,14 @@ impl Timeframes {
     pub fn between(
         alloc: Global,
         feed: &Feed,
+        calendar: &'c Calendar,
         first: Moment,
         last: Moment,
-    ) -> Result<Timeframes, AllocError>
+    ) -> Result<Timeframes<'c>, AllocError>
+        requires { IsCalendarOf feed.now calendar.now }
         ensures { IfOk result (λ timeframes. AreTimeframesOf feed.now timeframes) }
     {
-        let mut timeframes = Timeframes::build(alloc, feed)?;
+        let mut timeframes = Timeframes::build(alloc, feed, calendar)?;
         for day in first.day().0..=last.day().0 {
             timeframes.keep(alloc, Day(day))?;
         }
@@ -103,7 +113,7 @@ impl Timeframes {
     {
         let mut spans = Groups::empty(alloc);
         for number in 0..self.rows.count() {
-            let group = spans_on(alloc, &self.calendar, self.rows.get(number), day)?;
+            let group = spans_on(alloc, self.calendar, self.rows.get(number), day)?;
             spans.push(group.as_slice())?;
         }
         Ok(FrameDay { day, spans })

@@ -160,7 +160,7 @@ pub fn drawn_feed(alloc: Global, seed: u32) -> Result<Feed, AllocError> {
 }
 
 // From A to G on 2 June 2025 at 07:00:00 within an hour, by two to four rides, for one rider or the other.
-pub fn query_of(seed: u32) -> Query
+pub fn drawn_query(seed: u32) -> Query
     ensures { IsUsualQuery result }
 {
     Query {

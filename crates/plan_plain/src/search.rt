@@ -8,6 +8,7 @@ ghost use Rattle.feed_rows.specs.StopLinks.{stop_set};
 ghost use Rattle.plan_rides.specs.Boarding.{MayRide};
 ghost use Rattle.feed_rows.specs.Legs.{leg_facts, legs_of};
 ghost use Rattle.fare_automaton.specs.Terms.{terms};
+ghost use Rattle.fare_timeframes.specs.BuiltTimeframes.{AreTimeframesOf};
 ghost use Rattle.feed_timetable.specs.Standings.{stand_of};
 ghost use Rattle.plan_plain.specs.Paths.{no_ride, with_ride};
 ghost use Rattle.plan_plain.specs.Searches.{AddsEnd, IsCheapest, IsEarliestEnd, HasRides, GoesOn, Gains, StartsAt, IsSearched};
@@ -40,7 +41,7 @@ struct End {
 #[derive(Drop)]
 struct Search<'s> {
     rides: &'s Rides<'s>,
-    timeframes: &'s Timeframes,
+    timeframes: &'s Timeframes<'s>,
 }
 
 impl<'s> Model for Search<'s> {
@@ -324,11 +325,31 @@ fn entries_by_runs<'s>(
     ensures covers { IfOk result (λ entries. CoversOffers runs.now.feed query.now entries.items) }
 {
     let rides = Rides::of(runs, query);
-    let feed = rides.timetable().feed();
-    let timeframes = Timeframes::between(alloc, feed, query.departure, deadline(query))?;
-    let search = Search {
-        rides: &rides,
-        timeframes: &timeframes,
-    };
+    let timetable = rides.timetable();
+    match Timeframes::between(
+        alloc,
+        timetable.feed(),
+        timetable.calendar(),
+        query.departure,
+        deadline(query),
+    ) {
+        Ok(timeframes) => entries_at(&rides, &timeframes, alloc, automaton),
+        Err(AllocError) => Err(AllocError),
+    }
+}
+
+// The exact answer to the query of these rides, by the timeframes of the feed.
+fn entries_at<'s>(
+    rides: &'s Rides<'s>,
+    timeframes: &'s Timeframes<'s>,
+    alloc: Global,
+    automaton: &Automaton,
+) -> Result<Vec<Entry>, AllocError>
+    requires timeframes { AreTimeframesOf rides.now.feed timeframes.now }
+    requires same { automaton.now ≡ terms rides.now.feed rides.now.query.rider }
+    ensures exact { IfOk result (λ entries. IsExactAnswer rides.now.feed rides.now.query entries.items) }
+    ensures covers { IfOk result (λ entries. CoversOffers rides.now.feed rides.now.query entries.items) }
+{
+    let search = Search { rides, timeframes };
     search.entries(alloc, automaton)
 }

@@ -56,7 +56,7 @@ fn spans_of(alloc: Global, rides: &Rides, whole: bool) -> Result<Spans, AllocErr
     if whole {
         return Ok(Spans::none(alloc));
     }
-    Spans::of(alloc, rides, rides.query().rides)
+    rides.spans(alloc)
 }
 
 /// The table of the search by these with this aim.
@@ -68,7 +68,7 @@ fn table_with<'s, 'l>(
     rides: &'l Rides<'s>,
     automaton: &'l Automaton<'s>,
     feed: &'l Feed,
-    timeframes: &'l Timeframes,
+    timeframes: &'l Timeframes<'l>,
     spans: &'l Spans,
     prices: &'l LeastPrices,
     aim: Aim<'l>,
@@ -157,7 +157,7 @@ fn found_soon<'s, 'l>(
     rides: &'l Rides<'s>,
     automaton: &'l Automaton<'s>,
     feed: &'l Feed,
-    timeframes: &'l Timeframes,
+    timeframes: &'l Timeframes<'l>,
     spans: &'l Spans,
     prices: &'l LeastPrices,
     given: &'l [Triple],
@@ -306,19 +306,22 @@ fn planned_at<'s>(
     ensures { IfOk result (λ planned. IsPlanned rides.now whole planned.0 planned.1.items) }
 {
     let query = rides.query();
-    let timeframes = Timeframes::between(alloc, feed, query.departure, deadline(query))?;
+    let calendar = rides.timetable().calendar();
     let spans = spans_of(alloc, rides, whole)?;
     let prices = prices_of(alloc, rides, feed, &spans)?;
-    planned_with(
-        alloc,
-        rides,
-        automaton,
-        feed,
-        &timeframes,
-        &spans,
-        &prices,
-        whole,
-    )
+    match Timeframes::between(alloc, feed, calendar, query.departure, deadline(query)) {
+        Ok(timeframes) => planned_with(
+            alloc,
+            rides,
+            automaton,
+            feed,
+            &timeframes,
+            &spans,
+            &prices,
+            whole,
+        ),
+        Err(AllocError) => Err(AllocError),
+    }
 }
 
 /// The same by the rides.

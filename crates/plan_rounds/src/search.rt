@@ -59,7 +59,7 @@ pub struct Search<'s, 'l> {
     pub(crate) alloc: Global,
     pub(crate) rides: &'l Rides<'s>,
     pub(crate) feed: &'l Feed,
-    pub(crate) timeframes: &'l Timeframes,
+    pub(crate) timeframes: &'l Timeframes<'l>,
     /// The fares for the query's buyer.
     pub(crate) automaton: &'l Automaton<'s>,
     /// The least seconds to a journey's end; none where the search is to be whole.

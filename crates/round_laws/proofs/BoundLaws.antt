@@ -217,7 +217,7 @@ module _ (feed : FeedRows) (query : Query) (whole : Bool) (sound : IsSoundFeed f
 -- ---- ends of the last ride
 
 -- after the last ride only an end follows
-pub ended_leads : (feed : FeedRows) (query : Query) (Found : Triple → Type 0) (a : LabelFacts) → query.rides ≤ a.rides →
-    ((last : StopId) (triple : Triple) → IsLabelEnd feed query a last triple → Found triple) → IsFutile feed query Found a
-ended_leads feed query Found a last ends zero triple leads = ends leads.0 triple leads.1
-ended_leads feed query Found a last ends (suc n) triple leads = let few = leads.3.rides.few in absurd (omega (arith, last, few))
+pub ended_leads : (feed : FeedRows) (query : Query) (FoundTriple : Triple → Type 0) (a : LabelFacts) → query.rides ≤ a.rides →
+    ((last : StopId) (triple : Triple) → IsLabelEnd feed query a last triple → FoundTriple triple) → IsFutile feed query FoundTriple a
+ended_leads feed query FoundTriple a last ends zero triple leads = ends leads.0 triple leads.1
+ended_leads feed query FoundTriple a last ends (suc n) triple leads = let few = leads.3.rides.few in absurd (omega (arith, last, few))

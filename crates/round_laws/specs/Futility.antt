@@ -23,16 +23,16 @@ LeadsBy feed query (suc n) a triple =
 
 -- whatever they lead to is found
 abbrev pub IsFutile : FeedRows → Query → (Triple → Type 0) → LabelFacts → Type 0
-IsFutile feed query Found a = (n : ℕ) (triple : Triple) → LeadsBy feed query n a triple → Found triple
+IsFutile feed query FoundTriple a = (n : ℕ) (triple : Triple) → LeadsBy feed query n a triple → FoundTriple triple
 
 -- some triple that is found outdoes such facts
 abbrev pub IsOutdoneBy : FeedRows → Query → (Triple → Type 0) → LabelFacts → Type 0
-IsOutdoneBy feed query Found a = (triple : Triple) × Found triple × IsTrue (is_outdone feed query triple a)
+IsOutdoneBy feed query FoundTriple a = (triple : Triple) × FoundTriple triple × IsTrue (is_outdone feed query triple a)
 
 -- a search that is to be whole may lack what is outdone, and another whatever is futile
 abbrev pub MayLack : FeedRows → Query → Bool → (Triple → Type 0) → LabelFacts → Type 0
-MayLack feed query true Found a = IsOutdoneBy feed query Found a
-MayLack feed query false Found a = IsFutile feed query Found a
+MayLack feed query true FoundTriple a = IsOutdoneBy feed query FoundTriple a
+MayLack feed query false FoundTriple a = IsFutile feed query FoundTriple a
 
 -- ---- how little it can cost
 

@@ -52,7 +52,7 @@ impl Reading {
 pub struct Reader<'s, 'f> {
     timetable: &'s Timetable<'f>,
     query: &'s Query,
-    timeframes: &'s Timeframes,
+    timeframes: &'s Timeframes<'s>,
     fares: &'s Fares<'f>,
 }
 
@@ -85,7 +85,7 @@ impl<'s, 'f> Reader<'s, 'f> {
     pub fn new(
         timetable: &'s Timetable<'f>,
         query: &'s Query,
-        timeframes: &'s Timeframes,
+        timeframes: &'s Timeframes<'s>,
         fares: &'s Fares<'f>,
     ) -> Reader<'s, 'f>
         requires near { IsNearQuery query.now }

@@ -6,7 +6,7 @@ ghost use Rattle.feed_rows.specs.PriceQueries.{named_rides, first_missed, price_
 ghost use Rattle.feed_rows.specs.StopLinks.{link};
 ghost use Rattle.plan_words.specs.Request.{price_request};
 ghost use Rattle.plan_words.specs.Rides.{rides_of as words_of, AreUsualRides};
-ghost use Rattle.command_answers.specs.NamedRides.{rides_of, AreKnown, query_of, IsErrorOf};
+ghost use Rattle.command_answers.specs.NamedRides.{rides_of, AreKnown, named_query, IsErrorOf};
 
 use crate::ride_prices::rides::{NamedRide, named_ride};
 use fare_products::chosen_rider;
@@ -90,7 +90,7 @@ pub fn price_query_of(
     words: &PriceWords,
 ) -> Result<PriceQuery, WordsError>
     requires { AreUsualRides words.now.rides }
-    ensures value { IfOk result (λ query. price_query_of timetable.now (price_request words.now) ≡ Ok (query_of query)) }
+    ensures value { IfOk result (λ query. price_query_of timetable.now (price_request words.now) ≡ Ok (named_query query)) }
     ensures known { IfOk result (λ query. AreKnown timetable.now query.rides.items) }
     ensures few { IfOk result (λ query. length query.rides.items ≤ most_rides) }
     ensures err { IfErr result (IsErrorOf (price_query_of timetable.now (price_request words.now))) }

@@ -9,12 +9,12 @@ use Rattle.command_answers.proofs.prices.price_text.Goals as goal
 pub returns-in_default : goal.returns-in_default
 returns-in_default c =
     let query = c.args.query.now in
-    let none = subst (IsLeastOfRides c.args.feed.now (rides_of query.rides.items) query.buyer) c.in_default.is c.in_ok-priced.ensures in
+    let none = subst (IsLeastOfRides c.args.timetable.now (rides_of query.rides.items) query.buyer) c.in_default.is c.in_ok-priced.ensures in
     IfOk-weaker c.uncovered_lines_of.result _ _ (λ text is. inr (none, is)) c.uncovered_lines_of.ensures.lines
 
 pub returns : goal.returns
 returns c =
-    let feed = c.args.feed.now in
+    let feed = c.args.timetable.now in
     let query = c.args.query.now in
     let priced = c.in-Some.priced in
     let least = subst (IsLeastOfRides feed (rides_of query.rides.items) query.buyer) c.in-Some.is c.in_ok-priced.ensures in

@@ -2,7 +2,7 @@ use Rattle.std.proofs.Common.{◌≡◌, ◌∙◌, ◌+◌, refl, ap, ◌++◌,
 use Rattle.plain_laws.specs.Plain.{list_below}
 use Rattle.feed_faults.specs.Records.{row_count}
 use Rattle.feed_faults.specs.FeedTables.{table_in}
-use Rattle.feed_build.proofs.feed.Source.rows_of.Goals as goal
+use Rattle.feed_build.proofs.feed.TableSource.rows_of.Goals as goal
 
 pub loop-row-preserved : goal.loop-row-preserved
 loop-row-preserved g c =

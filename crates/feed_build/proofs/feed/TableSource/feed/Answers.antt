@@ -1,7 +1,7 @@
 use Rattle.std.proofs.Common.{◌∙◌, ap}
 use Rattle.feed_faults.specs.AcceptedFeed.{rows_of_tables, service_names, network_names, frame_names, product_names, group_names}
 use Rattle.feed_build.proofs.FeedLaws.{sound_rows, rows_are}
-use Rattle.feed_build.proofs.feed.Source.feed.Goals as goal
+use Rattle.feed_build.proofs.feed.TableSource.feed.Goals as goal
 
 pub returns : goal.returns
 unfolding rows_of_tables

@@ -9,7 +9,7 @@ use Rattle.feed_faults.specs.FeedTables.{table_in}
 use Rattle.feed_text.proofs.ValueLaws.{natural_is}
 use Rattle.feed_build.proofs.CurrencyLaws.{decimals_of_first}
 use Rattle.feed_build.proofs.ValueLaws.{decimals_fit, decimals_at_most}
-use Rattle.feed_build.proofs.feed.Source.currency.Goals as goal
+use Rattle.feed_build.proofs.feed.TableSource.currency.Goals as goal
 
 pub natural-requires : goal.natural-requires
 natural-requires g c = rw c.numbers.ensures (decimals_fit _)
