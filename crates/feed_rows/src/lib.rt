@@ -21,8 +21,8 @@ pub use feed::{
 };
 pub use ids::Id;
 pub use journeys::{
-    AreaList, Buyer, Call, FrameList, Journey, LEAST_SHIFT, LegFacts, LegList, MOST_RIDES, MOST_SHIFT,
-    NO_CATEGORY, Pair, Query, Ride, RideFacts, RideList, Shifts, USUAL_WINDOW,
+    AreaList, Buyer, Call, FrameList, Journey, LEAST_SHIFT, LegFacts, LegList, MOST_RIDES,
+    MOST_SHIFT, NO_CATEGORY, Pair, Query, Ride, RideFacts, RideList, Shifts, USUAL_WINDOW,
 };
 pub use rows::{
     AreaRow, CHANGE_ALONE, ExceptionRow, FrequencyRow, LEG_BEFORE_AND_CHANGE, LegRuleRow, Limit,
