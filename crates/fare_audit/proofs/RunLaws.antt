@@ -1,0 +1,217 @@
+-- The rides of runs, and which of them are covered.
+use Rattle.std.proofs.Common.{◌≡◌, refl, sym, ◌∙◌, ap, subst, ℕ, ◌+◌, ◌<◌, ◌≤◌, ◌⊎◌, inl, inr, ⊎_elim, Bool, true, false, ◌&&◌, List, length, Contains, ℤ, pos, ◌+ℤ◌, ◌++◌, ◌∷◌, [], All, arith}
+use Rattle.std.specs.Prelude.{Option, Some, None, slice_get, nat_lt}
+use Rattle.std.proofs.lemmas.Bool.{and_from, cases_lt, false≢true}
+use Rattle.std.proofs.lemmas.Bool.Decides.{nat_tests}
+use Rattle.std.proofs.lemmas.Option.{same_Some, slice_get_within}
+use Rattle.std.proofs.lemmas.List.Elements.{All-contains, Contains-push_cases}
+use Rattle.transit_base.specs.declared.numbers.TripId.{TripId}
+use Rattle.transit_base.specs.declared.calendar.Day.{Day}
+use Rattle.feed_rows.specs.declared.journeys.Call.{Call}
+use Rattle.feed_rows.specs.declared.journeys.Ride.{Ride}
+use Rattle.feed_rows.specs.declared.journeys.RideFacts.{RideFacts}
+use Rattle.feed_rows.specs.Calls.{calls_of}
+use Rattle.feed_rows.specs.FeedRows.{FeedRows}
+use Rattle.feed_rows.specs.Rides.{facts_between, is_ride, moment_of, ride_facts, runs_on, trip_network}
+use Rattle.feed_rows.specs.Legs.{frames_at}
+use Rattle.transit_base.specs.Moments.{moment_at}
+use Rattle.feed_rows.specs.Shifts.{is_shift, shifts_of}
+use Rattle.feed_laws.proofs.RideLaws.{IsRideWith, is_ride_by_shift, ride_facts_tells}
+use Rattle.feed_laws.proofs.ShiftLaws.{Contains_from_found, found_from_Contains, list_any-shifts_of}
+use Rattle.plain_laws.specs.Plain.{at_and, filled_and}
+use Rattle.plain_laws.proofs.Laws.{Contains-slice_get, slice_get-new_item, slice_get-old_item}
+use Rattle.std.proofs.lemmas.List.{length_push}
+use Rattle.fare_audit.specs.declared.days.Reach.{Reach}
+use Rattle.fare_audit.specs.declared.ends.End.{End}
+use Rattle.fare_audit.specs.declared.found.Found.{Found}
+use Rattle.fare_audit.specs.declared.walk.Run.{Run}
+use Rattle.fare_audit.specs.Days.{AreAlike, AreWithin, IsWithin}
+use Rattle.fare_audit.specs.Found.{AreLike, AuditOf, GrowsTo, HasRide, IsAudited, IsCovered, StandsFor}
+use Rattle.fare_audit.specs.Runs.{AreEndsOf, CoversRides, CoversRun, CoversShift, CoversTrip, IsAuditedRun, IsEndOf, ride_by}
+use Rattle.fare_audit.proofs.DayLaws.{frames_alike}
+use Rattle.fare_audit.proofs.FoundLaws.{covered_later, covered_like, item_at}
+
+-- a ride is told by its parts
+pub ride_is : (feed : FeedRows) (ride : Ride) (a b : Call) → runs_on feed ride.trip ride.day.0 ≡ true → is_shift feed ride.trip ride.shift ≡ true → ride.from < ride.to →
+    slice_get (calls_of feed ride.trip) ride.from ≡ Some a → slice_get (calls_of feed ride.trip) ride.to ≡ Some b → a.pickup ≡ true → b.drop_off ≡ true →
+    ride_facts feed ride ≡ Some (facts_between feed ride a b)
+unfolding ride_facts
+ride_is feed ride a b runs shift lt boards alights pickup drop_off =
+    let is : is_ride feed ride ≡ true = is_ride_by_shift feed ride
+    ∙ and_from _ _ (and_from _ _ (and_from _ _ (and_from _ _ runs shift) (less ride.from ride.to lt))
+    (ap (λ o. filled_and o (λ (c : Call). c.pickup)) boards ∙ pickup)) (ap (λ o. filled_and o (λ (c : Call). c.drop_off)) alights ∙ drop_off) in
+    rw (is, boards, alights) refl
+  where
+    less : (m n : ℕ) → m < n → nat_lt m n ≡ true
+    less m n lt = grind (arith, nat_tests)
+
+module _ (audit : AuditOf) (run : Run) (ends : List End) (is : IsAuditedRun audit run) (are : AreEndsOf audit.feed run (calls_of audit.feed run.trip) ends) where
+  -- a ride of the run stands between its ends
+  pub ride_stands : (from to : ℕ) (facts : RideFacts) (e f : End) → ride_facts audit.feed (ride_by run from to) ≡ Some facts →
+      slice_get ends from ≡ Some e → slice_get ends to ≡ Some f → StandsFor audit run.network e f facts
+  ride_stands from to facts e f ride at on =
+      let r = ride_facts_tells audit.feed (ride_by run from to) facts ride in
+      let a = are.each from e at in
+      let b = are.each to f on in
+      let boards : a.0 ≡ r.boarding = same_Some _ _ (sym a.1 ∙ r.boards) in
+      let alights : b.0 ≡ r.alighting = same_Some _ _ (sym b.1 ∙ r.alights) in
+      let begin : IsEndOf audit.feed run r.boarding e = subst (λ (c : Call). IsEndOf audit.feed run c e) boards a.2 in
+      let end : IsEndOf audit.feed run r.alighting f = subst (λ (c : Call). IsEndOf audit.feed run c f) alights b.2 in
+      subst (StandsFor audit run.network e f) r.facts_are (record {
+        audited = record { ride = ride_by run from to; number = is.number; within = is.within; day = is.day; is = ride ∙ ap Some (sym r.facts_are) };
+        from_stop = begin.stop;
+        to_stop = end.stop;
+        like = record { network = is.network; from_areas = begin.areas; to_areas = end.areas; from_frames = begin.departs; to_frames = end.arrives };
+      })
+
+  -- and there is one where riders may board and alight
+  pub ride_there : (from to : ℕ) (e f : End) → from < to → slice_get ends from ≡ Some e → slice_get ends to ≡ Some f → e.pickup ≡ true → f.drop_off ≡ true →
+      HasRide audit run.network e f
+  ride_there from to e f lt at on pickup drop_off =
+      let a = are.each from e at in
+      let b = are.each to f on in
+      let ride = ride_by run from to in
+      let shift = sym (list_any-shifts_of audit.feed run.trip run.shift) ∙ found_from_Contains _ run.shift is.shift in
+      let there = ride_is audit.feed ride a.0 b.0 is.runs shift lt a.1 b.1 (sym a.2.pickup ∙ pickup) (sym b.2.drop_off ∙ drop_off) in
+      (facts_between audit.feed ride a.0 b.0, ride_stands from to _ e f there at on)
+
+  -- where a ride stands, both ends are there, in order, and riders may board and alight
+  pub record HasEnds (from to : ℕ) : Type 0 where
+    pub lt : from < to
+    pub within : to < length ends
+    pub e : End
+    pub f : End
+    pub at : slice_get ends from ≡ Some e
+    pub on : slice_get ends to ≡ Some f
+    pub pickup : e.pickup ≡ true
+    pub drop_off : f.drop_off ≡ true
+
+  pub ends_there : (from to : ℕ) (facts : RideFacts) → ride_facts audit.feed (ride_by run from to) ≡ Some facts → HasEnds from to
+  ends_there from to facts ride =
+      let r = ride_facts_tells audit.feed (ride_by run from to) facts ride in
+      let many = are.many in
+      let low = slice_get_within _ from _ r.boards in
+      let high = slice_get_within _ to _ r.alights in
+      let e = item_at ends from (omega (arith, many, low)) in
+      let f = item_at ends to (omega (arith, many, high)) in
+      let a = are.each from e.0 e.1 in
+      let b = are.each to f.0 f.1 in
+      let boards : a.0 ≡ r.boarding = same_Some _ _ (sym a.1 ∙ r.boards) in
+      let alights : b.0 ≡ r.alighting = same_Some _ _ (sym b.1 ∙ r.alights) in
+      record {
+        lt = r.forward;
+        within = omega (arith, many, high);
+        e = e.0;
+        f = f.0;
+        at = e.1;
+        on = f.1;
+        pickup = a.2.pickup ∙ ap (λ (c : Call). c.pickup) boards ∙ r.pickup;
+        drop_off = b.2.drop_off ∙ ap (λ (c : Call). c.drop_off) alights ∙ r.drop_off;
+      }
+
+-- the same ride on a day that is alike
+pub covered_by_day : (audit : AuditOf) (found : Found) (run : Run) (reach : Reach) (facts : RideFacts) (is : IsAudited audit facts) →
+    AreWithin reach run.shift (calls_of audit.feed run.trip) → AreAlike audit.feed reach run.day.0 is.ride.day.0 →
+    runs_on audit.feed run.trip run.day.0 ≡ true → is.ride.trip ≡ run.trip → is.ride.shift ≡ run.shift →
+    CoversRun audit found run → IsCovered audit found facts
+covered_by_day audit found run reach facts is within alike runs trip shift covers =
+    let ride = is.ride in
+    let r = ride_facts_tells audit.feed ride facts is.is in
+    let there = ride_by run ride.from ride.to in
+    let calls = λ (t : TripId). calls_of audit.feed t in
+    let boards : slice_get (calls_of audit.feed run.trip) ride.from ≡ Some r.boarding = subst (λ (t : TripId). slice_get (calls t) ride.from ≡ Some r.boarding) trip r.boards in
+    let alights : slice_get (calls_of audit.feed run.trip) ride.to ≡ Some r.alighting = subst (λ (t : TripId). slice_get (calls t) ride.to ≡ Some r.alighting) trip r.alights in
+    let offered : is_shift audit.feed run.trip run.shift ≡ true = rw (← trip, ← shift) r.shift in
+    let other = ride_is audit.feed there r.boarding r.alighting runs offered r.forward boards alights r.pickup r.drop_off in
+    let covered = covers ride.from ride.to (facts_between audit.feed there r.boarding r.alighting) other in
+    let board = All-contains (λ (c : Call). IsWithin reach (run.shift +ℤ pos c.arrival) × IsWithin reach (run.shift +ℤ pos c.departure)) (calls_of audit.feed run.trip) r.boarding within (Contains-slice_get _ ride.from _ boards) in
+    let alight = All-contains (λ (c : Call). IsWithin reach (run.shift +ℤ pos c.arrival) × IsWithin reach (run.shift +ℤ pos c.departure)) (calls_of audit.feed run.trip) r.alighting within (Contains-slice_get _ ride.to _ alights) in
+    let like : AreLike audit.feed (facts_between audit.feed there r.boarding r.alighting) (facts_between audit.feed ride r.boarding r.alighting) = record {
+      network = ap (λ (t : TripId). trip_network audit.feed t) (sym trip);
+      from_areas = refl;
+      to_areas = refl;
+      from_frames = frames r.boarding.departure board.1;
+      to_frames = frames r.alighting.arrival alight.0;
+    } in
+    subst (IsCovered audit found) r.facts_are
+    (covered_like audit found (facts_between audit.feed there r.boarding r.alighting) (facts_between audit.feed ride r.boarding r.alighting) like refl refl covered)
+  where
+    frames : (s : ℕ) → IsWithin reach (run.shift +ℤ pos s) → frames_at audit.feed (moment_of (ride_by run is.ride.from is.ride.to) s) ≡ frames_at audit.feed (moment_of is.ride s)
+    frames s in_reach =
+        frames_alike audit.feed reach run.day.0 is.ride.day.0 (run.shift +ℤ pos s) alike in_reach
+        ∙ ap (λ (z : ℤ). frames_at audit.feed (record { 0 = moment_at is.ride.day.0 (z +ℤ pos s) })) (sym shift)
+
+-- one number more
+pub below_more : (C D : ℕ → Type 0) (n m : ℕ) → ((k : ℕ) → C k → D k) → ((k : ℕ) → k < n → C k) → D n → m ≡ n + 1 → (k : ℕ) → k < m → D k
+below_more C D n m later were here next k lt = ⊎_elim
+    (λ (old : k < n). later k (were k old))
+    (λ (past : n ≤ k). let same : n ≡ k = omega (arith, lt, past, next) in subst D same here)
+    (cases_lt k n)
+
+-- one item more
+pub among_more : {X : Type 0} (C D : X → Type 0) (xs ys : List X) (x : X) → ((k : X) → C k → D k) → ((k : X) → Contains xs k → C k) → D x → ys ≡ xs ++ x ∷ [] →
+    (k : X) → Contains ys k → D k
+among_more C D xs ys x later were here e k at = ⊎_elim
+    (λ (old : Contains xs k). later k (were k old))
+    (λ (new : x ≡ k). subst D new here)
+    (Contains-push_cases xs x k (subst (λ zs. Contains zs k) e at))
+
+module _ (audit : AuditOf) (old new : Found) (grows : GrowsTo old new) where
+  pub trip_later : (trip : TripId) → CoversTrip audit old trip → CoversTrip audit new trip
+  trip_later trip covers facts is same = covered_later audit old new facts grows (covers facts is same)
+
+  pub shift_later : (trip : TripId) (shift : ℤ) → CoversShift audit old trip shift → CoversShift audit new trip shift
+  shift_later trip shift covers facts is same by = covered_later audit old new facts grows (covers facts is same by)
+
+  pub rides_later : (run : Run) (from to : ℕ) → CoversRides audit old run from to → CoversRides audit new run from to
+  rides_later run from to covers facts is = covered_later audit old new facts grows (covers facts is)
+
+  pub run_later : (run : Run) → CoversRun audit old run → CoversRun audit new run
+  run_later run covers from to = rides_later run from to (covers from to)
+
+module _ (audit : AuditOf) (found : Found) (run : Run) (ends : List End) (is : IsAuditedRun audit run) (are : AreEndsOf audit.feed run (calls_of audit.feed run.trip) ends) where
+  -- where riders may not board, there is no ride
+  pub none_boards : (from to : ℕ) (e : End) → slice_get ends from ≡ Some e → e.pickup ≡ false → CoversRides audit found run from to
+  none_boards from to e at off facts ride =
+      let has = ends_there audit run ends is are from to facts ride in
+      let same : has.e ≡ e = same_Some _ _ (sym has.at ∙ at) in
+      absurd (false≢true (sym off ∙ sym (ap (λ (x : End). x.pickup) same) ∙ has.pickup))
+
+  pub none_alights : (from to : ℕ) (f : End) → slice_get ends to ≡ Some f → f.drop_off ≡ false → CoversRides audit found run from to
+  none_alights from to f on off facts ride =
+      let has = ends_there audit run ends is are from to facts ride in
+      let same : has.f ≡ f = same_Some _ _ (sym has.on ∙ on) in
+      absurd (false≢true (sym off ∙ sym (ap (λ (x : End). x.drop_off) same) ∙ has.drop_off))
+
+  -- what stands between two ends is the rides between them
+  pub rides_between : (from to : ℕ) (e f : End) → slice_get ends from ≡ Some e → slice_get ends to ≡ Some f →
+      ((facts : RideFacts) → StandsFor audit run.network e f facts → IsCovered audit found facts) → CoversRides audit found run from to
+  rides_between from to e f at on covers facts ride = covers facts (ride_stands audit run ends is are from to facts e f ride at on)
+
+  -- a ride boards before it alights
+  pub rides_forward : (to : ℕ) → ((from : ℕ) → from < to → CoversRides audit found run from to) → (from : ℕ) → CoversRides audit found run from to
+  rides_forward to covers from facts ride =
+      let has = ends_there audit run ends is are from to facts ride in
+      covers from has.lt facts ride
+
+  -- and alights at one of the ends
+  pub run_covered : (n : ℕ) → length ends ≤ n → ((from to : ℕ) → to < n → CoversRides audit found run from to) → CoversRun audit found run
+  run_covered n all covers from to facts ride =
+      let has = ends_there audit run ends is are from to facts ride in
+      let within = has.within in
+      covers from to (omega (arith, within, all)) facts ride
+
+-- one end more
+pub ends_more : (feed : FeedRows) (run : Run) (calls : List Call) (ends new : List End) (n : ℕ) (call : Call) (end : End) → length ends ≡ n →
+    ((k : ℕ) (e : End) → slice_get ends k ≡ Some e → (c : Call) × (slice_get calls k ≡ Some c) × IsEndOf feed run c e) →
+    slice_get calls n ≡ Some call → IsEndOf feed run call end → new ≡ ends ++ end ∷ [] →
+    (k : ℕ) (e : End) → slice_get new k ≡ Some e → (c : Call) × (slice_get calls k ≡ Some c) × IsEndOf feed run c e
+ends_more feed run calls ends new n call end many were at is made k e got = ⊎_elim
+    (λ (old : k < n). were k e (slice_get-old_item ends new end k made (omega (arith, old, many)) ∙ got))
+    (λ (past : n ≤ k).
+    let within = slice_get_within new k e got in
+    let long : length new ≡ length ends + 1 = ap length made ∙ length_push ends end in
+    let here : n ≡ k = omega (arith, past, within, long, many) in
+    let same : end ≡ e = same_Some _ _ (sym (slice_get-new_item ends new end n many made) ∙ ap (slice_get new) here ∙ got) in
+    (call, ap (slice_get calls) (sym here) ∙ at, subst (IsEndOf feed run call) same is))
+    (cases_lt k n)
