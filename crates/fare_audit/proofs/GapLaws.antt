@@ -31,7 +31,7 @@ days_counted first last count le e = rw (le-int_le first last le) (number (last 
     number d n some e = grind (arith, ints, some, e)
 
 -- a trip that runs is one of the feed
-runs_within : (feed : FeedRows) (trip : TripId) (day : ℤ) → runs_on feed trip day ≡ true → trip.0 < length feed.trips
+pub runs_within : (feed : FeedRows) (trip : TripId) (day : ℤ) → runs_on feed trip day ≡ true → trip.0 < length feed.trips
 runs_within feed trip day runs = let row = filled_and-true (slice_get feed.trips trip.0) _ runs in slice_get_within _ trip.0 _ row.is
 
 module _ (audit : AuditOf) (last : ℤ) (many : days_from audit.first last ≡ audit.count) (test : RideFacts → Bool) where
@@ -44,8 +44,8 @@ module _ (audit : AuditOf) (last : ℤ) (many : days_from audit.first last ≡ a
       let day : Day = record { 0 = audit.first +ℤ pos is.number } in
       let same : ride.day ≡ day = ap (λ (z : ℤ). let d : Day = record { 0 = z } in d) is.day in
       let here : filled_and (ride_facts audit.feed (record { trip = ride.trip; day = day; shift = ride.shift; from = ride.from; to = ride.to })) test ≡ true =
-          ap (λ (d : Day). filled_and (ride_facts audit.feed (record { trip = ride.trip; day = d; shift = ride.shift; from = ride.from; to = ride.to })) test) (sym same)
-          ∙ ap (λ o. filled_and o test) is.is ∙ passes in
+      ap (λ (d : Day). filled_and (ride_facts audit.feed (record { trip = ride.trip; day = d; shift = ride.shift; from = ride.from; to = ride.to })) test) (sym same)
+      ∙ ap (λ o. filled_and o test) is.is ∙ passes in
       any_below_hit _ (days_from audit.first last) is.number (subst (λ n. is.number < n) (sym many) is.within)
       (any_below_hit _ (length audit.feed.trips) ride.trip.0 (runs_within audit.feed ride.trip ride.day.0 r.runs)
       (any_passes _ (shifts_of audit.feed ride.trip) ride.shift

@@ -2,7 +2,8 @@ pub mod SignedLaws
 pub mod SetLaws
 pub mod DayLaws
 pub mod LikeLaws
+pub mod StopLaws
 pub mod FoundLaws
-pub mod RunLaws
 pub mod GapLaws
+pub mod RunLaws
 pub mod ReportLaws

@@ -1,12 +1,25 @@
 -- The rides of runs, and which of them are covered.
-use Rattle.std.proofs.Common.{◌≡◌, refl, sym, ◌∙◌, ap, subst, ℕ, ◌+◌, ◌<◌, ◌≤◌, ◌⊎◌, inl, inr, ⊎_elim, Bool, true, false, ◌&&◌, List, length, Contains, ℤ, pos, ◌+ℤ◌, ◌++◌, ◌∷◌, [], All, arith}
+use Rattle.std.proofs.Common.{◌≡◌, refl, sym, ◌∙◌, ap, subst, ℕ, ◌+◌, ◌<◌, ◌≤◌, ◌⊎◌, inl, inr, ⊎_elim, Bool, true, false, ◌&&◌, List, length, Contains, ℤ, pos, ◌+ℤ◌, ◌-ℤ◌, ◌≤ℤ◌, ◌<ℤ◌, ◌++◌, ◌∷◌, [], All, get_or, arith}
 use Rattle.std.specs.Prelude.{Option, Some, None, slice_get, nat_lt}
 use Rattle.std.proofs.lemmas.Bool.{and_from, cases_lt, false≢true}
 use Rattle.std.proofs.lemmas.Bool.Decides.{nat_tests}
-use Rattle.std.proofs.lemmas.Option.{same_Some, slice_get_within}
+use Rattle.std.proofs.lemmas.Int.{ints}
+use Rattle.std.proofs.lemmas.Option.{same_Some, slice_get-get_or, slice_get_within}
 use Rattle.std.proofs.lemmas.List.Elements.{All-contains, Contains-push_cases}
 use Rattle.transit_base.specs.declared.numbers.TripId.{TripId}
 use Rattle.transit_base.specs.declared.calendar.Day.{Day}
+use Rattle.transit_base.specs.declared.numbers.NetworkId.{NetworkId}
+use Rattle.transit_base.specs.declared.numbers.ServiceId.{ServiceId}
+use Rattle.transit_base.specs.declared.numbers.StopId.{StopId}
+use Rattle.transit_base.specs.Limits.{most_time}
+use Rattle.feed_rows.specs.declared.rows.StopTimeRow.{StopTimeRow}
+use Rattle.feed_rows.specs.declared.rows.TripRow.{TripRow}
+use Rattle.feed_rows.specs.Limits.{least_shift, most_shift}
+use Rattle.feed_rows.specs.ServiceDays.{is_active}
+use Rattle.feed_rows.specs.SoundFeed.{IsSoundFeed}
+use Rattle.feed_laws.proofs.CallLaws.{calls_of_row}
+use Rattle.feed_laws.proofs.CallTimes.{first_departure_most}
+use Rattle.feed_laws.proofs.SoundTrips.{row_at, sound_trip}
 use Rattle.feed_rows.specs.declared.journeys.Call.{Call}
 use Rattle.feed_rows.specs.declared.journeys.Ride.{Ride}
 use Rattle.feed_rows.specs.declared.journeys.RideFacts.{RideFacts}
@@ -17,7 +30,7 @@ use Rattle.feed_rows.specs.Legs.{frames_at}
 use Rattle.transit_base.specs.Moments.{moment_at}
 use Rattle.feed_rows.specs.Shifts.{is_shift, shifts_of}
 use Rattle.feed_laws.proofs.RideLaws.{IsRideWith, is_ride_by_shift, ride_facts_tells}
-use Rattle.feed_laws.proofs.ShiftLaws.{Contains_from_found, found_from_Contains, list_any-shifts_of}
+use Rattle.feed_laws.proofs.ShiftLaws.{Contains_from_found, found_from_Contains, is_shift_bounds, list_any-shifts_of}
 use Rattle.plain_laws.specs.Plain.{at_and, filled_and}
 use Rattle.plain_laws.proofs.Laws.{Contains-slice_get, slice_get-new_item, slice_get-old_item}
 use Rattle.std.proofs.lemmas.List.{length_push}
@@ -25,11 +38,12 @@ use Rattle.fare_audit.specs.declared.days.Reach.{Reach}
 use Rattle.fare_audit.specs.declared.ends.End.{End}
 use Rattle.fare_audit.specs.declared.found.Found.{Found}
 use Rattle.fare_audit.specs.declared.walk.Run.{Run}
-use Rattle.fare_audit.specs.Days.{AreAlike, AreWithin, IsWithin}
+use Rattle.fare_audit.specs.Days.{AreAlike, AreDaysLike, AreWithin, IsWithin}
 use Rattle.fare_audit.specs.Found.{AreLike, AuditOf, GrowsTo, HasRide, IsAudited, IsCovered, StandsFor}
 use Rattle.fare_audit.specs.Runs.{AreEndsOf, CoversRides, CoversRun, CoversShift, CoversTrip, IsAuditedRun, IsEndOf, ride_by}
 use Rattle.fare_audit.proofs.DayLaws.{frames_alike}
 use Rattle.fare_audit.proofs.FoundLaws.{covered_later, covered_like, item_at}
+use Rattle.fare_audit.proofs.GapLaws.{runs_within}
 
 -- a ride is told by its parts
 pub ride_is : (feed : FeedRows) (ride : Ride) (a b : Call) → runs_on feed ride.trip ride.day.0 ≡ true → is_shift feed ride.trip ride.shift ≡ true → ride.from < ride.to →
@@ -215,3 +229,70 @@ ends_more feed run calls ends new n call end many were at is made k e got = ⊎_
     let same : end ≡ e = same_Some _ _ (sym (slice_get-new_item ends new end n many made) ∙ ap (slice_get new) here ∙ got) in
     (call, ap (slice_get calls) (sym here) ∙ at, subst (IsEndOf feed run call) same is))
     (cases_lt k n)
+
+-- the runs of a trip with a shift, on days to which all others are alike
+module _ (audit : AuditOf) (found : Found) (trip : TripId) (shift : ℤ) (network : Option NetworkId) where
+  abbrev pub run_on : ℕ → Run
+  run_on n = record { trip = trip; day = record { 0 = audit.first +ℤ pos n }; shift = shift; network = network }
+
+  pub shift_covered : (reach : Reach) (service : ServiceId) (days : List ℕ) → AreDaysLike audit.feed audit.first audit.count service reach days →
+      ((day : ℤ) → runs_on audit.feed trip day ≡ is_active audit.feed service day) → AreWithin reach shift (calls_of audit.feed trip) →
+      ((n : ℕ) → Contains days n → CoversRun audit found (run_on n)) → CoversShift audit found trip shift
+  shift_covered reach service days like runs within covers facts is same by =
+      let r = ride_facts_tells audit.feed is.ride facts is.is in
+      let on : is_active audit.feed service (audit.first +ℤ pos is.number) ≡ true =
+      sym (runs (audit.first +ℤ pos is.number)) ∙ ap (runs_on audit.feed trip) (sym is.day) ∙ subst (λ (t : TripId). runs_on audit.feed t is.ride.day.0 ≡ true) same r.runs in
+      let k = like.covers is.number is.within on in
+      let there = All-contains (λ n. (n < audit.count) × (is_active audit.feed service (audit.first +ℤ pos n) ≡ true)) days k.0 like.within k.1 in
+      covered_by_day audit found (run_on k.0) reach facts is within
+      (subst (AreAlike audit.feed reach (audit.first +ℤ pos k.0)) (sym is.day) k.2)
+      (runs (audit.first +ℤ pos k.0) ∙ there.1) same by (covers k.0 k.1)
+
+-- the shift of each ride is one of its trip's
+pub trip_covered : (audit : AuditOf) (found : Found) (trip : TripId) →
+    ((shift : ℤ) → Contains (shifts_of audit.feed trip) shift → CoversShift audit found trip shift) → CoversTrip audit found trip
+trip_covered audit found trip covers facts is same =
+    let ride = is.ride in
+    let r = ride_facts_tells audit.feed ride facts is.is in
+    let offered = Contains_from_found (shifts_of audit.feed ride.trip) ride.shift (list_any-shifts_of audit.feed ride.trip ride.shift ∙ r.shift) in
+    covers ride.shift (subst (λ (t : TripId). Contains (shifts_of audit.feed t) ride.shift) same offered) facts is same refl
+
+-- the trips cover all rides
+pub all_covered : (audit : AuditOf) (found : Found) → ((trip : ℕ) → trip < length audit.feed.trips → CoversTrip audit found (record { 0 = trip })) →
+    (facts : RideFacts) → IsAudited audit facts → IsCovered audit found facts
+all_covered audit found covers facts is =
+    let r = ride_facts_tells audit.feed is.ride facts is.is in
+    covers is.ride.trip.0 (runs_within audit.feed is.ride.trip is.ride.day.0 r.runs) facts is refl
+
+-- the shifts of a trip lie within bounds
+pub shift_near : (feed : FeedRows) (trip : TripId) (shift : ℤ) → IsSoundFeed feed → Contains (shifts_of feed trip) shift → (least_shift ≤ℤ shift) × (shift ≤ℤ most_shift)
+shift_near feed trip shift sound at =
+    let timed = sound_trip feed trip sound in
+    let is : is_shift feed trip shift ≡ true = sym (list_any-shifts_of feed trip shift) ∙ found_from_Contains (shifts_of feed trip) shift at in
+    let begins = first_departure_most feed trip most_time timed.ends timed.times in
+    let bounds = is_shift_bounds feed trip shift most_time (omega arith) timed.runs begins is in
+    within shift bounds.0 bounds.1
+  where
+    within : (z : ℤ) → (pos 0 -ℤ pos most_time) ≤ℤ z → z <ℤ pos most_time → (least_shift ≤ℤ z) × (z ≤ℤ most_shift)
+    within z low high = (omega (arith, ints), omega (arith, ints))
+
+-- a trip runs on the days of its service
+pub runs_by_service : (feed : FeedRows) (trip : TripId) (row : TripRow) → row ≡ get_or feed.trips trip.0 row → trip.0 < length feed.trips →
+    (day : ℤ) → runs_on feed trip day ≡ is_active feed row.service day
+runs_by_service feed trip row is lt day =
+    ap (λ o. filled_and o (λ (r : TripRow). is_active feed r.service day)) (slice_get-get_or feed.trips trip.0 row lt)
+    ∙ ap (λ (r : TripRow). is_active feed r.service day) (sym is)
+
+-- the stops of a ride are stops of the feed
+call_stop : (feed : FeedRows) (trip : TripId) (m : ℕ) (call : Call) → IsSoundFeed feed → slice_get (calls_of feed trip) m ≡ Some call → call.stop.0 < length feed.stops
+call_stop feed trip m call sound is =
+    let row = calls_of_row feed trip m call (sound_trip feed trip sound).ends is in
+    let within = All-contains (λ (s : StopTimeRow). s.stop.0 < length feed.stops) feed.stop_times row.0 sound.stop_times.stops (row_at feed trip m row.0 row.1).member in
+    subst (λ (s : StopId). s.0 < length feed.stops) (sym row.2.stop) within
+
+pub ride_stops : (audit : AuditOf) (facts : RideFacts) → IsSoundFeed audit.feed → IsAudited audit facts → (facts.from.0 < length audit.feed.stops) × (facts.to.0 < length audit.feed.stops)
+ride_stops audit facts sound is =
+    let ride = is.ride in
+    let r = ride_facts_tells audit.feed ride facts is.is in
+    subst (λ (f : RideFacts). (f.from.0 < length audit.feed.stops) × (f.to.0 < length audit.feed.stops)) r.facts_are
+    (call_stop audit.feed ride.trip ride.from r.boarding sound r.boards, call_stop audit.feed ride.trip ride.to r.alighting sound r.alights)

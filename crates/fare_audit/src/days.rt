@@ -41,7 +41,12 @@ impl AuditDays {
     ///
     /// # Errors
     /// Want of memory.
-    pub fn build(alloc: Global, feed: &Feed, first: Day, count: u32) -> Result<AuditDays, AllocError>
+    pub fn build(
+        alloc: Global,
+        feed: &Feed,
+        first: Day,
+        count: u32,
+    ) -> Result<AuditDays, AllocError>
         requires low { negsuc 799_999 ≤ℤ first.0 }
         requires high { first.0 ≤ℤ pos 2_000_000 }
         requires few { count ≤ 366 }
@@ -115,7 +120,12 @@ fn day_kind(
 {
     for i in 0..firsts.len() {
         let known = firsts[i];
-        if have_same_services(feed, calendar, day_after(first, number), day_after(first, known)) {
+        if have_same_services(
+            feed,
+            calendar,
+            day_after(first, number),
+            day_after(first, known),
+        ) {
             return Ok(known);
         }
     }
@@ -203,7 +213,8 @@ fn are_alike(kinds: &[u32], a: u32, b: u32, reach: Reach) -> bool
     let (one, other) = (a as usize, b as usize);
     match reach {
         Reach::OneDay => is_same_kind(kinds, one, other),
-        Reach::TwoDays => is_same_kind(kinds, one, other) && is_same_kind(kinds, one + 1, other + 1),
+        Reach::TwoDays => is_same_kind(kinds, one, other)
+            && is_same_kind(kinds, one + 1, other + 1),
         Reach::Longer => a == b,
     }
 }

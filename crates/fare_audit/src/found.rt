@@ -3,7 +3,9 @@ ghost use Rattle.std.specs.Prelude.{◌≡◌, ◌<◌, ◌⊎◌, length, Conta
 ghost use Rattle.feed_rows.specs.declared.journeys.Pair.{Pair};
 ghost use Rattle.fare_audit.specs.Found.{AuditOf, AreNoted, IsFound, GrowsTo};
 
-use crate::verdicts::{Verdict, has_pair, no_pairs, no_verdicts, pair_place};
+use crate::pairs::{PAIR_ROOM, has_pair, pair_place, put_in_order};
+use crate::places::unfilled;
+use crate::verdicts::{ROOM, Verdict};
 use feed_rows::Pair;
 use std::alloc::{AllocError, Global};
 
@@ -17,6 +19,8 @@ pub struct Found {
     pub verdicts: Vec<Option<Verdict>>,
     /// Pairs that stand among the gaps, each at its place.
     pub noted: Vec<Option<Pair>>,
+    /// How many gaps there may be until those that stand several times are taken out.
+    pub most: usize,
 }
 
 // Written out, so that what holds one needn't look into it to let go of it.
@@ -27,6 +31,7 @@ impl Drop for Found {
             gaps: _,
             verdicts: _,
             noted: _,
+            most: _,
         } = self;
     }
 }
@@ -42,8 +47,9 @@ impl Found {
         Ok(Found {
             used: vec![in alloc; false; rules]?,
             gaps: Vec::new(alloc),
-            verdicts: no_verdicts(alloc)?,
-            noted: no_pairs(alloc)?,
+            verdicts: unfilled(alloc, ROOM)?,
+            noted: unfilled(alloc, PAIR_ROOM)?,
+            most: PAIR_ROOM,
         })
     }
 
@@ -63,10 +69,23 @@ impl Found {
         if has_pair(&self.noted, place, pair) {
             return Ok(());
         }
+        self.drop_doubles();
         self.gaps.push(pair)?;
         if place < self.noted.len() {
             self.noted[place] = Some(pair);
         }
         Ok(())
+    }
+
+    /// Takes out gaps that stand several times, once there are many: so there are never many more gaps than pairs.
+    fn drop_doubles(&mut self)
+        ensures same { (self.new.used ≡ self.old.used) × (self.new.verdicts ≡ self.old.verdicts) × (self.new.noted ≡ self.old.noted) }
+        ensures kept { (p : Pair) → Contains self.old.gaps.items p → Contains self.new.gaps.items p }
+        ensures tells { (p : Pair) → Contains self.new.gaps.items p → Contains self.old.gaps.items p }
+    {
+        if self.gaps.len() >= self.most {
+            put_in_order(&mut self.gaps);
+            self.most = self.gaps.len().saturating_mul(2).max(PAIR_ROOM);
+        }
     }
 }

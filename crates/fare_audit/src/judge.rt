@@ -135,12 +135,7 @@ impl<'f> Audit<'f> {
     ///
     /// # Errors
     /// Want of memory.
-    fn judge(
-        &self,
-        alloc: Global,
-        ride: &RideFacts,
-        used: &mut [bool],
-    ) -> Result<bool, AllocError>
+    fn judge(&self, alloc: Global, ride: &RideFacts, used: &mut [bool]) -> Result<bool, AllocError>
         requires { length used.old ≡ length self.now.feed.leg_rules }
         ensures value { IfOk result (λ has. has ≡ has_option self.now.feed self.now.rider (leg_facts self.now.feed ride.now)) }
         ensures marks { OnOk result (MarksAll (selected_rules self.now.feed (leg_facts self.now.feed ride.now)) used.old used.new) }

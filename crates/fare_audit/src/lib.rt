@@ -14,13 +14,15 @@ mod ends;
 mod found;
 mod judge;
 mod likes;
+mod pairs;
+mod places;
 mod report;
 mod verdicts;
 mod walk;
 
-use crate::judge::Audit;
 use crate::days::AuditDays;
 use crate::found::Found;
+use crate::judge::Audit;
 pub use crate::report::AuditReport;
 use feed_rows::Feed;
 pub use feed_rows::Pair;

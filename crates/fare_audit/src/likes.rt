@@ -1,11 +1,12 @@
 //! Stops and times of day that are alike to fare rules.
-ghost use Rattle.std.specs.Prelude.{◌≡◌, ◌≤◌, ◌<◌, ℕ, All, IfOk, IfSome, nat_le};
+ghost use Rattle.std.specs.Prelude.{◌≡◌, ◌≤◌, ◌<◌, ℕ, length, All, IfOk, IfSome, nat_le};
 ghost use Rattle.std.specs.List.Sorted.{IsNonDecreasingBy};
 ghost use Rattle.feed_rows.specs.FeedRows.{FeedRows};
 ghost use Rattle.feed_rows.specs.Legs.{stop_areas};
 ghost use Rattle.fare_areas.specs.BuiltAreas.{AreAreasOf};
 ghost use Rattle.fare_audit.specs.Likes.{areas_placed, AreFirsts, AreLikeStops, AreCutsOf, IsCutBefore};
 
+use crate::places::unfilled;
 use fare_areas::Areas;
 use feed_rows::Feed;
 use std::alloc::{AllocError, Global};
@@ -19,7 +20,7 @@ pub fn like_stops(alloc: Global, feed: &Feed) -> Result<Vec<StopId>, AllocError>
     ensures { IfOk result (λ likes. AreLikeStops feed.now likes.items) }
 {
     let areas = Areas::build(alloc, feed)?;
-    let mut firsts = vec![in alloc; None; feed.areas.items().len() + 1]?;
+    let mut firsts = unfilled(alloc, feed.areas.items().len() + 1)?;
     let mut likes = Vec::new(alloc);
     for number in 0..feed.stops.items().len() as u32 {
         likes.push(like_stop(&areas, &mut firsts, StopId(number)))?;
@@ -29,6 +30,7 @@ pub fn like_stops(alloc: Global, feed: &Feed) -> Result<Vec<StopId>, AllocError>
 
 /// The first stop that has the same areas as this one, where these are one or none, and else the stop itself.
 fn like_stop(areas: &Areas, firsts: &mut [Option<StopId>], stop: StopId) -> StopId
+    ensures many { length firsts.new ≡ length firsts.old }
     ensures like { (feed : FeedRows) → AreAreasOf feed areas.now → AreFirsts feed firsts.old → stop_areas feed result ≡ stop_areas feed stop }
     ensures firsts { (feed : FeedRows) → AreAreasOf feed areas.now → AreFirsts feed firsts.old → AreFirsts feed firsts.new }
 {

@@ -4,6 +4,7 @@ ghost use Rattle.plain_laws.specs.Plain.{picks_below};
 ghost use Rattle.fare_audit.specs.Reports.{ArePairsInOrder, are_unused};
 
 use crate::found::Found;
+use crate::pairs::put_in_order;
 use feed_rows::{Feed, Pair};
 use std::alloc::{AllocError, Global};
 use std::marker::Model;
@@ -58,13 +59,12 @@ impl AuditReport {
     }
 }
 
-/// The pairs by boarding stop and then by alighting stop, each once.
+/// The pairs in order, each once.
 fn in_order(alloc: Global, pairs: &[Pair]) -> Result<Vec<Pair>, AllocError>
     ensures { IfOk result (λ sorted. ArePairsInOrder pairs.now sorted.items) }
 {
     let mut sorted = Vec::from_slice(alloc, pairs)?;
-    sorted.sort_unstable_by_key(|pair| (pair.from.0, pair.to.0));
-    sorted.dedup();
+    put_in_order(&mut sorted);
     Ok(sorted)
 }
 

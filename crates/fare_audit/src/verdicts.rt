@@ -1,13 +1,11 @@
 //! What was judged of rides.
-ghost use Rattle.std.specs.Prelude.{◌≡◌, ◌<◌, Contains, IfOk, IfSome, Some, true};
-ghost use Rattle.feed_rows.specs.declared.journeys.Pair.{Pair};
+ghost use Rattle.std.specs.Prelude.{◌≡◌, ◌<◌, Contains, IfSome, Some, true};
 ghost use Rattle.fare_audit.specs.declared.verdicts.Verdict.{Verdict};
 
-use feed_rows::{Pair, RideFacts};
-use std::alloc::{AllocError, Global};
+use feed_rows::RideFacts;
 use transit_base::{Moment, NetworkId};
 
-/// How many verdicts are kept at most, and how many pairs are known to be noted.
+/// How many verdicts are kept at most.
 pub const ROOM: usize = 65_536;
 
 /// A ride, and whether it has an option.
@@ -28,14 +26,12 @@ pub fn ride_place(ride: &RideFacts) -> usize {
     mixed(mixed(ends, times), network) as usize % ROOM
 }
 
-/// The place at which a pair is kept.
-pub fn pair_place(pair: Pair) -> usize {
-    mixed(pair.from.0, pair.to.0) as usize % ROOM
-}
-
 /// A number made of both.
-fn mixed(a: u32, b: u32) -> u32 {
-    a.wrapping_mul(31_337).wrapping_add(b).wrapping_mul(2_654_435_761) >> 7
+pub fn mixed(a: u32, b: u32) -> u32 {
+    a.wrapping_mul(31_337)
+        .wrapping_add(b)
+        .wrapping_mul(2_654_435_761)
+        >> 7
 }
 
 /// A second, as a small number.
@@ -55,16 +51,6 @@ pub fn recalled(verdicts: &[Option<Verdict>], place: usize, ride: &RideFacts) ->
     } else {
         None
     }
-}
-
-/// Whether the place has this pair.
-pub fn has_pair(pairs: &[Option<Pair>], place: usize, pair: Pair) -> bool
-    ensures { result ≡ true → Contains pairs.now (Some pair) }
-{
-    let Some(Some(kept)) = pairs.get(place) else {
-        return false;
-    };
-    kept.from.0 == pair.from.0 && kept.to.0 == pair.to.0
 }
 
 /// Whether each part of the rides is the same.
@@ -87,32 +73,4 @@ fn is_same_network(a: Option<NetworkId>, b: Option<NetworkId>) -> bool
         (None, None) => true,
         _ => false,
     }
-}
-
-/// Places for so many verdicts, none of which is filled.
-///
-/// # Errors
-/// Want of memory.
-pub fn no_verdicts(alloc: Global) -> Result<Vec<Option<Verdict>>, AllocError>
-    ensures { IfOk result (λ none. (v : Verdict) → Contains none.items (Some v) → ⊥) }
-{
-    let mut none = Vec::new(alloc);
-    for number in 0..ROOM {
-        none.push(None)?;
-    }
-    Ok(none)
-}
-
-/// Places for so many pairs, none of which is filled.
-///
-/// # Errors
-/// Want of memory.
-pub fn no_pairs(alloc: Global) -> Result<Vec<Option<Pair>>, AllocError>
-    ensures { IfOk result (λ none. (p : Pair) → Contains none.items (Some p) → ⊥) }
-{
-    let mut none = Vec::new(alloc);
-    for number in 0..ROOM {
-        none.push(None)?;
-    }
-    Ok(none)
 }

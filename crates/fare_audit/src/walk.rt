@@ -11,10 +11,10 @@ ghost use Rattle.fare_audit.specs.Days.{AreDaysOf, AreWithin, EndsBefore};
 ghost use Rattle.fare_audit.specs.Found.{GrowsTo, IsFound};
 ghost use Rattle.fare_audit.specs.Runs.{AreEndsOf, CoversRides, CoversRun, CoversShift, CoversTrip, IsAuditedRun, IsEndOf, IsNearRun};
 
-use crate::judge::Audit;
 use crate::days::{AuditDays, Reach, day_after};
 use crate::ends::End;
 use crate::found::Found;
+use crate::judge::Audit;
 use feed_rows::Call;
 use feed_trips::{Calls, Trips};
 use std::alloc::{AllocError, Global};
@@ -237,7 +237,8 @@ fn ends_before(call: &Call, shift: i64, end: i64) -> bool
     requires departure { call.now.departure ≤ most_time }
     ensures { result ≡ true → EndsBefore shift end call.now }
 {
-    is_between(shift + i64::from(call.arrival), end) && is_between(shift + i64::from(call.departure), end)
+    is_between(shift + i64::from(call.arrival), end)
+        && is_between(shift + i64::from(call.departure), end)
 }
 
 /// Whether the number lies from 0 to before the end.

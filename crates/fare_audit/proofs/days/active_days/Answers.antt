@@ -14,6 +14,6 @@ loop-number-preserved c =
     let n = c.loop-number.number in
     let on = ap (is_active feed c.args.service) (sym c.day_after.ensures) ∙ sym (c.active.ensures feed are) in
     elim c.if-active.branch [
-    | then-active+in_ok-push w ↦ rw w.days-is (subst (AreActiveDays feed c.args.first.0 (n + 1) c.args.service) (sym w.in_ok-push.ensures.items) (active_more feed c.args.first.0 c.args.service n c.loop-number.days.items (c.loop-number.invariant feed are) (on ∙ w.if-active.true)))
-    | else-active w ↦ rw w.days-is (active_less feed c.args.first.0 c.args.service n c.loop-number.days.items (c.loop-number.invariant feed are) (on ∙ w.if-active.false))
+      | then-active+in_ok-push w ↦ rw w.days-is (subst (AreActiveDays feed c.args.first.0 (n + 1) c.args.service) (sym w.in_ok-push.ensures.items) (active_more feed c.args.first.0 c.args.service n c.loop-number.days.items (c.loop-number.invariant feed are) (on ∙ w.if-active.true)))
+      | else-active w ↦ rw w.days-is (active_less feed c.args.first.0 c.args.service n c.loop-number.days.items (c.loop-number.invariant feed are) (on ∙ w.if-active.false))
     ]

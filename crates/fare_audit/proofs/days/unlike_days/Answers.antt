@@ -15,8 +15,8 @@ loop-day-preserved c =
     let days = c.args.days.now in
     let before = c.loop-day.invariant feed first are in
     rw (take_more days i 0 c.loop-day-test.true) (elim c.if-not-has_like.branch [
-    | then-not-has_like+in_ok-push w ↦ rw (w.picked-is, w.in_ok-push.ensures.items) (picked_more feed first c.args.reach (take i days) c.loop-day.picked.items (get_or days i 0) before)
-    | else-not-has_like w ↦ rw w.picked-is (picked_before feed first c.args.reach (take i days) c.loop-day.picked.items (get_or days i 0) before (let P : List ℕ → Type 0 = λ ps. (k : ℕ) × Contains ps k × AreAlike feed c.args.reach (first +ℤ pos k) (first +ℤ pos (get_or days i 0)) in subst P c.deref.ensures.value (c.has_like.ensures w.if-not-has_like.false feed first are)))
+      | then-not-has_like+in_ok-push w ↦ rw (w.picked-is, w.in_ok-push.ensures.items) (picked_more feed first c.args.reach (take i days) c.loop-day.picked.items (get_or days i 0) before)
+      | else-not-has_like w ↦ rw w.picked-is (picked_before feed first c.args.reach (take i days) c.loop-day.picked.items (get_or days i 0) before (let P : List ℕ → Type 0 = λ ps. (k : ℕ) × Contains ps k × AreAlike feed c.args.reach (first +ℤ pos k) (first +ℤ pos (get_or days i 0)) in subst P c.deref.ensures.value (c.has_like.ensures w.if-not-has_like.false feed first are)))
     ])
 
 pub returns : goal.returns

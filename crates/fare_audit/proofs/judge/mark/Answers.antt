@@ -14,8 +14,8 @@ loop-rule-preserved c =
     let i = c.loop-rule.rule-index in
     let none : RuleId = record { 0 = 0 } in
     rw (take_more c.args.rules.now i none c.loop-rule-test.true) (elim c.if-rule-used.branch [
-    | then-rule-used w ↦ rw w.used-is (marks_more _ _ c.args.used.now c.loop-rule.used c.loop-rule.invariant w.if-rule-used.true)
-    | else-rule-used w ↦ rw w.used-is (marks_past _ _ c.args.used.now c.loop-rule.used c.loop-rule.invariant w.if-rule-used.false)
+      | then-rule-used w ↦ rw w.used-is (marks_more _ _ c.args.used.now c.loop-rule.used c.loop-rule.invariant w.if-rule-used.true)
+      | else-rule-used w ↦ rw w.used-is (marks_past _ _ c.args.used.now c.loop-rule.used c.loop-rule.invariant w.if-rule-used.false)
     ])
 
 pub returns-clause-marks : goal.returns-clause-marks

@@ -17,7 +17,7 @@ pub returns : goal.returns
 returns c =
     let all = take_all c.loop-row.row-index c.items-row-items.result.now c.loop-row-test.false ∙ c.items-row-items.ensures.value ∙ ap (λ (f : FeedRows). f.timeframes) c.feed.view_is in
     let has : (row : TimeframeRow) → Contains c.args.feed.now.timeframes row → Contains c.loop-row.cuts.items row.start × Contains c.loop-row.cuts.items row.end =
-        λ row at. c.loop-row.invariant row (let P : List TimeframeRow → Type 0 = λ rs. Contains rs row in subst P (sym all) at) in
+    λ row at. c.loop-row.invariant row (let P : List TimeframeRow → Type 0 = λ rs. Contains rs row in subst P (sym all) at) in
     record {
       rises = IsNonDecreasingBy-from_sort_by_key (λ (cut : ℕ). cut) _ c.sort_unstable_by_key.ensures.sorted (λ a r q k. search rules);
       starts = λ row at. Contains-permutation _ _ row.start c.sort_unstable_by_key.ensures.permutation (has row at).0;

@@ -17,6 +17,7 @@ returns-then-is_between c =
     let a = told_sum shift c.from.result call.arrival c.from.ensures c.ranges.shift g1 f1 in
     let d = told_sum shift c.from-then-is_between.result call.departure c.from-then-is_between.ensures c.ranges.shift g2 f2 in
     let e = to_z-of_z w64 c.args.end c.ranges.end in
-    let P : ℤ → ℤ → Type 0 = λ z m. (pos 0 ≤ℤ z) × (z <ℤ m) in
-    (subst (λ m. P (shift +ℤ pos call.arrival) m) e (subst (λ z. P z (to_z w64 (of_z w64 c.args.end))) a (c.is_between.ensures c.if-is_between.true)),
-    subst (λ m. P (shift +ℤ pos call.departure) m) e (subst (λ z. P z (to_z w64 (of_z w64 c.args.end))) d (c.is_between-then-is_between.ensures same)))
+    let P : ℤ → ℤ → Type 0 = λ z m. (pos 0 ≤ℤ z) × (z <ℤ m) in (
+      subst (λ m. P (shift +ℤ pos call.arrival) m) e (subst (λ z. P z (to_z w64 (of_z w64 c.args.end))) a (c.is_between.ensures c.if-is_between.true)),
+      subst (λ m. P (shift +ℤ pos call.departure) m) e (subst (λ z. P z (to_z w64 (of_z w64 c.args.end))) d (c.is_between-then-is_between.ensures same)),
+    )

@@ -30,20 +30,20 @@ loop-from-preserved c =
     let high = c.requires.to in
     let was = c.loop-from.invariant in
     elim c.if-ends-from.branch [
-    | then-ends-from+in_ok-add_ride w ↦ rw w.found-is (record {
-      found = w.in_ok-add_ride.ensures.found;
-      grows = grows_on c.args.found.now c.loop-from.found w.add_ride.new.found was.grows w.in_ok-add_ride.ensures.grows;
-      covers = below_more (λ k. CoversRides self c.loop-from.found run k c.args.to) (λ k. CoversRides self w.add_ride.new.found run k c.args.to) from _
-          (λ k. rides_later self c.loop-from.found w.add_ride.new.found w.in_ok-add_ride.ensures.grows run k c.args.to) was.covers
-          (rides_between self w.add_ride.new.found run ends c.requires.run c.requires.ends from c.args.to _ _ (slice_get-get_or ends from _ (omega (arith, lt, high))) (slice_get-get_or ends c.args.to _ c.requires.to) w.in_ok-add_ride.ensures.covers) refl;
-    })
-    | else-ends-from w ↦ rw w.found-is (record {
-      found = was.found;
-      grows = was.grows;
-      covers = below_more (λ k. CoversRides self c.loop-from.found run k c.args.to) (λ k. CoversRides self c.loop-from.found run k c.args.to) from _
-          (λ k h. h) was.covers
-          (none_boards self c.loop-from.found run ends c.requires.run c.requires.ends from c.args.to _ (slice_get-get_or ends from _ (omega (arith, lt, high))) w.if-ends-from.false) refl;
-    })
+      | then-ends-from+in_ok-add_ride w ↦ rw w.found-is (record {
+        found = w.in_ok-add_ride.ensures.found;
+        grows = grows_on c.args.found.now c.loop-from.found w.add_ride.new.found was.grows w.in_ok-add_ride.ensures.grows;
+        covers = below_more (λ k. CoversRides self c.loop-from.found run k c.args.to) (λ k. CoversRides self w.add_ride.new.found run k c.args.to) from _
+            (λ k. rides_later self c.loop-from.found w.add_ride.new.found w.in_ok-add_ride.ensures.grows run k c.args.to) was.covers
+            (rides_between self w.add_ride.new.found run ends c.requires.run c.requires.ends from c.args.to _ _ (slice_get-get_or ends from _ (omega (arith, lt, high))) (slice_get-get_or ends c.args.to _ c.requires.to) w.in_ok-add_ride.ensures.covers) refl;
+      })
+      | else-ends-from w ↦ rw w.found-is (record {
+        found = was.found;
+        grows = was.grows;
+        covers = below_more (λ k. CoversRides self c.loop-from.found run k c.args.to) (λ k. CoversRides self c.loop-from.found run k c.args.to) from _
+            (λ k h. h) was.covers
+            (none_boards self c.loop-from.found run ends c.requires.run c.requires.ends from c.args.to _ (slice_get-get_or ends from _ (omega (arith, lt, high))) w.if-ends-from.false) refl;
+      })
     ]
 
 pub returns-clause-covers : goal.returns-clause-covers

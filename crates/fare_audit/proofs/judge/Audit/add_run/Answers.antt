@@ -21,20 +21,20 @@ loop-to-preserved c =
     let to = c.loop-to.to in
     let was = c.loop-to.invariant in
     elim c.if-ends-to.branch [
-    | then-ends-to+in_ok-add_rides_to w ↦ rw w.found-is (record {
-      found = w.in_ok-add_rides_to.ensures.found;
-      grows = grows_on c.args.found.now c.loop-to.found w.add_rides_to.new.found was.grows w.in_ok-add_rides_to.ensures.grows;
-      covers = λ from k. below_more (λ k. CoversRides self c.loop-to.found run from k) (λ k. CoversRides self w.add_rides_to.new.found run from k) to _
-          (λ k. rides_later self c.loop-to.found w.add_rides_to.new.found w.in_ok-add_rides_to.ensures.grows run from k) (was.covers from)
-          (rides_forward self w.add_rides_to.new.found run ends c.requires.run c.requires.ends to w.in_ok-add_rides_to.ensures.covers from) refl k;
-    })
-    | else-ends-to w ↦ rw w.found-is (record {
-      found = was.found;
-      grows = was.grows;
-      covers = λ from k. below_more (λ k. CoversRides self c.loop-to.found run from k) (λ k. CoversRides self c.loop-to.found run from k) to _
-          (λ k h. h) (was.covers from)
-          (none_alights self c.loop-to.found run ends c.requires.run c.requires.ends from to _ (slice_get-get_or ends to _ c.loop-to-test.true) w.if-ends-to.false) refl k;
-    })
+      | then-ends-to+in_ok-add_rides_to w ↦ rw w.found-is (record {
+        found = w.in_ok-add_rides_to.ensures.found;
+        grows = grows_on c.args.found.now c.loop-to.found w.add_rides_to.new.found was.grows w.in_ok-add_rides_to.ensures.grows;
+        covers = λ from k. below_more (λ k. CoversRides self c.loop-to.found run from k) (λ k. CoversRides self w.add_rides_to.new.found run from k) to _
+            (λ k. rides_later self c.loop-to.found w.add_rides_to.new.found w.in_ok-add_rides_to.ensures.grows run from k) (was.covers from)
+            (rides_forward self w.add_rides_to.new.found run ends c.requires.run c.requires.ends to w.in_ok-add_rides_to.ensures.covers from) refl k;
+      })
+      | else-ends-to w ↦ rw w.found-is (record {
+        found = was.found;
+        grows = was.grows;
+        covers = λ from k. below_more (λ k. CoversRides self c.loop-to.found run from k) (λ k. CoversRides self c.loop-to.found run from k) to _
+            (λ k h. h) (was.covers from)
+            (none_alights self c.loop-to.found run ends c.requires.run c.requires.ends from to _ (slice_get-get_or ends to _ c.loop-to-test.true) w.if-ends-to.false) refl k;
+      })
     ]
 
 pub returns-clause-covers : goal.returns-clause-covers

@@ -1,4 +1,3 @@
-
 use Rattle.fare_audit.proofs.judge.Audit.build.Goals as goal
 
 pub invariant_of-result : goal.invariant_of-result

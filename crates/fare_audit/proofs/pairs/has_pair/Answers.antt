@@ -4,7 +4,7 @@ use Rattle.std.proofs.lemmas.Option.{slice_get-get_or}
 use Rattle.feed_rows.specs.declared.journeys.Pair.{Pair}
 use Rattle.plain_laws.proofs.Laws.{Contains-slice_get}
 use Rattle.fare_audit.proofs.FoundLaws.{pair_equal}
-use Rattle.fare_audit.proofs.verdicts.has_pair.Goals as goal
+use Rattle.fare_audit.proofs.pairs.has_pair.Goals as goal
 
 pub returns-then-kept-pair : goal.returns-then-kept-pair
 returns-then-kept-pair c =
