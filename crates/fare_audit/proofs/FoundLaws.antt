@@ -25,8 +25,9 @@ use Rattle.plain_laws.specs.Plain.{at_and, filled_and}
 use Rattle.plain_laws.proofs.Laws.{Contains-picks_below, Contains-slice_get, any_passes, filled_and-true, list_any_tells, picks_below-tells, same_test, slice_get-Contains, some_value}
 use Rattle.fare_audit.specs.declared.ends.End.{End}
 use Rattle.fare_audit.specs.declared.found.Found.{Found}
+use Rattle.fare_audit.specs.declared.found.Walk.{Walk}
 use Rattle.fare_audit.specs.declared.verdicts.Verdict.{Verdict}
-use Rattle.fare_audit.specs.Found.{AuditOf, AreLike, AreNoted, GrowsTo, HasLike, IsAudited, IsCovered, IsFound, IsGap, IsRight, IsUsed, MarksAll, StandsFor, is_marked, opens_rule, selects}
+use Rattle.fare_audit.specs.Found.{AuditOf, AreLike, AreNoted, CoversEnds, CoversPair, GrowsTo, HasLike, IsAudited, IsCovered, IsFound, IsGap, IsRight, IsUsed, MarksAll, StandsFor, is_marked, opens_rule, selects}
 use Rattle.fare_audit.proofs.LikeLaws.{option_like, selects_like}
 
 -- a product has a least open row where it has an open one
@@ -105,6 +106,32 @@ grows_on a b d one other = record { used = λ i at. other.used i (one.used i at)
 pub covered_later : (audit : AuditOf) (a b : Found) (facts : RideFacts) → GrowsTo a b → IsCovered audit a facts → IsCovered audit b facts
 covered_later audit a b facts grows is = record { unpaid = λ e. grows.gaps _ (is.unpaid e); rules = λ i e. grows.used i (is.rules i e) }
 
+pub pair_later : (audit : AuditOf) (old new : Found) → GrowsTo old new → (network : Option NetworkId) (ends : List End) (from to : ℕ) →
+    CoversPair audit old network ends from to → CoversPair audit new network ends from to
+pair_later audit old new grows network ends from to covers e f at on pickup drop_off facts is = covered_later audit old new facts grows (covers e f at on pickup drop_off facts is)
+
+pub ends_later : (audit : AuditOf) (old new : Found) → GrowsTo old new → (network : Option NetworkId) (ends : List End) →
+    CoversEnds audit old network ends → CoversEnds audit new network ends
+ends_later audit old new grows network ends covers from to lt = pair_later audit old new grows network ends from to (covers from to lt)
+
+still_walked : (audit : AuditOf) (old new : Found) → GrowsTo old new → new.walked ≡ old.walked →
+    CoversEnds audit old old.walked.network old.walked.ends.items → CoversEnds audit new new.walked.network new.walked.ends.items
+still_walked audit old new grows same covers =
+    let P : Walk → Type 0 = λ w. CoversEnds audit new w.network w.ends.items in
+    subst P (sym same) (ends_later audit old new grows old.walked.network old.walked.ends.items covers)
+
+pub still_noted : (old new : Found) → AreNoted old → new.noted ≡ old.noted → ((p : Pair) → Contains old.gaps.items p → Contains new.gaps.items p) → AreNoted new
+still_noted old new were noted kept = λ p at. kept p (were p (rw noted at at))
+
+-- what was looked at last is covered
+pub walked_covers : (audit : AuditOf) (found : Found) (network : Option NetworkId) (ends : List End) → IsFound audit found →
+    (found.walked.network ≡ network) × (found.walked.ends.items ≡ ends) → CoversEnds audit found network ends
+walked_covers audit found network ends is these =
+    subst (λ (n : Option NetworkId). CoversEnds audit found n ends) these.0 (subst (CoversEnds audit found found.walked.network) these.1 is.walked)
+
+pub grows_same : (old new : Found) → new.used ≡ old.used → new.gaps ≡ old.gaps → GrowsTo old new
+grows_same old new used gaps = record { used = λ i at. rw used at; gaps = λ pair at. rw gaps at }
+
 -- what is covered for a ride is for one between the same stops that is seen alike
 pub covered_like : (audit : AuditOf) (found : Found) (a b : RideFacts) → AreLike audit.feed a b → a.from ≡ b.from → a.to ≡ b.to →
     IsCovered audit found a → IsCovered audit found b
@@ -147,10 +174,10 @@ marks_selected feed ride old new many marks i e =
 -- what was found stays true with the judgement of one ride more
 pub judged_found : (audit : AuditOf) (old new : Found) (ride : RideFacts) (has : Bool) → IsFound audit old → HasLike audit ride →
     MarksAll (selected_rules audit.feed (leg_facts audit.feed ride)) old.used.items new.used.items →
-    has ≡ has_option audit.feed audit.rider (leg_facts audit.feed ride) → new.gaps ≡ old.gaps → new.noted ≡ old.noted →
+    has ≡ has_option audit.feed audit.rider (leg_facts audit.feed ride) → new.gaps ≡ old.gaps → new.noted ≡ old.noted → new.walked ≡ old.walked →
     ((v : Verdict) → Contains new.verdicts.items (Some v) → Contains old.verdicts.items (Some v) ⊎ (record { ride = ride; has_option = has } ≡ v)) →
     IsFound audit new
-judged_found audit old new ride has were like marks value gaps noted verdicts =
+judged_found audit old new ride has were like marks value gaps noted walked verdicts =
     record {
       many = marks.many ∙ were.many;
       used = λ i at. ⊎_elim
@@ -164,6 +191,7 @@ judged_found audit old new ride has were like marks value gaps noted verdicts =
           (λ (before : Contains old.verdicts.items (Some v)). let r = were.verdicts v before in let right : IsRight audit new.used.items v = record { value = r.value; marks = λ i e. marks.kept i (r.marks i e) } in right)
           (λ (here : record { ride = ride; has_option = has } ≡ v). subst (IsRight audit new.used.items) here (record { value = value; marks = marks_selected audit.feed ride old.used.items new.used.items were.many marks }))
           (verdicts v at);
+      walked = still_walked audit old new (record { used = marks.kept; gaps = λ pair at. rw gaps at }) walked were.walked;
     }
 
 -- a ride between two ends without an option is a gap
@@ -174,9 +202,9 @@ gap_here audit network from to facts is off =
     record { facts = facts; audited = is.audited; from = sym is.from_stop; to = sym is.to_stop; unpaid = sym (option_like audit.feed _ facts is.like audit.rider) ∙ off }
 
 -- what was found stays true with one gap more
-pub noted_found : (audit : AuditOf) (old new : Found) (pair : Pair) → IsFound audit old → new.used ≡ old.used → new.verdicts ≡ old.verdicts → AreNoted new →
-    ((p : Pair) → Contains new.gaps.items p → Contains old.gaps.items p ⊎ (p ≡ pair)) → IsGap audit pair → IsFound audit new
-noted_found audit old new pair were used verdicts noted tells gap =
+pub noted_found : (audit : AuditOf) (old new : Found) (pair : Pair) → IsFound audit old → new.used ≡ old.used → new.verdicts ≡ old.verdicts → new.walked ≡ old.walked → AreNoted new →
+    ((p : Pair) → Contains old.gaps.items p → Contains new.gaps.items p) → ((p : Pair) → Contains new.gaps.items p → Contains old.gaps.items p ⊎ (p ≡ pair)) → IsGap audit pair → IsFound audit new
+noted_found audit old new pair were used verdicts walked noted kept tells gap =
     record {
       many = rw used were.many;
       used = λ i at. were.used i (rw used at at);
@@ -186,6 +214,20 @@ noted_found audit old new pair were used verdicts noted tells gap =
           (tells p at);
       noted = noted;
       verdicts = λ v at. rw used (were.verdicts v (rw verdicts at at));
+      walked = still_walked audit old new (record { used = λ i at. rw used at; gaps = kept }) walked were.walked;
+    }
+
+-- or with another run as the one that was looked at last
+pub walked_found : (audit : AuditOf) (old new : Found) → IsFound audit old → new.used ≡ old.used → new.gaps ≡ old.gaps → new.verdicts ≡ old.verdicts → new.noted ≡ old.noted →
+    CoversEnds audit old new.walked.network new.walked.ends.items → IsFound audit new
+walked_found audit old new were used gaps verdicts noted covers =
+    record {
+      many = rw used were.many;
+      used = λ i at. were.used i (rw used at at);
+      gaps = λ p at. were.gaps p (rw gaps at at);
+      noted = λ p at. rw gaps (were.noted p (rw noted at at));
+      verdicts = λ v at. rw used (were.verdicts v (rw verdicts at at));
+      walked = ends_later audit old new (grows_same old new used gaps) new.walked.network new.walked.ends.items covers;
     }
 
 abbrev two_of : StopId → StopId → Pair

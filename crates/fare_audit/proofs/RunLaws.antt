@@ -1,11 +1,11 @@
 -- The rides of runs, and which of them are covered.
-use Rattle.std.proofs.Common.{◌≡◌, refl, sym, ◌∙◌, ap, subst, ℕ, ◌+◌, ◌<◌, ◌≤◌, ◌⊎◌, inl, inr, ⊎_elim, Bool, true, false, ◌&&◌, List, length, Contains, ℤ, pos, ◌+ℤ◌, ◌-ℤ◌, ◌≤ℤ◌, ◌<ℤ◌, ◌++◌, ◌∷◌, [], All, get_or, arith}
+use Rattle.std.proofs.Common.{◌≡◌, refl, sym, ◌∙◌, ap, subst, ℕ, ◌+◌, ◌<◌, ◌≤◌, ◌⊎◌, inl, inr, ⊎_elim, Bool, true, false, ◌&&◌, List, length, Contains, ℤ, pos, ◌+ℤ◌, ◌-ℤ◌, ◌≤ℤ◌, ◌<ℤ◌, ◌++◌, ◌∷◌, [], All, get_or, take, negsuc, arith}
 use Rattle.std.specs.Prelude.{Option, Some, None, slice_get, nat_lt}
 use Rattle.std.proofs.lemmas.Bool.{and_from, cases_lt, false≢true}
 use Rattle.std.proofs.lemmas.Bool.Decides.{nat_tests}
 use Rattle.std.proofs.lemmas.Int.{ints}
-use Rattle.std.proofs.lemmas.Option.{same_Some, slice_get-get_or, slice_get_within}
-use Rattle.std.proofs.lemmas.List.Elements.{All-contains, Contains-push_cases}
+use Rattle.std.proofs.lemmas.Option.{get_or_from_slice_get, same_Some, slice_get-get_or, slice_get_within}
+use Rattle.std.proofs.lemmas.List.Elements.{All-contains, All-push, Contains-get_or, Contains-push_cases}
 use Rattle.transit_base.specs.declared.numbers.TripId.{TripId}
 use Rattle.transit_base.specs.declared.calendar.Day.{Day}
 use Rattle.transit_base.specs.declared.numbers.NetworkId.{NetworkId}
@@ -33,14 +33,14 @@ use Rattle.feed_laws.proofs.RideLaws.{IsRideWith, is_ride_by_shift, ride_facts_t
 use Rattle.feed_laws.proofs.ShiftLaws.{Contains_from_found, found_from_Contains, is_shift_bounds, list_any-shifts_of}
 use Rattle.plain_laws.specs.Plain.{at_and, filled_and}
 use Rattle.plain_laws.proofs.Laws.{Contains-slice_get, slice_get-new_item, slice_get-old_item}
-use Rattle.std.proofs.lemmas.List.{length_push}
+use Rattle.std.proofs.lemmas.List.{length_push, take_more}
 use Rattle.fare_audit.specs.declared.days.Reach.{Reach}
 use Rattle.fare_audit.specs.declared.ends.End.{End}
 use Rattle.fare_audit.specs.declared.found.Found.{Found}
 use Rattle.fare_audit.specs.declared.walk.Run.{Run}
 use Rattle.fare_audit.specs.Days.{AreAlike, AreDaysLike, AreWithin, IsWithin}
-use Rattle.fare_audit.specs.Found.{AreLike, AuditOf, GrowsTo, HasRide, IsAudited, IsCovered, StandsFor}
-use Rattle.fare_audit.specs.Runs.{AreEndsOf, CoversRides, CoversRun, CoversShift, CoversTrip, IsAuditedRun, IsEndOf, ride_by}
+use Rattle.fare_audit.specs.Found.{AreLike, AuditOf, CoversEnds, CoversPair, GrowsTo, HasRide, IsAudited, IsCovered, StandsFor}
+use Rattle.fare_audit.specs.Runs.{AreEndsOf, CoversRun, CoversShift, CoversTrip, IsAuditedRun, IsEndOf, IsNearRun, ride_by}
 use Rattle.fare_audit.proofs.DayLaws.{frames_alike}
 use Rattle.fare_audit.proofs.FoundLaws.{covered_later, covered_like, item_at}
 use Rattle.fare_audit.proofs.GapLaws.{runs_within}
@@ -177,43 +177,50 @@ module _ (audit : AuditOf) (old new : Found) (grows : GrowsTo old new) where
   pub shift_later : (trip : TripId) (shift : ℤ) → CoversShift audit old trip shift → CoversShift audit new trip shift
   shift_later trip shift covers facts is same by = covered_later audit old new facts grows (covers facts is same by)
 
-  pub rides_later : (run : Run) (from to : ℕ) → CoversRides audit old run from to → CoversRides audit new run from to
-  rides_later run from to covers facts is = covered_later audit old new facts grows (covers facts is)
-
   pub run_later : (run : Run) → CoversRun audit old run → CoversRun audit new run
-  run_later run covers from to = rides_later run from to (covers from to)
+  run_later run covers from to facts is = covered_later audit old new facts grows (covers from to facts is)
 
-module _ (audit : AuditOf) (found : Found) (run : Run) (ends : List End) (is : IsAuditedRun audit run) (are : AreEndsOf audit.feed run (calls_of audit.feed run.trip) ends) where
-  -- where riders may not board, there is no ride
-  pub none_boards : (from to : ℕ) (e : End) → slice_get ends from ≡ Some e → e.pickup ≡ false → CoversRides audit found run from to
-  none_boards from to e at off facts ride =
-      let has = ends_there audit run ends is are from to facts ride in
-      let same : has.e ≡ e = same_Some _ _ (sym has.at ∙ at) in
-      absurd (false≢true (sym off ∙ sym (ap (λ (x : End). x.pickup) same) ∙ has.pickup))
+module _ (audit : AuditOf) (found : Found) (network : Option NetworkId) (ends : List End) (from to : ℕ) (a b : End) (at : slice_get ends from ≡ Some a) (on : slice_get ends to ≡ Some b) where
+  -- what stands between two ends is covered where these are those at the positions
+  pub pair_covered : ((facts : RideFacts) → StandsFor audit network a b facts → IsCovered audit found facts) → CoversPair audit found network ends from to
+  pair_covered covers e f got have pickup drop_off facts is =
+      covers facts (subst (λ x. StandsFor audit network x b facts) (same_Some _ _ (sym got ∙ at))
+      (subst (λ y. StandsFor audit network e y facts) (same_Some _ _ (sym have ∙ on)) is))
 
-  pub none_alights : (from to : ℕ) (f : End) → slice_get ends to ≡ Some f → f.drop_off ≡ false → CoversRides audit found run from to
-  none_alights from to f on off facts ride =
-      let has = ends_there audit run ends is are from to facts ride in
-      let same : has.f ≡ f = same_Some _ _ (sym has.on ∙ on) in
-      absurd (false≢true (sym off ∙ sym (ap (λ (x : End). x.drop_off) same) ∙ has.drop_off))
+  -- or where riders may not board at the one, or not alight at the other
+  pub none_boards : a.pickup ≡ false → CoversPair audit found network ends from to
+  none_boards off e f got have pickup drop_off facts is =
+      absurd (false≢true (sym off ∙ ap (λ (x : End). x.pickup) (same_Some _ _ (sym at ∙ got)) ∙ pickup))
 
-  -- what stands between two ends is the rides between them
-  pub rides_between : (from to : ℕ) (e f : End) → slice_get ends from ≡ Some e → slice_get ends to ≡ Some f →
-      ((facts : RideFacts) → StandsFor audit run.network e f facts → IsCovered audit found facts) → CoversRides audit found run from to
-  rides_between from to e f at on covers facts ride = covers facts (ride_stands audit run ends is are from to facts e f ride at on)
+  pub none_alights : b.drop_off ≡ false → CoversPair audit found network ends from to
+  none_alights off e f got have pickup drop_off facts is =
+      absurd (false≢true (sym off ∙ ap (λ (x : End). x.drop_off) (same_Some _ _ (sym on ∙ have)) ∙ drop_off))
 
-  -- a ride boards before it alights
-  pub rides_forward : (to : ℕ) → ((from : ℕ) → from < to → CoversRides audit found run from to) → (from : ℕ) → CoversRides audit found run from to
-  rides_forward to covers from facts ride =
-      let has = ends_there audit run ends is are from to facts ride in
-      covers from has.lt facts ride
+-- between all ends
+pub ends_covered : (audit : AuditOf) (found : Found) (network : Option NetworkId) (ends : List End) (n : ℕ) → length ends ≤ n →
+    ((to : ℕ) → to < n → (from : ℕ) → from < to → CoversPair audit found network ends from to) → CoversEnds audit found network ends
+ends_covered audit found network ends n all covers from to lt e f got have =
+    let within = slice_get_within ends to f have in
+    covers to (omega (arith, within, all)) from lt e f got have
 
-  -- and alights at one of the ends
-  pub run_covered : (n : ℕ) → length ends ≤ n → ((from to : ℕ) → to < n → CoversRides audit found run from to) → CoversRun audit found run
-  run_covered n all covers from to facts ride =
-      let has = ends_there audit run ends is are from to facts ride in
-      let within = has.within in
-      covers from to (omega (arith, within, all)) facts ride
+-- so are the rides of a run with these ends
+pub run_covered : (audit : AuditOf) (found : Found) (run : Run) (ends : List End) → IsAuditedRun audit run → AreEndsOf audit.feed run (calls_of audit.feed run.trip) ends →
+    CoversEnds audit found run.network ends → CoversRun audit found run
+run_covered audit found run ends is are covers from to facts ride =
+    let has = ends_there audit run ends is are from to facts ride in
+    covers from to has.lt has.e has.f has.at has.on has.pickup has.drop_off facts (ride_stands audit run ends is are from to facts has.e has.f ride has.at has.on)
+
+-- no end at all
+abbrev pub no_end : End
+no_end =
+    record {
+      stop = record { 0 = 0 };
+      like = record { 0 = 0 };
+      arrival = record { 0 = pos 0 };
+      departure = record { 0 = pos 0 };
+      pickup = false;
+      drop_off = false;
+    }
 
 -- one end more
 pub ends_more : (feed : FeedRows) (run : Run) (calls : List Call) (ends new : List End) (n : ℕ) (call : Call) (end : End) → length ends ≡ n →
@@ -282,6 +289,37 @@ pub runs_by_service : (feed : FeedRows) (trip : TripId) (row : TripRow) → row 
 runs_by_service feed trip row is lt day =
     ap (λ o. filled_and o (λ (r : TripRow). is_active feed r.service day)) (slice_get-get_or feed.trips trip.0 row lt)
     ∙ ap (λ (r : TripRow). is_active feed r.service day) (sym is)
+
+-- and its service has a name
+pub trip_service : (feed : FeedRows) (trip : TripId) (row : TripRow) → IsSoundFeed feed → row ≡ get_or feed.trips trip.0 row → trip.0 < length feed.trips →
+    row.service.0 < length feed.service_names
+trip_service feed trip row sound is lt =
+    subst (λ (r : TripRow). r.service.0 < length feed.service_names) (sym is) (sound.trips.services trip.0 row lt)
+
+-- the service is active on each of its days
+pub active_at : (audit : AuditOf) (service : ServiceId) (days : List ℕ) (i : ℕ) →
+    All (λ n. (n < audit.count) × (is_active audit.feed service (audit.first +ℤ pos n) ≡ true)) days → i < length days →
+    (get_or days i 0 < audit.count) × (is_active audit.feed service (audit.first +ℤ pos (get_or days i 0)) ≡ true)
+active_at audit service days i within lt =
+    All-contains (λ n. (n < audit.count) × (is_active audit.feed service (audit.first +ℤ pos n) ≡ true)) days (get_or days i 0) within (Contains-get_or days i 0 lt)
+
+-- a run of such a day lies within bounds
+pub near_run : (run : Run) (first : ℤ) (n count : ℕ) → run.day.0 ≡ first +ℤ pos n → negsuc 799_999 ≤ℤ first → first ≤ℤ pos 2_000_000 → n < count → count ≤ 366 →
+    (least_shift ≤ℤ run.shift) × (run.shift ≤ℤ most_shift) → IsNearRun run
+near_run run first n count day low high lt few shift =
+    record { day_low = omega (arith, ints, day, low); day_high = omega (arith, ints, day, high, lt, few); shift_low = shift.0; shift_high = shift.1 }
+
+-- one call more
+pub all_more : (P : Call → Type 0) (calls : List Call) (i : ℕ) (call : Call) → slice_get calls i ≡ Some call → All P (take i calls) → P call → All P (take (i + 1) calls)
+all_more P calls i call at before here =
+    subst (All P) (sym (take_more calls i call (slice_get_within calls i call at) ∙ ap (λ (x : Call). take i calls ++ x ∷ []) (get_or_from_slice_get calls i call call at)))
+    (All-push P (take i calls) call before here)
+
+-- one end more that is the same
+pub same_more : (xs ys : List End) (i : ℕ) (x y : End) → i < length xs → i < length ys → take i xs ≡ take i ys → get_or xs i x ≡ get_or ys i y →
+    take (i + 1) xs ≡ take (i + 1) ys
+same_more xs ys i x y lt within before same =
+    take_more xs i x lt ∙ ap (λ (zs : List End). zs ++ get_or xs i x ∷ []) before ∙ ap (λ (z : End). take i ys ++ z ∷ []) same ∙ sym (take_more ys i y within)
 
 -- the stops of a ride are stops of the feed
 call_stop : (feed : FeedRows) (trip : TripId) (m : ℕ) (call : Call) → IsSoundFeed feed → slice_get (calls_of feed trip) m ≡ Some call → call.stop.0 < length feed.stops

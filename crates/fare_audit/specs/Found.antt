@@ -100,6 +100,22 @@ pub record IsUsed (audit : AuditOf) (rule : ℕ) : Type 0 where
 abbrev pub AreNoted : Found → Type 0
 AreNoted found = (pair : Pair) → Contains found.noted.items (Some pair) → Contains found.gaps.items pair
 
+-- what follows from the ride with these facts is found
+pub record IsCovered (audit : AuditOf) (found : Found) (facts : RideFacts) : Type 0 where
+  pub unpaid : has_option audit.feed audit.rider (leg_facts audit.feed facts) ≡ false →
+      Contains found.gaps.items (record { from = facts.from; to = facts.to })
+  pub rules : (i : ℕ) → selects audit.feed facts i ≡ true → is_marked found.used.items i ≡ true
+
+-- what stands between the two ends, where riders may board at the one and alight at the other, is covered
+abbrev pub CoversPair : AuditOf → Found → Option NetworkId → List End → ℕ → ℕ → Type 0
+CoversPair audit found network ends from to =
+    (e f : End) → slice_get ends from ≡ Some e → slice_get ends to ≡ Some f → e.pickup ≡ true → f.drop_off ≡ true →
+    (facts : RideFacts) → StandsFor audit network e f facts → IsCovered audit found facts
+
+-- and so is what stands between any two
+abbrev pub CoversEnds : AuditOf → Found → Option NetworkId → List End → Type 0
+CoversEnds audit found network ends = (from to : ℕ) → from < to → CoversPair audit found network ends from to
+
 -- what was found is true
 pub record IsFound (audit : AuditOf) (found : Found) : Type 0 where
   pub many : length found.used.items ≡ length audit.feed.leg_rules
@@ -107,14 +123,9 @@ pub record IsFound (audit : AuditOf) (found : Found) : Type 0 where
   pub gaps : (pair : Pair) → Contains found.gaps.items pair → IsGap audit pair
   pub noted : AreNoted found
   pub verdicts : (verdict : Verdict) → Contains found.verdicts.items (Some verdict) → IsRight audit found.used.items verdict
+  pub walked : CoversEnds audit found found.walked.network found.walked.ends.items
 
 -- nothing that was found is lost
 pub record GrowsTo (old new : Found) : Type 0 where
   pub used : (i : ℕ) → is_marked old.used.items i ≡ true → is_marked new.used.items i ≡ true
   pub gaps : (pair : Pair) → Contains old.gaps.items pair → Contains new.gaps.items pair
-
--- what follows from the ride with these facts is found
-pub record IsCovered (audit : AuditOf) (found : Found) (facts : RideFacts) : Type 0 where
-  pub unpaid : has_option audit.feed audit.rider (leg_facts audit.feed facts) ≡ false →
-      Contains found.gaps.items (record { from = facts.from; to = facts.to })
-  pub rules : (i : ℕ) → selects audit.feed facts i ≡ true → is_marked found.used.items i ≡ true

@@ -55,14 +55,10 @@ pub record AreEndsOf (feed : FeedRows) (run : Run) (calls : List Call) (ends : L
   pub each : (k : ℕ) (end : End) → slice_get ends k ≡ Some end →
       (call : Call) × (slice_get calls k ≡ Some call) × IsEndOf feed run call end
 
--- a ride of the run between the positions is covered
-abbrev pub CoversRides : AuditOf → Found → Run → ℕ → ℕ → Type 0
-CoversRides audit found run from to =
-    (facts : RideFacts) → ride_facts audit.feed (ride_by run from to) ≡ Some facts → IsCovered audit found facts
-
 -- each ride of the run is covered
 abbrev pub CoversRun : AuditOf → Found → Run → Type 0
-CoversRun audit found run = (from to : ℕ) → CoversRides audit found run from to
+CoversRun audit found run =
+    (from to : ℕ) (facts : RideFacts) → ride_facts audit.feed (ride_by run from to) ≡ Some facts → IsCovered audit found facts
 
 -- the rides of the trip with this shift are covered on each of the days
 abbrev pub CoversShift : AuditOf → Found → TripId → ℤ → Type 0

@@ -1,5 +1,5 @@
 //! The calls of a run, as fare rules see them.
-ghost use Rattle.feed_rows.specs.declared.journeys.RideFacts.{RideFacts};
+ghost use Rattle.std.specs.Prelude.{◌≡◌, true};
 
 use transit_base::{Moment, StopId};
 
@@ -17,4 +17,31 @@ pub struct End {
     pub pickup: bool,
     /// Whether riders may alight here.
     pub drop_off: bool,
+}
+
+/// Whether each part of the ends is the same.
+fn is_same_end(a: &End, b: &End) -> bool
+    ensures { result ≡ true → a.now ≡ b.now }
+{
+    a.stop.0 == b.stop.0
+        && a.like.0 == b.like.0
+        && a.arrival.0 == b.arrival.0
+        && a.departure.0 == b.departure.0
+        && a.pickup == b.pickup
+        && a.drop_off == b.drop_off
+}
+
+/// Whether both lists have the same ends, in the same order.
+pub fn are_same_ends(a: &[End], b: &[End]) -> bool
+    ensures { result ≡ true → a.now ≡ b.now }
+{
+    if a.len() != b.len() {
+        return false;
+    }
+    for place in 0..a.len() {
+        if !is_same_end(&a[place], &b[place]) {
+            return false;
+        }
+    }
+    true
 }

@@ -117,6 +117,7 @@ impl<'f> Audit<'f> {
         ensures value { result.0 ≡ self.now.first }
         ensures low { negsuc 799_999 ≤ℤ result.0 }
         ensures high { result.0 ≤ℤ pos 2_000_000 }
+        ensures few { self.now.count ≤ 366 }
     {
         self.first
     }

@@ -6,8 +6,8 @@
 //! and what was judged once is kept.
 #![tactic(auto)]
 
-ghost use Rattle.std.specs.Prelude.{◌≡◌, ◌≤ℤ◌, ◌+ℤ◌, ℤ, pos, negsuc, IfOk};
-ghost use Rattle.feed_rows.specs.FareGaps.{uncovered_pairs, idle_rules};
+ghost use Rattle.std.specs.Prelude.{◌≡◌, ◌≤◌, ◌≤ℤ◌, ◌+ℤ◌, ℤ, pos, negsuc, IfOk};
+ghost use Rattle.feed_rows.specs.FareGaps.{days_from, uncovered_pairs, idle_rules};
 
 mod days;
 mod ends;
@@ -49,7 +49,7 @@ pub fn audit(
     ensures gaps { IfOk result (λ report. report.gaps ≡ uncovered_pairs feed.now rider first.0 last.0) }
     ensures idle { IfOk result (λ report. report.idle ≡ idle_rules feed.now first.0 last.0) }
 {
-    let count = (last.0 - first.0) as u32 + 1;
+    let count = days_between(first, last);
     let days = AuditDays::build(alloc, feed, first, count)?;
     let audit = Audit::build(alloc, feed, rider, first, count)?;
     let mut found = Found::empty(alloc, feed.leg_rules.items().len())?;
@@ -58,4 +58,16 @@ pub fn audit(
         Err(AllocError) => return Err(AllocError),
     }
     AuditReport::of(alloc, &found)
+}
+
+/// How many days there are from the first to the last.
+fn days_between(first: Day, last: Day) -> u32
+    requires low { negsuc 25_566 ≤ℤ first.0 }
+    requires high { last.0 ≤ℤ pos 376_199 }
+    requires ordered { first.0 ≤ℤ last.0 }
+    requires near { last.0 ≤ℤ (first.0 +ℤ pos 365) }
+    ensures value { result ≡ days_from first.0 last.0 }
+    ensures few { result ≤ 366 }
+{
+    (last.0 - first.0) as u32 + 1
 }

@@ -78,11 +78,18 @@ fn unused(alloc: Global, used: &[bool]) -> Result<Vec<RuleId>, AllocError>
     let mut rules = Vec::new(alloc);
     for number in 0..used.len() {
         if !used[number] {
-            let Ok(rule) = u32::try_from(number) else {
-                return Err(AllocError);
-            };
-            rules.push(RuleId(rule))?;
+            rules.push(rule_at(number)?)?;
         }
     }
     Ok(rules)
+}
+
+/// The rule with this number.
+fn rule_at(number: usize) -> Result<RuleId, AllocError>
+    ensures { IfOk result (λ rule. rule.0 ≡ number) }
+{
+    match u32::try_from(number) {
+        Ok(rule) => Ok(RuleId(rule)),
+        Err(_) => Err(AllocError),
+    }
 }

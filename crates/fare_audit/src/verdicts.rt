@@ -65,7 +65,7 @@ fn is_same_ride(a: &RideFacts, b: &RideFacts) -> bool
 }
 
 /// Whether both networks are there and equal, or neither is there.
-fn is_same_network(a: Option<NetworkId>, b: Option<NetworkId>) -> bool
+pub fn is_same_network(a: Option<NetworkId>, b: Option<NetworkId>) -> bool
     ensures { result ≡ true → a ≡ b }
 {
     match (a, b) {

@@ -8,8 +8,8 @@ ghost use Rattle.feed_rows.specs.Calls.{calls_of};
 ghost use Rattle.feed_rows.specs.Rides.{runs_on, trip_network};
 ghost use Rattle.feed_rows.specs.Shifts.{shifts_of};
 ghost use Rattle.fare_audit.specs.Days.{AreDaysOf, AreWithin, EndsBefore};
-ghost use Rattle.fare_audit.specs.Found.{GrowsTo, IsFound};
-ghost use Rattle.fare_audit.specs.Runs.{AreEndsOf, CoversRides, CoversRun, CoversShift, CoversTrip, IsAuditedRun, IsEndOf, IsNearRun};
+ghost use Rattle.fare_audit.specs.Found.{CoversPair, GrowsTo, IsFound};
+ghost use Rattle.fare_audit.specs.Runs.{AreEndsOf, CoversRun, CoversShift, CoversTrip, IsAuditedRun, IsEndOf, IsNearRun};
 
 use crate::days::{AuditDays, Reach, day_after};
 use crate::ends::End;
@@ -148,7 +148,7 @@ impl<'f> Audit<'f> {
         }
     }
 
-    /// Adds the rides of a run.
+    /// Adds the rides of a run, unless those of one that fare rules see alike were added just before.
     fn add_run(
         &self,
         alloc: Global,
@@ -163,11 +163,15 @@ impl<'f> Audit<'f> {
         ensures grows { OnOk result (GrowsTo found.old found.new) }
         ensures covers { OnOk result (CoversRun self.now found.new run.now) }
     {
+        if found.is_walked(run.network, ends) {
+            return Ok(());
+        }
         for to in 0..ends.len() {
             if ends[to].drop_off {
                 self.add_rides_to(alloc, found, run, ends, to)?;
             }
         }
+        found.keep_walk(run.network, ends)?;
         Ok(())
     }
 
@@ -187,7 +191,7 @@ impl<'f> Audit<'f> {
         requires found { IsFound self.now found.old }
         ensures found { OnOk result (IsFound self.now found.new) }
         ensures grows { OnOk result (GrowsTo found.old found.new) }
-        ensures covers { OnOk result ((from : ℕ) → from < to → CoversRides self.now found.new run.now from to) }
+        ensures covers { OnOk result ((from : ℕ) → from < to → CoversPair self.now found.new run.now.network ends.now from to) }
     {
         for from in 0..to {
             if ends[from].pickup {

@@ -17,4 +17,17 @@ loop-number-init c =
     }
 
 pub loop-number-preserved : goal.loop-number-preserved
-loop-number-preserved c = ?
+loop-number-preserved c =
+    let feed = c.args.feed.now in
+    let was = c.loop-number.invariant in
+    let many = c.like_stop.ensures.many in
+    let own = ap length c.deref_mut.ensures.value in
+    let ok = c.loop-number.firsts.ok.0 in
+    let whole = written c.loop-number.firsts.items c.like_stop.new.firsts c.loop-number.firsts.len (omega (arith, many, own)) (omega (arith, ok)) in
+    let P : List (Option StopId) → Type 0 = AreFirsts feed in
+    let before = subst P (sym c.deref_mut.ensures.value) was.firsts in
+    record {
+      many = ap length c.in_ok-push.ensures.items ∙ length_push _ _ ∙ ap (λ n. n + 1) was.many;
+      firsts = subst P (sym whole) (c.like_stop.ensures.firsts feed c.in_ok-areas.ensures before);
+      likes = likes_more feed c.loop-number.likes.items _ c.loop-number.number _ was.likes was.many c.in_ok-push.ensures.items (c.like_stop.ensures.like feed c.in_ok-areas.ensures before);
+    }

@@ -14,7 +14,7 @@ note-requires c = c.in_ok-has_option.ensures.found.noted
 pub returns-in_ok-note-clause-found : goal.returns-in_ok-note-clause-found
 returns-in_ok-note-clause-found c =
     let e = c.in_ok-note.ensures in
-    noted_found c.args.self.now c.has_option.new.found c.note.new.self _ c.in_ok-has_option.ensures.found e.same.0 e.same.1 e.noted e.tells
+    noted_found c.args.self.now c.has_option.new.found c.note.new.self _ c.in_ok-has_option.ensures.found e.same.0 e.same.1 e.same.2 e.noted e.kept e.tells
     (gap_here c.args.self.now c.args.network c.args.from.now c.args.to.now c.requires.ride.0 c.requires.ride.1 (sym c.in_ok-has_option.ensures.value ∙ c.if-not-branch.true))
 
 pub returns-in_ok-note-clause-grows : goal.returns-in_ok-note-clause-grows

@@ -1,9 +1,9 @@
 use Rattle.std.proofs.Common.{◌≡◌, ℕ, ◌<◌, refl, subst, arith, ap, sym, ◌∙◌, Some}
 use Rattle.std.proofs.lemmas.Option.{slice_get-get_or}
 use Rattle.fare_audit.specs.declared.ends.End.{End}
-use Rattle.fare_audit.specs.Runs.{CoversRides}
-use Rattle.fare_audit.proofs.FoundLaws.{grows_itself, grows_on}
-use Rattle.fare_audit.proofs.RunLaws.{below_more, none_boards, ride_there, rides_between, rides_later}
+use Rattle.fare_audit.specs.Found.{CoversPair}
+use Rattle.fare_audit.proofs.FoundLaws.{grows_itself, grows_on, pair_later}
+use Rattle.fare_audit.proofs.RunLaws.{below_more, no_end, none_boards, pair_covered, ride_there}
 use Rattle.fare_audit.proofs.judge.Audit.add_rides_to.Goals.{then-ends-from+in_ok-add_ride, else-ends-from}
 use Rattle.fare_audit.proofs.judge.Audit.add_rides_to.Goals as goal
 
@@ -23,9 +23,10 @@ add_ride-requires-clause-ride c =
 pub loop-from-preserved : goal.loop-from-preserved
 loop-from-preserved c =
     let self = c.args.self.now in
-    let run = c.args.run.now in
+    let network = c.args.run.now.network in
     let ends = c.args.ends.now in
     let from = c.loop-from.from in
+    let to = c.args.to in
     let lt = c.loop-from-test.true in
     let high = c.requires.to in
     let was = c.loop-from.invariant in
@@ -33,16 +34,16 @@ loop-from-preserved c =
       | then-ends-from+in_ok-add_ride w ↦ rw w.found-is (record {
         found = w.in_ok-add_ride.ensures.found;
         grows = grows_on c.args.found.now c.loop-from.found w.add_ride.new.found was.grows w.in_ok-add_ride.ensures.grows;
-        covers = below_more (λ k. CoversRides self c.loop-from.found run k c.args.to) (λ k. CoversRides self w.add_ride.new.found run k c.args.to) from _
-            (λ k. rides_later self c.loop-from.found w.add_ride.new.found w.in_ok-add_ride.ensures.grows run k c.args.to) was.covers
-            (rides_between self w.add_ride.new.found run ends c.requires.run c.requires.ends from c.args.to _ _ (slice_get-get_or ends from _ (omega (arith, lt, high))) (slice_get-get_or ends c.args.to _ c.requires.to) w.in_ok-add_ride.ensures.covers) refl;
+        covers = below_more (λ k. CoversPair self c.loop-from.found network ends k to) (λ k. CoversPair self w.add_ride.new.found network ends k to) from _
+            (λ k. pair_later self c.loop-from.found w.add_ride.new.found w.in_ok-add_ride.ensures.grows network ends k to) was.covers
+            (pair_covered self w.add_ride.new.found network ends from to _ _ (slice_get-get_or ends from _ (omega (arith, lt, high))) (slice_get-get_or ends to _ high) w.in_ok-add_ride.ensures.covers) refl;
       })
       | else-ends-from w ↦ rw w.found-is (record {
         found = was.found;
         grows = was.grows;
-        covers = below_more (λ k. CoversRides self c.loop-from.found run k c.args.to) (λ k. CoversRides self c.loop-from.found run k c.args.to) from _
+        covers = below_more (λ k. CoversPair self c.loop-from.found network ends k to) (λ k. CoversPair self c.loop-from.found network ends k to) from _
             (λ k h. h) was.covers
-            (none_boards self c.loop-from.found run ends c.requires.run c.requires.ends from c.args.to _ (slice_get-get_or ends from _ (omega (arith, lt, high))) w.if-ends-from.false) refl;
+            (none_boards self c.loop-from.found network ends from to _ _ (slice_get-get_or ends from _ (omega (arith, lt, high))) (slice_get-get_or ends to no_end high) w.if-ends-from.false) refl;
       })
     ]
 

@@ -39,7 +39,7 @@ returns-then-place-len-clause-found c =
     let Q : List Bool → List Bool → Type 0 = MarksAll (selected_rules audit.feed (leg_facts audit.feed ride)) in
     let marks = subst (Q used.items) (sym whole) (subst (λ (old : List Bool). Q old c.judge.new.used) c.deref_mut.ensures.value c.in_ok-has_option.ensures.marks) in
     let verdict : Verdict = record { ride = ride; has_option = c.in_ok-has_option.has_option } in
-    judged_found audit c.args.found.now _ ride c.in_ok-has_option.has_option c.requires.found c.requires.like marks c.in_ok-has_option.ensures.value refl refl
+    judged_found audit c.args.found.now _ ride c.in_ok-has_option.has_option c.requires.found c.requires.like marks c.in_ok-has_option.ensures.value refl refl refl
     (λ v at. ⊎_elim
     (λ (old : Contains c.args.found.now.verdicts.items (Some v)). let r : Contains c.args.found.now.verdicts.items (Some v) ⊎ (verdict ≡ v) = inl old in r)
     (λ (new : Some verdict ≡ Some v). let r : Contains c.args.found.now.verdicts.items (Some v) ⊎ (verdict ≡ v) = inr (same_Some _ _ new) in r)
@@ -79,7 +79,7 @@ returns-else-place-len-clause-found c =
     let whole = written used.items c.judge.new.used used.len (omega (arith, many, own)) (omega (arith, used.ok.0)) in
     let Q : List Bool → List Bool → Type 0 = MarksAll (selected_rules audit.feed (leg_facts audit.feed ride)) in
     let marks = subst (Q used.items) (sym whole) (subst (λ (old : List Bool). Q old c.judge.new.used) c.deref_mut.ensures.value c.in_ok-has_option.ensures.marks) in
-    judged_found audit c.args.found.now _ ride c.in_ok-has_option.has_option c.requires.found c.requires.like marks c.in_ok-has_option.ensures.value refl refl (λ v at. inl at)
+    judged_found audit c.args.found.now _ ride c.in_ok-has_option.has_option c.requires.found c.requires.like marks c.in_ok-has_option.ensures.value refl refl refl (λ v at. inl at)
 
 pub returns-else-place-len-clause-grows : goal.returns-else-place-len-clause-grows
 returns-else-place-len-clause-grows c =
