@@ -19,3 +19,11 @@ returns-else-place-len-clause-noted c =
     let found = c.drop_doubles.new.self in
     let noted = still_noted c.args.self.now found c.requires c.drop_doubles.ensures.same.2 c.drop_doubles.ensures.kept in
     λ p at. rw c.in_ok-push.ensures.items (Contains-append_left found.gaps.items _ p (noted p at))
+
+pub returns-then-place-len-clause-kept : goal.returns-then-place-len-clause-kept
+returns-then-place-len-clause-kept c =
+    λ p at. rw c.in_ok-push.ensures.items (Contains-append_left c.drop_doubles.new.self.gaps.items _ p (c.drop_doubles.ensures.kept p at))
+
+pub returns-else-place-len-clause-kept : goal.returns-else-place-len-clause-kept
+returns-else-place-len-clause-kept c =
+    λ p at. rw c.in_ok-push.ensures.items (Contains-append_left c.drop_doubles.new.self.gaps.items _ p (c.drop_doubles.ensures.kept p at))
