@@ -22,7 +22,8 @@ const DATES: &[u8] = b"service_id,date,exception_type\nW,20250602,1\n";
 
 const PRODUCTS: &[u8] = b"fare_product_id,amount,currency\nsingle,2.50,EUR\nrail,4.00,EUR\n";
 
-// A feed by its texts; what is empty here has no file.
+// A feed by the texts of its files.
+#[derive(Clone, Copy)]
 struct Town {
     stops: &'static [u8],
     stop_times: &'static [u8],
