@@ -1,8 +1,8 @@
-use Rattle.std.proofs.Common.{◌≡◌, ◌∙◌, ◌×◌, ℕ, ◌<◌, ℤ, true, pos, ◌+ℤ◌, ◌≤ℤ◌, List, Contains, All, get_or, refl, subst, take, take_all, arith, ap, sym}
+use Rattle.std.proofs.Common.{◌≡◌, ◌∙◌, ℕ, ◌<◌, ℤ, true, pos, ◌+ℤ◌, ◌≤ℤ◌, List, Contains, All, get_or, refl, subst, take, take_all, arith, ap, sym}
 use mir.Syntax.{w64}
 use mir.Val.{of_z, to_z}
 use Rattle.std.proofs.lemmas.Int.{to_z-of_z}
-use Rattle.std.proofs.lemmas.List.{take_more}
+use Rattle.std.proofs.lemmas.List.{get_or_default, take_more}
 use Rattle.std.proofs.lemmas.List.Elements.{All-contains, Contains-get_or}
 use Rattle.transit_base.specs.declared.calendar.Day.{Day}
 use Rattle.feed_rows.specs.declared.rows.TripRow.{TripRow}
@@ -32,9 +32,10 @@ pub ends_of-requires-clause-run : goal.ends_of-requires-clause-run
 ends_of-requires-clause-run c =
     let self = c.args.self.now in
     let trip = c.args.trip in
-    let row = c.index-items-trip.result in
+    let none = c.index-items-trip.result in
+    let row = get_or c.items.result.now trip.0 none in
     let rows = c.items.ensures.value ∙ ap (λ (f : FeedRows). f.trips) (c.behind-self.view_is ∙ c.feed.ensures.value) in
-    let is = c.index-items-trip.is ∙ ap (λ (rs : List TripRow). get_or rs trip.0 row) rows in
+    let is = ap (λ (rs : List TripRow). get_or rs trip.0 none) rows ∙ get_or_default self.feed.trips trip.0 none row c.requires.trip in
     let like = c.of-number-items.ensures self.feed self.first self.count c.requires.days (trip_service self.feed trip row c.feed.ensures.sound is c.requires.trip) in
     let on = active_at self row.service _ c.loop-number.number-index like.within c.loop-number-test.true in
     near_run _ c.first.result.0 (get_or c.of-number-items.result.now c.loop-number.number-index 0) self.count c.day_after-day.ensures c.first.ensures.low c.first.ensures.high on.0 c.first.ensures.few
@@ -45,9 +46,10 @@ pub add_run-requires-clause-run : goal.add_run-requires-clause-run
 add_run-requires-clause-run c =
     let self = c.args.self.now in
     let trip = c.args.trip in
-    let row = c.index-items-trip.result in
+    let none = c.index-items-trip.result in
+    let row = get_or c.items.result.now trip.0 none in
     let rows = c.items.ensures.value ∙ ap (λ (f : FeedRows). f.trips) (c.behind-self.view_is ∙ c.feed.ensures.value) in
-    let is = c.index-items-trip.is ∙ ap (λ (rs : List TripRow). get_or rs trip.0 row) rows in
+    let is = ap (λ (rs : List TripRow). get_or rs trip.0 none) rows ∙ get_or_default self.feed.trips trip.0 none row c.requires.trip in
     let like = c.of-number-items.ensures self.feed self.first self.count c.requires.days (trip_service self.feed trip row c.feed.ensures.sound is c.requires.trip) in
     let on = active_at self row.service _ c.loop-number.number-index like.within c.loop-number-test.true in
     let n = get_or c.of-number-items.result.now c.loop-number.number-index 0 in
@@ -88,9 +90,10 @@ pub returns-clause-covers : goal.returns-clause-covers
 returns-clause-covers c =
     let self = c.args.self.now in
     let trip = c.args.trip in
-    let row = c.index-items-trip.result in
+    let none = c.index-items-trip.result in
+    let row = get_or c.items.result.now trip.0 none in
     let rows = c.items.ensures.value ∙ ap (λ (f : FeedRows). f.trips) (c.behind-self.view_is ∙ c.feed.ensures.value) in
-    let is = c.index-items-trip.is ∙ ap (λ (rs : List TripRow). get_or rs trip.0 row) rows in
+    let is = ap (λ (rs : List TripRow). get_or rs trip.0 none) rows ∙ get_or_default self.feed.trips trip.0 none row c.requires.trip in
     let like = c.of-number-items.ensures self.feed self.first self.count c.requires.days (trip_service self.feed trip row c.feed.ensures.sound is c.requires.trip) in
     let days = c.of-number-items.result.now in
     let z = to_z w64 (of_z w64 c.args.shift) in
