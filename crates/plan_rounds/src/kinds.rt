@@ -29,6 +29,12 @@ pub struct RideKind {
     pub(crate) kind: usize,
 }
 
+/// A place for rides: the one that has it, if there is one.
+#[derive(Clone, Copy)]
+pub struct Slot {
+    pub(crate) kept: Option<RideKind>,
+}
+
 /// What can be paid for legs, kept by their kinds, and for the rides that came last of which kind their legs are. Contracts see the
 /// kinds.
 pub struct LegKinds<'l, 's> {
@@ -37,7 +43,7 @@ pub struct LegKinds<'l, 's> {
     // What fare rules look at in the leg that was looked at last, kept for its memory.
     leg: LegFacts,
     // Each ride has one place here, in which the last one that has it stands.
-    slots: Vec<Option<RideKind>>,
+    slots: Vec<Slot>,
 }
 
 // Written out, so that what holds one needn't look into it to let go of it.
@@ -115,7 +121,7 @@ impl<'l, 's> LegKinds<'l, 's> {
             known: KnownOptions::of(alloc, automaton),
             timeframes,
             leg: blank_leg(alloc),
-            slots: vec![in alloc; None; SLOTS]?,
+            slots: vec![in alloc; Slot { kept: None }; SLOTS]?,
         })
     }
 
@@ -124,7 +130,7 @@ impl<'l, 's> LegKinds<'l, 's> {
         ensures { IfSome result (IsOfKind self.now.lists (leg_facts self.now.terms.feed ride.now)) }
     {
         match self.slots.get(place_of(ride)) {
-            Some(Some(own)) if same_ride(&own.ride, ride) => Some(own.kind),
+            Some(Slot { kept: Some(own) }) if same_ride(&own.ride, ride) => Some(own.kind),
             _ => None,
         }
     }
@@ -136,7 +142,9 @@ impl<'l, 's> LegKinds<'l, 's> {
     {
         let place = place_of(ride);
         if place < self.slots.len() {
-            self.slots[place] = Some(RideKind { ride: *ride, kind });
+            self.slots[place] = Slot {
+                kept: Some(RideKind { ride: *ride, kind }),
+            };
         }
     }
 

@@ -10,6 +10,6 @@ use Rattle.plan_rounds.proofs.kinds.LegKinds.of.Goals as goal
 pub invariant_of-result : goal.invariant_of-result
 invariant_of-result c = (
   subst (λ (t : FareTerms). AreTimeframesOf t.feed c.args.timeframes.now) (sym (ap (λ (k : KnownPicks). k.terms) c.of.ensures)) c.requires,
-  subst (All (IsKindOf c.of.result)) (sym (c.in_ok-vec.ensures.items_if_clones_equal (λ y same. same)))
-      (All-replicate (IsKindOf c.of.result) _ None tt),
+  subst (All (IsKindOf c.of.result)) (sym (c.in_ok-vec.ensures.items_if_clones_equal (λ y clone. clone)))
+      (All-replicate (IsKindOf c.of.result) _ (record { kept = None }) tt),
 )
