@@ -1,6 +1,6 @@
 -- One move for each option, that costs least, is enough.
 use Rattle.std.proofs.Common.{◌≡◌, refl, sym, ◌∙◌, ap, subst, ℕ, zero, suc, ◌+◌, ◌<◌, Bool, true, false, not, List, [], ◌∷◌, ◌++◌, length, take, get_or, arith, ℤ, ◌+ℤ◌, ◌≤ℤ◌}
-use Rattle.std.specs.Prelude.{Option, Some, None, is_none, pos, map, option_map, slice_get, All, Contains, MatchOption}
+use Rattle.std.specs.Prelude.{if◌then◌else◌, Option, Some, None, is_none, pos, map, option_map, slice_get, All, Contains, MatchOption}
 use Rattle.std.specs.Option.{is_some}
 use Rattle.std.proofs.lemmas.Int.{ints}
 use Rattle.std.proofs.lemmas.List.{take_all, append-nil, length-map}
