@@ -17,7 +17,7 @@ use std::marker::Model;
 use transit_base::NetworkId;
 
 /// How many rides are kept at most.
-const SLOTS: usize = 1 << 13;
+const SLOTS: usize = 8_192;
 
 /// By what numbers are spread over all bits: 2^64 over the golden ratio.
 const MIX: u64 = 0x9e37_79b9_7f4a_7c15;

@@ -11,5 +11,5 @@ pub invariant_of-result : goal.invariant_of-result
 invariant_of-result c = (
   subst (λ (t : FareTerms). AreTimeframesOf t.feed c.args.timeframes.now) (sym (ap (λ (k : KnownPicks). k.terms) c.of.ensures)) c.requires,
   subst (All (IsKindOf c.of.result)) (sym (c.in_ok-vec.ensures.items_if_clones_equal (λ y clone. clone)))
-      (All-replicate (IsKindOf c.of.result) _ (record { kept = None }) tt),
+      (All-replicate (IsKindOf c.of.result) 8192 (record { kept = None }) tt),
 )
