@@ -1,6 +1,7 @@
 //! What an audit looks at, and how it judges a ride.
 ghost use Rattle.std.specs.Prelude.{◌≡◌, ◌≤◌, ◌<◌, ◌||◌, ℕ, true, pos, negsuc, ◌≤ℤ◌, ◌^◌, length, Contains, IfOk, OnOk};
 ghost use Rattle.feed_rows.specs.declared.journeys.RideFacts.{RideFacts};
+ghost use Rattle.feed_calendar.specs.BuiltCalendar.{IsCalendarOf};
 ghost use Rattle.feed_rows.specs.SoundFeed.{IsSoundFeed};
 ghost use Rattle.std.specs.List.{list_any};
 ghost use Rattle.feed_rows.specs.FareGaps.{has_option};
@@ -16,6 +17,7 @@ use crate::verdicts::{Verdict, recalled, ride_place};
 use fare_leg_rules::LegRules;
 use fare_products::Products;
 use fare_timeframes::Timeframes;
+use feed_calendar::Calendar;
 use feed_rows::{Buyer, Feed, Pair, RideFacts, RuleList};
 use std::alloc::{AllocError, Global};
 use std::marker::Model;
@@ -28,7 +30,7 @@ pub struct Audit<'f> {
     first: Day,
     /// How many days there are.
     count: u32,
-    timeframes: Timeframes,
+    timeframes: Timeframes<'f>,
     rules: LegRules,
     products: Products,
     /// Of each stop one with the same areas.
@@ -74,10 +76,12 @@ impl<'f> Audit<'f> {
     pub fn build(
         alloc: Global,
         feed: &'f Feed,
+        calendar: &'f Calendar,
         buyer: Buyer,
         first: Day,
         count: u32,
     ) -> Result<Audit<'f>, AllocError>
+        requires calendar { IsCalendarOf feed.now calendar.now }
         requires low { negsuc 799_999 ≤ℤ first.0 }
         requires high { first.0 ≤ℤ pos 2_000_000 }
         requires few { count ≤ 366 }
@@ -88,18 +92,20 @@ impl<'f> Audit<'f> {
         let cuts = cuts_of(alloc, feed)?;
         let products = Products::build(alloc, feed)?;
         let rules = LegRules::build(alloc, feed)?;
-        let timeframes = Timeframes::build(alloc, feed)?;
-        Ok(Audit {
-            feed,
-            buyer,
-            first,
-            count,
-            timeframes,
-            rules,
-            products,
-            likes,
-            cuts,
-        })
+        match Timeframes::build(alloc, feed, calendar) {
+            Ok(timeframes) => Ok(Audit {
+                feed,
+                buyer,
+                first,
+                count,
+                timeframes,
+                rules,
+                products,
+                likes,
+                cuts,
+            }),
+            Err(AllocError) => Err(AllocError),
+        }
     }
 
     /// The feed.

@@ -7,6 +7,7 @@
 #![tactic(auto)]
 
 ghost use Rattle.std.specs.Prelude.{◌≡◌, ◌≤◌, ◌≤ℤ◌, ◌+ℤ◌, ℤ, pos, negsuc, IfOk};
+ghost use Rattle.feed_calendar.specs.BuiltCalendar.{IsCalendarOf};
 ghost use Rattle.feed_rows.specs.FareGaps.{days_from, uncovered_pairs, idle_rules};
 
 mod days;
@@ -24,6 +25,7 @@ use crate::days::AuditDays;
 use crate::found::Found;
 use crate::judge::Audit;
 pub use crate::report::AuditReport;
+use feed_calendar::Calendar;
 pub use feed_rows::Pair;
 use feed_rows::{Buyer, Feed};
 use feed_trips::Trips;
@@ -49,9 +51,30 @@ pub fn audit(
     ensures gaps { IfOk result (λ report. report.gaps ≡ uncovered_pairs feed.now buyer first.0 last.0) }
     ensures idle { IfOk result (λ report. report.idle ≡ idle_rules feed.now first.0 last.0) }
 {
+    let calendar = Calendar::build(alloc, feed)?;
+    audit_by(alloc, feed, &calendar, buyer, first, last)
+}
+
+/// The same by the calendar.
+fn audit_by(
+    alloc: Global,
+    feed: &Feed,
+    calendar: &Calendar,
+    buyer: Buyer,
+    first: Day,
+    last: Day,
+) -> Result<AuditReport, AllocError>
+    requires calendar { IsCalendarOf feed.now calendar.now }
+    requires low { negsuc 25_566 ≤ℤ first.0 }
+    requires high { last.0 ≤ℤ pos 376_199 }
+    requires ordered { first.0 ≤ℤ last.0 }
+    requires near { last.0 ≤ℤ (first.0 +ℤ pos 365) }
+    ensures gaps { IfOk result (λ report. report.gaps ≡ uncovered_pairs feed.now buyer first.0 last.0) }
+    ensures idle { IfOk result (λ report. report.idle ≡ idle_rules feed.now first.0 last.0) }
+{
     let count = days_between(first, last);
-    let days = AuditDays::build(alloc, feed, first, count)?;
-    let audit = Audit::build(alloc, feed, buyer, first, count)?;
+    let days = AuditDays::build(alloc, feed, calendar, first, count)?;
+    let audit = Audit::build(alloc, feed, calendar, buyer, first, count)?;
     let mut found = Found::empty(alloc, feed.leg_rules.items().len())?;
     match Trips::build(alloc, feed) {
         Ok(trips) => audit.add_trips(alloc, &mut found, &trips, &days)?,

@@ -1,12 +1,12 @@
 use Rattle.fare_audit.proofs.judge.Audit.build.Goals as goal
 
-pub invariant_of-result : goal.invariant_of-result
-invariant_of-result c =
+pub invariant_of-result-in-Ok : goal.invariant_of-result-in-Ok
+invariant_of-result-in-Ok c =
     record {
       low = c.requires.low;
       high = c.requires.high;
       few = c.requires.few;
-      timeframes = c.in_ok-timeframes.ensures;
+      timeframes = c.in-Ok.ensures;
       rules = c.in_ok-rules.ensures;
       products = c.in_ok-products.ensures;
       likes = c.in_ok-likes.ensures;

@@ -7,7 +7,7 @@ use Rattle.fare_audit.specs.Found.{AuditOf}
 use Rattle.fare_audit.specs.Reports.{ArePairsInOrder, Gaps, are_unused}
 use Rattle.fare_audit.proofs.ReportLaws.{gaps_are, idle_are}
 use Rattle.fare_audit.proofs.RunLaws.{all_covered, ride_stops}
-use Rattle.fare_audit.proofs.audit.Goals as goal
+use Rattle.fare_audit.proofs.audit_by.Goals as goal
 
 pub add_trips-requires-clause-found : goal.add_trips-requires-clause-found
 add_trips-requires-clause-found c =
