@@ -1,9 +1,10 @@
 //! The ways to pay some legs, of which none is as good as another.
 ghost use Rattle.std.specs.Prelude.{◌≡◌, ◌<◌, ◌≤◌, ◌^◌, [], ◌∷◌, ◌+ℤ◌, length, map, nat_abs, slice_get, Some, All, OnOk};
 ghost use Rattle.label_bag.specs.Bags.{Gathers};
+ghost use Rattle.feed_rows.specs.SameStates.{same_parts};
 ghost use Rattle.fare_price.specs.Ways.{cost, is_as_good, way_by, IsSmall};
 
-use feed_rows::Move;
+use feed_rows::{FareState, Move};
 use label_bag::{Bag, ListBag};
 use label_order::LabelOrder;
 use std::alloc::{AllocError, Global};
@@ -29,14 +30,22 @@ impl Way {
     }
 
     /// Whether it leads to the state of the other, has paid no more and costs no more.
-    #[tactic(auto, unfolding(crate::specs::Ways::is_as_good, feed_rows::specs::SameStates::same_parts))]
+    #[tactic(auto, unfolding(crate::specs::Ways::is_as_good))]
     fn is_as_good(&self, other: &Way) -> bool
         ensures { result ≡ is_as_good self.now other.now }
     {
         self.paid.0 <= other.paid.0
             && self.cost() <= other.cost()
-            && self.step.state == other.step.state
+            && same_parts(&self.step.state, &other.step.state)
     }
+}
+
+/// Whether each part of the states is the same.
+#[tactic(auto, unfolding(feed_rows::specs::SameStates::same_parts))]
+fn same_parts(a: &FareState, b: &FareState) -> bool
+    ensures { result ≡ same_parts a.now b.now }
+{
+    *a == *b
 }
 
 impl LabelOrder for Way {

@@ -10,7 +10,7 @@ pub loop-number-preserved : goal.loop-number-preserved
 loop-number-preserved c =
     subst (λ (w : Way). IsCheapest c.args.ways.now (take (c.loop-number.number + 1) c.args.ways.now) w)
     (sym c.cheaper.ensures)
-    (lesser_more cost c.args.ways.now c.loop-number.number c.loop-number.least c.get.result.now c.get.ensures
+    (lesser_more cost c.args.ways.now c.loop-number.number c.get.result.now c.loop-number.least c.get.ensures
     c.loop-number.invariant)
 
 pub returns : goal.returns
