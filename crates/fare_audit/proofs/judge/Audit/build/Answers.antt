@@ -1,7 +1,7 @@
 use Rattle.fare_audit.proofs.judge.Audit.build.Goals as goal
 
-pub invariant_of-result-in-Ok : goal.invariant_of-result-in-Ok
-invariant_of-result-in-Ok c =
+pub invariant_of-result : goal.invariant_of-result
+invariant_of-result c =
     record {
       low = c.requires.low;
       high = c.requires.high;
