@@ -346,7 +346,7 @@ fn entries_at<'s>(
     automaton: &Automaton,
 ) -> Result<Vec<Entry>, AllocError>
     requires timeframes { AreTimeframesOf rides.now.feed timeframes.now }
-    requires same { automaton.now ≡ terms rides.now.feed rides.now.query.rider }
+    requires same { automaton.now ≡ terms rides.now.feed rides.now.query.buyer }
     ensures exact { IfOk result (λ entries. IsExactAnswer rides.now.feed rides.now.query entries.items) }
     ensures covers { IfOk result (λ entries. CoversOffers rides.now.feed rides.now.query entries.items) }
 {
