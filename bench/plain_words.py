@@ -35,7 +35,7 @@ PLANS = {"plain words": ([], 2.5), "eight rides": (["--rides", "8"], 4), "three 
 WORST = 6
 # How often a command runs beside a check.
 RUNS = 7
-# What a plan may take whatever the check does, and how many times its memory.
+# What a plan may take whatever the check does, and how many times its memory; for the slowest of many ways memory is told alone.
 SECONDS, MEGABYTES, MEMORY = 0.02, 8, 2
 
 
@@ -108,7 +108,7 @@ def run_beside(begin, words, limit, count):
     return runs, checks
 
 
-def print_run(rows, said, begin, words, limit, times):
+def print_run(rows, said, begin, words, limit, times, memory=MEMORY):
     runs, checks = run_beside(begin, words, limit, RUNS)
     run, check = least_of(runs), least_of(checks)
     if run.is_ended:
@@ -116,10 +116,11 @@ def print_run(rows, said, begin, words, limit, times):
         return
     ratio = statistics.median(one.seconds / other.seconds for one, other in zip(runs, checks))
     is_slow = ratio > times and run.seconds > SECONDS
-    above = is_slow or run.megabytes > max(MEMORY * check.megabytes, MEGABYTES)
+    above = is_slow or (memory is not None and run.megabytes > max(memory * check.megabytes, MEGABYTES))
+    most = "" if memory is None else f" (at most {memory}, or {MEGABYTES} MB)"
     print(
         f"{rows}\t{said}\t{run.seconds:.3f} s\t{ratio:.2f} times check (at most {times}, or {SECONDS} s)"
-        f"\t{run.megabytes:.1f} MB\t{run.megabytes / check.megabytes:.2f} times (at most {MEMORY}, or {MEGABYTES} MB)"
+        f"\t{run.megabytes:.1f} MB\t{run.megabytes / check.megabytes:.2f} times{most}"
         f"\t{run.journeys()} journeys\t{'above' if above else '-'}",
         flush=True,
     )
@@ -135,7 +136,7 @@ def print_pairs(rows, begin, city, count, limit):
     ended = sum(it.is_ended for it, _ in runs)
     print(f"{rows}\t{count} ways at any hour\t{ended} ended\tmedian {statistics.median(it.seconds for it, _ in runs):.3f} s", flush=True)
     _, words = runs[-1]
-    print_run(rows, f"the worst of them: {' '.join(words)}", begin, ["plan", *words], limit, WORST)
+    print_run(rows, f"the worst of them: {' '.join(words)}", begin, ["plan", *words], limit, WORST, None)
 
 
 def print_size(folder, program, rows, limit, pairs):
