@@ -1,0 +1,23 @@
+-- What holds of an audit that was built.
+use Rattle.std.specs.Prelude.{◌≤◌, ◌≤ℤ◌, pos, negsuc}
+use Rattle.fare_leg_rules.specs.BuiltLegRules.{AreLegRulesOf}
+use Rattle.fare_products.specs.BuiltProducts.{AreProductsOf}
+use Rattle.fare_timeframes.specs.BuiltTimeframes.{AreTimeframesOf}
+use Rattle.fare_audit.specs.declared.judge.Audit.TheInside.{Inside}
+use Rattle.fare_audit.specs.Found.{AuditOf}
+use Rattle.fare_audit.specs.Likes.{AreCutsOf, AreLikeStops}
+
+-- the fields as one record
+abbrev pub audit_inside : Inside → AuditOf
+audit_inside s = record { feed = s.feed.now; rider = s.rider; first = s.first.0; count = s.count }
+
+-- all was built from the feed, and the days lie within bounds
+pub record IsBuilt (s : Inside) : Type 0 where
+  pub low : negsuc 799_999 ≤ℤ s.first.0
+  pub high : s.first.0 ≤ℤ pos 2_000_000
+  pub few : s.count ≤ 366
+  pub timeframes : AreTimeframesOf s.feed.now s.timeframes
+  pub rules : AreLegRulesOf s.feed.now s.rules
+  pub products : AreProductsOf s.feed.now s.products
+  pub likes : AreLikeStops s.feed.now s.likes.items
+  pub cuts : AreCutsOf s.feed.now s.cuts.items

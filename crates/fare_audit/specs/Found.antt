@@ -1,0 +1,131 @@
+-- What an audit has found so far, and which rides that covers.
+use Rattle.std.specs.Prelude.{◌≡◌, ◌<◌, ◌⊎◌, ℕ, Bool, true, false, List, length, Option, Some, None, slice_get, All, Contains, ℤ, pos, ◌+ℤ◌}
+use Rattle.std.specs.Option.{ForSome}
+use Rattle.std.specs.List.{list_any}
+use Rattle.transit_base.specs.declared.numbers.NetworkId.{NetworkId}
+use Rattle.transit_base.specs.declared.numbers.RiderId.{RiderId}
+use Rattle.transit_base.specs.declared.numbers.RuleId.{RuleId}
+use Rattle.feed_rows.specs.declared.journeys.Pair.{Pair}
+use Rattle.feed_rows.specs.declared.journeys.Ride.{Ride}
+use Rattle.feed_rows.specs.declared.journeys.RideFacts.{RideFacts}
+use Rattle.feed_rows.specs.FareChoices.{is_open}
+use Rattle.feed_rows.specs.FareGaps.{has_option}
+use Rattle.feed_rows.specs.FeedRows.{FeedRows}
+use Rattle.feed_rows.specs.LegRules.{is_selected_rule}
+use Rattle.feed_rows.specs.Legs.{frames_at, leg_facts, stop_areas}
+use Rattle.feed_rows.specs.Rides.{ride_facts}
+use Rattle.plain_laws.specs.Plain.{at_and}
+use Rattle.fare_audit.specs.declared.ends.End.{End}
+use Rattle.fare_audit.specs.declared.found.Found.{Found}
+use Rattle.fare_audit.specs.declared.verdicts.Verdict.{Verdict}
+
+-- a feed, a rider, the first of the service days that are looked at, and how many there are
+pub record AuditOf : Type 0 where
+  pub feed : FeedRows
+  pub rider : Option RiderId
+  pub first : ℤ
+  pub count : ℕ
+
+-- the facts are those of a ride of these days
+pub record IsAudited (audit : AuditOf) (facts : RideFacts) : Type 0 where
+  pub ride : Ride
+  pub number : ℕ
+  pub within : number < audit.count
+  pub day : ride.day.0 ≡ audit.first +ℤ pos number
+  pub is : ride_facts audit.feed ride ≡ Some facts
+
+-- fare rules see the same of both rides
+pub record AreLike (feed : FeedRows) (a b : RideFacts) : Type 0 where
+  pub network : a.network ≡ b.network
+  pub from_areas : stop_areas feed a.from ≡ stop_areas feed b.from
+  pub to_areas : stop_areas feed a.to ≡ stop_areas feed b.to
+  pub from_frames : frames_at feed a.departure ≡ frames_at feed b.departure
+  pub to_frames : frames_at feed a.arrival ≡ frames_at feed b.arrival
+
+-- some ride of these days is seen as this one
+abbrev pub HasLike : AuditOf → RideFacts → Type 0
+HasLike audit ride = (facts : RideFacts) × IsAudited audit facts × AreLike audit.feed ride facts
+
+-- the ride with these facts goes from the one end to the other
+pub record StandsFor (audit : AuditOf) (network : Option NetworkId) (from to : End) (facts : RideFacts) : Type 0 where
+  pub audited : IsAudited audit facts
+  pub from_stop : from.stop ≡ facts.from
+  pub to_stop : to.stop ≡ facts.to
+  pub like : AreLike audit.feed (record { from = from.like; to = to.like; network = network; departure = from.departure; arrival = to.arrival }) facts
+
+-- there is such a ride
+abbrev pub HasRide : AuditOf → Option NetworkId → End → End → Type 0
+HasRide audit network from to = (facts : RideFacts) × StandsFor audit network from to facts
+
+-- the rule is marked
+abbrev pub is_marked : List Bool → ℕ → Bool
+is_marked marks i = at_and marks i (λ marked. marked)
+
+-- the leg of the ride selects the rule
+abbrev pub selects : FeedRows → RideFacts → ℕ → Bool
+selects feed ride i = at_and feed.leg_rules i (is_selected_rule feed (leg_facts feed ride))
+
+-- the rules are marked besides what was
+pub record MarksAll (rules : List RuleId) (old new : List Bool) : Type 0 where
+  pub many : length new ≡ length old
+  pub kept : (i : ℕ) → is_marked old i ≡ true → is_marked new i ≡ true
+  pub marks : (rule : RuleId) → Contains rules rule → rule.0 < length old → is_marked new rule.0 ≡ true
+  pub tells : (i : ℕ) → is_marked new i ≡ true → (is_marked old i ≡ true) ⊎ Contains rules (record { 0 = i })
+
+-- a row of the rule's product is open to the rider
+abbrev pub opens_rule : AuditOf → RuleId → Bool
+opens_rule audit rule =
+    at_and audit.feed.leg_rules rule.0 (λ row. list_any (is_open row.product audit.rider) audit.feed.products)
+
+-- the verdict is right, and the rules that the ride selects are marked
+pub record IsRight (audit : AuditOf) (used : List Bool) (verdict : Verdict) : Type 0 where
+  pub value : verdict.has_option ≡ has_option audit.feed audit.rider (leg_facts audit.feed verdict.ride)
+  pub marks : (i : ℕ) → selects audit.feed verdict.ride i ≡ true → is_marked used i ≡ true
+
+-- a ride between the stops has no option
+pub record IsGap (audit : AuditOf) (pair : Pair) : Type 0 where
+  pub facts : RideFacts
+  pub audited : IsAudited audit facts
+  pub from : facts.from ≡ pair.from
+  pub to : facts.to ≡ pair.to
+  pub unpaid : has_option audit.feed audit.rider (leg_facts audit.feed facts) ≡ false
+
+-- a ride selects the rule
+pub record IsUsed (audit : AuditOf) (rule : ℕ) : Type 0 where
+  pub facts : RideFacts
+  pub audited : IsAudited audit facts
+  pub selected : selects audit.feed facts rule ≡ true
+
+-- each pair that is noted stands among the gaps
+abbrev pub AreNoted : Found → Type 0
+AreNoted found = (pair : Pair) → Contains found.noted.items (Some pair) → Contains found.gaps.items pair
+
+-- what follows from the ride with these facts is found
+pub record IsCovered (audit : AuditOf) (found : Found) (facts : RideFacts) : Type 0 where
+  pub unpaid : has_option audit.feed audit.rider (leg_facts audit.feed facts) ≡ false →
+      Contains found.gaps.items (record { from = facts.from; to = facts.to })
+  pub rules : (i : ℕ) → selects audit.feed facts i ≡ true → is_marked found.used.items i ≡ true
+
+-- what stands between the two ends, where riders may board at the one and alight at the other, is covered
+abbrev pub CoversPair : AuditOf → Found → Option NetworkId → List End → ℕ → ℕ → Type 0
+CoversPair audit found network ends from to =
+    (e f : End) → slice_get ends from ≡ Some e → slice_get ends to ≡ Some f → e.pickup ≡ true → f.drop_off ≡ true →
+    (facts : RideFacts) → StandsFor audit network e f facts → IsCovered audit found facts
+
+-- and so is what stands between any two
+abbrev pub CoversEnds : AuditOf → Found → Option NetworkId → List End → Type 0
+CoversEnds audit found network ends = (from to : ℕ) → from < to → CoversPair audit found network ends from to
+
+-- what was found is true
+pub record IsFound (audit : AuditOf) (found : Found) : Type 0 where
+  pub many : length found.used.items ≡ length audit.feed.leg_rules
+  pub used : (i : ℕ) → is_marked found.used.items i ≡ true → IsUsed audit i
+  pub gaps : (pair : Pair) → Contains found.gaps.items pair → IsGap audit pair
+  pub noted : AreNoted found
+  pub verdicts : (verdict : Verdict) → Contains found.verdicts.items (Some verdict) → IsRight audit found.used.items verdict
+  pub walked : CoversEnds audit found found.walked.network found.walked.ends.items
+
+-- nothing that was found is lost
+pub record GrowsTo (old new : Found) : Type 0 where
+  pub used : (i : ℕ) → is_marked old.used.items i ≡ true → is_marked new.used.items i ≡ true
+  pub gaps : (pair : Pair) → Contains old.gaps.items pair → Contains new.gaps.items pair

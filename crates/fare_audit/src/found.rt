@@ -1,0 +1,128 @@
+//! What an audit has found so far.
+ghost use Rattle.std.specs.Prelude.{◌≡◌, ◌<◌, ◌⊎◌, true, length, Contains, IfOk, OnOk};
+ghost use Rattle.feed_rows.specs.declared.journeys.Pair.{Pair};
+ghost use Rattle.fare_audit.specs.Found.{AuditOf, AreNoted, IsFound, GrowsTo};
+
+use crate::ends::{End, are_same_ends};
+use crate::pairs::{PAIR_ROOM, has_pair, pair_place, put_in_order};
+use crate::places::unfilled;
+use crate::verdicts::{ROOM, Verdict, is_same_network};
+use feed_rows::Pair;
+use std::alloc::{AllocError, Global};
+use transit_base::NetworkId;
+
+/// The calls of a run, as fare rules see them, and its network.
+#[derive(Drop)]
+pub struct Walk {
+    pub network: Option<NetworkId>,
+    pub ends: Vec<End>,
+}
+
+/// Which leg rules are selected, and which pairs of stops have a ride without an option.
+pub struct Found {
+    /// Whether a ride selects each leg rule.
+    pub used: Vec<bool>,
+    /// Pairs of rides without an option; one may stand several times.
+    pub gaps: Vec<Pair>,
+    /// What was judged, each at its place.
+    pub verdicts: Vec<Option<Verdict>>,
+    /// Pairs that stand among the gaps, each at its place.
+    pub noted: Vec<Option<Pair>>,
+    /// How many gaps there may be until those that stand several times are taken out.
+    pub most: usize,
+    /// The run whose rides were looked at last: those of another that is seen the same needn't be.
+    pub walked: Walk,
+}
+
+// Written out, so that what holds one needn't look into it to let go of it.
+impl Drop for Found {
+    fn drop(self) {
+        let Found {
+            used: _,
+            gaps: _,
+            verdicts: _,
+            noted: _,
+            most: _,
+            walked: _,
+        } = self;
+    }
+}
+
+impl Found {
+    /// Nothing, for so many leg rules.
+    ///
+    /// # Errors
+    /// Want of memory.
+    pub fn empty(alloc: Global, rules: usize) -> Result<Found, AllocError>
+        ensures { IfOk result (λ found. (audit : AuditOf) → length audit.feed.leg_rules ≡ rules → IsFound audit found) }
+    {
+        Ok(Found {
+            used: vec![in alloc; false; rules]?,
+            gaps: Vec::new(alloc),
+            verdicts: unfilled(alloc, ROOM)?,
+            noted: unfilled(alloc, PAIR_ROOM)?,
+            most: PAIR_ROOM,
+            walked: Walk {
+                network: None,
+                ends: Vec::new(alloc),
+            },
+        })
+    }
+
+    /// Whether these are the ends and the network of the run that was looked at last.
+    pub fn is_walked(&self, network: Option<NetworkId>, ends: &[End]) -> bool
+        ensures { result ≡ true → (self.now.walked.network ≡ network) × (self.now.walked.ends.items ≡ ends.now) }
+    {
+        is_same_network(self.walked.network, network) && are_same_ends(&self.walked.ends, ends)
+    }
+
+    /// Keeps the ends and the network of the run whose rides were looked at.
+    ///
+    /// # Errors
+    /// Want of memory.
+    pub fn keep_walk(&mut self, network: Option<NetworkId>, ends: &[End]) -> Result<(), AllocError>
+        ensures same { OnOk result ((self.new.used ≡ self.old.used) × (self.new.gaps ≡ self.old.gaps) × (self.new.verdicts ≡ self.old.verdicts) × (self.new.noted ≡ self.old.noted)) }
+        ensures network { OnOk result (self.new.walked.network ≡ network) }
+        ensures ends { OnOk result (self.new.walked.ends.items ≡ ends.now) }
+    {
+        self.walked.network = network;
+        self.walked.ends.clear();
+        self.walked.ends.extend_from_slice(ends)
+    }
+
+    /// Notes that a ride between the stops has no option.
+    ///
+    /// # Errors
+    /// Want of memory.
+    pub fn note(&mut self, pair: Pair) -> Result<(), AllocError>
+        requires { AreNoted self.old }
+        ensures same { OnOk result ((self.new.used ≡ self.old.used) × (self.new.verdicts ≡ self.old.verdicts) × (self.new.walked ≡ self.old.walked)) }
+        ensures noted { OnOk result (AreNoted self.new) }
+        ensures here { OnOk result (Contains self.new.gaps.items pair) }
+        ensures kept { OnOk result ((p : Pair) → Contains self.old.gaps.items p → Contains self.new.gaps.items p) }
+        ensures tells { OnOk result ((p : Pair) → Contains self.new.gaps.items p → Contains self.old.gaps.items p ⊎ (p ≡ pair)) }
+    {
+        let place = pair_place(pair);
+        if has_pair(&self.noted, place, pair) {
+            return Ok(());
+        }
+        self.drop_doubles();
+        self.gaps.push(pair)?;
+        if place < self.noted.len() {
+            self.noted[place] = Some(pair);
+        }
+        Ok(())
+    }
+
+    /// Takes out gaps that stand several times, once there are many: so there are never many more gaps than pairs.
+    fn drop_doubles(&mut self)
+        ensures same { (self.new.used ≡ self.old.used) × (self.new.verdicts ≡ self.old.verdicts) × (self.new.noted ≡ self.old.noted) × (self.new.walked ≡ self.old.walked) }
+        ensures kept { (p : Pair) → Contains self.old.gaps.items p → Contains self.new.gaps.items p }
+        ensures tells { (p : Pair) → Contains self.new.gaps.items p → Contains self.old.gaps.items p }
+    {
+        if self.gaps.len() >= self.most {
+            put_in_order(&mut self.gaps);
+            self.most = self.gaps.len().saturating_mul(2).max(PAIR_ROOM);
+        }
+    }
+}
