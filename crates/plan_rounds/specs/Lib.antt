@@ -1,5 +1,6 @@
 pub mod Bounds
 pub mod Gathered
+pub mod Kinds
 pub mod Legs
 pub mod Moves
 pub mod Planned

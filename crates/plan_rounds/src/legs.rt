@@ -1,7 +1,5 @@
 //! The legs that the rides from a position are: their kinds are found once for all labels that take them.
-ghost use Rattle.std.specs.Prelude.{◌≡◌, [], IfOk, OnOk};
-ghost use Rattle.feed_rows.specs.Legs.{leg_facts};
-ghost use Rattle.leg_kinds.specs.Kinds.{IsOfKind};
+ghost use Rattle.std.specs.Prelude.{◌≡◌, [], OnOk};
 ghost use Rattle.plan_rides.specs.Departures.{Serves};
 ghost use Rattle.plan_rides.specs.Cutoffs.{AreLastDepartures, cutoff_of};
 ghost use Rattle.plan_rides.specs.Reached.{AreKept, HoldsFrom, none_kept};
@@ -9,6 +7,7 @@ ghost use Rattle.plan_rounds.specs.Legs.{AreKinds, HasKinds, StayKnown};
 ghost use Rattle.plan_rounds.specs.Moves.{HasFares};
 ghost use Rattle.plan_rounds.specs.Settled.{HasGroups, StayLabels};
 
+use crate::kinds::LegKinds;
 use crate::repeats::Repeats;
 use crate::scan::{Cutoffs, Round};
 use crate::search::{Found, Search};
@@ -78,32 +77,21 @@ pub struct RideLegs<'r> {
 }
 
 impl<'s, 'l> Search<'s, 'l> {
-    /// The number of the kind of the leg that is the ride.
-    fn kind_of(&self, found: &mut Found<'s, 'l>, caught: &CaughtRide) -> Result<usize, AllocError>
-        ensures kind { IfOk result (IsOfKind found.new.known.lists (leg_facts self.now.feed caught.now.facts)) }
-        ensures terms { found.new.known.terms ≡ found.old.known.terms }
-        ensures still { StayKnown found.old.known found.new.known }
-    {
-        self.timeframes
-            .leg_facts_into(&caught.facts, &mut found.leg)?;
-        found.known.know(self.alloc, &found.leg)
-    }
-
     /// Replaces the numbers by those of the kinds of the legs that are these rides.
     fn find_kinds(
         &self,
-        found: &mut Found<'s, 'l>,
+        known: &mut LegKinds<'_, 's>,
         rides: &[CaughtRide],
         kinds: &mut Vec<usize>,
     ) -> Result<(), AllocError>
-        requires { HasFares self.now found.old.known }
-        ensures kinds { OnOk result (AreKinds self.now.feed found.new.known rides.now kinds.new.items) }
-        ensures fares { HasFares self.now found.new.known }
-        ensures still { StayKnown found.old.known found.new.known }
+        requires { HasFares self.now known.old }
+        ensures kinds { OnOk result (AreKinds self.now.feed known.new rides.now kinds.new.items) }
+        ensures fares { HasFares self.now known.new }
+        ensures still { StayKnown known.old known.new }
     {
         kinds.clear();
         for k in 0..rides.len() {
-            let kind = self.kind_of(found, &rides[k])?;
+            let kind = known.kind_of(self.alloc, &rides[k].facts)?;
             kinds.push(kind)?;
         }
         Ok(())
@@ -112,7 +100,7 @@ impl<'s, 'l> Search<'s, 'l> {
     /// Keeps the rides from the position for whoever gets there, and the kinds of their legs.
     pub(crate) fn keep_legs(
         &self,
-        found: &mut Found<'s, 'l>,
+        found: &mut Found<'s, '_>,
         round: &Round<'s, '_>,
         reached: &Reached,
         cutoffs: Cutoffs,
@@ -138,7 +126,7 @@ impl<'s, 'l> Search<'s, 'l> {
         if !anew {
             return Ok(());
         }
-        self.find_kinds(found, kept.rides.rides(), &mut kept.kinds)?;
+        self.find_kinds(&mut found.known, kept.rides.rides(), &mut kept.kinds)?;
         self.find_groups(
             &found.known,
             kept.rides.rides(),

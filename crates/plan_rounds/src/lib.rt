@@ -4,6 +4,7 @@
 
 mod bounds;
 mod ends;
+mod kinds;
 mod lasts;
 mod legs;
 mod moves;

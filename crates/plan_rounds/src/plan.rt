@@ -10,7 +10,7 @@ ghost use Rattle.feed_rows.specs.ClosedTable.{IsClosedTable};
 ghost use Rattle.feed_rows.specs.SoundTable.{IsSoundTable};
 ghost use Rattle.plan_rides.specs.Asked.{asked};
 ghost use Rattle.plan_rides.specs.Scopes.{IsInScope};
-ghost use Rattle.fare_timeframes.specs.BuiltTimeframes.{AreTimeframesOf};
+ghost use Rattle.plan_rounds.specs.Moves.{HasFares};
 ghost use Rattle.plan_rounds.specs.Prices.{AreLeastPrices};
 ghost use Rattle.plan_rides.specs.Spans.{AreSpans, no_spans};
 ghost use Rattle.plan_rounds.specs.Planned.{AddsEntries, CoversAllBy, IsPlanned};
@@ -20,7 +20,7 @@ ghost use Rattle.round_table.specs.Tables.{CoversAllOffers, table_by};
 use crate::bounds::takes_back;
 use crate::lasts::last_groups;
 use crate::prices::LeastPrices;
-use crate::search::{Aim, Search};
+use crate::search::{Aim, Found, Search};
 use fare_automaton::Automaton;
 use fare_bounds::FareBounds;
 use fare_timeframes::Timeframes;
@@ -34,13 +34,15 @@ use transit_base::Moment;
 
 impl<'s, 'l> Search<'s, 'l> {
     /// The table of all rounds.
-    fn table(&self, alloc: Global) -> Result<RoundTable, AllocError>
-        ensures { IfOk result (λ table. IsTableOf self.now (table_by table)) }
+    fn table(&self, alloc: Global, found: &mut Found<'s, '_>) -> Result<RoundTable, AllocError>
+        requires fares { HasFares self.now found.old.known }
+        ensures fares { HasFares self.now found.new.known }
+        ensures is { IfOk result (λ table. IsTableOf self.now (table_by table)) }
     {
         let _whole = self.is_whole();
         let limit = self.limit();
         let stops = self.stops();
-        let (labels, front) = self.labels()?;
+        let (labels, front) = self.labels(found)?;
         RoundTable::of(alloc, labels, front.into_items(), stops as u32, limit)
     }
 }
@@ -68,32 +70,32 @@ fn table_with<'s, 'l>(
     rides: &'l Rides<'s>,
     automaton: &'l Automaton<'s>,
     feed: &'l Feed,
-    timeframes: &'l Timeframes,
     spans: &'l Spans,
     prices: &'l LeastPrices,
     aim: Aim<'l>,
+    found: &mut Found<'s, '_>,
 ) -> Result<RoundTable, AllocError>
     requires feed { feed.now ≡ rides.now.feed }
-    requires timeframes { AreTimeframesOf rides.now.feed timeframes.now }
+    requires fares { found.old.known.terms ≡ terms rides.now.feed rides.now.query.rider }
     requires automaton { automaton.now ≡ terms rides.now.feed rides.now.query.rider }
     requires spans { AreSpans rides.now.feed rides.now.query spans.now }
     requires prices { AreLeastPrices rides.now.feed rides.now.query prices.now }
     requires none { aim.whole ≡ true → spans.now ≡ no_spans }
     requires aim { IsAim (aim_of aim) }
-    ensures { IfOk result (λ table. IsTableOf (searched rides.now (aim_of aim.entry)) (table_by table)) }
+    ensures fares { found.new.known.terms ≡ found.old.known.terms }
+    ensures is { IfOk result (λ table. IsTableOf (searched rides.now (aim_of aim.entry)) (table_by table)) }
 {
     let search = Search {
         alloc,
         rides,
         feed,
-        timeframes,
         automaton,
         spans,
         prices,
         takes_back: takes_back(feed),
         aim,
     };
-    search.table(alloc)
+    search.table(alloc, found)
 }
 
 /// The triples of entries.
@@ -157,18 +159,19 @@ fn found_soon<'s, 'l>(
     rides: &'l Rides<'s>,
     automaton: &'l Automaton<'s>,
     feed: &'l Feed,
-    timeframes: &'l Timeframes,
     spans: &'l Spans,
     prices: &'l LeastPrices,
     given: &'l [Triple],
     horizon: Option<Moment>,
+    found: &mut Found<'s, '_>,
 ) -> Result<Vec<Entry>, AllocError>
     requires feed { feed.now ≡ rides.now.feed }
-    requires timeframes { AreTimeframesOf rides.now.feed timeframes.now }
+    requires fares { found.old.known.terms ≡ terms rides.now.feed rides.now.query.rider }
     requires automaton { automaton.now ≡ terms rides.now.feed rides.now.query.rider }
     requires spans { AreSpans rides.now.feed rides.now.query spans.now }
     requires prices { AreLeastPrices rides.now.feed rides.now.query prices.now }
-    ensures { IfOk result (λ entries. All (IsEntry rides.now.feed rides.now.query) entries.items) }
+    ensures fares { found.new.known.terms ≡ found.old.known.terms }
+    ensures are { IfOk result (λ entries. All (IsEntry rides.now.feed rides.now.query) entries.items) }
 {
     let aim = Aim {
         whole: false,
@@ -176,10 +179,7 @@ fn found_soon<'s, 'l>(
         given,
         horizon,
     };
-    table_with(
-        alloc, rides, automaton, feed, timeframes, spans, prices, aim,
-    )?
-    .entries(alloc)
+    table_with(alloc, rides, automaton, feed, spans, prices, aim, found)?.entries(alloc)
 }
 
 /// Entries of the query that are found soon, by searches that may pass over any journey; none for a search that is to be whole. The
@@ -193,16 +193,17 @@ fn known_with<'s>(
     rides: &Rides<'s>,
     automaton: &Automaton<'s>,
     feed: &Feed,
-    timeframes: &Timeframes,
     spans: &Spans,
     prices: &LeastPrices,
     whole: bool,
+    found: &mut Found<'s, '_>,
 ) -> Result<Vec<Entry>, AllocError>
     requires feed { feed.now ≡ rides.now.feed }
-    requires timeframes { AreTimeframesOf rides.now.feed timeframes.now }
+    requires fares { found.old.known.terms ≡ terms rides.now.feed rides.now.query.rider }
     requires automaton { automaton.now ≡ terms rides.now.feed rides.now.query.rider }
     requires spans { AreSpans rides.now.feed rides.now.query spans.now }
     requires prices { AreLeastPrices rides.now.feed rides.now.query prices.now }
+    ensures fares { found.new.known.terms ≡ found.old.known.terms }
     ensures are { IfOk result (λ entries. All (IsEntry rides.now.feed rides.now.query) entries.items) }
     ensures none { IfOk result (λ entries. whole ≡ true → entries.items ≡ []) }
 {
@@ -214,11 +215,11 @@ fn known_with<'s>(
         rides,
         automaton,
         feed,
-        timeframes,
         spans,
         prices,
         &[],
         None,
+        found,
     )?;
     let given = triples_of(alloc, &first)?;
     let horizon = horizon_of(rides.query().departure, &given);
@@ -226,7 +227,7 @@ fn known_with<'s>(
         return Ok(first);
     }
     let second = found_soon(
-        alloc, rides, automaton, feed, timeframes, spans, prices, &given, horizon,
+        alloc, rides, automaton, feed, spans, prices, &given, horizon, found,
     )?;
     better_of(alloc, first, second)
 }
@@ -241,22 +242,20 @@ fn planned_with<'s>(
     rides: &Rides<'s>,
     automaton: &Automaton<'s>,
     feed: &Feed,
-    timeframes: &Timeframes,
     spans: &Spans,
     prices: &LeastPrices,
     whole: bool,
+    found: &mut Found<'s, '_>,
 ) -> Result<(RoundTable, Vec<Entry>), AllocError>
     requires feed { feed.now ≡ rides.now.feed }
-    requires timeframes { AreTimeframesOf rides.now.feed timeframes.now }
+    requires fares { found.old.known.terms ≡ terms rides.now.feed rides.now.query.rider }
     requires automaton { automaton.now ≡ terms rides.now.feed rides.now.query.rider }
     requires spans { AreSpans rides.now.feed rides.now.query spans.now }
     requires prices { AreLeastPrices rides.now.feed rides.now.query prices.now }
     requires none { whole ≡ true → spans.now ≡ no_spans }
     ensures { IfOk result (λ planned. IsPlanned rides.now whole planned.0 planned.1.items) }
 {
-    let known = known_with(
-        alloc, rides, automaton, feed, timeframes, spans, prices, whole,
-    )?;
+    let known = known_with(alloc, rides, automaton, feed, spans, prices, whole, found)?;
     let given = triples_of(alloc, &known)?;
     let aim = Aim {
         whole,
@@ -264,9 +263,7 @@ fn planned_with<'s>(
         given: &given,
         horizon: None,
     };
-    let table = table_with(
-        alloc, rides, automaton, feed, timeframes, spans, prices, aim,
-    )?;
+    let table = table_with(alloc, rides, automaton, feed, spans, prices, aim, found)?;
     Ok((table, known))
 }
 
@@ -309,15 +306,9 @@ fn planned_at<'s>(
     let timeframes = Timeframes::between(alloc, feed, query.departure, deadline(query))?;
     let spans = spans_of(alloc, rides, whole)?;
     let prices = prices_of(alloc, rides, feed, &spans)?;
+    let mut found = Found::none(alloc, automaton, &timeframes)?;
     planned_with(
-        alloc,
-        rides,
-        automaton,
-        feed,
-        &timeframes,
-        &spans,
-        &prices,
-        whole,
+        alloc, rides, automaton, feed, &spans, &prices, whole, &mut found,
     )
 }
 

@@ -16,9 +16,9 @@ ghost use Rattle.plan_rounds.specs.Stores.{StepsFrom};
 ghost use Rattle.round_labels.specs.declared.label.Label.{Label};
 
 use crate::bounds::Until;
+use crate::kinds::LegKinds;
 use crate::legs::{KeptLegs, RideLegs};
 use crate::search::{Found, Room, Search, Source};
-use fare_automaton::KnownOptions;
 use plan_rides::{CaughtRide, Cutoff, Positions, Reached, Traveller, is_early};
 use round_labels::{LabelList, StopBags};
 use round_table::Final;
@@ -224,7 +224,7 @@ impl<'s, 'l> Search<'s, 'l> {
     /// Offers what the rides lead to from the label that depart no earlier than it gets to the position.
     fn offer_rides(
         &self,
-        known: &KnownOptions<'l, 's>,
+        known: &LegKinds<'_, 's>,
         room: &mut Room,
         bags: &mut StopBags,
         round: &Round<'s, '_>,
@@ -263,7 +263,7 @@ impl<'s, 'l> Search<'s, 'l> {
     /// `kept` then has the rides from there that arrive early enough by the cutoffs of the round.
     fn offer_from(
         &self,
-        found: &mut Found<'s, 'l>,
+        found: &mut Found<'s, '_>,
         bags: &mut StopBags,
         round: &Round<'s, '_>,
         reached: &Reached,
@@ -321,7 +321,7 @@ impl<'s, 'l> Search<'s, 'l> {
     /// lost.
     pub(crate) fn offer_marked(
         &self,
-        found: &mut Found<'s, 'l>,
+        found: &mut Found<'s, '_>,
         bags: &mut StopBags,
         round: &Round<'s, '_>,
         marks: &Marks,

@@ -1,6 +1,7 @@
 //! The search: each round goes on by one more ride from the labels of the round before.
 ghost use Rattle.std.specs.Prelude.{◌≡◌, ◌+◌, ◌<◌, ◌<ℤ◌, ◌≤◌, ◌^◌, ◌++◌, [], false, true, length, IfOk, IfSome, IsTrue, OnOk, Some};
 ghost use Rattle.fare_automaton.specs.Fewest.{AreEnough};
+ghost use Rattle.fare_timeframes.specs.BuiltTimeframes.{AreTimeframesOf};
 ghost use Rattle.feed_rows.specs.FareSteps.{move_after};
 ghost use Rattle.feed_rows.specs.Journeys.{stands_for};
 ghost use Rattle.feed_rows.specs.Legs.{leg_facts};
@@ -22,14 +23,15 @@ ghost use Rattle.round_labels.specs.Labels.{covers};
 ghost use Rattle.round_labels.specs.Bags.{gathered};
 ghost use Rattle.plan_rounds.specs.Stores.{AreStored, AreWhole, IsNever, IsStartOf, Spreads, StepsBy, StepsFrom};
 
+use crate::kinds::LegKinds;
 use crate::legs::KeptLegs;
 use crate::moves::is_bettered;
 use crate::prices::LeastPrices;
 use crate::scan::{Marks, Round};
 use crate::seen::Seen;
-use fare_automaton::{Automaton, KnownOptions, LegTimes};
-use fare_timeframes::{Timeframes, blank_leg};
-use feed_rows::{ChangeChoice, Feed, LegChoice, LegFacts, Move, Query, RideFacts, Triple};
+use fare_automaton::{Automaton, LegTimes};
+use fare_timeframes::Timeframes;
+use feed_rows::{ChangeChoice, Feed, LegChoice, Move, Query, RideFacts, Triple};
 use feed_timetable::Timetable;
 use pareto_front::Front;
 use plan_rides::{CaughtRide, Rides, Spans};
@@ -59,7 +61,6 @@ pub struct Search<'s, 'l> {
     pub(crate) alloc: Global,
     pub(crate) rides: &'l Rides<'s>,
     pub(crate) feed: &'l Feed,
-    pub(crate) timeframes: &'l Timeframes,
     /// The fares for the query's rider.
     pub(crate) automaton: &'l Automaton<'s>,
     /// The least seconds to a journey's end; none where the search is to be whole.
@@ -74,7 +75,6 @@ pub struct Search<'s, 'l> {
 impl<'s, 'l> Model for Search<'s, 'l> {
     ghost use Rattle.std.specs.Prelude.{◌≡◌, true};
     ghost use Rattle.fare_automaton.specs.Terms.{terms};
-    ghost use Rattle.fare_timeframes.specs.BuiltTimeframes.{AreTimeframesOf};
     ghost use Rattle.plan_rounds.specs.Prices.{AreLeastPrices};
     ghost use Rattle.plan_rides.specs.Spans.{AreSpans, no_spans};
     ghost use Rattle.plan_rounds.specs.Searched.{IsAim, Searched, aim_of, searched};
@@ -84,7 +84,7 @@ impl<'s, 'l> Model for Search<'s, 'l> {
 
     ghost view = { λ s. searched s.rides.now (aim_of s.aim) };
 
-    ghost invariant = { λ s. AreTimeframesOf s.rides.now.feed s.timeframes.now × (s.automaton.now ≡ terms s.rides.now.feed s.rides.now.query.rider) × (s.takes_back ≡ some_takes_back s.rides.now.feed) × AreSpans s.rides.now.feed s.rides.now.query s.spans.now × (s.aim.whole ≡ true → s.spans.now ≡ no_spans) × (s.feed.now ≡ s.rides.now.feed) × IsAim (aim_of s.aim) × AreLeastPrices s.rides.now.feed s.rides.now.query s.prices.now };
+    ghost invariant = { λ s. (s.automaton.now ≡ terms s.rides.now.feed s.rides.now.query.rider) × (s.takes_back ≡ some_takes_back s.rides.now.feed) × AreSpans s.rides.now.feed s.rides.now.query s.spans.now × (s.aim.whole ≡ true → s.spans.now ≡ no_spans) × (s.feed.now ≡ s.rides.now.feed) × IsAim (aim_of s.aim) × AreLeastPrices s.rides.now.feed s.rides.now.query s.prices.now };
 }
 
 /// A label with its number among those so far, from which a round goes on.
@@ -114,22 +114,41 @@ impl Drop for Room {
     }
 }
 
-/// What can be paid for legs, kept by their kinds, and what is found for one ride after another, kept for its memory.
+/// What is found for one search after another: what can be paid for legs, and what is found for one ride after another, kept for its
+/// memory.
 pub struct Found<'s, 'l> {
-    pub(crate) known: KnownOptions<'l, 's>,
-    /// What fare rules look at in the leg that is the ride.
-    pub(crate) leg: LegFacts,
+    pub(crate) known: LegKinds<'l, 's>,
     pub(crate) room: Room,
 }
 
 // Written out, so that what holds one needn't look into it to let go of it.
 impl<'s, 'l> Drop for Found<'s, 'l> {
     fn drop(self) {
-        let Found {
-            known: _,
-            leg: _,
-            room: _,
-        } = self;
+        let Found { known: _, room: _ } = self;
+    }
+}
+
+impl<'s, 'l> Found<'s, 'l> {
+    /// Nothing yet.
+    ///
+    /// # Errors
+    /// Want of memory.
+    pub(crate) fn none(
+        alloc: Global,
+        automaton: &'l Automaton<'s>,
+        timeframes: &'l Timeframes,
+    ) -> Result<Found<'s, 'l>, AllocError>
+        requires { AreTimeframesOf automaton.now.feed timeframes.now }
+        ensures { IfOk result (λ found. found.known.terms ≡ automaton.now) }
+    {
+        Ok(Found {
+            known: LegKinds::of(alloc, automaton, timeframes)?,
+            room: Room {
+                places: Vec::new(alloc),
+                moves: Vec::new(alloc),
+                seen: Seen::none(alloc, 0)?,
+            },
+        })
     }
 }
 
@@ -356,7 +375,7 @@ impl<'s, 'l> Search<'s, 'l> {
     /// Offers what one more ride leads to from the labels with so many rides. What `marks` and `kept` hold is lost.
     fn spread<'r>(
         &self,
-        found: &mut Found<'s, 'l>,
+        found: &mut Found<'s, '_>,
         bags: &mut StopBags,
         labels: &'r LabelList,
         count: u8,
@@ -415,7 +434,7 @@ impl<'s, 'l> Search<'s, 'l> {
     /// is lost.
     fn spread_by(
         &self,
-        found: &mut Found<'s, 'l>,
+        found: &mut Found<'s, '_>,
         marks: &mut Marks,
         kept: &mut KeptLegs,
         bags: &mut StopBags,
@@ -424,7 +443,8 @@ impl<'s, 'l> Search<'s, 'l> {
     ) -> Result<(), AllocError>
         requires start { IsGathered self.now 0 labels.old bags.old front.old }
         requires fares { HasFares self.now found.old.known }
-        ensures { OnOk result (IsGathered self.now self.now.query.rides labels.new bags.new front.new) }
+        ensures fares { HasFares self.now found.new.known }
+        ensures gathered { OnOk result (IsGathered self.now self.now.query.rides labels.new bags.new front.new) }
     {
         for count in 0..self.limit() {
             let finals = front.items();
@@ -437,37 +457,34 @@ impl<'s, 'l> Search<'s, 'l> {
     /// Goes on by one more ride a round, from the labels without rides.
     fn spread_all(
         &self,
+        found: &mut Found<'s, '_>,
         bags: &mut StopBags,
         labels: &mut LabelList,
         front: &mut Front<Final>,
     ) -> Result<(), AllocError>
-        requires { IsGathered self.now 0 labels.old bags.old front.old }
-        ensures { OnOk result (IsGathered self.now self.now.query.rides labels.new bags.new front.new) }
+        requires start { IsGathered self.now 0 labels.old bags.old front.old }
+        requires fares { HasFares self.now found.old.known }
+        ensures fares { HasFares self.now found.new.known }
+        ensures gathered { OnOk result (IsGathered self.now self.now.query.rides labels.new bags.new front.new) }
     {
         let alloc = self.alloc;
-        let mut found = Found {
-            known: KnownOptions::of(alloc, self.automaton),
-            leg: blank_leg(alloc),
-            room: Room {
-                places: Vec::new(alloc),
-                moves: Vec::new(alloc),
-                seen: self.none_seen()?,
-            },
-        };
+        found.room.seen = self.none_seen()?;
         let mut marks = Marks {
             reached: Vec::new(alloc),
             untils: Vec::new(alloc),
             last: self.departure(),
         };
         let mut kept = KeptLegs::none(alloc);
-        self.spread_by(&mut found, &mut marks, &mut kept, bags, labels, front)
+        self.spread_by(found, &mut marks, &mut kept, bags, labels, front)
     }
 
     /// The labels of all rounds, and the best that they end in.
     ///
     /// # Errors
     /// Want of memory; so counts that there would be 2^32 labels or more.
-    pub fn labels(&self) -> Result<(LabelList, Front<Final>), AllocError>
+    pub fn labels(&self, found: &mut Found<'s, '_>) -> Result<(LabelList, Front<Final>), AllocError>
+        requires fares { HasFares self.now found.old.known }
+        ensures fares { HasFares self.now found.new.known }
         ensures whole { IfOk result (λ all. AreWhole self.now.feed self.now.query (Lacks self.now all.1) all.0) }
         ensures numbers { IfOk result (λ all. length all.0 < 2 ^ 32) }
         ensures ended { IfOk result (λ all. AddsEnds self.now.feed self.now.query all.0 (EndsBelow self.now.feed self.now.query all.0 (length all.0)) [] all.1) }
@@ -479,7 +496,7 @@ impl<'s, 'l> Search<'s, 'l> {
         let mut labels = LabelList::empty(alloc);
         let mut front = Front::empty(alloc);
         self.gather(0, &bags, &mut labels, &mut front)?;
-        self.spread_all(&mut bags, &mut labels, &mut front)?;
+        self.spread_all(found, &mut bags, &mut labels, &mut front)?;
         Ok((labels, front))
     }
 }

@@ -10,8 +10,8 @@ ghost use Rattle.plan_rounds.specs.Settled.{AddsLabel, AreGroupsOf, HasCheaper, 
 ghost use Rattle.round_labels.specs.Labels.{IsBounded};
 
 use crate::bounds::later;
+use crate::kinds::LegKinds;
 use crate::search::Search;
-use fare_automaton::KnownOptions;
 use fare_bounds::LastChanges;
 use feed_rows::{FareState, LegChoice};
 use plan_rides::{CaughtRide, Reached};
@@ -183,7 +183,7 @@ impl<'s, 'l> Search<'s, 'l> {
     /// Finds out of which groups the rides can be, and until when changes to these are arranged. No label was tried there.
     pub(crate) fn find_groups(
         &self,
-        known: &KnownOptions<'l, 's>,
+        known: &LegKinds<'_, 's>,
         rides: &[CaughtRide],
         kinds: &[usize],
         settled: &mut Settled,

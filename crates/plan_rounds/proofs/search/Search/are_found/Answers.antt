@@ -28,7 +28,7 @@ returns-else-is_far c ahead =
     let finals = c.args.finals.now in
     let n = c.args.further in
     let lists = c.self.inside.spans.now in
-    let are = subst (λ (s : Searched). AreSpans s.feed s.query lists) c.self.view_is c.self.invariant.3 in
+    let are = subst (λ (s : Searched). AreSpans s.feed s.query lists) c.self.view_is c.self.invariant.2 in
     let price = c.least_cost-price.result in
     let costs = subst (CostsBy task.feed task.query n (facts_of x)) (sym (to_z-of_z w128 price (record { sfits = c.least_cost-price.type_inv })))
     c.least_cost-price.ensures in
@@ -43,6 +43,6 @@ returns-in-Some-None c e =
     let task = c.args.self.now in
     let x = c.args.label.now in
     let lists = c.self.inside.spans.now in
-    let are = subst (λ (s : Searched). AreSpans s.feed s.query lists) c.self.view_is c.self.invariant.3 in
+    let are = subst (λ (s : Searched). AreSpans s.feed s.query lists) c.self.view_is c.self.invariant.2 in
     found_none task lists c.args.finals.now x c.args.further c.feed-feed.ensures.sound are c.requires.ridden c.requires.within
     (ap (λ m. slice_get (stands_of lists m) x.stop.0) (sym c.from.ensures) ∙ sym (ap (λ spans. slice_get spans x.stop.0) c.stands.ensures) ∙ sym c.span_at.ensures ∙ c.in-Some-None.is ∙ ap Some c.in-Some-None.field-0-is)

@@ -10,7 +10,7 @@ pub returns-clause-fair : goal.returns-clause-fair
 returns-clause-fair c finals x since within is left =
     let task = c.args.self.now in
     let lists = c.self.inside.spans.now in
-    let are = subst (λ (s : Searched). AreSpans s.feed s.query lists) c.self.view_is c.self.invariant.3 in
-    let none = subst (λ (s : Searched). s.whole ≡ true → lists ≡ no_spans) c.self.view_is c.self.invariant.4 in
+    let are = subst (λ (s : Searched). AreSpans s.feed s.query lists) c.self.view_is c.self.invariant.2 in
+    let none = subst (λ (s : Searched). s.whole ≡ true → lists ≡ no_spans) c.self.view_is c.self.invariant.3 in
     subst (λ spans. IsFairBy task finals x since (cutoff_by spans c.args.until.0)) (sym c.stands.ensures)
     (fair_by task lists finals x since c.args.until.0 c.args.more c.feed-feed.ensures.sound are none within is left)

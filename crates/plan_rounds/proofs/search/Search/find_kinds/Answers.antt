@@ -3,6 +3,9 @@ use Rattle.std.specs.Prelude.{None}
 use Rattle.std.proofs.lemmas.List.{length_push}
 use Rattle.std.proofs.lemmas.Option.{slice_get-get_or}
 use Rattle.plan_rides.specs.declared.caught.CaughtRide.{CaughtRide}
+use Rattle.feed_rows.specs.Legs.{leg_facts}
+use Rattle.fare_automaton.specs.Terms.{FareTerms}
+use Rattle.leg_kinds.specs.Kinds.{IsOfKind}
 use Rattle.plan_rounds.specs.Legs.{FitKinds}
 use Rattle.plan_rounds.proofs.LegLaws.{fit_none, fit_still, fit_more}
 use Rattle.plan_rounds.proofs.search.Search.find_kinds.Goals as goal
@@ -17,8 +20,8 @@ none =
 pub loop-k-init : goal.loop-k-init
 loop-k-init c = record {
   many = ap (λ (ks : List ℕ). length ks) c.clear.ensures.items;
-  fit = subst (FitKinds c.args.self.now.feed c.args.found.now.known c.args.rides.now) (sym c.clear.ensures.items)
-      (fit_none c.args.self.now.feed c.args.rides.now c.args.found.now.known);
+  fit = subst (FitKinds c.args.self.now.feed c.args.known.now c.args.rides.now) (sym c.clear.ensures.items)
+      (fit_none c.args.self.now.feed c.args.rides.now c.args.known.now);
   fares = c.requires;
   still = λ leg number is. is;
 }
@@ -31,10 +34,10 @@ loop-k-preserved c =
     let was = c.loop-k.invariant in
     let kinds = c.loop-k.kinds.items in
     let kind = c.in_ok-kind.kind in
-    let known = c.kind_of.new.found.known in
+    let known = c.kind_of.new.self in
     let fit = fit_more feed rides known kinds k kind (slice_index_or rides k none) was.many
-    (slice_get-get_or rides k none c.loop-k-test.true) c.in_ok-kind.ensures.kind
-    (fit_still feed rides c.loop-k.found.known known kinds c.in_ok-kind.ensures.still was.fit) in
+    (slice_get-get_or rides k none c.loop-k-test.true) (subst (λ (t : FareTerms). IsOfKind known.lists (leg_facts t.feed (slice_index_or rides k none).facts) kind) was.fares c.in_ok-kind.ensures.kind)
+    (fit_still feed rides c.loop-k.known known kinds c.in_ok-kind.ensures.still was.fit) in
     let items = c.in_ok-push.ensures.items in
     let long = length_push kinds kind in
     record {

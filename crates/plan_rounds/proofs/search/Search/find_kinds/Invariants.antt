@@ -6,7 +6,7 @@ use Rattle.plan_rounds.proofs.search.Search.find_kinds.Given as goal
 abbrev pub invariant-loop-k : goal.invariant-loop-k
 invariant-loop-k l = record {
   many : length l.kinds.items ≡ l.k;
-  fit : FitKinds l.self.feed l.found.known l.rides l.kinds.items;
-  fares : HasFares l.self l.found.known;
-  still : StayKnown l.fn.found.known l.found.known;
+  fit : FitKinds l.self.feed l.known l.rides l.kinds.items;
+  fares : HasFares l.self l.known;
+  still : StayKnown l.fn.known l.known;
 }

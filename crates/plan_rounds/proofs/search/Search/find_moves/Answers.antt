@@ -10,7 +10,7 @@ pub returns-in-None : goal.returns-in-None
 returns-in-None c =
     let feed = c.args.self.now.feed in
     let leg = leg_facts feed c.args.ride.now in
-    let own = c.self.invariant.1 ∙ ap (λ (a : Searched). terms a.feed a.query.rider) c.self.view_is in
+    let own = c.self.invariant.0 ∙ ap (λ (a : Searched). terms a.feed a.query.rider) c.self.view_is in
     let picks = subst (λ (t : FareTerms). AreEnough t.feed t.rider leg c.args.options.now) (sym own) c.requires.options in
     moves_of_starts c.start_into.result c.self.inside.automaton.now feed c.args.self.now.query c.args.label.now leg
     c.start_into.new.moves.items own c.feed-feed.ensures.sound c.requires.bounded c.in-None.is
@@ -20,7 +20,7 @@ pub returns-in-Some : goal.returns-in-Some
 returns-in-Some c =
     let feed = c.args.self.now.feed in
     let leg = leg_facts feed c.args.ride.now in
-    let own = c.self.invariant.1 ∙ ap (λ (a : Searched). terms a.feed a.query.rider) c.self.view_is in
+    let own = c.self.invariant.0 ∙ ap (λ (a : Searched). terms a.feed a.query.rider) c.self.view_is in
     let picks = subst (λ (t : FareTerms). AreEnough t.feed t.rider leg c.args.options.now) (sym own) c.requires.options in
     moves_of_steps c.cheapest_into.result c.self.inside.automaton.now feed c.args.self.now.query c.args.label.now c.in-Some.state leg
     c.cheapest_into.new.moves.items own c.feed-feed.ensures.sound c.requires.bounded c.in-Some.is

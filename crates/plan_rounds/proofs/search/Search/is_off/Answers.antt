@@ -10,7 +10,7 @@ pub returns-in-Some : goal.returns-in-Some
 returns-in-Some c none triple =
     let task = c.args.self.now in
     let lists = c.self.inside.spans.now in
-    let are = subst (λ (s : Searched). AreSpans s.feed s.query lists) c.self.view_is c.self.invariant.3 in
+    let are = subst (λ (s : Searched). AreSpans s.feed s.query lists) c.self.view_is c.self.invariant.2 in
     let x = c.args.label.now in
     leads_not task lists [] x c.args.further c.feed-feed.ensures.sound are (ne_eqb x.rides 0 c.if-label-eq0.false) c.requires
     (ap (λ n. slice_get (stands_of lists n) x.stop.0) (sym c.from.ensures)

@@ -24,8 +24,8 @@ pub gather-requires-clause-ended : goal.gather-requires-clause-ended
 gather-requires-clause-ended c =
     ends_start c.args.self.now.feed c.args.self.now.query c.empty-labels.result c.empty-front.result c.empty-labels.ensures c.empty-front.ensures
 
-pub spread_all-requires : goal.spread_all-requires
-spread_all-requires c =
+pub spread_all-requires-clause-start : goal.spread_all-requires-clause-start
+spread_all-requires-clause-start c =
     let feed = c.args.self.now.feed in
     let query = c.args.self.now.query in
     let spreads =
@@ -46,12 +46,12 @@ spread_all-requires c =
 
 pub returns-clause-whole : goal.returns-clause-whole
 returns-clause-whole c =
-    let are = c.in_ok-spread_all.ensures in
+    let are = c.in_ok-spread_all.ensures.gathered in
     whole_of c.args.self.now.feed c.args.self.now.query (Lacks c.args.self.now c.spread_all.new.front) c.args.self.now.query.rides c.spread_all.new.labels
     c.spread_all.new.bags (omega arith) are.stored are.apart are.closed are.starts
 
 pub returns-clause-numbers : goal.returns-clause-numbers
-returns-clause-numbers c = c.in_ok-spread_all.ensures.numbers
+returns-clause-numbers c = c.in_ok-spread_all.ensures.gathered.numbers
 
 pub returns-clause-ended : goal.returns-clause-ended
-returns-clause-ended c = c.in_ok-spread_all.ensures.ended
+returns-clause-ended c = c.in_ok-spread_all.ensures.gathered.ended

@@ -11,7 +11,7 @@ pub returns-else-further-eq0 : goal.returns-else-further-eq0
 returns-else-further-eq0 c triple leads =
     let task = c.args.self.now in
     let prices = c.self.inside.prices.now in
-    let are = subst (λ (s : Searched). AreLeastPrices s.feed s.query prices) c.self.view_is c.self.invariant.7 in
+    let are = subst (λ (s : Searched). AreLeastPrices s.feed s.query prices) c.self.view_is c.self.invariant.6 in
     subst (λ (z : ℤ). z ≤ℤ triple.price.0)
     (sym (to_z-of_z w128 c.least_on.result (record { sfits = c.least_on.type_inv }) ∙ c.least_on.ensures))
     (costs_further task.feed task.query prices c.feed-feed.ensures.sound are c.args.further (facts_of c.args.label.now)

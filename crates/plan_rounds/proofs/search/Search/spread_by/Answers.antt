@@ -61,7 +61,7 @@ loop-count-preserved c =
       fares = c.in_ok-spread.ensures.fares;
     }
 
-pub returns : goal.returns
-returns c =
+pub returns-clause-gathered : goal.returns-clause-gathered
+returns-clause-gathered c =
     subst (λ count. IsGathered c.args.self.now count c.loop-count.labels c.loop-count.bags c.loop-count.front)
     (omega (arith, c.loop-count-test.false, c.loop-count.auto.count-end, c.limit-count-end.ensures.is)) c.loop-count.invariant.are

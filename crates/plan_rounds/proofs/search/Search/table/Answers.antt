@@ -21,8 +21,8 @@ none_given : (given : List Triple) (t : Triple) → given ≡ [] → is_given gi
 none_given [] t none h = absurd (let wrong : false ≡ true = h in cc)
 none_given (x ∷ xs) t none h = absurd (cc)
 
-pub returns : goal.returns
-returns c =
+pub returns-clause-is : goal.returns-clause-is
+returns-clause-is c =
     let task = c.args.self.now in
     let feed = task.feed in
     let query = task.query in
