@@ -20,7 +20,7 @@ price-requires c =
 pub returns-in-Ok : goal.returns-in-Ok
 returns-in-Ok c =
     let feed = c.args.timetable.now in
-    let rider = c.args.query.now.buyer in
+    let buyer = c.args.query.now.buyer in
     let named = c.as_slice.result.now in
     let legs = c.in_ok-legs.legs.items in
     IfOk-weaker c.price.result _ _
